@@ -1,0 +1,4 @@
+pub mod formers
+pub mod Integers
+pub mod Operations
+pub mod Wrapping
