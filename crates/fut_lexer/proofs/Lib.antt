@@ -1,0 +1,9 @@
+pub mod Runs
+pub mod Sound
+pub mod Complete
+pub mod Fronts
+pub mod Readings
+pub mod Moves
+pub mod Turns
+pub mod Whole
+pub mod Spans

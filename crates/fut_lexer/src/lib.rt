@@ -1,0 +1,13 @@
+//! The tokens of a source text, equal to their definition: `specs/Lexing.antt` says what `lex` answers, and `specs/Rules.antt`
+//! what stands at a place, rule by rule. `specs/Reading.antt` is how the code reads it.
+#![tactic(auto)]
+
+mod classes;
+mod front;
+mod lexer;
+mod number;
+mod position;
+mod words;
+
+pub use fut_token::{Fixed, Lift, Token, TokenKind};
+pub use lexer::{LexErr, a_text_has_one_reading, lex};

@@ -1,0 +1,14 @@
+pub mod Low
+pub mod Heights
+pub mod Steps
+pub mod Sound
+pub mod Complete
+pub mod Folds
+pub mod Values
+pub mod Prefix
+pub mod Pieces
+pub mod HasValue
+pub mod Joined
+pub mod Rows
+pub mod Functional
+pub mod Ending

@@ -1,0 +1,63 @@
+-- One value more, or a refusal, behind values that are read already.
+use Rattle.std.proofs.Common.{◌≡◌, ◌+◌, ◌-◌, ◌<◌, ◌≤◌, ℕ, arith, get_or, length-append, length-drop, Bool, List, [], ◌∷◌, ◌++◌, length, drop, refl, sym, ap, ◌∙◌, append_assoc}
+use Rattle.std.specs.Prelude.{Ok, Err}
+use Rattle.std.proofs.lemmas.List.{drop_more}
+use Rattle.fut_scalar.specs.declared.scalar.Scalar.{Scalar}
+use Rattle.futhark_core.specs.Arguments.{Values, values_on, value_at, with_front, is_none, gap_at, Reader, Refuses, ExplainsText}
+use Rattle.futhark_core.specs.Values.{behind_front}
+use Rattle.futhark_core.specs.declared.status.TextErr.{TextErr}
+use Rattle.futhark_core.specs.declared.status.TextErr.TheVariants as text
+
+pub explains : (params : List (List ℕ)) (bytes : List ℕ) (err : TextErr) → Refuses params bytes err → ExplainsText params bytes err
+explains params bytes text.Memory h = tt
+explains params bytes (text.BadText position) h = h
+explains params bytes (text.OutOfRange position) h = h
+explains params bytes (text.Missing param) h = h
+explains params bytes (text.Extra position) h = h
+
+shift : (values : List Scalar) (v : Scalar) (rest : Values) → behind_front (values ++ v ∷ []) rest ≡ behind_front values (with_front v rest)
+shift values v (Ok others) = ap Ok (append_assoc values (v ∷ []) others)
+shift values v (Err err) = refl
+
+module _ (params : List (List ℕ)) (i : ℕ) (d : List ℕ) (values : List Scalar) (position : ℕ) (bytes : List ℕ) (whole : Values)
+    (last : Bool) (gap : ℕ) (front : List ℕ) where
+  -- what is read from here on is a value of this parameter, and then the others
+  opened : i < length params → behind_front values (values_on (drop i params) (i + 1) position bytes) ≡ whole →
+      last ≡ is_none (drop (i + 1) params) → gap ≡ gap_at bytes → front ≡ drop gap bytes →
+      behind_front values (value_at last (values_on (drop (i + 1) params)) (i + 1) (position + gap) front) ≡ whole
+  opened within same is_last is_gap is_front =
+      let next = rw (drop_more params i d within) at same in
+      rw (is_last, is_front, is_gap) next
+
+  pub refused : (err : TextErr) → i < length params → behind_front values (values_on (drop i params) (i + 1) position bytes) ≡ whole →
+      last ≡ is_none (drop (i + 1) params) → gap ≡ gap_at bytes → front ≡ drop gap bytes →
+      ((others : Reader) → value_at last others (i + 1) (position + gap) front ≡ Err err) → whole ≡ Err err
+  refused err within same is_last is_gap is_front gives =
+      sym (opened within same is_last is_gap is_front) ∙ ap (behind_front values) (gives (values_on (drop (i + 1) params)))
+
+  pub followed : (v : Scalar) (n : ℕ) (rest : List ℕ) → i < length params → behind_front values (values_on (drop i params) (i + 1) position bytes) ≡ whole →
+      last ≡ is_none (drop (i + 1) params) → gap ≡ gap_at bytes → front ≡ drop gap bytes → rest ≡ drop n front →
+      ((others : Reader) → value_at last others (i + 1) (position + gap) front ≡ with_front v (others (i + 1 + 1) (position + gap + n) (drop n front))) →
+      behind_front (values ++ v ∷ []) (values_on (drop (i + 1) params) (i + 1 + 1) (position + gap + n) rest) ≡ whole
+  followed v n rest within same is_last is_gap is_front is_rest gives =
+      rw is_rest (shift values v _ ∙ sym (ap (behind_front values) (gives (values_on (drop (i + 1) params)))) ∙ opened within same is_last is_gap is_front)
+
+pub count_step : (position gap n total : ℕ) (bytes front rest : List ℕ) → position + length bytes ≡ total → gap ≤ length bytes → n ≤ length front →
+    front ≡ drop gap bytes → rest ≡ drop n front → position + gap + n + length rest ≡ total
+count_step position gap n total bytes front rest whole p q is_front is_rest =
+    let a : length front ≡ length bytes - gap = ap length is_front ∙ length-drop gap bytes in
+    let b : length rest ≡ length front - n = ap length is_rest ∙ length-drop n front in
+    omega arith
+
+-- behind the last value something else than blanks stands
+pub extra : (params : List (List ℕ)) (i position gap : ℕ) (values : List Scalar) (bytes : List ℕ) (whole : Values) →
+    drop i params ≡ [] → behind_front values (values_on (drop i params) (i + 1) position bytes) ≡ whole → gap ≡ gap_at bytes → gap < length bytes →
+    whole ≡ Err (text.Extra (position + gap))
+extra params i position gap values bytes whole none same is_gap more =
+    let here = rw none at same in
+    let some : drop gap bytes ≡ get_or bytes gap 0 ∷ drop (gap + 1) bytes = drop_more bytes gap 0 more in
+    let there = rw (← is_gap, some) at here in
+    sym there
+
+pub one_more : (values : List Scalar) (v : Scalar) (i : ℕ) → length values ≡ i → length (values ++ v ∷ []) ≡ i + 1
+one_more values v i e = simp length-append (omega arith)

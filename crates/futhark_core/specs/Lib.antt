@@ -1,0 +1,11 @@
+pub mod Words
+pub mod Status
+pub mod Grammar
+pub mod Reading
+pub mod Front
+pub mod Meaning
+pub mod Arguments
+pub mod Values
+pub mod Report
+pub mod Row
+pub mod Comes

@@ -1,0 +1,22 @@
+//! The run of a program, from its words, its files and its input to its result and its line.
+//!
+//! The theorem of the project is the contract of [`run_futhark`].
+#![tactic(auto)]
+
+mod arguments;
+mod evaluator;
+mod front;
+mod integer;
+mod line;
+mod output;
+mod parser;
+mod program;
+mod reading;
+mod run;
+mod scope;
+mod status;
+mod words;
+
+pub use line::report;
+pub use run::run_futhark;
+pub use status::{LimitKind, ModErr, ParseErr, Refused, Status, TextErr, Why, code};
