@@ -1,12 +1,12 @@
 -- A run comes to one end: each stage does, and so does one stage after another.
 use Rattle.std.proofs.Common.{◌≡◌, ℕ, List, length, sym, ap, subst, ◌∙◌, arith, inl, inr}
-use Rattle.std.specs.Prelude.{Some, Result, Ok, Err}
+use Rattle.std.specs.Prelude.{Option, None, Some, Result, Ok, Err}
 use Rattle.fut_scalar.specs.declared.place.Place.{Place}
 use Rattle.fut_scalar.specs.declared.scalar.Scalar.{Scalar}
 use Rattle.fut_token.specs.declared.token.Token.{Token}
 use Rattle.fut_lexer.specs.Lexing.{OneReading}
 use Rattle.futhark_core.specs.Front.{first_file}
-use Rattle.futhark_core.specs.Comes.{Stage, Onward, Then, Commanded, Held, Tokenized, Parsed, Bound, Argued, Comes}
+use Rattle.futhark_core.specs.Comes.{Stage, Onward, Then, Commanded, Held, Tokenized, Parsed, Bound, FrontComes, Argued, Comes}
 use Rattle.futhark_core.specs.declared.program.Program.{Program}
 use Rattle.futhark_core.specs.declared.status.ParseErr.TheVariants as parse
 use Rattle.futhark_core.specs.declared.status.ModErr.TheVariants as names
@@ -38,13 +38,14 @@ commanded words (Err s) (Err t) p q =
 some_same : {A : Type 0} (x : A) (y : A) → Some x ≡ Some y → x ≡ y
 some_same x y e = cc
 
-held : (files : List (List ℕ × List ℕ)) (file : List ℕ) → Functional (Held files file)
-held files file (Ok a) (Ok b) p q = let x = p.0 in let y = q.0 in cc
-held files file (Ok a) (Err t) p q =
+held : (files : Option (List (List ℕ × List ℕ))) (file : List ℕ) → Functional (Held files file)
+held None file a b p q = absurd p
+held (Some files) file (Ok a) (Ok b) p q = let x = p.0 in let y = q.0 in cc
+held (Some files) file (Ok a) (Err t) p q =
     let e = some_same a q.0 (sym p.0 ∙ q.1) in let few = p.1 in let many = q.2 in let l = ap length e in absurd (omega arith)
-held files file (Err s) (Ok b) p q =
+held (Some files) file (Err s) (Ok b) p q =
     let e = some_same b p.0 (sym q.0 ∙ p.1) in let few = q.1 in let many = p.2 in let l = ap length e in absurd (omega arith)
-held files file (Err s) (Err t) p q = ap Err (p.3 ∙ sym q.3)
+held (Some files) file (Err s) (Err t) p q = ap Err (p.3 ∙ sym q.3)
 
 module _ (one : OneReading) where
   tokenized : (file text : List ℕ) → Functional (Tokenized file text)
@@ -74,27 +75,31 @@ module _ (one : OneReading) where
       ap Err (p.3 ∙ ap (λ name. Names (record { why = why.Names (names.Unbound name p.1); path = file })) e
       ∙ ap (λ place. Names (record { why = why.Names (names.Unbound q.0 place); path = file })) d ∙ sym q.3)
 
-  refused_argued : (program : Program) (bytes : List ℕ) (s t : Status) → Argued program bytes (Err s) → Argued program bytes (Err t) → s ≡ t
+  refused_argued : (program : Program) (bytes : List ℕ) (s t : Status) → Argued program (Some bytes) (Err s) → Argued program (Some bytes) (Err t) → s ≡ t
   refused_argued program bytes s t (inl p) (inl q) = p.1 ∙ sym q.1
   refused_argued program bytes s t (inl p) (inr q) = let many = p.0 in let few = q.1 in absurd (omega arith)
   refused_argued program bytes s t (inr p) (inl q) = let few = p.1 in let many = q.0 in absurd (omega arith)
   refused_argued program bytes s t (inr p) (inr q) =
       let x = p.2 in let y = q.2 in let e : p.0 ≡ q.0 = cc in p.3 ∙ ap Input e ∙ sym q.3
 
-  not_argued : (program : Program) (bytes : List ℕ) (values : List Scalar) (s : Status) → Argued program bytes (Ok values) → Argued program bytes (Err s) → ⊥
+  not_argued : (program : Program) (bytes : List ℕ) (values : List Scalar) (s : Status) →
+      Argued program (Some bytes) (Ok values) → Argued program (Some bytes) (Err s) → ⊥
   not_argued program bytes values s p (inl q) = let few = p.0 in let many = q.0 in omega arith
   not_argued program bytes values s p (inr q) = let x = p.1 in let y = q.2 in cc
 
-  argued : (program : Program) (bytes : List ℕ) → Functional (Argued program bytes)
-  argued program bytes (Ok a) (Ok b) p q = let x = p.1 in let y = q.1 in cc
-  argued program bytes (Ok a) (Err t) p q = absurd (not_argued program bytes a t p q)
-  argued program bytes (Err s) (Ok b) p q = absurd (not_argued program bytes b s q p)
-  argued program bytes (Err s) (Err t) p q = ap Err (refused_argued program bytes s t p q)
+  argued : (program : Program) (left : Option (List ℕ)) → Functional (Argued program left)
+  argued program None a b p q = absurd p
+  argued program (Some bytes) (Ok a) (Ok b) p q = let x = p.1 in let y = q.1 in cc
+  argued program (Some bytes) (Ok a) (Err t) p q = absurd (not_argued program bytes a t p q)
+  argued program (Some bytes) (Err s) (Ok b) p q = absurd (not_argued program bytes b s q p)
+  argued program (Some bytes) (Err s) (Err t) p q = ap Err (refused_argued program bytes s t p q)
 
-  pub one_end : (words : List (List ℕ)) (files : List (List ℕ × List ℕ)) (bytes : List ℕ) → Functional (Comes words files bytes)
-  one_end words files bytes =
+  pub one_front : (words : List (List ℕ)) (files : Option (List (List ℕ × List ℕ))) → Functional (FrontComes words files)
+  one_front words files =
       then (Commanded words) _ (commanded words) (λ file.
       then (Held files file) _ (held files file) (λ text.
       then (Tokenized file text) _ (tokenized file text) (λ tokens.
-      then (Parsed file tokens) _ (parsed file tokens) (λ program.
-      then (Bound file program) _ (bound file program) (λ program. argued program bytes)))))
+      then (Parsed file tokens) _ (parsed file tokens) (λ program. bound file program))))
+
+  pub one_end : (words : List (List ℕ)) (files : Option (List (List ℕ × List ℕ))) (left : Option (List ℕ)) → Functional (Comes words files left)
+  one_end words files left = then (FrontComes words files) _ (one_front words files) (λ program. argued program left)

@@ -1,7 +1,7 @@
 -- What a run comes to, from its words, its files and its input alone: where nothing outside fails and memory is there.
 --
 -- A run goes by stages, one after another. Each gives something to the next, or ends the run with a status.
-use Rattle.std.specs.Prelude.{◌≡◌, ◌≤◌, ◌<◌, ◌⊎◌, ℕ, List, length, Some, None, Result, Ok, Err}
+use Rattle.std.specs.Prelude.{◌≡◌, ◌≤◌, ◌<◌, ◌⊎◌, ℕ, List, length, Option, Some, None, Result, Ok, Err}
 use Rattle.fut_scalar.specs.declared.scalar.Scalar.{Scalar}
 use Rattle.fut_scalar.specs.declared.place.Place.{Place}
 use Rattle.fut_token.specs.declared.token.Token.{Token}
@@ -42,10 +42,11 @@ abbrev pub Commanded : List (List ℕ) → Stage (List ℕ)
 Commanded words (Ok file) = command_of words ≡ Ok file
 Commanded words (Err status) = (word : ℕ) × (command_of words ≡ Err word) × (status ≡ Usage word)
 
--- the file holds a text, which may be too long
-abbrev pub Held : List (List ℕ × List ℕ) → List ℕ → Stage (List ℕ)
-Held files file (Ok text) = (file_at files file ≡ Some text) × (length text ≤ 4194304)
-Held files file (Err status) = (text : List ℕ) × (file_at files file ≡ Some text) × (4194304 < length text) × (status ≡ Limit limit.FileBytes)
+-- a told file holds a text, which may be too long
+abbrev pub Held : Option (List (List ℕ × List ℕ)) → List ℕ → Stage (List ℕ)
+Held None file end = ⊥
+Held (Some files) file (Ok text) = (file_at files file ≡ Some text) × (length text ≤ 4194304)
+Held (Some files) file (Err status) = (text : List ℕ) × (file_at files file ≡ Some text) × (4194304 < length text) × (status ≡ Limit limit.FileBytes)
 
 -- the text has tokens, or is refused
 abbrev pub Tokenized : List ℕ → List ℕ → Stage (List Token)
@@ -63,20 +64,25 @@ Bound file program (Ok same) = (unbound_of program.params program.body ≡ None)
 Bound file program (Err status) = (name : List ℕ) × (place : Place) × (unbound_of program.params program.body ≡ Some (name, place))
     × (status ≡ Names (record { why = why.Names (names.Unbound name place); path = file }))
 
--- the input reads as arguments, or is refused, or is too long
-abbrev pub Argued : Program → List ℕ → Stage (List Scalar)
-Argued program bytes (Ok values) = (length bytes ≤ most_input) × Reads program.params bytes values
-Argued program bytes (Err status) = ((most_input < length bytes) × (status ≡ Limit limit.InputBytes))
-    ⊎ ((err : TextErr) × (length bytes ≤ most_input) × Refuses program.params bytes err × (status ≡ Input err))
-
--- the run of these words over these files and this input comes to arguments for a program, or to a status
-abbrev pub Comes : List (List ℕ) → List (List ℕ × List ℕ) → List ℕ → Stage (List Scalar)
-Comes words files bytes =
+-- the words name a file whose text spells a program with bound names
+abbrev pub FrontComes : List (List ℕ) → Option (List (List ℕ × List ℕ)) → Stage Program
+FrontComes words files =
     Then (Commanded words) (λ file.
     Then (Held files file) (λ text.
     Then (Tokenized file text) (λ tokens.
-    Then (Parsed file tokens) (λ program.
-    Then (Bound file program) (λ program. Argued program bytes)))))
+    Then (Parsed file tokens) (λ program. Bound file program))))
+
+-- the told input reads as arguments, or is refused, or is too long
+abbrev pub Argued : Program → Option (List ℕ) → Stage (List Scalar)
+Argued program None end = ⊥
+Argued program (Some bytes) (Ok values) = (length bytes ≤ most_input) × Reads program.params bytes values
+Argued program (Some bytes) (Err status) = ((most_input < length bytes) × (status ≡ Limit limit.InputBytes))
+    ⊎ ((err : TextErr) × (length bytes ≤ most_input) × Refuses program.params bytes err × (status ≡ Input err))
+
+-- The run of these words over these files and this input comes to arguments for its program, or to a status.
+-- Where a stage would ask what is not told, it comes to nothing.
+abbrev pub Comes : List (List ℕ) → Option (List (List ℕ × List ℕ)) → Option (List ℕ) → Stage (List Scalar)
+Comes words files left = Then (FrontComes words files) (λ program. Argued program left)
 
 -- no count of faults rose
 pub record NoFault (old new : Outside) : Type 0 where
@@ -89,9 +95,7 @@ abbrev pub ends_with : Result (List Scalar) Status → Status
 ends_with (Ok values) = Done
 ends_with (Err status) = status
 
--- Where the files and the input are told and no fault rose, the status is the one that the run comes to,
--- or memory ran out.
+-- Where the run comes to an end by what is told, and no fault rose, that is its status, or memory ran out.
 abbrev pub Complete : Status → List (List ℕ) → Outside → Outside → Type 0
-Complete status words old new = (files : List (List ℕ × List ℕ)) (bytes : List ℕ) (end : Result (List Scalar) Status) →
-    old.loader.files ≡ Some files → old.input.left ≡ Some bytes → Comes words files bytes end → NoFault old new →
+Complete status words old new = (end : Result (List Scalar) Status) → Comes words old.loader.files old.input.left end → NoFault old new →
     (status ≡ ends_with end) ⊎ (status ≡ Memory)
