@@ -3,6 +3,8 @@ use fut_io::{MemLoader, MemSink, MemSource, Sink, Source, SureSink, SureSource};
 use fut_scalar::{List, Name, NoMemory};
 use futhark_core::{Status, code, run_futhark};
 use std::alloc::Global;
+use std::fmt::Write;
+use std::str;
 use std::test::Fail;
 
 /// The program of the first row.
@@ -46,161 +48,111 @@ fn run_over<S: Source, K: Sink>(
     Ok((status, err))
 }
 
+/// What a run answers, in one line: its status, and what came on out and on err.
+fn answer(alloc: Global, words: &[&str], text: &str, input: &str) -> Result<String, Fail> {
+    let mut input = source(alloc, input, none(alloc))?;
+    let mut out = sink(alloc, none(alloc))?;
+    let (status, err) = run_over(alloc, words, text, &mut input, &mut out)?;
+    let mut line = String::new(alloc);
+    write!(line, "{} ", code(&status))?;
+    line.push_str(str::from_utf8(out.held())?)?;
+    line.push_str(str::from_utf8(err.held())?)?;
+    Ok(line)
+}
+
 #[test]
-fn each_status_has_its_line(rt: HostRuntime) -> Result<(), Fail> {
-    let alloc = rt.alloc();
-    let rows: [(&[&str], &str, &str, u8, &str, &str); 24] = [
-        (&RUN, SQUARE, "3 4", 0, "13i64\n", ""),
+fn arguments_are_read_or_refused(rt: HostRuntime) -> Result<(), Fail> {
+    let rows = [
+        ("3 4", "0 13i64\n"),
+        ("3", "11 futhark: input: parameter 2 is missing\n"),
+        ("", "11 futhark: input: parameter 1 is missing\n"),
+        ("3 4 5", "11 futhark: input: 4: extra text\n"),
+        ("3 x", "11 futhark: input: 2: bad text\n"),
+        ("3 4x", "11 futhark: input: 3: bad text\n"),
+        ("3 4.5", "11 futhark: input: 3: extra text\n"),
+        ("5i 6", "11 futhark: input: 2: bad text\n"),
+        ("-", "11 futhark: input: 1: bad text\n"),
         (
-            &RUN,
-            SQUARE,
-            "3",
-            11,
-            "",
-            "futhark: input: parameter 2 is missing\n",
-        ),
-        (
-            &RUN,
-            SQUARE,
-            "3 4 5",
-            11,
-            "",
-            "futhark: input: 4: extra text\n",
-        ),
-        (&RUN, SQUARE, "3 x", 11, "", "futhark: input: 2: bad text\n"),
-        (
-            &RUN,
-            SQUARE,
-            "3 4x",
-            11,
-            "",
-            "futhark: input: 3: bad text\n",
-        ),
-        (
-            &RUN,
-            SQUARE,
-            "3 4.5",
-            11,
-            "",
-            "futhark: input: 3: extra text\n",
-        ),
-        (
-            &RUN,
-            SQUARE,
-            "5i 6",
-            11,
-            "",
-            "futhark: input: 2: bad text\n",
-        ),
-        (&RUN, SQUARE, "-", 11, "", "futhark: input: 1: bad text\n"),
-        (
-            &RUN,
-            SQUARE,
             "1 18446744073709551616",
-            11,
-            "",
-            "futhark: input: 21: bad text\n",
+            "11 futhark: input: 21: bad text\n",
         ),
         (
-            &RUN,
-            SQUARE,
             "9223372036854775808 1",
-            11,
-            "",
-            "futhark: input: 0: number out of range\n",
+            "11 futhark: input: 0: number out of range\n",
         ),
         (
-            &RUN,
-            "def main (x: i64) (y: i64): i64 = x - y",
             " -9223372036854775808i64\n9223372036854775807\t",
-            0,
-            "1i64\n",
-            "",
-        ),
-        (
-            &RUN,
-            "def main (x: i64) (y: i64): i64 = x + y",
-            "9223372036854775807 1",
-            0,
-            "-9223372036854775808i64\n",
-            "",
-        ),
-        (
-            &RUN,
-            "def main (x: i64): i64 = x + z",
-            "1",
-            4,
-            "",
-            "futhark: t.fut:1:30: z is not bound\n",
-        ),
-        (
-            &RUN,
-            "def main (été: i64): i64 =\n  été * y1 + z",
-            "1",
-            4,
-            "",
-            "futhark: t.fut:2:9: y1 is not bound\n",
-        ),
-        (
-            &RUN,
-            "def main (x: i64) (x: i64): i64 = x",
-            "1 2",
-            0,
-            "2i64\n",
-            "",
-        ),
-        (
-            &RUN,
-            "def main: i64 = iota 3",
-            "",
-            3,
-            "",
-            "futhark: t.fut:1:17: not built yet\n",
-        ),
-        (
-            &RUN,
-            "def main: i64 = 1 +",
-            "",
-            3,
-            "",
-            "futhark: t.fut:1:19: not built yet\n",
-        ),
-        (&RUN, "", "", 3, "", "futhark: t.fut:1:1: not built yet\n"),
-        (&["walk"], SQUARE, "", 1, "", "futhark: usage: word 1\n"),
-        (&["run"], SQUARE, "", 1, "", "futhark: usage: word 2\n"),
-        (
-            &["run", "t.fut", "--x"],
-            SQUARE,
-            "",
-            1,
-            "",
-            "futhark: usage: word 3\n",
-        ),
-        (
-            &["run", "--", "t.fut", "t.fut"],
-            SQUARE,
-            "",
-            1,
-            "",
-            "futhark: usage: word 4\n",
-        ),
-        (&["run", "--", "t.fut"], SQUARE, "3 4", 0, "13i64\n", ""),
-        (
-            &["run", "no.fut"],
-            SQUARE,
-            "",
-            2,
-            "",
-            "futhark: cannot load no.fut\n",
+            "0 9223372036854775807i64\n",
         ),
     ];
-    for (words, text, input, wanted, out, err) in rows {
-        let mut input = source(alloc, input, none(alloc))?;
-        let mut held = sink(alloc, none(alloc))?;
-        let (status, told) = run_over(alloc, words, text, &mut input, &mut held)?;
-        assert_eq!(rt; code(&status), wanted, "{text}");
-        assert_eq!(rt; held.held(), out.as_bytes(), "{text}");
-        assert_eq!(rt; told.held(), err.as_bytes(), "{text}");
+    for (input, wanted) in rows {
+        assert_eq!(rt;
+            answer(rt.alloc(), &RUN, SQUARE, input)?.as_str(),
+            wanted,
+            "{input}"
+        );
+    }
+    Ok(())
+}
+
+#[test]
+fn programs_are_run_or_refused(rt: HostRuntime) -> Result<(), Fail> {
+    let rows = [
+        (
+            "def main (x: i64) (y: i64): i64 = x + y",
+            "0 -9223372036854775808i64\n",
+        ),
+        ("def main (x: i64) (x: i64): i64 = x", "0 1i64\n"),
+        (
+            "def main (x: i64) (y: i64): i64 = 2 * y - x * x * y",
+            "0 1i64\n",
+        ),
+        (
+            "def main (x: i64): i64 = x + z",
+            "4 futhark: t.fut:1:30: z is not bound\n",
+        ),
+        (
+            "def main (été: i64): i64 =\n  été * y1 + z",
+            "4 futhark: t.fut:2:9: y1 is not bound\n",
+        ),
+        (
+            "def main: i64 = iota 3",
+            "3 futhark: t.fut:1:17: not built yet\n",
+        ),
+        (
+            "def main: i64 = 1 +",
+            "3 futhark: t.fut:1:19: not built yet\n",
+        ),
+        ("", "3 futhark: t.fut:1:1: not built yet\n"),
+        (
+            "def main: i64 = 1.5",
+            "3 futhark: t.fut:1:17: float is left out\n",
+        ),
+        ("def main: i64 = $", "3 futhark: t.fut:1:17: bad token\n"),
+    ];
+    for (text, wanted) in rows {
+        let answer = answer(rt.alloc(), &RUN, text, "9223372036854775807 1")?;
+        assert_eq!(rt; answer.as_str(), wanted, "{text}");
+    }
+    Ok(())
+}
+
+#[test]
+fn words_are_read_or_refused(rt: HostRuntime) -> Result<(), Fail> {
+    let rows: [(&[&str], &str); 7] = [
+        (&[], "1 futhark: usage: word 1\n"),
+        (&["walk"], "1 futhark: usage: word 1\n"),
+        (&["run"], "1 futhark: usage: word 2\n"),
+        (&["run", "t.fut", "--x"], "1 futhark: usage: word 3\n"),
+        (
+            &["run", "--", "t.fut", "t.fut"],
+            "1 futhark: usage: word 4\n",
+        ),
+        (&["run", "--", "t.fut"], "0 13i64\n"),
+        (&["run", "no.fut"], "2 futhark: cannot load no.fut\n"),
+    ];
+    for (words, wanted) in rows {
+        assert_eq!(rt; answer(rt.alloc(), words, SQUARE, "3 4")?.as_str(), wanted);
     }
     Ok(())
 }
