@@ -1,0 +1,86 @@
+// What numbers nodes and names, and the plain enums of the trees.
+use fut_scalar::{BinOp, Name, Place};
+
+/// The number of a node: its file, and a number that no other node of that file has.
+///
+/// The number follows from the token that makes the node a node: it is four times the position of that
+/// token in the text, and 1, 2 or 3 more for the further nodes of the same token. So nodes are numbered in
+/// reading order, and a path of k names has k numbers of its own from its first on.
+#[derive(Clone, Copy, Debug, PartialEq, Eq)]
+pub struct NodeId {
+    pub file: u32,
+    pub number: u32,
+}
+
+/// The number of a bound name.
+#[derive(Clone, Copy, Debug, PartialEq, Eq)]
+pub struct BindId(pub u32);
+
+/// A use of a name after elaboration.
+#[derive(Debug, Drop)]
+pub enum Ref {
+    Bound(BindId),
+    Prim(Name),
+}
+
+/// A name and where it is spelled.
+#[derive(Debug, Drop)]
+pub struct Label {
+    pub name: Name,
+    pub place: Place,
+}
+
+/// An operator of expressions.
+#[derive(Clone, Copy, Debug, PartialEq, Eq)]
+pub enum Oper {
+    Bin(BinOp),
+    Neg,
+    Not,
+    /// `>->`
+    Then,
+    /// `<-<`
+    After,
+}
+
+/// How a range ends.
+#[derive(Clone, Copy, Debug, PartialEq, Eq)]
+pub enum End {
+    /// `..<`
+    Below,
+    /// `..>`
+    Above,
+    /// `...`
+    Through,
+}
+
+/// Where a token stands: its place, and the position in bytes of its first byte.
+#[derive(Clone, Copy, Debug, PartialEq, Eq)]
+pub struct Spot {
+    pub place: Place,
+    pub start: u64,
+}
+
+/// A form of the language that this profile leaves out.
+#[derive(Clone, Copy, Debug, PartialEq, Eq)]
+pub enum What {
+    /// A character between quotes.
+    Character,
+    /// A text that does not follow `import`.
+    Text,
+    /// `match`, `case` or a constructor.
+    SumType,
+    /// A size that is no path and no integer.
+    SizeExpression,
+    /// `^` or `~` directly after `type`.
+    LiftedType,
+    /// `?` in a type.
+    ExistentialSize,
+    /// `(` after `def`, `let`, `entry` or `val`.
+    OperatorDefinition,
+    /// `.` directly followed by `(`.
+    LocalOpen,
+    /// A second `:` in an index that is not `::-1`.
+    Stride,
+    /// A slice in an update.
+    SliceUpdate,
+}

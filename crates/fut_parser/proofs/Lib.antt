@@ -1,0 +1,9 @@
+pub mod Fixeds
+pub mod Post
+pub mod Shorter
+pub mod SoundParts
+pub mod SoundPhrases
+pub mod CompleteParts
+pub mod CompletePhrases
+pub mod Theorems
+pub mod Loops

@@ -1,0 +1,79 @@
+-- What holds of what was read, and of a fault.
+use Rattle.std.proofs.Common.{◌≡◌, ℕ, Bool, true, false, cond, ◌||◌, ◌&&◌, List, length, Result, Ok, Err, refl}
+use Rattle.fut_token.specs.declared.token.Fixed.TheVariants as fixed
+use Rattle.fut_token.specs.declared.token.Token.{Token}
+use Rattle.fut_ast.specs.declared.node.What.{What}
+use Rattle.fut_ast.specs.declared.node.What.TheVariants as what
+use Rattle.fut_ast.specs.Tokens.{starts, is_text}
+use Rattle.fut_ast.specs.LeftOut.{begins_left_out, is_char, is_constructor}
+use Rattle.fut_ast.specs.Sorts.{Sort}
+use Rattle.fut_parser.specs.declared.fault.Fault.{Fault}
+use Rattle.fut_parser.specs.declared.fault.Fault.TheVariants.{Syntax, TooDeep, LeftOut}
+use Rattle.fut_parser.specs.Reading.{◌>>=◌, refuse, refuse_sort, is_type_sort}
+
+pub data Post {A : Type 0} (E : Fault → Type 0) (P : A → Type 0) : Result A Fault → Type 0 where
+  good : {x : A} → P x → Post E P (Ok x)
+  bad : {e : Fault} → E e → Post E P (Err e)
+
+pub post_bind : {A B : Type 0} {E : Fault → Type 0} {P : A → Type 0} {Q : B → Type 0} {r : Result A Fault} (f : A → Result B Fault) → Post E P r → ((y : A) → P y → Post E Q (f y)) → Post E Q (r >>= f)
+post_bind f (good {x = x} h) k = k x h
+post_bind f (bad h) k = bad h
+
+pub post_if : {A : Type 0} {E : Fault → Type 0} {P : A → Type 0} (b : Bool) {x y : Result A Fault} → (b ≡ true → Post E P x) → (b ≡ false → Post E P y) → Post E P (cond b x y)
+post_if true h k = h refl
+post_if false h k = k refl
+
+pub post_map : {A : Type 0} {E : Fault → Type 0} {P Q : A → Type 0} {r : Result A Fault} → Post E P r → ((y : A) → P y → Q y) → Post E Q r
+post_map (good {x = x} h) k = good (k x h)
+post_map (bad h) k = bad h
+
+pub post_call : {A B : Type 0} {E F : Fault → Type 0} {P : A → Type 0} {Q : B → Type 0} {r : Result A Fault} → ((e : Fault) → E e → F e) → (f : A → Result B Fault) → Post E P r → ((y : A) → P y → Post F Q (f y)) → Post F Q (r >>= f)
+post_call l f (good {x = x} h) k = k x h
+post_call l f (bad {e = e} h) k = bad (l e h)
+
+pub post_lift : {A : Type 0} {E F : Fault → Type 0} {P Q : A → Type 0} {r : Result A Fault} → ((e : Fault) → E e → F e) → Post E P r → ((y : A) → P y → Q y) → Post F Q r
+post_lift l (good {x = x} h) k = good (k x h)
+post_lift l (bad {e = e} h) k = bad (l e h)
+
+-- ---- faults of sound reading
+
+-- where a syntax error stands nothing is claimed; a token stands too deep as D says; a form that is left out begins
+pub data Stands (D : List Token → Type 0) : Fault → Type 0 where
+  syntax_stands : {k : ℕ} → Stands D (Syntax k)
+  deep_stands : (rest : List Token) → D rest → Stands D (TooDeep (length rest))
+  left_out_stands : (rest : List Token) (w : What) → begins_left_out w rest ≡ true → Stands D (LeftOut (length rest) w)
+
+pub lift : {D F : List Token → Type 0} → ((rest : List Token) → D rest → F rest) → (e : Fault) → Stands D e → Stands F e
+lift k e syntax_stands = syntax_stands
+lift k e (deep_stands rest d) = deep_stands rest (k rest d)
+lift k e (left_out_stands rest w b) = left_out_stands rest w b
+
+pub stands_if : {D : List Token → Type 0} (b : Bool) {x y : Fault} → (b ≡ true → Stands D x) → (b ≡ false → Stands D y) → Stands D (cond b x y)
+stands_if true h k = h refl
+stands_if false h k = k refl
+
+pub refused : {D : List Token → Type 0} (ts : List Token) → Stands D (refuse ts)
+unfolding refuse
+refused ts =
+    stands_if (is_char ts) (λ e. left_out_stands ts what.Character e)
+    (λ d1. stands_if (is_text ts) (λ e. left_out_stands ts what.Text e)
+    (λ d2. stands_if (starts fixed.KeyMatch ts || starts fixed.KeyCase ts || is_constructor ts) (λ e. left_out_stands ts what.SumType e) (λ d3. syntax_stands)))
+
+and_right : (a b : Bool) → (a && b) ≡ true → b ≡ true
+and_right true b e = e
+and_right false b e = absurd cc
+
+pub refused_sort : {D : List Token → Type 0} (n : Sort) (ts : List Token) → Stands D (refuse_sort n ts)
+unfolding refuse_sort
+refused_sort n ts = stands_if (is_type_sort n && starts fixed.Question ts) (λ e. left_out_stands ts what.ExistentialSize (and_right (is_type_sort n) _ e)) (λ d. refused ts)
+
+-- ---- complete reading
+
+-- just this is read, or it is too deep
+pub data Gets {A : Type 0} : Result A Fault → A → Type 0 where
+  gets : {v : A} → Gets (Ok v) v
+  too_deep : {k : ℕ} {v : A} → Gets (Err (TooDeep k)) v
+
+pub then_gets : {A B : Type 0} {r : Result A Fault} {v : A} {w : B} (f : A → Result B Fault) → Gets r v → Gets (f v) w → Gets (r >>= f) w
+then_gets f gets k = k
+then_gets f too_deep k = too_deep

@@ -1,0 +1,14 @@
+//! The parser, proved equal to the grammar of `fut_ast`.
+#![tactic(auto)]
+
+mod fault;
+mod heads;
+mod module_types;
+mod mtype_nodes;
+mod pat_nodes;
+mod patterns;
+mod tokens;
+mod type_nodes;
+mod types;
+
+pub use fault::{Fault, Stop};
