@@ -5,6 +5,7 @@ use fut_io::{FileLoader, Sink, StdSink, StdSource, write_all};
 use fut_scalar::{List, Name};
 use futhark_core::{Status, code, report, run_futhark};
 use std::env;
+use std::io::ErrorKind;
 use std::process::ExitCode;
 
 const HELP: &str = "\
@@ -22,8 +23,10 @@ const VERSION: &str = "melonclamp 0.1.0, Futhark in integers and truth values\n"
 
 /// The words after the program's name, or the status where they can't be had.
 fn words_of(rt: &HostRuntime) -> Result<List<Name>, Status> {
-    let Ok(args) = env::args(rt) else {
-        return Err(Status::Usage { word: 1 });
+    let args = match env::args(rt) {
+        Ok(args) => args,
+        Err(fault) if fault.kind() == ErrorKind::OutOfMemory => return Err(Status::Memory),
+        Err(_) => return Err(Status::Usage { word: 1 }),
     };
     let mut words: List<Name> = List::new(rt.alloc());
     let mut is_program = true;
