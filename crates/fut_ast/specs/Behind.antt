@@ -1,12 +1,13 @@
 -- What the next tokens do: begin a phrase of a sort, or go on with one.
-use Rattle.std.specs.Prelude.{ℕ, Bool, true, false, ◌&&◌, ◌||◌, not, List, Option, Some, None, is_some}
+use Rattle.std.specs.Prelude.{ℕ, zero, suc, Bool, true, false, ◌&&◌, ◌||◌, not, List, [], ◌∷◌, Option, Some, None, is_some}
 use Rattle.fut_token.specs.declared.token.Fixed.{Fixed}
 use Rattle.fut_token.specs.declared.token.Fixed.TheVariants as fixed
 use Rattle.fut_token.specs.declared.token.Token.{Token}
-use Rattle.fut_ast.specs.Tokens.{tail, starts, starts_tight, starts_loose, is_word, is_int, is_digits, is_variable}
+use Rattle.fut_ast.specs.Tokens.{tail, starts, starts_tight, starts_loose, is_word, is_int, is_one, is_digits, is_variable}
 use Rattle.fut_ast.specs.Operators.{operator_at, any_operator, section_at}
-use Rattle.fut_ast.specs.Parts.{Test, plain_paren, no_minus, unnamed_paren, no_counter, pattern_let, function_let, update_let}
-use Rattle.fut_ast.specs.Sorts.{Sort, Whole_type, Applied_type, Atomic_type, Type_name, Type_argument, Type_field, Whole_pat, Atomic_pat, Pat_field, Head_item, Size_item, Base, Atom, App, Unary, Chain, Operand, Range, Updated, Typed, Whole, Big, Right, Body, Inside, Exp_field, Index_item, Named_item, Let_item, Loop_item, Whole_mod, Applied_mod, First_mod, Atomic_mod, Far_mod, Mod_param, Whole_mtype, Atomic_mtype, Far_mtype, Spec_item, Dec_item, Dec_rest}
+use Rattle.fut_ast.specs.Parts.{Test, plain_paren, no_minus, unnamed_paren, no_counter, pattern_let, function_let, update_let, few_names, going_back, without}
+use Rattle.fut_ast.specs.LeftOut.{begins_left_out}
+use Rattle.fut_ast.specs.Sorts.{Sort, Whole_type, Applied_type, Atomic_type, Type_name, Type_argument, Type_field, Whole_pat, Atomic_pat, Pat_field, Head_item, Size_item, Base, Atom, App, Unary, Chain, Operand, Range, Updated, Typed, Whole, Big, Right, Body, Inside, Exp_field, Index_item, Named_item, Written_item, Let_item, Loop_item, Whole_mod, Applied_mod, First_mod, Atomic_mod, Far_mod, Mod_param, Whole_mtype, Atomic_mtype, Far_mtype, Spec_item, Dec_item, Dec_rest}
 use Rattle.fut_ast.specs.Rows.{Suffix, arrow, pat_type, indexed, field_name, field_digits, applied, operation, range_to, range_by, with_index, with_field, ascribed, coerced, applied_mod, sealed, with_type, Far, far_operand, far_right, far_mod, far_mtype}
 
 -- an argument of an application: an atom that begins with no tight bracket
@@ -56,6 +57,17 @@ is_section None ts = false
 is_section (Some fixed.Minus) ts = starts fixed.CloseParen ts
 is_section (Some o) ts = true
 
+-- more names than n and one stand there with points between them
+abbrev pub long_path : ℕ → List Token → Bool
+long_path zero ts = starts fixed.Dot (tail ts)
+long_path (suc n) ts = starts fixed.Dot (tail ts) && long_path n (tail (tail ts))
+
+-- "-1", or the tokens end before it
+abbrev pub goes_back : List Token → Bool
+goes_back [] = true
+goes_back (t ∷ []) = starts fixed.Minus (t ∷ [])
+goes_back (t ∷ u ∷ ts) = starts fixed.Minus (t ∷ u ∷ ts) && is_one (u ∷ ts)
+
 abbrev pub passes : Test → List Token → Bool
 passes plain_paren ts = not (starts fixed.CloseParen ts) && not (starts fixed.Dot ts) && not (is_section (any_operator ts) (tail ts))
 passes no_minus ts = not (starts fixed.Minus ts)
@@ -64,6 +76,9 @@ passes no_counter ts = not (is_word ts && starts fixed.Less (tail ts))
 passes pattern_let ts = not (is_update_let ts) && not (is_function_let ts)
 passes function_let ts = is_function_let ts
 passes update_let ts = is_update_let ts
+passes few_names ts = not (long_path 7 ts)
+passes going_back ts = goes_back (tail ts)
+passes (without w) ts = not (begins_left_out w ts)
 
 abbrev pub begins_mod_argument : List Token → Bool
 begins_mod_argument ts = is_word ts || starts fixed.OpenBrace ts || starts fixed.OpenParen ts || starts fixed.Backslash ts
@@ -111,6 +126,7 @@ begins Body ts = begins_operand ts || begins_big ts
 begins Exp_field ts = is_word ts
 begins Index_item ts = begins_operand ts || starts fixed.Colon ts
 begins Named_item ts = begins_operand ts || starts fixed.Colon ts
+begins Written_item ts = begins_operand ts
 begins Let_item ts = begins_pat ts || starts fixed.OpenBracket ts
 begins Loop_item ts = starts fixed.KeyFor ts || starts fixed.KeyWhile ts
 begins Whole_mod ts = begins_mod_argument ts || starts fixed.KeyImport ts

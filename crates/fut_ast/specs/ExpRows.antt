@@ -4,13 +4,14 @@ use Rattle.fut_token.specs.declared.token.Fixed.{Fixed}
 use Rattle.fut_token.specs.declared.token.Fixed.TheVariants as fixed
 use Rattle.fut_ast.specs.declared.node.Spot.{Spot}
 use Rattle.fut_ast.specs.declared.node.Oper.TheVariants as oper
+use Rattle.fut_ast.specs.declared.node.What.TheVariants as what
 use Rattle.fut_ast.specs.declared.exp.Form.TheVariants as form
 use Rattle.fut_ast.specs.declared.exp.Bind.{roll-Bind}
 use Rattle.fut_ast.specs.declared.exp.Ix.TheVariants as ix
 use Rattle.fut_ast.specs.declared.exp.LoopForm.TheVariants as loop_form
 use Rattle.fut_ast.specs.Operators.{level}
-use Rattle.fut_ast.specs.Sorts.{Sort, Path, Text, Atomic_pat, Whole_pat, Head_item, Size_item, Whole_type, Applied_type, Base, Atom, Unary, Chain, Whole, Big, Exp_field, Index_item, Named_item, Let_item, Loop_item}
-use Rattle.fut_ast.specs.Parts.{Part, Look, plain_paren, no_minus, no_counter, pattern_let, function_let, update_let, Sign, Tight, Word, Names, Number, One, Operator, Sub, Commas, Many, Several, Maybe, Optional, Upto, Argument, Loop_start, Builds}
+use Rattle.fut_ast.specs.Sorts.{Sort, Path, Text, Atomic_pat, Whole_pat, Head_item, Size_item, Whole_type, Applied_type, Base, Atom, Unary, Chain, Whole, Big, Exp_field, Index_item, Named_item, Written_item, Let_item, Loop_item}
+use Rattle.fut_ast.specs.Parts.{Part, Look, plain_paren, no_minus, no_counter, pattern_let, function_let, update_let, going_back, without, Sign, Tight, Word, Names, Number, One, Operator, Sub, Commas, Many, Several, Maybe, Optional, Upto, Argument, Loop_start, Builds}
 use Rattle.fut_ast.specs.Nodes.{node, exp_at, round_exp_of, use_of, bound, let_one, index_of, named_index_of, named_slice_of, operator_section, right_section, left_section, field_section, index_section}
 
 pub data ExpRow : Sort → Type 0 where
@@ -44,6 +45,8 @@ pub data ExpRow : Sort → Type 0 where
   named_from : ExpRow Named_item
   named_to : ExpRow Named_item
   named_backwards : ExpRow Named_item
+  -- a part of the index of what is written, which is no slice
+  written_index : ExpRow Written_item
   -- "assert" and two atoms
   assertion : ExpRow Unary
   -- "-" and "!" before what binds as tight or tighter
@@ -76,16 +79,17 @@ exp_parts record_of = Sign fixed.OpenBrace ∷ Commas Exp_field ∷ Sign fixed.C
 exp_parts (bare_operator o) = Sign fixed.OpenParen ∷ Operator o ∷ Sign fixed.CloseParen ∷ []
 exp_parts (operator_first o) = Sign fixed.OpenParen ∷ Look no_minus ∷ Operator o ∷ Sub (Chain (suc (level o))) ∷ Sign fixed.CloseParen ∷ []
 exp_parts (operator_last o) = Sign fixed.OpenParen ∷ Look plain_paren ∷ Sub (Chain (suc (level o))) ∷ Operator o ∷ Sign fixed.CloseParen ∷ []
-exp_parts bare_fields = Sign fixed.OpenParen ∷ Sign fixed.Dot ∷ Names ∷ Sign fixed.CloseParen ∷ []
+exp_parts bare_fields = Sign fixed.OpenParen ∷ Look (without what.LocalOpen) ∷ Sign fixed.Dot ∷ Names ∷ Sign fixed.CloseParen ∷ []
 exp_parts bare_index = Sign fixed.OpenParen ∷ Sign fixed.Dot ∷ Sign fixed.OpenBracket ∷ Commas Named_item ∷ Sign fixed.CloseBracket ∷ Sign fixed.CloseParen ∷ []
 exp_parts set_exp = Word ∷ Sign fixed.Equal ∷ Sub Whole ∷ []
 exp_parts short_exp = Word ∷ []
-exp_parts from_index = Sub (Chain 1) ∷ Upto ∷ []
-exp_parts to_index = Sign fixed.Colon ∷ Optional (Chain 1) ∷ []
-exp_parts backwards = Sign fixed.Colon ∷ Sign fixed.Colon ∷ Sign fixed.Minus ∷ One ∷ []
-exp_parts named_from = Sub (Chain 1) ∷ Upto ∷ []
-exp_parts named_to = Sign fixed.Colon ∷ Optional (Chain 1) ∷ []
-exp_parts named_backwards = Sign fixed.Colon ∷ Sign fixed.Colon ∷ Sign fixed.Minus ∷ One ∷ []
+exp_parts from_index = Sub (Chain 1) ∷ Upto ∷ Look (without what.Stride) ∷ []
+exp_parts to_index = Sign fixed.Colon ∷ Optional (Chain 1) ∷ Look (without what.Stride) ∷ []
+exp_parts backwards = Sign fixed.Colon ∷ Look going_back ∷ Sign fixed.Colon ∷ Sign fixed.Minus ∷ One ∷ []
+exp_parts named_from = Sub (Chain 1) ∷ Upto ∷ Look (without what.Stride) ∷ []
+exp_parts named_to = Sign fixed.Colon ∷ Optional (Chain 1) ∷ Look (without what.Stride) ∷ []
+exp_parts named_backwards = Sign fixed.Colon ∷ Look going_back ∷ Sign fixed.Colon ∷ Sign fixed.Minus ∷ One ∷ []
+exp_parts written_index = Sub (Chain 1) ∷ Look (without what.SliceUpdate) ∷ []
 exp_parts assertion = Sign fixed.KeyAssert ∷ Sub Atom ∷ Argument ∷ []
 exp_parts negation = Sign fixed.Minus ∷ Sub Unary ∷ []
 exp_parts complement = Sign fixed.Bang ∷ Sub Unary ∷ []
@@ -97,7 +101,7 @@ exp_parts each = Sign fixed.KeyFor ∷ Look no_counter ∷ Sub Whole_pat ∷ Sig
 exp_parts while = Sign fixed.KeyWhile ∷ Sub Whole ∷ []
 exp_parts let_pattern = Look pattern_let ∷ Many Size_item ∷ Sub Whole_pat ∷ Sign fixed.Equal ∷ Sub Whole ∷ []
 exp_parts let_function = Look function_let ∷ Word ∷ Many Head_item ∷ Several Atomic_pat ∷ Maybe fixed.Colon Whole_type ∷ Sign fixed.Equal ∷ Sub Whole ∷ []
-exp_parts let_update = Look update_let ∷ Word ∷ Tight ∷ Commas (Chain 1) ∷ Sign fixed.CloseBracket ∷ Sign fixed.Equal ∷ Sub Whole ∷ []
+exp_parts let_update = Look update_let ∷ Word ∷ Tight ∷ Commas Written_item ∷ Sign fixed.CloseBracket ∷ Sign fixed.Equal ∷ Sub Whole ∷ []
 
 abbrev pub exp_tree : {n : Sort} → (r : ExpRow n) → Spot → Builds (exp_parts r) n
 exp_tree path at = λ names. exp_at at (form.Path names.1)
@@ -113,16 +117,17 @@ exp_tree record_of at = λ open_brace fs close_brace. exp_at at (form.Record fs)
 exp_tree (bare_operator o) at = λ open_paren op close_paren. operator_section o at op.0 op.1
 exp_tree (operator_first o) at = λ open_paren look op e close_paren. right_section o at op.0 op.1 e
 exp_tree (operator_last o) at = λ open_paren look e op close_paren. left_section o at e op.0 op.1
-exp_tree bare_fields at = λ open_paren dot names close_paren. field_section at dot names.1
+exp_tree bare_fields at = λ open_paren look dot names close_paren. field_section at dot names.1
 exp_tree bare_index at = λ open_paren dot open_bracket items close_bracket close_paren. index_section at open_bracket items
 exp_tree set_exp at = λ name equal e. (name.1, e)
 exp_tree short_exp at = λ name. (name.1, use_of at 0 at.place name.1)
-exp_tree from_index at = λ e upto. index_of e upto
-exp_tree to_index at = λ colon f. ix.Slice None f
-exp_tree backwards at = λ first second minus one. ix.Backwards
-exp_tree named_from at = λ e upto. named_index_of at e upto
-exp_tree named_to at = λ colon f. named_slice_of colon f
-exp_tree named_backwards at = λ first second minus one. ([], ix.Backwards)
+exp_tree from_index at = λ e upto look. index_of e upto
+exp_tree to_index at = λ colon f look. ix.Slice None f
+exp_tree backwards at = λ first look second minus one. ix.Backwards
+exp_tree named_from at = λ e upto look. named_index_of at e upto
+exp_tree named_to at = λ colon f look. named_slice_of colon f
+exp_tree named_backwards at = λ first look second minus one. ([], ix.Backwards)
+exp_tree written_index at = λ e look. e
 exp_tree assertion at = λ word test value. exp_at at (form.Assert test value)
 exp_tree negation at = λ minus e. exp_at at (form.Unary oper.Neg e)
 exp_tree complement at = λ bang e. exp_at at (form.Unary oper.Not e)

@@ -55,7 +55,7 @@ mutual
     lets : {bs : List (Tree Let_item)} {b : SourceExp} {g k : ℕ} {t : Token} {ts us rest : List Token} → t.kind ≡ kind.Fixed fixed.KeyLet → Lets bs 0 g ts us → Spells Body b k us rest → Spells Big (exp_at (spot t) (form.Lets bs b)) (max (suc g) k) (t ∷ ts) rest
     body : {p : SourceExp} {h : ℕ} {ts rest : List Token} → starts fixed.KeyLet ts ≡ false → Spells Whole p h ts rest → Spells Body p h ts rest
     -- first in parentheses: any expression, or the operand of a section with its operator and ")" behind it
-    no_operand : {p : SourceExp} {h : ℕ} {ts rest : List Token} → section_at rest ≡ None → Phrase Whole p h ts rest → Spells Inside (p, None) h ts rest
+    no_operand : {p : SourceExp} {h : ℕ} {ts rest : List Token} → Phrase Whole p h ts rest → Spells Inside (p, None) h ts rest
     an_operand : {o : Fixed} {p : SourceExp} {h : ℕ} {ts rest : List Token} → section_at rest ≡ Some o → Phrase (Chain (suc (level o))) p h ts rest → Spells Inside (p, Some o) h ts rest
 
   -- a phrase as a part: it begins with a token that begins such a phrase, and what stands behind it doesn't go on with it

@@ -1,5 +1,5 @@
 -- The nodes of trees, and the forms that stand for others (sugar).
-use Rattle.std.specs.Prelude.{ℕ, suc, ◌+◌, ◌-◌, ◌*◌, ◌/◌, ◌%◌, ◌++◌, Bool, true, false, ◌||◌, List, [], ◌∷◌, map, replicate, Option, Some, None}
+use Rattle.std.specs.Prelude.{ℕ, zero, suc, ◌+◌, ◌-◌, ◌*◌, ◌/◌, ◌%◌, ◌++◌, Bool, true, false, ◌||◌, List, [], ◌∷◌, map, replicate, Option, Some, None}
 use Rattle.fut_scalar.specs.declared.place.Place.{Place}
 use Rattle.fut_scalar.specs.declared.operator.BinOp.TheVariants as bin
 use Rattle.fut_token.specs.declared.token.Fixed.{Fixed}
@@ -7,6 +7,8 @@ use Rattle.fut_token.specs.declared.token.Fixed.TheVariants as fixed
 use Rattle.fut_ast.specs.declared.node.Spot.{Spot}
 use Rattle.fut_ast.specs.declared.node.Oper.{Oper}
 use Rattle.fut_ast.specs.declared.node.Oper.TheVariants as oper
+use Rattle.fut_ast.specs.declared.node.Joining.{Joining}
+use Rattle.fut_ast.specs.declared.node.Joining.TheVariants as way
 use Rattle.fut_ast.specs.declared.ty.TypeExp.{roll-TypeExp}
 use Rattle.fut_ast.specs.declared.ty.TypeForm.{TypeForm}
 use Rattle.fut_ast.specs.declared.ty.TypeForm.TheVariants as type_form
@@ -105,18 +107,30 @@ oper_of fixed.PercentPercent = oper.Bin bin.Rem
 oper_of fixed.StarStar = oper.Bin bin.Pow
 oper_of o = oper.Not
 
--- Two operands and an operator between them: `a && b` is `if a then b else false`, `a || b` is
--- `if a then true else b`, `x |> f` is `let v = x in f v`, `f <| x` is `f x`, and x `f` y is `f x y`.
--- `from` is where the whole begins, `at` where the operator stands, and the text is the name in backticks.
-abbrev pub joined : Fixed → Place → Spot → Text → SourceExp → SourceExp → SourceExp
-joined fixed.AndAnd from at name a b = node at 0 from at.place (form.If a b (node at 1 at.place at.place (form.Bool false)))
-joined fixed.OrOr from at name a b = node at 0 from at.place (form.If a (node at 1 at.place at.place (form.Bool true)) b)
-joined fixed.PipeRight from at name a b =
+-- what two operands and an operator between them stand for
+abbrev pub joining : Fixed → Joining
+joining fixed.AndAnd = way.Both
+joining fixed.OrOr = way.Either
+joining fixed.PipeRight = way.Piped
+joining fixed.PipeLeft = way.PipedBack
+joining fixed.Backtick = way.Named
+joining o = way.Plain (oper_of o)
+
+-- `a && b` is `if a then b else false`, `a || b` is `if a then true else b`, `x |> f` is `let v = x in f v`, `f <| x` is
+-- `f x`, and x `f` y is `f x y`. `from` is where the whole begins, `at` where the operator stands, and the text is the
+-- name in backticks.
+abbrev pub joined_by : Joining → Place → Spot → Text → SourceExp → SourceExp → SourceExp
+joined_by way.Both from at name a b = node at 0 from at.place (form.If a b (node at 1 at.place at.place (form.Bool false)))
+joined_by way.Either from at name a b = node at 0 from at.place (form.If a (node at 1 at.place at.place (form.Bool true)) b)
+joined_by way.Piped from at name a b =
     node at 0 from at.place (form.Lets (let_one (bound at (fresh 0)) a ∷ []) (node at 1 b.place at.place (form.Apply b (use_of at 2 a.place (fresh 0)))))
-joined fixed.PipeLeft from at name a b = node at 0 from at.place (form.Apply a b)
-joined fixed.Backtick from at name a b =
+joined_by way.PipedBack from at name a b = node at 0 from at.place (form.Apply a b)
+joined_by way.Named from at name a b =
     node at 0 from at.place (form.Apply (node at 1 from at.place (form.Apply (use_of at 2 at.place name) a)) b)
-joined o from at name a b = node at 0 from at.place (form.Binary (oper_of o) a b)
+joined_by (way.Plain op) from at name a b = node at 0 from at.place (form.Binary op a b)
+
+abbrev pub joined : Fixed → Place → Spot → Text → SourceExp → SourceExp → SourceExp
+joined o from at name a b = joined_by (joining o) from at name a b
 
 -- `(op)` is `\x y -> x op y`
 abbrev pub operator_section : Fixed → Spot → Spot → Text → SourceExp
@@ -145,9 +159,12 @@ field_section paren dot names =
 
 -- `(.[i])` is `let v = i in \a -> a[v]`: each expression of the index is named and evaluated first, from left to
 -- right. Its name is made of a position in the text, behind a blank.
+abbrev pub letters_of : (count : ℕ) → ℕ → Text
+letters_of zero n = []
+letters_of (suc k) n = (33 + n % 64) ∷ letters_of k (n / 64)
+
 abbrev pub name_of_position : ℕ → Text
-name_of_position n =
-    32 ∷ (33 + n % 64) ∷ (33 + n / 64 % 64) ∷ (33 + n / 4096 % 64) ∷ (33 + n / 262144 % 64) ∷ (33 + n / 16777216 % 64) ∷ []
+name_of_position n = 32 ∷ letters_of 5 n
 
 abbrev pub let_named : Spot → SourceExp → Bind Path Text
 let_named at e = let_one (bound at (name_of_position at.start)) e
@@ -182,9 +199,7 @@ index_section paren bracket items =
 -- `with` on, eight further for each step.
 abbrev pub replaced : Spot → ℕ → Place → SourceExp → Path → SourceExp → SourceExp
 replaced at step from r [] e = e
-replaced at step from r (f ∷ []) e =
-    node at (8 * step) from from (form.Lets (let_one (bound at (fresh 0)) r ∷ [])
-    (node at (8 * step + 1) from from (form.Replace (use_of at (8 * step + 2) from (fresh 0)) f e)))
+replaced at step from r (f ∷ []) e = node at (8 * step) from from (form.Replace r f e)
 replaced at step from r (f ∷ g ∷ fs) e =
     node at (8 * step) from from (form.Lets (let_one (bound at (fresh 0)) r ∷ [])
     (node at (8 * step + 1) from from (form.Replace (use_of at (8 * step + 2) from (fresh 0)) f

@@ -1,5 +1,5 @@
 -- The binary operators: how tight each binds, and to which side a level groups.
-use Rattle.std.specs.Prelude.{ℕ, suc, ◌==◌, ◌&&◌, not, nat_le, Bool, List, [], ◌∷◌, Option, Some, None, if◌then◌else◌}
+use Rattle.std.specs.Prelude.{ℕ, suc, ◌==◌, ◌&&◌, nat_le, Bool, List, [], ◌∷◌, Option, Some, None, if◌then◌else◌}
 use Rattle.fut_token.specs.declared.token.Fixed.{Fixed}
 use Rattle.fut_token.specs.declared.token.Fixed.TheVariants as fixed
 use Rattle.fut_token.specs.declared.token.TokenKind.{TokenKind}
@@ -53,20 +53,18 @@ abbrev pub behind_operator : Fixed → List Token → List Token
 behind_operator fixed.Backtick ts = tail (tail ts)
 behind_operator o ts = ts
 
--- this operator, if it is one of a level or tighter and no closing parenthesis stands behind it, which makes it
--- the operator of a section
-abbrev pub operator_from : ℕ → Fixed → List Token → Option Fixed
-operator_from k o ts =
-    if nat_le 1 (level o) && nat_le k (level o) && not (starts fixed.CloseParen (behind_operator o ts)) then Some o else None
+-- this operator, if it is one of a level or tighter
+abbrev pub operator_from : ℕ → Fixed → Option Fixed
+operator_from k o = if nat_le 1 (level o) && nat_le k (level o) then Some o else None
 
-abbrev pub operator_of : ℕ → TokenKind → List Token → Option Fixed
-operator_of k (kind.Fixed o) ts = operator_from k o ts
-operator_of k other ts = None
+abbrev pub operator_of : ℕ → TokenKind → Option Fixed
+operator_of k (kind.Fixed o) = operator_from k o
+operator_of k other = None
 
--- the operator of a level or tighter that stands next and goes on with an expression
+-- the operator of a level or tighter that stands next: it goes on with an expression, whatever stands behind it
 abbrev pub operator_at : ℕ → List Token → Option Fixed
 operator_at k [] = None
-operator_at k (t ∷ ts) = operator_of k t.kind ts
+operator_at k (t ∷ ts) = operator_of k t.kind
 
 -- the operator that stands next, whatever stands behind it
 abbrev pub any_of : TokenKind → Option Fixed

@@ -4,12 +4,14 @@ use Rattle.fut_scalar.specs.declared.scalar.IntType.{IntType}
 use Rattle.fut_token.specs.declared.token.Fixed.{Fixed}
 use Rattle.fut_ast.specs.declared.node.Spot.{Spot}
 use Rattle.fut_ast.specs.declared.node.End.{End}
+use Rattle.fut_ast.specs.declared.node.What.{What}
 use Rattle.fut_ast.specs.declared.ty.SizeExp.{SizeExp}
 use Rattle.fut_ast.specs.Sorts.{Sort, Tree, Text, Path, SourcePat, SourceExp}
 use Rattle.fut_ast.specs.declared.pat.Head.{Head}
 
 -- what tells apart productions that begin alike: an expression in parentheses is no section that begins with its
--- operator; such a section's operator is no "-"; a type in parentheses is no parameter with a name; behind "for" stands no counter; the kinds of let
+-- operator; such a section's operator is no "-"; a module type in parentheses is no parameter with a name; behind "for" stands no counter; the kinds of let;
+-- a path has at most eight names; a second ":" has "-1" behind it; a form that is left out does not begin
 pub data Test : Type 0 where
   plain_paren : Test
   no_minus : Test
@@ -18,6 +20,9 @@ pub data Test : Type 0 where
   pattern_let : Test
   function_let : Test
   update_let : Test
+  few_names : Test
+  going_back : Test
+  without : What → Test
 
 pub data Part : Type 0 where
   -- nothing is taken; the next tokens pass a test

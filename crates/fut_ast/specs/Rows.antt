@@ -3,14 +3,15 @@ use Rattle.std.specs.Prelude.{ℕ, ◌≤◌, List, [], ◌∷◌, Some, None}
 use Rattle.fut_token.specs.declared.token.Fixed.{Fixed}
 use Rattle.fut_token.specs.declared.token.Fixed.TheVariants as fixed
 use Rattle.fut_ast.specs.declared.node.Spot.{Spot}
+use Rattle.fut_ast.specs.declared.node.What.TheVariants as what
 use Rattle.fut_ast.specs.declared.ty.TypeForm.TheVariants as type_form
 use Rattle.fut_ast.specs.declared.pat.PatForm.TheVariants as pat_form
 use Rattle.fut_ast.specs.declared.exp.Form.TheVariants as form
 use Rattle.fut_ast.specs.declared.module.ModForm.TheVariants as mod_form
 use Rattle.fut_ast.specs.declared.module.ModTypeForm.TheVariants as mtype_form
 use Rattle.fut_ast.specs.Operators.{level, left_level, right_level}
-use Rattle.fut_ast.specs.Sorts.{Sort, Tree, Whole_type, Applied_type, Atomic_type, Whole_pat, Atomic_pat, Base, Atom, App, Unary, Chain, Operand, Range, Updated, Typed, Whole, Big, Right, Index_item, Whole_mod, Applied_mod, First_mod, Atomic_mod, Far_mod, Whole_mtype, Atomic_mtype, Far_mtype}
-use Rattle.fut_ast.specs.Parts.{Part, Sign, Tight, Word, Names, Digits, Operator, Sub, End_sign, Commas, Several, Argument, Builds}
+use Rattle.fut_ast.specs.Sorts.{Sort, Tree, Whole_type, Applied_type, Atomic_type, Whole_pat, Atomic_pat, Base, Atom, App, Unary, Chain, Operand, Range, Updated, Typed, Whole, Big, Right, Index_item, Written_item, Whole_mod, Applied_mod, First_mod, Atomic_mod, Far_mod, Whole_mtype, Atomic_mtype, Far_mtype}
+use Rattle.fut_ast.specs.Parts.{Part, Look, few_names, without, Sign, Tight, Word, Names, Digits, Operator, Sub, End_sign, Commas, Several, Argument, Builds}
 use Rattle.fut_ast.specs.Nodes.{type_at, pat_at, node, before, joined, replaced}
 use Rattle.fut_ast.specs.TypeRows.{TypeRow, type_parts, type_tree}
 use Rattle.fut_ast.specs.PatRows.{PatRow, pat_parts, pat_tree}
@@ -55,7 +56,8 @@ pub data Suffix : Sort → Sort → Type 0 where
   -- the end of a range, with a second element or without: [ ".." e ] ( "..<" | "..>" | "..." ) e
   range_to : Suffix Range (Chain 1)
   range_by : Suffix Range (Chain 1)
-  -- "with" "[" indices "]" "=" e; "with" names "=" e
+  -- "with" "[" indices "]" "=" e; "with" names "=" e. The tree of the second is two deeper for each name, while its
+  -- nesting is one: so it has at most eight names, and trees stay as deep as a small multiple of the nesting
   with_index : Suffix Updated Updated
   with_field : Suffix Updated Updated
   -- ":" type; ":>" type
@@ -70,14 +72,14 @@ abbrev pub suffix_parts : {n m : Sort} → Suffix n m → List Part
 suffix_parts arrow = Sign fixed.Arrow ∷ Sub Whole_type ∷ []
 suffix_parts pat_type = Sign fixed.Colon ∷ Sub Whole_type ∷ []
 suffix_parts indexed = Tight ∷ Commas Index_item ∷ Sign fixed.CloseBracket ∷ []
-suffix_parts field_name = Sign fixed.Dot ∷ Word ∷ []
+suffix_parts field_name = Look (without what.LocalOpen) ∷ Sign fixed.Dot ∷ Word ∷ []
 suffix_parts field_digits = Digits ∷ []
 suffix_parts applied = Argument ∷ []
 suffix_parts (operation o above) = Operator o ∷ Sub (Operand (right_level o)) ∷ []
 suffix_parts range_to = End_sign ∷ Sub (Chain 1) ∷ []
 suffix_parts range_by = Sign fixed.DotDot ∷ Sub (Chain 1) ∷ End_sign ∷ Sub (Chain 1) ∷ []
-suffix_parts with_index = Sign fixed.KeyWith ∷ Sign fixed.OpenBracket ∷ Commas (Chain 1) ∷ Sign fixed.CloseBracket ∷ Sign fixed.Equal ∷ Sub Right ∷ []
-suffix_parts with_field = Sign fixed.KeyWith ∷ Names ∷ Sign fixed.Equal ∷ Sub Right ∷ []
+suffix_parts with_index = Sign fixed.KeyWith ∷ Sign fixed.OpenBracket ∷ Commas Written_item ∷ Sign fixed.CloseBracket ∷ Sign fixed.Equal ∷ Sub Right ∷ []
+suffix_parts with_field = Sign fixed.KeyWith ∷ Look few_names ∷ Names ∷ Sign fixed.Equal ∷ Sub Right ∷ []
 suffix_parts ascribed = Sign fixed.Colon ∷ Sub Whole_type ∷ []
 suffix_parts coerced = Sign fixed.ColonGreater ∷ Sub Whole_type ∷ []
 suffix_parts applied_mod = Several Atomic_mod ∷ []
@@ -90,14 +92,14 @@ abbrev pub suffix_tree : {n m : Sort} → (s : Suffix n m) → Spot → Spot →
 suffix_tree arrow from at t = λ arrow_sign u. type_at from (type_form.Arrow t u)
 suffix_tree pat_type from at p = λ colon t. pat_at from (pat_form.Ascribe p t)
 suffix_tree indexed from at e = λ bracket items close_bracket. node at 0 from.place at.place (form.Index e items)
-suffix_tree field_name from at e = λ dot name. node at 0 from.place from.place (form.Field e name.1)
+suffix_tree field_name from at e = λ look dot name. node at 0 from.place from.place (form.Field e name.1)
 suffix_tree field_digits from at e = λ digits. node at 0 from.place from.place (form.Field e digits.1)
 suffix_tree applied from at e = λ x. node (before at) 3 from.place from.place (form.Apply e x)
 suffix_tree (operation o above) from at a = λ op b. joined o from.place op.0 op.1 a b
 suffix_tree range_to from at a = λ e b. node at 0 from.place at.place (form.Range a None e b)
 suffix_tree range_by from at a = λ dots b e c. node at 0 from.place at.place (form.Range a (Some b) e c)
 suffix_tree with_index from at e = λ with_word bracket indices close_bracket equal v. node bracket 0 from.place bracket.place (form.Update e indices v)
-suffix_tree with_field from at e = λ with_word names equal v. replaced at 0 from.place e names.1 v
+suffix_tree with_field from at e = λ with_word look names equal v. replaced at 0 from.place e names.1 v
 suffix_tree ascribed from at e = λ colon t. node at 0 from.place from.place (form.Ascribe e t)
 suffix_tree coerced from at e = λ sign t. node at 0 from.place at.place (form.Coerce e t)
 suffix_tree applied_mod from at m = λ ms. mod_at from (mod_form.Apply m ms)

@@ -65,10 +65,12 @@ pub data Sort : Type 0 where
   Right : Sort
   Body : Sort
   Inside : Sort
-  -- parts of expressions: a field, a part of an index, such a part in a section, one let, what a loop goes over
+  -- parts of expressions: a field, a part of an index, such a part in a section, such a part of what is written, one
+  -- let, what a loop goes over
   Exp_field : Sort
   Index_item : Sort
   Named_item : Sort
+  Written_item : Sort
   Let_item : Sort
   Loop_item : Sort
   -- modules: any; applied; the first of an application; an argument; a function
@@ -116,6 +118,7 @@ Tree Inside = SourceExp × Option Fixed
 Tree Exp_field = Text × SourceExp
 Tree Index_item = Ix Path Text
 Tree Named_item = List (Bind Path Text) × Ix Path Text
+Tree Written_item = SourceExp
 Tree Let_item = Bind Path Text
 Tree Loop_item = LoopForm Path Text
 Tree Whole_mod = ModExp
@@ -142,6 +145,7 @@ is_node Size_item = false
 is_node Exp_field = false
 is_node Index_item = false
 is_node Named_item = false
+is_node Written_item = false
 is_node Let_item = false
 is_node Loop_item = false
 is_node Mod_param = false

@@ -4,7 +4,7 @@ use crate::pat::{Head, Pat};
 use crate::ty::TypeExp;
 use fut_scalar::{Boxed, IntType, List, Name, Place};
 
-/// An expression.
+/// An expression. What is large stands in boxes, so that an expression is small to hand on.
 #[cycle(exp)]
 #[derive(Drop)]
 pub struct Exp<P: Drop, B: Drop> {
@@ -32,20 +32,20 @@ pub enum Form<P: Drop, B: Drop> {
     Apply(Boxed<Exp<P, B>>, Boxed<Exp<P, B>>),
     Binary(Oper, Boxed<Exp<P, B>>, Boxed<Exp<P, B>>),
     Unary(Oper, Boxed<Exp<P, B>>),
-    Lambda(List<Pat<P, B>>, Option<TypeExp<P, B>>, Boxed<Exp<P, B>>),
+    Lambda(List<Pat<P, B>>, Option<Boxed<TypeExp<P, B>>>, Boxed<Exp<P, B>>),
     /// A row of `let`s and the body behind it.
     Lets(List<Bind<P, B>>, Boxed<Exp<P, B>>),
     If(Boxed<Exp<P, B>>, Boxed<Exp<P, B>>, Boxed<Exp<P, B>>),
     /// Size names, parameter, first value, form, body.
-    Loop(List<B>, Pat<P, B>, Boxed<Exp<P, B>>, LoopForm<P, B>, Boxed<Exp<P, B>>),
+    Loop(List<B>, Boxed<Pat<P, B>>, Boxed<Exp<P, B>>, Boxed<LoopForm<P, B>>, Boxed<Exp<P, B>>),
     Index(Boxed<Exp<P, B>>, List<Ix<P, B>>),
     Field(Boxed<Exp<P, B>>, Name),
     /// An array with another element at the indices.
     Update(Boxed<Exp<P, B>>, List<Exp<P, B>>, Boxed<Exp<P, B>>),
     /// A record with another field.
     Replace(Boxed<Exp<P, B>>, Name, Boxed<Exp<P, B>>),
-    Ascribe(Boxed<Exp<P, B>>, TypeExp<P, B>),
-    Coerce(Boxed<Exp<P, B>>, TypeExp<P, B>),
+    Ascribe(Boxed<Exp<P, B>>, Boxed<TypeExp<P, B>>),
+    Coerce(Boxed<Exp<P, B>>, Boxed<TypeExp<P, B>>),
     Assert(Boxed<Exp<P, B>>, Boxed<Exp<P, B>>),
     Range {
         from: Boxed<Exp<P, B>>,

@@ -14,6 +14,6 @@ pub use exp::{Bind, Exp, FlatExp, Form, Ix, LoopForm, SourceExp};
 pub use module::{
     Dec, DecForm, ModExp, ModForm, ModType, ModTypeForm, Param, Program, Spec, SpecForm,
 };
-pub use node::{BindId, End, Label, NodeId, Oper, Ref, Spot, What};
+pub use node::{BindId, End, Joining, Label, NodeId, Oper, Ref, Spot, What, form_name};
 pub use pat::{Head, HeadForm, Pat, PatForm};
 pub use ty::{SizeExp, SizeForm, TypeArg, TypeExp, TypeForm};

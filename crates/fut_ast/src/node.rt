@@ -1,4 +1,7 @@
 // What numbers nodes and names, and the plain enums of the trees.
+ghost use Rattle.std.specs.Prelude.{◌≡◌};
+ghost use Rattle.fut_ast.specs.LeftOut.{name_of};
+
 use fut_scalar::{BinOp, Name, Place};
 
 /// The number of a node: its file, and a number that no other node of that file has.
@@ -42,6 +45,22 @@ pub enum Oper {
     After,
 }
 
+/// What two operands and an operator between them stand for in a source text.
+#[derive(Clone, Copy, Debug, PartialEq, Eq)]
+pub enum Joining {
+    /// `&&`: the second decides where the first holds.
+    Both,
+    /// `||`: the second decides where the first does not hold.
+    Either,
+    /// `|>`: the first is handed to the second.
+    Piped,
+    /// `<|`: the second is handed to the first.
+    PipedBack,
+    /// A name in backticks, called with both.
+    Named,
+    Plain(Oper),
+}
+
 /// How a range ends.
 #[derive(Clone, Copy, Debug, PartialEq, Eq)]
 pub enum End {
@@ -83,4 +102,22 @@ pub enum What {
     Stride,
     /// A slice in an update.
     SliceUpdate,
+}
+
+/// What a form is called where it is refused.
+pub fn form_name(what: What) -> &'static str
+    ensures { result.now ≡ name_of what }
+{
+    match what {
+        What::Character => "character",
+        What::Text => "text",
+        What::SumType => "sum type",
+        What::SizeExpression => "size expression",
+        What::LiftedType => "lifted type",
+        What::ExistentialSize => "existential size",
+        What::OperatorDefinition => "operator definition",
+        What::LocalOpen => "local open",
+        What::Stride => "stride",
+        What::SliceUpdate => "slice update",
+    }
 }

@@ -20,7 +20,7 @@ use Rattle.fut_ast.specs.Behind.{begins, continues, core}
 use Rattle.fut_ast.specs.Grammar.{Spells_names, last_name, more_names, raised, end_sign, Phrase, phrase, Parts, done, then_, Has, look, sign, tight, word, names, number, one, quoted, digits, variable, no_size, path_size, constant_size, operator, named_operator, sub, commas, many, several, nothing, given, absent, present, no_upto, upto, end_of, argument, set_start, own_start, Spells_commas, last_item, next_item, Spells_many, no_more, one_more}
 use Rattle.fut_parser.specs.declared.fault.Fault.{Fault}
 use Rattle.fut_parser.specs.Reading.{Read, expect, word_at, number_at, text_at, digits_at, variable_at, names_at, path_at, size_at, backtick_at, operator_from, operator_taken, end_at, one_at, sub_at, commas_at, many_at, several_at, maybe_at, optional_at, upto_at, argument_at, start_at, flat_part, has_at, parts_at, row_at, suffix_at}
-use Rattle.fut_parser.proofs.Fixeds.{code_itself}
+use Rattle.fut_parser.proofs.Fixeds.{is_itself}
 use Rattle.fut_parser.proofs.Post.{Gets, gets, too_deep, then_gets}
 use Rattle.fut_parser.proofs.Shorter.{phrase_shorter, names_shorter}
 
@@ -53,7 +53,7 @@ and_right false b e = absurd cc
 
 pub expect_gets : {f : Fixed} (t : Token) (rest : List Token) → t.kind ≡ kind.Fixed f → Gets (expect f (t ∷ rest)) rest
 unfolding expect
-expect_gets {f} t rest e = let i = code_itself f in rw (e, i) gets
+expect_gets {f} t rest e = let i = is_itself f in rw (e, i) gets
 
 word_gets : {x : Text} (t : Token) (rest : List Token) → t.kind ≡ kind.Name x → Gets (word_at (t ∷ rest)) (x, rest)
 unfolding word_at
@@ -63,11 +63,15 @@ number_gets : {v : ℕ} {s : Option IntType} (t : Token) (rest : List Token) →
 unfolding number_at
 number_gets t rest e = rw e gets
 
+no_paren_first : {xs : Path} {ts rest : List Token} → Spells_names xs ts rest → starts fixed.OpenParen ts ≡ false
+no_paren_first (last_name e n) = rw e refl
+no_paren_first (more_names e f d) = rw e refl
+
 names_gets : (k : ℕ) {xs : Path} {ts rest : List Token} → Spells_names xs ts rest → length ts ≤ k → Gets (names_at k ts) (xs, rest)
 unfolding names_at
 names_gets zero d le = let i = names_shorter d in absurd (omega arith)
 names_gets (suc k) (last_name e n) le = then_gets _ (word_gets _ _ e) (rw n gets)
-names_gets (suc k) (more_names {ts = ts} e f d) le = then_gets _ (word_gets _ _ e) (rw f (then_gets _ (names_gets k d (omega arith)) gets))
+names_gets (suc k) (more_names {ts = ts} e f d) le = let i = no_paren_first d in then_gets _ (word_gets _ _ e) (rw (f, i) (then_gets _ (names_gets k d (omega arith)) gets))
 
 pub path_gets : {xs : Path} {ts rest : List Token} → Spells_names xs ts rest → Gets (path_at ts) (xs, rest)
 unfolding path_at
@@ -160,7 +164,7 @@ module _ (read : (n : Sort) → List Token → Read (Tree n)) (good : Sort → B
   has_gets {ts = ts} i (many x) = many_gets (length ts) i x (omega arith)
   has_gets i (several {us = us} x xs) = then_gets _ (reads i x) (then_gets _ (many_gets (length us) i xs (omega arith)) gets)
   has_gets i (nothing e) = rw e gets
-  has_gets i (given {f = f} e x) = let c = code_itself f in rw (e, c) (then_gets _ (reads i x) gets)
+  has_gets i (given {f = f} e x) = let c = is_itself f in rw (e, c) (then_gets _ (reads i x) gets)
   has_gets i (absent b) = optional_gets i (absent b)
   has_gets i (present x) = optional_gets i (present x)
   has_gets i (no_upto e) = rw e gets

@@ -4,6 +4,17 @@ pub mod Shorter
 pub mod SoundParts
 pub mod SoundPhrases
 pub mod CompleteParts
+pub mod Choices
+pub mod CompleteItems
+pub mod CompleteSuffixes
+pub mod CompleteTypes
+pub mod CompleteExps
+pub mod CompleteMods
 pub mod CompletePhrases
 pub mod Theorems
+pub mod Examples
 pub mod Loops
+pub mod Turns
+pub mod Same
+pub mod FaultPlaces
+pub mod Rests

@@ -6,13 +6,15 @@ use Rattle.fut_token.specs.declared.token.Token.{Token}
 use Rattle.fut_ast.specs.Tokens.{tail, starts}
 use Rattle.fut_ast.specs.Sorts.{Sort, Tree, Text, Path}
 use Rattle.fut_ast.specs.declared.node.Spot.{Spot}
+use Rattle.fut_ast.specs.declared.node.What.TheVariants as what
+use Rattle.fut_ast.specs.Parts.{without}
 use Rattle.fut_ast.specs.Rows.{Suffix}
 use Rattle.fut_ast.specs.Behind.{begins, continues, core}
 use Rattle.fut_parser.specs.declared.fault.Fault.{Fault}
 use Rattle.fut_parser.specs.declared.fault.Stop.{Stop}
 use Rattle.fut_parser.specs.declared.fault.Stop.TheVariants as stop
 use Rattle.fut_parser.specs.declared.fault.Fault.TheVariants.{TooDeep}
-use Rattle.fut_parser.specs.Reading.{◌>>=◌, Read, Fails, refuse, word_at, names_at, commas_at, many_at, suffix_at}
+use Rattle.fut_parser.specs.Reading.{◌>>=◌, Read, Fails, refuse, look_at, word_at, names_at, commas_at, many_at, suffix_at}
 use Rattle.fut_parser.specs.Phrases.{again_at}
 
 -- what was read before stands in front of what is still read
@@ -27,11 +29,11 @@ names_regroup xs x (Ok y) = let e : xs ++ (x ∷ y.0) ≡ (xs ++ x ∷ []) ++ y.
 names_regroup xs x (Err f) = refl
 
 module _ (xs : Path) (n i : ℕ) (ts : List Token) (total : Result (Path × List Token) Fault) (so_far : names_front xs (names_at (n - i) ts) ≡ total) where
-  pub names_go_on : (x : Text) (us : List Token) → i < n → word_at ts ≡ Ok (x, us) → starts fixed.Dot us ≡ true → names_front (xs ++ x ∷ []) (names_at (n - (i + 1)) (tail us)) ≡ total
+  pub names_go_on : (x : Text) (us : List Token) → i < n → word_at ts ≡ Ok (x, us) → look_at (without what.LocalOpen) us ≡ Ok tt → starts fixed.Dot us ≡ true → names_front (xs ++ x ∷ []) (names_at (n - (i + 1)) (tail us)) ≡ total
   unfolding names_at
-  names_go_on x us lt s c =
+  names_go_on x us lt s l c =
       let j : n - i ≡ suc (n - (i + 1)) = omega arith in
-      let one : names_front xs (names_at (suc (n - (i + 1))) ts) ≡ names_front (xs ++ x ∷ []) (names_at (n - (i + 1)) (tail us)) = rw (s, c) (names_regroup xs x (names_at (n - (i + 1)) (tail us))) in
+      let one : names_front xs (names_at (suc (n - (i + 1))) ts) ≡ names_front (xs ++ x ∷ []) (names_at (n - (i + 1)) (tail us)) = rw (s, l, c) (names_regroup xs x (names_at (n - (i + 1)) (tail us))) in
       sym one ∙ ap (λ (m : ℕ). names_front xs (names_at m ts)) (sym j) ∙ so_far
 
   pub names_end_here : (x : Text) (us : List Token) → i < n → word_at ts ≡ Ok (x, us) → starts fixed.Dot us ≡ false → total ≡ Ok (xs ++ x ∷ [], us)
@@ -39,6 +41,15 @@ module _ (xs : Path) (n i : ℕ) (ts : List Token) (total : Result (Path × List
   names_end_here x us lt s c =
       let j : n - i ≡ suc (n - (i + 1)) = omega arith in
       let one : names_front xs (names_at (suc (n - (i + 1))) ts) ≡ Ok (xs ++ x ∷ [], us) = rw (s, c) refl in
+      sym so_far ∙ ap (λ (m : ℕ). names_front xs (names_at m ts)) j ∙ one
+
+  -- a module is opened behind the name
+  pub names_open : (x : Text) (us : List Token) (e : Stop) → i < n → word_at ts ≡ Ok (x, us) → Fails e (look_at (without what.LocalOpen) us) → Fails e total
+  unfolding names_at
+  names_open x us stop.Memory lt s l = tt
+  names_open x us (stop.Fault f) lt s l =
+      let j : n - i ≡ suc (n - (i + 1)) = omega arith in
+      let one : names_front xs (names_at (suc (n - (i + 1))) ts) ≡ Err f = rw (s, l) refl in
       sym so_far ∙ ap (λ (m : ℕ). names_front xs (names_at m ts)) j ∙ one
 
   pub names_fail : (e : Stop) → i < n → Fails e (word_at ts) → Fails e total
@@ -59,7 +70,7 @@ module _ (xs : Path) (n i : ℕ) (ts : List Token) (total : Result (Path × List
 -- ---- commas and phrases in turns
 
 module _ (read : (n : Sort) → List Token → Read (Tree n)) (n : Sort) where
-  regroup : (xs : List (Tree n)) (x : Tree n) (r : Read (List (Tree n))) → with_front xs (r >>= λ ys. Ok (x ∷ ys.0, ys.1, ys.2)) ≡ with_front (xs ++ x ∷ []) r
+  pub regroup : (xs : List (Tree n)) (x : Tree n) (r : Read (List (Tree n))) → with_front xs (r >>= λ ys. Ok (x ∷ ys.0, ys.1, ys.2)) ≡ with_front (xs ++ x ∷ []) r
   regroup xs x (Ok y) = let e : xs ++ (x ∷ y.0) ≡ (xs ++ x ∷ []) ++ y.0 = sym (append_assoc xs (x ∷ []) y.0) in rw e refl
   regroup xs x (Err f) = refl
 

@@ -1,5 +1,5 @@
 -- What holds of what was read, and of a fault.
-use Rattle.std.proofs.Common.{◌≡◌, ℕ, Bool, true, false, cond, ◌||◌, ◌&&◌, List, length, Result, Ok, Err, refl}
+use Rattle.std.proofs.Common.{◌≡◌, ℕ, Bool, true, false, cond, ◌||◌, List, length, Option, Some, None, Result, Ok, Err, refl}
 use Rattle.fut_token.specs.declared.token.Fixed.TheVariants as fixed
 use Rattle.fut_token.specs.declared.token.Token.{Token}
 use Rattle.fut_ast.specs.declared.node.What.{What}
@@ -7,9 +7,11 @@ use Rattle.fut_ast.specs.declared.node.What.TheVariants as what
 use Rattle.fut_ast.specs.Tokens.{starts, is_text}
 use Rattle.fut_ast.specs.LeftOut.{begins_left_out, is_char, is_constructor}
 use Rattle.fut_ast.specs.Sorts.{Sort}
+use Rattle.fut_ast.specs.Parts.{Test}
+use Rattle.fut_ast.specs.Behind.{passes}
 use Rattle.fut_parser.specs.declared.fault.Fault.{Fault}
 use Rattle.fut_parser.specs.declared.fault.Fault.TheVariants.{Syntax, TooDeep, LeftOut}
-use Rattle.fut_parser.specs.Reading.{◌>>=◌, refuse, refuse_sort, is_type_sort}
+use Rattle.fut_parser.specs.Reading.{◌>>=◌, refuse_as, refuse, refuse_form, form_of_sort, refuse_sort, form_of_test, look_at}
 
 pub data Post {A : Type 0} (E : Fault → Type 0) (P : A → Type 0) : Result A Fault → Type 0 where
   good : {x : A} → P x → Post E P (Ok x)
@@ -52,20 +54,27 @@ pub stands_if : {D : List Token → Type 0} (b : Bool) {x y : Fault} → (b ≡ 
 stands_if true h k = h refl
 stands_if false h k = k refl
 
-pub refused : {D : List Token → Type 0} (ts : List Token) → Stands D (refuse ts)
-unfolding refuse
-refused ts =
+pub refused_as : {D : List Token → Type 0} {other : Fault} (ts : List Token) → Stands D other → Stands D (refuse_as other ts)
+unfolding refuse_as
+refused_as ts s =
     stands_if (is_char ts) (λ e. left_out_stands ts what.Character e)
     (λ d1. stands_if (is_text ts) (λ e. left_out_stands ts what.Text e)
-    (λ d2. stands_if (starts fixed.KeyMatch ts || starts fixed.KeyCase ts || is_constructor ts) (λ e. left_out_stands ts what.SumType e) (λ d3. syntax_stands)))
+    (λ d2. stands_if (starts fixed.KeyMatch ts || starts fixed.KeyCase ts || is_constructor ts) (λ e. left_out_stands ts what.SumType e) (λ d3. s)))
 
-and_right : (a b : Bool) → (a && b) ≡ true → b ≡ true
-and_right true b e = e
-and_right false b e = absurd cc
+pub refused : {D : List Token → Type 0} (ts : List Token) → Stands D (refuse ts)
+unfolding refuse
+refused ts = refused_as ts syntax_stands
+
+refused_form : {D : List Token → Type 0} (o : Option What) (ts : List Token) → Stands D (refuse_form o ts)
+refused_form None ts = refused ts
+refused_form (Some w) ts = stands_if (begins_left_out w ts) (λ e. left_out_stands ts w e) (λ d. refused ts)
 
 pub refused_sort : {D : List Token → Type 0} (n : Sort) (ts : List Token) → Stands D (refuse_sort n ts)
 unfolding refuse_sort
-refused_sort n ts = stands_if (is_type_sort n && starts fixed.Question ts) (λ e. left_out_stands ts what.ExistentialSize (and_right (is_type_sort n) _ e)) (λ d. refused ts)
+refused_sort n ts = refused_form (form_of_sort n) ts
+
+pub look_post : {D : List Token → Type 0} (c : Test) (ts : List Token) → Post (Stands D) (λ u. passes c ts ≡ true) (look_at c ts)
+look_post c ts = post_if (passes c ts) (λ e. good e) (λ e. bad (refused_form (form_of_test c) ts))
 
 -- ---- complete reading
 

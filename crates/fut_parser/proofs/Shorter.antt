@@ -67,7 +67,7 @@ mutual
   shorter (far e x q) = shorter x
   shorter (lets e bs b) = let i = lets_shorter bs in let j = shorter b in omega arith
   shorter (body e x) = shorter x
-  shorter (no_operand e x) = phrase_shorter x
+  shorter (no_operand x) = phrase_shorter x
   shorter (an_operand e x) = phrase_shorter x
 
   pub phrase_shorter : {n : Sort} {p : Tree n} {h : ℕ} {ts rest : List Token} → Phrase n p h ts rest → length rest < length ts

@@ -14,13 +14,13 @@ use Rattle.fut_ast.specs.declared.node.End.TheVariants as range_end
 use Rattle.fut_ast.specs.declared.pat.Head.{Head}
 use Rattle.fut_ast.specs.declared.ty.SizeExp.{SizeExp}
 use Rattle.fut_ast.specs.declared.ty.SizeForm.TheVariants as size_form
-use Rattle.fut_ast.specs.Tokens.{code, spot, spot_of, tail, starts, starts_tight, is_tight, is_word, is_int}
+use Rattle.fut_ast.specs.Tokens.{is_fixed, spot, spot_of, tail, starts, starts_tight, is_tight, is_word, is_int}
 use Rattle.fut_ast.specs.Operators.{level}
 use Rattle.fut_ast.specs.Sorts.{Tree, Text, Path, SourceExp, is_node, Sort, Whole_pat, Atom, Chain, Whole}
-use Rattle.fut_ast.specs.Parts.{Part, Look, Sign, Tight, Word, Names, Number, One, Quoted, Digits, Variable, Size, Operator, Sub, Commas, Many, Several, Maybe, Optional, Upto, End_sign, Argument, Loop_start, Value, Builds}
+use Rattle.fut_ast.specs.Parts.{Part, Look, without, Sign, Tight, Word, Names, Number, One, Quoted, Digits, Variable, Size, Operator, Sub, Commas, Many, Several, Maybe, Optional, Upto, End_sign, Argument, Loop_start, Value, Builds}
 use Rattle.fut_ast.specs.Nodes.{has_wild}
 use Rattle.fut_ast.specs.Rows.{Row, parts, tree, Suffix, suffix_parts, suffix_tree}
-use Rattle.fut_ast.specs.Behind.{begins, begins_argument, continues, core, passes}
+use Rattle.fut_ast.specs.Behind.{begins, begins_argument, continues, core}
 use Rattle.fut_ast.specs.Grammar.{Spells_names, last_name, more_names, raised, end_sign, Spells, row, suffix, Phrase, Parts, done, then_, Has, look, sign, tight, word, names, number, one, quoted, digits, variable, no_size, path_size, constant_size, operator, named_operator, sub, commas, many, several, nothing, given, absent, present, no_upto, upto, end_of, argument, set_start, own_start, Spells_commas, last_item, next_item, Spells_many, no_more, one_more}
 use Rattle.fut_ast.specs.Nesting.{inside, Deep, in_row, in_suffix, behind, Deep_parts, in_part, past_part, Deep_part, in_sub, in_commas, in_many, in_several, in_maybe, in_optional, in_upto, in_argument, in_pattern, in_start, Deep_commas, in_item, past_item, Deep_many, in_one, past_one}
 use Rattle.fut_ast.specs.LeftOut.{begins_left_out}
@@ -28,7 +28,7 @@ use Rattle.fut_parser.specs.declared.fault.Fault.TheVariants.{LeftOut}
 use Rattle.fut_parser.specs.Reading.{Read, expect, word_from, word_at, number_from, number_at, text_from, text_at, digits_from, digits_at, variable_from, variable_at, names_at, path_at, size_left_out, refuse_behind_size, closed_size, size_at, backtick_at, operator_from, operator_taken, end_at, one_at, sub_at, commas_at, many_at, several_at, maybe_at, optional_at, upto_at, argument_at, start_at, has_at, parts_at, row_at, suffix_at}
 use Rattle.fut_parser.proofs.Fixeds.{Starting, starting}
 use Rattle.fut_parser.proofs.Shorter.{parts_higher}
-use Rattle.fut_parser.proofs.Post.{Post, good, bad, post_bind, post_if, post_map, post_call, post_lift, Stands, syntax_stands, deep_stands, left_out_stands, lift, stands_if, refused}
+use Rattle.fut_parser.proofs.Post.{Post, good, bad, post_bind, post_if, post_map, post_call, post_lift, Stands, syntax_stands, deep_stands, left_out_stands, lift, stands_if, refused_as, refused, look_post}
 
 -- ---- tokens
 
@@ -96,7 +96,9 @@ further_names {x} {xs} {rest = rest} (takes_name {t = t} e) s r = subst (λ (vs 
 pub names_post : {D : List Token → Type 0} (k : ℕ) (ts : List Token) → Post (Stands D) (λ (y : Path × List Token). Spells_names y.0 ts y.1) (names_at k ts)
 unfolding names_at
 names_post zero ts = bad (refused ts)
-names_post (suc k) ts = post_bind _ (word_post ts) (λ x hx. post_if (starts fixed.Dot x.1) (λ e. post_bind _ (names_post k (tail x.1)) (λ xs hxs. good (further_names hx (starting fixed.Dot x.1 e) hxs))) (λ e. good (one_name hx e)))
+names_post (suc k) ts =
+    post_bind _ (word_post ts) (λ x hx. post_bind _ (look_post (without what.LocalOpen) x.1) (λ u hu. post_if (starts fixed.Dot x.1)
+    (λ e. post_bind _ (names_post k (tail x.1)) (λ xs hxs. good (further_names hx (starting fixed.Dot x.1 e) hxs))) (λ e. good (one_name hx e))))
 
 pub path_post : {D : List Token → Type 0} (ts : List Token) → Post (Stands D) (λ (y : Path × List Token). Spells_names y.0 ts y.1) (path_at ts)
 unfolding path_at
@@ -106,7 +108,7 @@ path_post ts = names_post (length ts) ts
 
 left_out_size : {D : List Token → Type 0} (ts : List Token) → is_word ts ≡ false → is_int ts ≡ false → starts fixed.CloseBracket ts ≡ false → Stands D (size_left_out ts)
 left_out_size [] a b d = syntax_stands
-left_out_size (t ∷ ts) a b d = left_out_stands (t ∷ ts) what.SizeExpression (rw (a, b, d) refl)
+left_out_size (t ∷ ts) a b d = refused_as (t ∷ ts) (left_out_stands (t ∷ ts) what.SizeExpression (rw (a, b, d) refl))
 
 or_cases : {C : Type 0} (a b : Bool) → (a || b) ≡ true → (a ≡ true → C) → (b ≡ true → C) → C
 or_cases true b e k l = k refl
@@ -120,7 +122,7 @@ and_right : (a b : Bool) → (a && b) ≡ true → b ≡ true
 and_right true b e = e
 and_right false b e = absurd cc
 
-sign_is_no_size : {D : List Token → Type 0} (f : Fixed) (ts : List Token) → eqb (code f) (code fixed.CloseBracket) ≡ false → Starting f ts → Stands D (LeftOut (length ts) what.SizeExpression)
+sign_is_no_size : {D : List Token → Type 0} (f : Fixed) (ts : List Token) → is_fixed fixed.CloseBracket f ≡ false → Starting f ts → Stands D (LeftOut (length ts) what.SizeExpression)
 sign_is_no_size {D} f ts n s =
     let other : begins_left_out what.SizeExpression (s.token ∷ tail ts) ≡ true = rw (s.kind, n) refl in
     subst (λ (us : List Token). Stands D (LeftOut (length us) what.SizeExpression)) (sym s.is) (left_out_stands (s.token ∷ tail ts) what.SizeExpression other)
@@ -255,7 +257,7 @@ module _ (read : (n : Sort) → List Token → Read (Tree n)) (d : ℕ) (given_s
 
   pub has_post : (q : Part) (g : ℕ) (ts : List Token) → Post (Stands (λ r. Deep_part d q ts r)) (λ (y : Value q × ℕ × List Token). Has q y.0 g y.1 ts y.2) (has_at read q g ts)
   unfolding has_at sub_at several_at maybe_at upto_at argument_at start_at one_at
-  has_post (Look c) g ts = post_if (passes c ts) (λ e. good (look e)) (λ e. bad (refused ts))
+  has_post (Look c) g ts = post_bind _ (look_post c ts) (λ u e. good (look e))
   has_post (Sign f) g ts = post_bind _ (expect_post f ts) (λ us hus. good (a_sign hus.0 hus.1))
   has_post Tight g ts = post_if (starts_tight ts) (λ e. good (a_tight (starting fixed.OpenBracket ts (and_left _ _ e)) (and_right (starts fixed.OpenBracket ts) _ e))) (λ e. bad (refused ts))
   has_post Word g ts = post_bind _ (word_post ts) (λ x hx. good (a_word hx))

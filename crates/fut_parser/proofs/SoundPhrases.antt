@@ -1,5 +1,5 @@
 -- What is read as a phrase is spelled so.
-use Rattle.std.proofs.Common.{◌≡◌, ℕ, zero, suc, ◌+◌, ◌≤◌, ◌<◌, max, Bool, true, false, cond, ◌||◌, ◌&&◌, not, ltb, leb, List, [], ◌∷◌, length, Option, Some, None, Ok, refl, sym, ap, subst, ◌∙◌, arith}
+use Rattle.std.proofs.Common.{◌≡◌, ℕ, zero, suc, ◌+◌, ◌≤◌, ◌<◌, max, Bool, true, false, cond, ◌||◌, ◌&&◌, ltb, leb, List, [], ◌∷◌, length, Option, Some, None, Ok, refl, sym, ap, subst, ◌∙◌, arith}
 use Rattle.std.specs.Prelude.{is_some}
 use Rattle.std.proofs.lemmas.Bool.{leb-true, le-leb, ltb-false}
 use Rattle.fut_token.specs.declared.token.Fixed.{Fixed}
@@ -8,12 +8,12 @@ use Rattle.fut_token.specs.declared.token.TokenKind.{TokenKind}
 use Rattle.fut_token.specs.declared.token.TokenKind.TheVariants as kind
 use Rattle.fut_token.specs.declared.token.Token.{Token}
 use Rattle.fut_ast.specs.Tokens.{spot, spot_of, tail, starts, is_word, is_int}
-use Rattle.fut_ast.specs.Sorts.{Tree, SourceExp, is_node, Sort, Whole_type, Applied_type, Atomic_type, Type_name, Type_argument, Type_field, Whole_pat, Atomic_pat, Pat_field, Head_item, Size_item, Base, Atom, App, Unary, Chain, Operand, Range, Updated, Typed, Whole, Big, Right, Body, Inside, Exp_field, Index_item, Named_item, Let_item, Loop_item, Whole_mod, Applied_mod, First_mod, Atomic_mod, Far_mod, Mod_param, Whole_mtype, Atomic_mtype, Far_mtype, Spec_item, Dec_item, Dec_rest}
+use Rattle.fut_ast.specs.Sorts.{Tree, SourceExp, is_node, Sort, Whole_type, Applied_type, Atomic_type, Type_name, Type_argument, Type_field, Whole_pat, Atomic_pat, Pat_field, Head_item, Size_item, Base, Atom, App, Unary, Chain, Operand, Range, Updated, Typed, Whole, Big, Right, Body, Inside, Exp_field, Index_item, Named_item, Written_item, Let_item, Loop_item, Whole_mod, Applied_mod, First_mod, Atomic_mod, Far_mod, Mod_param, Whole_mtype, Atomic_mtype, Far_mtype, Spec_item, Dec_item, Dec_rest}
 use Rattle.fut_ast.specs.Parts.{Sign, Operator, Sub, Builds}
 use Rattle.fut_ast.specs.Grammar.{Spells, row, suffix, pass, far, lets, body, no_operand, an_operand, Phrase, phrase, Lets, last_let, next_let, in_let, Parts, done, then_, Has, look, sign, sub, commas, last_item, next_item}
 use Rattle.fut_ast.specs.TypeRows.{TypeRow, named_arrow, unique, array_type, applied_name, unit_type, round_type, no_fields, fields, type_name, size_argument, name_argument, type_argument, type_field}
 use Rattle.fut_ast.specs.PatRows.{PatRow, pat_name, wild, unit_pat, round_pat, no_fields_pat, fields_pat, set_field, short_field, size_head, variable_head, size_name}
-use Rattle.fut_ast.specs.ExpRows.{ExpRow, path, number, truth, falsity, unit, round, no_elements, elements, empty_record, record_of, bare_operator, operator_first, operator_last, bare_fields, bare_index, set_exp, short_exp, from_index, to_index, backwards, named_from, named_to, named_backwards, assertion, negation, complement, if_else, function, loop, count, each, while, let_pattern, let_function, let_update}
+use Rattle.fut_ast.specs.ExpRows.{ExpRow, path, number, truth, falsity, unit, round, no_elements, elements, empty_record, record_of, bare_operator, operator_first, operator_last, bare_fields, bare_index, set_exp, short_exp, from_index, to_index, backwards, named_from, named_to, named_backwards, written_index, assertion, negation, complement, if_else, function, loop, count, each, while, let_pattern, let_function, let_update}
 use Rattle.fut_ast.specs.ModRows.{ModRow, mod_path, mod_decs, round_mod, mod_function, mod_import, mod_param, mtype_path, mtype_specs, round_mtype, mtype_arrow, spec_value, spec_type, spec_module, spec_include, plain_dec, local_dec, dec_def, dec_let, dec_entry, dec_type, dec_module, dec_mtype, dec_open, dec_import}
 use Rattle.fut_ast.specs.Rows.{of_type, of_pat, of_exp, of_mod, Suffix, arrow, pat_type, applied, range_to, range_by, applied_mod, sealed, with_type}
 use Rattle.fut_ast.specs.declared.exp.Form.TheVariants as form
@@ -25,7 +25,7 @@ use Rattle.fut_ast.specs.Behind.{begins, begins_argument, begins_atom, begins_op
 use Rattle.fut_ast.specs.Nesting.{inside, Deep, begun, in_row, in_suffix, behind, in_pass, in_far, in_parens, in_inside, in_operand, in_whole_body, in_lets, in_body, Deep_lets, in_let as deep_let, past_let, past_in_let, in_part, past_part, in_commas, past_item}
 use Rattle.fut_parser.specs.declared.fault.Fault.{Fault}
 use Rattle.fut_parser.specs.Reading.{◌>>=◌, Read, row_at}
-use Rattle.fut_parser.specs.Phrases.{ended, bounded, type_argument_at, pat_field_at, head_at, exp_field_at, index_at, named_at, let_at, loop_item_at, module_at, other_dec_at, dec_rest_at, flat_at, nodes, items, phrases, fits, by_operator, atom_suffix, with_suffix, goes_typed, typed_suffix, once_at, again_at, atomic_type_at, applied_type_at, whole_type_at, begins_named_arrow, atomic_pat_at, whole_pat_at, round_end, section_end, plain_end, plain_at, operator_section_at, section_or_plain, paren_at, bracket_at, base_at, atom_at, app_at, unary_at, operation_at, operators_at, graded_at, chain_at, range_behind, range_at, updates_behind, types_behind, typed_behind, typed_at, updated_at, form_at, body_at, row_of_lets, lets_at, big_at, whole_at, operand_at, right_at, inside_operand, inside_whole, inside_at, atomic_mod_at, first_mod_at, applied_mod_at, whole_mod_at, atomic_mtype_at, whole_mtype_at, spec_at, dec_at, step, read_at}
+use Rattle.fut_parser.specs.Phrases.{ended, bounded, type_argument_at, pat_field_at, head_at, exp_field_at, index_at, named_at, let_at, loop_item_at, module_at, other_dec_at, dec_rest_at, flat_at, nodes, items, phrases, fits, by_operator, operator_between, atom_suffix, with_suffix, goes_typed, typed_suffix, once_at, again_at, atomic_type_at, applied_type_at, whole_type_at, begins_named_arrow, atomic_pat_at, whole_pat_at, round_end, section_end, plain_end, plain_at, operator_section_at, section_or_plain, paren_at, bracket_at, base_at, atom_at, app_at, unary_at, operation_at, operators_at, graded_at, chain_at, range_behind, range_at, updates_behind, types_behind, typed_behind, typed_at, updated_at, form_at, body_at, row_of_lets, lets_at, big_at, whole_at, operand_at, right_at, inside_operand, inside_whole, inside_at, atomic_mod_at, first_mod_at, applied_mod_at, whole_mod_at, atomic_mtype_at, whole_mtype_at, spec_at, dec_at, step, read_at}
 use Rattle.fut_parser.proofs.Fixeds.{Starting, starting}
 use Rattle.fut_parser.proofs.Shorter.{parts_higher}
 use Rattle.fut_parser.proofs.Post.{Post, good, bad, post_bind, post_if, post_map, post_call, post_lift, Stands, deep_stands, lift, refused, refused_sort}
@@ -81,6 +81,7 @@ module _ (read : (n : Sort) → List Token → Read (Tree n)) (d : ℕ) (given_r
   flat_post Exp_field ts = post_if (starts fixed.Equal (tail ts)) (λ e. by_row (of_exp set_exp) ts) (λ a. by_row (of_exp short_exp) ts)
   flat_post Index_item ts = post_if (starts fixed.Colon ts) (λ e. post_if (starts fixed.Colon (tail ts)) (λ f. by_row (of_exp backwards) ts) (λ f. by_row (of_exp to_index) ts)) (λ a. by_row (of_exp from_index) ts)
   flat_post Named_item ts = post_if (starts fixed.Colon ts) (λ e. post_if (starts fixed.Colon (tail ts)) (λ f. by_row (of_exp named_backwards) ts) (λ f. by_row (of_exp named_to) ts)) (λ a. by_row (of_exp named_from) ts)
+  flat_post Written_item ts = by_row (of_exp written_index) ts
   flat_post Let_item ts = post_if (passes update_let ts) (λ e. by_row (of_exp let_update) ts) (λ a. post_if (passes function_let ts) (λ e. by_row (of_exp let_function) ts) (λ b. by_row (of_exp let_pattern) ts))
   flat_post Loop_item ts = post_if (starts fixed.KeyWhile ts) (λ e. by_row (of_exp while) ts) (λ a. post_if (passes no_counter (tail ts)) (λ e. by_row (of_exp each) ts) (λ b. by_row (of_exp count) ts))
   flat_post Mod_param ts = by_row (of_mod mod_param) ts
@@ -109,7 +110,7 @@ module _ (inner : (n : Sort) → List Token → Read (Tree n)) (d : ℕ) (given_
 -- ---- first in parentheses
 
 pub data Inside_view : Tree Inside → ℕ → List Token → List Token → Type 0 where
-  whole_view : {p : SourceExp} {h : ℕ} {ts rest : List Token} → section_at rest ≡ None → Phrase Whole p h ts rest → Inside_view (p, None) h ts rest
+  whole_view : {p : SourceExp} {h : ℕ} {ts rest : List Token} → Phrase Whole p h ts rest → Inside_view (p, None) h ts rest
   operand_view : {o : Fixed} {p : SourceExp} {h : ℕ} {ts rest : List Token} → section_at rest ≡ Some o → Phrase (Chain (suc (level o))) p h ts rest → Inside_view (p, Some o) h ts rest
 
 no_type_row : TypeRow Inside → ⊥
@@ -125,7 +126,7 @@ no_mod_row : ModRow Inside → ⊥
 no_mod_row r = elim r [ ]
 
 inside_view : {v : Tree Inside} {h : ℕ} {ts rest : List Token} → Spells Inside v h ts rest → Inside_view v h ts rest
-inside_view (no_operand s x) = whole_view s x
+inside_view (no_operand x) = whole_view x
 inside_view (an_operand s x) = operand_view s x
 inside_view (row (of_type r) xs) = absurd (no_type_row r)
 inside_view (row (of_pat r) xs) = absurd (no_pat_row r)
@@ -138,29 +139,36 @@ inside_view (far e x q) = elim e [ ]
 -- ---- operators
 
 module _ (k : ℕ) where
-  from_level : (o p : Fixed) (ts : List Token) → operator_from k o ts ≡ Some p → (k ≤ level p)
-  from_level o p ts e = go (leb 1 (level o) && leb k (level o) && not (starts fixed.CloseParen (behind_operator o ts))) refl e
+  from_level : (o p : Fixed) → operator_from k o ≡ Some p → k ≤ level p
+  from_level o p e = go (leb 1 (level o) && leb k (level o)) refl e
     where
-      go : (b : Bool) → (leb 1 (level o) && leb k (level o) && not (starts fixed.CloseParen (behind_operator o ts))) ≡ b → cond b (Some o) None ≡ Some p → k ≤ level p
+      go : (b : Bool) → (leb 1 (level o) && leb k (level o)) ≡ b → cond b (Some o) None ≡ Some p → k ≤ level p
       go true t h =
           let s : o ≡ p = cc in
           let P : Fixed → Type 0 = λ q. k ≤ level q in
-          subst P s (leb-true _ _ (and_right (leb 1 (level o)) _ (and_left _ _ t)))
+          subst P s (leb-true _ _ (and_right (leb 1 (level o)) _ t))
       go false t h = absurd cc
 
-  of_level : (q : TokenKind) (p : Fixed) (ts : List Token) → operator_of k q ts ≡ Some p → k ≤ level p
-  of_level (kind.Fixed o) p ts e = from_level o p ts e
-  of_level (kind.Name x) p ts e = absurd cc
-  of_level (kind.Int v s) p ts e = absurd cc
-  of_level (kind.TypeVar l x) p ts e = absurd cc
-  of_level (kind.Char c) p ts e = absurd cc
-  of_level (kind.Text x) p ts e = absurd cc
-  of_level (kind.Field x) p ts e = absurd cc
-  of_level (kind.Constructor x) p ts e = absurd cc
+  of_level : (q : TokenKind) (p : Fixed) → operator_of k q ≡ Some p → k ≤ level p
+  of_level (kind.Fixed o) p e = from_level o p e
+  of_level (kind.Name x) p e = absurd cc
+  of_level (kind.Int v s) p e = absurd cc
+  of_level (kind.TypeVar l x) p e = absurd cc
+  of_level (kind.Char c) p e = absurd cc
+  of_level (kind.Text x) p e = absurd cc
+  of_level (kind.Field x) p e = absurd cc
+  of_level (kind.Constructor x) p e = absurd cc
 
   pub operator_level : (p : Fixed) (ts : List Token) → operator_at k ts ≡ Some p → k ≤ level p
   operator_level p [] e = absurd cc
-  operator_level p (t ∷ ts) e = of_level t.kind p ts e
+  operator_level p (t ∷ ts) e = of_level t.kind p e
+
+  pub between_is_operator : (section_ends : Bool) (p : Fixed) (ts : List Token) → operator_between section_ends k ts ≡ Some p → operator_at k ts ≡ Some p
+  between_is_operator section_ends p ts e = go (section_ends && is_some (section_at ts)) e
+    where
+      go : (b : Bool) → cond b None (operator_at k ts) ≡ Some p → operator_at k ts ≡ Some p
+      go true h = absurd cc
+      go false h = h
 
 -- what is read so far: its last operator tells with which levels it may stand on the left
 record Operands (k : ℕ) (start : List Token) (a : SourceExp) (last : Option Fixed) (h : ℕ) (ts : List Token) : Type 0 where
@@ -248,7 +256,7 @@ module _ (read : (n : Sort) → List Token → Read (Tree n)) (d : ℕ) (given_r
   plain_end_post t us k plain v h vs (phrase b x q) = go (inside_view x)
     where
       go : {v : Tree Inside} → Inside_view v h us vs → Post (Stands (λ r. Deep (suc d) Base (t ∷ us) r)) (λ (y : SourceExp × ℕ × List Token). Spells Base y.0 y.1 (t ∷ us) y.2) (plain_end read (suc d) v.1 (spot t) v.0 h vs)
-      go (whole_view {p = p} s w) = round_end_post t us k plain p h vs w
+      go (whole_view {p = p} w) = round_end_post t us k plain p h vs w
       go (operand_view {o = o} {p = p} s w) = section_end_post t us k plain o p h vs w
 
   plain_post : (t : Token) (us : List Token) → t.kind ≡ kind.Fixed fixed.OpenParen → passes plain_paren us ≡ true → Post (Stands (λ r. Deep (suc d) Base (t ∷ us) r)) (λ (y : SourceExp × ℕ × List Token). Spells Base y.0 y.1 (t ∷ us) y.2) (plain_at read (suc d) (t ∷ us))
@@ -315,26 +323,26 @@ module _ (read : (n : Sort) → List Token → Read (Tree n)) (d : ℕ) (given_r
       (λ lt. post_lift (lift (λ r y. in_suffix (operation {k = k} o le) x y)) (parts_post read d given_read true (Chain k) (Operator o ∷ Sub (Operand (right_level o)) ∷ []) (λ op b. joined o (spot_of start).place op.0 op.1 a b) h ts) (λ z hz. now_operands o z le x q hz))
       (λ ge. bad (deep_stands ts (behind (operation {k = k} o le) x q (or_right (behind_app ts) _ (ap is_some e)) (ltb-false _ _ ge)))))
 
-  operators_post : (k : ℕ) (start : List Token) (n : ℕ) (a : SourceExp) (last : Option Fixed) (h : ℕ) (ts : List Token) → Operands k start a last h ts → suc d ≤ h + n → Post (Stands (λ r. Deep (suc d) (Chain k) start r)) (λ (y : (SourceExp × Option Fixed) × ℕ × List Token). Operands k start y.0.0 y.0.1 y.1 y.2) (operators_at read (suc d) k (spot_of start) n a last h ts)
+  operators_post : (section_ends : Bool) (k : ℕ) (start : List Token) (n : ℕ) (a : SourceExp) (last : Option Fixed) (h : ℕ) (ts : List Token) → Operands k start a last h ts → suc d ≤ h + n → Post (Stands (λ r. Deep (suc d) (Chain k) start r)) (λ (y : (SourceExp × Option Fixed) × ℕ × List Token). Operands k start y.0.0 y.0.1 y.1 y.2) (operators_at read (suc d) section_ends k (spot_of start) n a last h ts)
   unfolding operators_at
-  operators_post k start zero a last h ts x le =
-      post_operator (operator_at k ts) (λ e. good x)
+  operators_post section_ends k start zero a last h ts x le =
+      post_operator (operator_between section_ends k ts) (λ e. good x)
       (λ o e. post_if (fits last (left_level o))
-      (λ f. post_if (continues Unary ts) (λ g. bad (refused ts)) (λ g. bad (deep_stands ts (behind (operation {k = k} o (operator_level k o ts e)) (x.so_far _ f) g (or_right (behind_app ts) _ (ap is_some e)) (omega arith)))))
+      (λ f. post_if (continues Unary ts) (λ g. bad (refused ts)) (λ g. let i = between_is_operator k section_ends o ts e in bad (deep_stands ts (behind (operation {k = k} o (operator_level k o ts i)) (x.so_far _ f) g (or_right (behind_app ts) _ (ap is_some i)) (omega arith)))))
       (λ f. bad (refused ts)))
-  operators_post k start (suc n) a last h ts x le =
-      post_operator (operator_at k ts) (λ e. good x)
+  operators_post section_ends k start (suc n) a last h ts x le =
+      post_operator (operator_between section_ends k ts) (λ e. good x)
       (λ o e. post_if (fits last (left_level o))
-      (λ f. post_bind _ (operation_post k o start a h ts (operator_level k o ts e) e (x.so_far _ f)) (λ y hy. let up = hy.1 in operators_post k start n y.0 (Some o) y.1 y.2 hy.0 (omega arith)))
+      (λ f. let i = between_is_operator k section_ends o ts e in post_bind _ (operation_post k o start a h ts (operator_level k o ts i) i (x.so_far _ f)) (λ y hy. let up = hy.1 in operators_post section_ends k start n y.0 (Some o) y.1 y.2 hy.0 (omega arith)))
       (λ f. bad (refused ts)))
 
-  graded_post : (k : ℕ) (ts : List Token) → Post (Stands (λ r. Deep (suc d) (Chain k) ts r)) (λ (y : (SourceExp × Option Fixed) × ℕ × List Token). Operands k ts y.0.0 y.0.1 y.1 y.2) (graded_at read (suc d) k ts)
+  graded_post : (section_ends : Bool) (k : ℕ) (ts : List Token) → Post (Stands (λ r. Deep (suc d) (Chain k) ts r)) (λ (y : (SourceExp × Option Fixed) × ℕ × List Token). Operands k ts y.0.0 y.0.1 y.1 y.2) (graded_at read (suc d) section_ends k ts)
   unfolding graded_at
-  graded_post k ts = post_call (lift (λ r x. in_pass unary x)) _ (unary_post ts) (λ a ha. operators_post k ts (suc d) a.0 None a.1 a.2 (record { so_far = λ m e. pass unary ha; fit = refl }) (omega arith))
+  graded_post section_ends k ts = post_call (lift (λ r x. in_pass unary x)) _ (unary_post ts) (λ a ha. operators_post section_ends k ts (suc d) a.0 None a.1 a.2 (record { so_far = λ m e. pass unary ha; fit = refl }) (omega arith))
 
   chain_post : (k : ℕ) (ts : List Token) → Post (Stands (λ r. Deep (suc d) (Chain k) ts r)) (λ (y : SourceExp × ℕ × List Token). Spells (Chain k) y.0 y.1 ts y.2) (chain_at read (suc d) k ts)
   unfolding chain_at
-  chain_post k ts = post_bind _ (graded_post k ts) (λ a ha. good (ha.so_far k ha.fit))
+  chain_post k ts = post_bind _ (graded_post false k ts) (λ a ha. good (ha.so_far k ha.fit))
 
   -- behind operands
   range_behind_post : (start : List Token) (a : SourceExp) (h : ℕ) (ts : List Token) → Spells (Chain 1) a h start ts → Post (Stands (λ r. Deep (suc d) Range start r)) (λ (y : SourceExp × ℕ × List Token). Spells Range y.0 y.1 start y.2) (range_behind read (suc d) (spot_of start) a h ts)
@@ -448,14 +456,10 @@ module _ (read : (n : Sort) → List Token → Read (Tree n)) (d : ℕ) (given_r
       (λ e. post_lift (lift (λ r x. in_far far_right x)) (ended_post Whole (λ f s. s) (big_post ts)) (λ y hy. far far_right hy.0 hy.1))
 
   -- first in parentheses
-  no_section : (o : Option Fixed) → is_some o ≡ false → o ≡ None
-  no_section None e = refl
-  no_section (Some o) e = absurd cc
-
   inside_whole_post : (ts : List Token) {r : Read SourceExp} → Post (Stands (λ t. Deep (suc d) Whole ts t)) (λ (y : SourceExp × ℕ × List Token). Spells Whole y.0 y.1 ts y.2) r → Post (Stands (λ t. Deep (suc d) Inside ts t)) (λ (y : Tree Inside × ℕ × List Token). Spells Inside y.0 y.1 ts y.2) (inside_whole read (suc d) ts r)
   unfolding inside_whole
   inside_whole_post ts x =
-      post_call (lift (λ t y. in_inside y)) _ (bounded_post ts x) (λ y hy. post_if (is_some (section_at y.2)) (λ e. bad (refused y.2)) (λ e. good (no_operand (no_section (section_at y.2) e) hy)))
+      post_call (lift (λ t y. in_inside y)) _ (bounded_post ts x) (λ y hy. good (no_operand hy))
 
   chain_ends : {D : List Token → Type 0} (o : Fixed) (e : SourceExp) (h : ℕ) (ts us : List Token) → section_at us ≡ Some o → Spells (Chain (suc (level o))) e h ts us → Post (Stands D) (λ (y : Tree Inside × ℕ × List Token). Spells Inside y.0 y.1 ts y.2) (bounded (Chain (suc (level o))) ts (Ok ((e, Some o), h, us)))
   unfolding bounded ended
@@ -469,7 +473,7 @@ module _ (read : (n : Sort) → List Token → Read (Tree n)) (d : ℕ) (given_r
   unfolding inside_at
   inside_post ts =
       post_if (begins_operand ts)
-      (λ e. post_call (lift (λ r x. in_operand x)) _ (graded_post 1 ts) (λ a ha. post_operator (section_at a.2)
+      (λ e. post_call (lift (λ r x. in_operand x)) _ (graded_post true 1 ts) (λ a ha. post_operator (section_at a.2)
       (λ f. inside_whole_post ts (post_lift (lift (λ r x. in_pass typed x)) (typed_behind_post ts a.0.0 a.1 a.2 (ha.so_far 1 ha.fit)) (λ y hy. pass typed hy)))
       (λ o f. inside_operand_post o a.0.1 a.0.0 a.1 ts a.2 f ha)))
       (λ e. inside_whole_post ts (post_lift (lift (λ r x. in_pass big x)) (big_post ts) (λ y hy. pass big hy)))

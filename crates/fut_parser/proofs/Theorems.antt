@@ -19,7 +19,9 @@ use Rattle.fut_parser.proofs.Post.{Post, good, bad, post_bind, post_if, Stands, 
 use Rattle.fut_parser.proofs.SoundParts.{many_post}
 use Rattle.fut_parser.proofs.SoundPhrases.{sound, nodes_post}
 use Rattle.fut_parser.proofs.CompleteParts.{many_gets}
-use Rattle.fut_parser.proofs.CompletePhrases.{complete, node_sort, nodes_gets}
+use Rattle.fut_parser.proofs.Choices.{node_sort}
+use Rattle.fut_parser.proofs.CompleteItems.{nodes_gets}
+use Rattle.fut_parser.proofs.CompletePhrases.{complete}
 
 pub sound_program : (ts : List Token) → Post (Stands (λ r. Deep_many 201 Dec_item ts r)) (λ (x : Program × ℕ). Derives ts x.0 x.1) (program_at ts)
 unfolding program_at

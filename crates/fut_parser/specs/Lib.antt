@@ -1,2 +1,4 @@
 pub mod Reading
 pub mod Phrases
+pub mod Tie
+pub mod Handed

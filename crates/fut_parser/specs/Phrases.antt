@@ -1,5 +1,5 @@
 -- Reading a phrase of each sort, over what reads those one deeper.
-use Rattle.std.specs.Prelude.{ℕ, zero, suc, max, Bool, true, cond, ◌&&◌, ◌||◌, List, [], ◌∷◌, length, Option, Some, None, is_some, Result, Ok, Err, nat_lt, nat_le, ◌==◌, if◌then◌else◌}
+use Rattle.std.specs.Prelude.{ℕ, zero, suc, max, Bool, true, false, cond, ◌&&◌, ◌||◌, List, [], ◌∷◌, length, Option, Some, None, is_some, Result, Ok, Err, nat_lt, nat_le, ◌==◌, if◌then◌else◌}
 use Rattle.fut_token.specs.declared.token.Fixed.{Fixed}
 use Rattle.fut_token.specs.declared.token.Fixed.TheVariants as fixed
 use Rattle.fut_token.specs.declared.token.Token.{Token}
@@ -8,12 +8,12 @@ use Rattle.fut_ast.specs.declared.exp.Form.TheVariants as form
 use Rattle.fut_ast.specs.declared.module.Program.{Program}
 use Rattle.fut_ast.specs.Tokens.{spot_of, tail, starts, is_word, is_int}
 use Rattle.fut_ast.specs.Operators.{level, left_level, right_level, behind_operator, operator_at, any_operator, section_at}
-use Rattle.fut_ast.specs.Sorts.{Tree, SourceExp, is_node, Sort, Whole_type, Applied_type, Atomic_type, Type_name, Type_argument, Type_field, Whole_pat, Atomic_pat, Pat_field, Head_item, Size_item, Base, Atom, App, Unary, Chain, Operand, Range, Updated, Typed, Whole, Big, Right, Body, Inside, Exp_field, Index_item, Named_item, Let_item, Loop_item, Whole_mod, Applied_mod, First_mod, Atomic_mod, Far_mod, Mod_param, Whole_mtype, Atomic_mtype, Far_mtype, Spec_item, Dec_item, Dec_rest}
+use Rattle.fut_ast.specs.Sorts.{Tree, SourceExp, is_node, Sort, Whole_type, Applied_type, Atomic_type, Type_name, Type_argument, Type_field, Whole_pat, Atomic_pat, Pat_field, Head_item, Size_item, Base, Atom, App, Unary, Chain, Operand, Range, Updated, Typed, Whole, Big, Right, Body, Inside, Exp_field, Index_item, Named_item, Written_item, Let_item, Loop_item, Whole_mod, Applied_mod, First_mod, Atomic_mod, Far_mod, Mod_param, Whole_mtype, Atomic_mtype, Far_mtype, Spec_item, Dec_item, Dec_rest}
 use Rattle.fut_ast.specs.Parts.{no_counter, function_let, update_let, Operator, Sub}
 use Rattle.fut_ast.specs.Nodes.{exp_at, round_exp_of, left_section, joined}
 use Rattle.fut_ast.specs.TypeRows.{named_arrow, unique, array_type, applied_name, unit_type, round_type, no_fields, fields, type_name, size_argument, name_argument, type_argument, type_field}
 use Rattle.fut_ast.specs.PatRows.{pat_name, wild, unit_pat, round_pat, no_fields_pat, fields_pat, set_field, short_field, size_head, variable_head, size_name}
-use Rattle.fut_ast.specs.ExpRows.{path, number, truth, falsity, unit, no_elements, elements, empty_record, record_of, bare_operator, operator_first, bare_fields, bare_index, set_exp, short_exp, from_index, to_index, backwards, named_from, named_to, named_backwards, assertion, negation, complement, if_else, function, loop, count, each, while, let_pattern, let_function, let_update}
+use Rattle.fut_ast.specs.ExpRows.{path, number, truth, falsity, unit, no_elements, elements, empty_record, record_of, bare_operator, operator_first, bare_fields, bare_index, set_exp, short_exp, from_index, to_index, backwards, named_from, named_to, named_backwards, written_index, assertion, negation, complement, if_else, function, loop, count, each, while, let_pattern, let_function, let_update}
 use Rattle.fut_ast.specs.ModRows.{mod_path, mod_decs, round_mod, mod_function, mod_import, mod_param, mtype_path, mtype_specs, round_mtype, mtype_arrow, spec_value, spec_type, spec_module, spec_include, plain_dec, local_dec, dec_def, dec_let, dec_entry, dec_type, dec_module, dec_mtype, dec_open, dec_import}
 use Rattle.fut_ast.specs.Rows.{of_type, of_pat, of_exp, of_mod, Suffix, arrow, pat_type, indexed, field_name, field_digits, applied, range_to, range_by, with_index, with_field, ascribed, coerced, applied_mod, sealed, with_type}
 use Rattle.fut_ast.specs.Behind.{begins, begins_argument, begins_atom, begins_operand, begins_named, begins_mod_argument, behind_atom, goes_range, continues, core, is_section, passes}
@@ -89,6 +89,7 @@ module _ (read : (n : Sort) → List Token → Read (Tree n)) where
   flat_at Exp_field ts = exp_field_at ts
   flat_at Index_item ts = index_at ts
   flat_at Named_item ts = named_at ts
+  flat_at Written_item ts = row_at read (of_exp written_index) ts
   flat_at Let_item ts = let_at ts
   flat_at Loop_item ts = loop_item_at ts
   flat_at Mod_param ts = row_at read (of_mod mod_param) ts
@@ -117,6 +118,10 @@ fits (Some p) m = nat_le m (level p)
 abbrev pub by_operator : {A : Type 0} → Option Fixed → Read A → (Fixed → Read A) → Read A
 by_operator None stop go = stop
 by_operator (Some o) stop go = go o
+
+-- the operator that stands next between operands: the operator of a section, with ")" behind it, is none where it ends them
+abbrev pub operator_between : (section_ends : Bool) → ℕ → List Token → Option Fixed
+operator_between section_ends k ts = if section_ends && is_some (section_at ts) then None else operator_at k ts
 
 abbrev pub atom_suffix : List Token → Suffix Atom Atom
 atom_suffix ts = if starts fixed.OpenBracket ts then indexed else (if starts fixed.Dot ts then field_name else field_digits)
@@ -237,19 +242,19 @@ module _ (read : (n : Sort) → List Token → Read (Tree n)) (limit : ℕ) wher
       else (if nat_lt h limit then parts_at read true (Chain k) (Operator o ∷ Sub (Operand (right_level o)) ∷ []) (λ op b. joined o from.place op.0 op.1 a b) h ts else Err (TooDeep (length ts)))
 
   -- operators of a level or tighter, as long as they stand there, and the last of them
-  unfoldable pub operators_at : ℕ → Spot → (turns : ℕ) → SourceExp → Option Fixed → ℕ → List Token → Read (SourceExp × Option Fixed)
-  operators_at k from zero a last h ts =
-      by_operator (operator_at k ts) (Ok ((a, last), h, ts))
+  unfoldable pub operators_at : (section_ends : Bool) → ℕ → Spot → (turns : ℕ) → SourceExp → Option Fixed → ℕ → List Token → Read (SourceExp × Option Fixed)
+  operators_at section_ends k from zero a last h ts =
+      by_operator (operator_between section_ends k ts) (Ok ((a, last), h, ts))
       (λ o. if fits last (left_level o) then (if continues Unary ts then Err (refuse ts) else Err (TooDeep (length ts))) else Err (refuse ts))
-  operators_at k from (suc n) a last h ts =
-      by_operator (operator_at k ts) (Ok ((a, last), h, ts))
-      (λ o. if fits last (left_level o) then (operation_at k o from a h ts >>= λ y. operators_at k from n y.0 (Some o) y.1 y.2) else Err (refuse ts))
+  operators_at section_ends k from (suc n) a last h ts =
+      by_operator (operator_between section_ends k ts) (Ok ((a, last), h, ts))
+      (λ o. if fits last (left_level o) then (operation_at k o from a h ts >>= λ y. operators_at section_ends k from n y.0 (Some o) y.1 y.2) else Err (refuse ts))
 
-  unfoldable pub graded_at : ℕ → List Token → Read (SourceExp × Option Fixed)
-  graded_at k ts = unary_at ts >>= λ a. operators_at k (spot_of ts) limit a.0 None a.1 a.2
+  unfoldable pub graded_at : (section_ends : Bool) → ℕ → List Token → Read (SourceExp × Option Fixed)
+  graded_at section_ends k ts = unary_at ts >>= λ a. operators_at section_ends k (spot_of ts) limit a.0 None a.1 a.2
 
   unfoldable pub chain_at : ℕ → List Token → Read SourceExp
-  chain_at k ts = graded_at k ts >>= λ a. Ok (a.0.0, a.1, a.2)
+  chain_at k ts = graded_at false k ts >>= λ a. Ok (a.0.0, a.1, a.2)
 
   -- behind operands: the end of a range, updates, types
   unfoldable pub range_behind : Spot → SourceExp → ℕ → List Token → Read (Tree Range)
@@ -310,12 +315,11 @@ module _ (read : (n : Sort) → List Token → Read (Tree n)) (limit : ℕ) wher
       if fits last (suc (level o)) then bounded (Chain (suc (level o))) ts (Ok ((e, Some o), h, us)) else Err (refuse (behind_operator o (tail us)))
 
   unfoldable pub inside_whole : List Token → Read SourceExp → Read (Tree Inside)
-  inside_whole ts read_whole =
-      bounded Whole ts read_whole >>= λ y. if is_some (section_at y.2) then Err (refuse y.2) else Ok ((y.0, None), y.1, y.2)
+  inside_whole ts read_whole = bounded Whole ts read_whole >>= λ y. Ok ((y.0, None), y.1, y.2)
 
   unfoldable pub inside_at : List Token → Read (Tree Inside)
   inside_at ts =
-      if begins_operand ts then (graded_at 1 ts >>= λ a.
+      if begins_operand ts then (graded_at true 1 ts >>= λ a.
       by_operator (section_at a.2) (inside_whole ts (typed_behind (spot_of ts) a.0.0 a.1 a.2)) (λ o. inside_operand o a.0.1 a.0.0 a.1 ts a.2))
       else inside_whole ts (big_at ts)
 

@@ -1,5 +1,5 @@
 -- Reading from left to right: tokens, and the parts of a production over what reads the phrases in it.
-use Rattle.std.specs.Prelude.{◌≡◌, ℕ, zero, suc, max, Bool, true, false, ◌&&◌, ◌||◌, List, [], ◌∷◌, length, Option, Some, None, Result, Ok, Err, nat_lt, nat_le, ◌==◌, if◌then◌else◌}
+use Rattle.std.specs.Prelude.{◌≡◌, ℕ, zero, suc, max, Bool, true, ◌||◌, List, [], ◌∷◌, length, Option, Some, None, Result, Ok, Err, nat_lt, nat_le, ◌==◌, if◌then◌else◌}
 use Rattle.fut_scalar.specs.declared.scalar.IntType.{IntType}
 use Rattle.fut_token.specs.declared.token.Fixed.{Fixed}
 use Rattle.fut_token.specs.declared.token.Fixed.TheVariants as fixed
@@ -7,6 +7,7 @@ use Rattle.fut_token.specs.declared.token.TokenKind.{TokenKind}
 use Rattle.fut_token.specs.declared.token.TokenKind.TheVariants as kind
 use Rattle.fut_token.specs.declared.token.Token.{Token}
 use Rattle.fut_ast.specs.declared.node.Spot.{Spot}
+use Rattle.fut_ast.specs.declared.node.What.{What}
 use Rattle.fut_ast.specs.declared.node.What.TheVariants as what
 use Rattle.fut_ast.specs.declared.node.End.{End}
 use Rattle.fut_ast.specs.declared.node.End.TheVariants as range_end
@@ -16,9 +17,9 @@ use Rattle.fut_ast.specs.declared.ty.SizeExp.{SizeExp}
 use Rattle.fut_ast.specs.declared.ty.SizeForm.TheVariants as size_form
 use Rattle.fut_ast.specs.Tokens.{spot_of, tail, starts, starts_tight, is_word, is_int, is_text}
 use Rattle.fut_ast.specs.Operators.{level}
-use Rattle.fut_ast.specs.LeftOut.{is_char, is_constructor}
-use Rattle.fut_ast.specs.Sorts.{Sort, Tree, Text, Path, SourcePat, SourceExp, is_node, Whole_type, Applied_type, Atomic_type, Whole_pat, Atom, Whole, Chain}
-use Rattle.fut_ast.specs.Parts.{Part, Look, Sign, Tight, Word, Names, Number, One, Quoted, Digits, Variable, Size, Operator, Sub, Commas, Many, Several, Maybe, Optional, Upto, End_sign, Argument, Loop_start, Value, Builds}
+use Rattle.fut_ast.specs.LeftOut.{begins_left_out, is_char, is_constructor}
+use Rattle.fut_ast.specs.Sorts.{Sort, Tree, Text, Path, SourcePat, SourceExp, is_node, Whole_type, Applied_type, Atomic_type, Whole_pat, Atom, Whole, Chain, Written_item}
+use Rattle.fut_ast.specs.Parts.{Part, Look, Test, going_back, without, Sign, Tight, Word, Names, Number, One, Quoted, Digits, Variable, Size, Operator, Sub, Commas, Many, Several, Maybe, Optional, Upto, End_sign, Argument, Loop_start, Value, Builds}
 use Rattle.fut_ast.specs.Nodes.{exp_of_pat, has_wild}
 use Rattle.fut_ast.specs.Rows.{Row, parts, tree, Suffix, suffix_parts, suffix_tree}
 use Rattle.fut_ast.specs.Behind.{begins, begins_argument, continues, core, passes}
@@ -46,23 +47,41 @@ Gives view (Err e) read = Fails e read
 abbrev pub Read : Type 0 → Type 0
 Read A = Result (A × ℕ × List Token) Fault
 
--- where nothing goes on with the next token
-unfoldable pub refuse : List Token → Fault
-refuse ts =
+-- where nothing goes on with the next token: a form that is left out everywhere, else this fault
+unfoldable pub refuse_as : Fault → List Token → Fault
+refuse_as other ts =
     if is_char ts then LeftOut (length ts) what.Character
     else (if is_text ts then LeftOut (length ts) what.Text
     else (if starts fixed.KeyMatch ts || starts fixed.KeyCase ts || is_constructor ts then LeftOut (length ts) what.SumType
-    else Syntax (length ts)))
+    else other))
 
--- where no phrase of the sort begins
-abbrev pub is_type_sort : Sort → Bool
-is_type_sort Whole_type = true
-is_type_sort Applied_type = true
-is_type_sort Atomic_type = true
-is_type_sort n = false
+unfoldable pub refuse : List Token → Fault
+refuse ts = refuse_as (Syntax (length ts)) ts
+
+-- the same where a form may begin that is left out there
+abbrev pub refuse_form : Option What → List Token → Fault
+refuse_form None ts = refuse ts
+refuse_form (Some w) ts = if begins_left_out w ts then LeftOut (length ts) w else refuse ts
+
+-- where a phrase of the sort must begin
+abbrev pub form_of_sort : Sort → Option What
+form_of_sort Whole_type = Some what.ExistentialSize
+form_of_sort Applied_type = Some what.ExistentialSize
+form_of_sort Atomic_type = Some what.ExistentialSize
+form_of_sort Written_item = Some what.SliceUpdate
+form_of_sort n = None
 
 unfoldable pub refuse_sort : Sort → List Token → Fault
-refuse_sort n ts = if is_type_sort n && starts fixed.Question ts then LeftOut (length ts) what.ExistentialSize else refuse ts
+refuse_sort n ts = refuse_form (form_of_sort n) ts
+
+-- where the next tokens must pass a test
+abbrev pub form_of_test : Test → Option What
+form_of_test (without w) = Some w
+form_of_test going_back = Some what.Stride
+form_of_test c = None
+
+abbrev pub look_at : Test → List Token → Result (Unit {0}) Fault
+look_at c ts = if passes c ts then Ok tt else Err (refuse_form (form_of_test c) ts)
 
 -- ---- tokens
 
@@ -109,10 +128,11 @@ unfoldable pub variable_at : List Token → Result (Head Text × List Token) Fau
 variable_at [] = Err (refuse [])
 variable_at (t ∷ us) = variable_from t.kind (t ∷ us) us
 
--- name { "." name }, with so many turns
+-- name { "." name }, with so many turns; "." and "(" open a module
 unfoldable pub names_at : ℕ → List Token → Result (Path × List Token) Fault
 names_at zero ts = Err (refuse ts)
-names_at (suc n) ts = word_at ts >>= λ x. if starts fixed.Dot x.1 then (names_at n (tail x.1) >>= λ xs. Ok (x.0 ∷ xs.0, xs.1)) else Ok (x.0 ∷ [], x.1)
+names_at (suc n) ts =
+    word_at ts >>= λ x. look_at (without what.LocalOpen) x.1 >>= λ u. if starts fixed.Dot x.1 then (names_at n (tail x.1) >>= λ xs. Ok (x.0 ∷ xs.0, xs.1)) else Ok (x.0 ∷ [], x.1)
 
 unfoldable pub path_at : List Token → Result (Path × List Token) Fault
 path_at ts = names_at (length ts) ts
@@ -120,7 +140,7 @@ path_at ts = names_at (length ts) ts
 -- a size, before its bracket
 abbrev pub size_left_out : List Token → Fault
 size_left_out [] = Syntax 0
-size_left_out (t ∷ ts) = LeftOut (length (t ∷ ts)) what.SizeExpression
+size_left_out (t ∷ ts) = refuse_as (LeftOut (length (t ∷ ts)) what.SizeExpression) (t ∷ ts)
 
 -- behind a size
 abbrev pub refuse_behind_size : List Token → Fault
@@ -202,7 +222,7 @@ module _ (sub : (n : Sort) → List Token → Read (Tree n)) where
       sub Whole_pat ts >>= λ p. if starts fixed.Equal p.2 then (sub Whole (tail p.2) >>= λ e. Ok ((p.0, e.0), max (max g p.1) e.1, e.2)) else (if has_wild p.0 then Err (refuse p.2) else Ok ((p.0, exp_of_pat p.0), max g p.1, p.2))
 
   unfoldable pub has_at : (q : Part) → ℕ → List Token → Read (Value q)
-  has_at (Look c) g ts = if passes c ts then Ok (tt, g, ts) else Err (refuse ts)
+  has_at (Look c) g ts = look_at c ts >>= λ u. Ok (u, g, ts)
   has_at (Sign f) g ts = expect f ts >>= λ us. Ok (spot_of ts, g, us)
   has_at Tight g ts = if starts_tight ts then Ok (spot_of ts, g, tail ts) else Err (refuse ts)
   has_at Word g ts = word_at ts >>= λ x. Ok ((spot_of ts, x.0), g, x.1)

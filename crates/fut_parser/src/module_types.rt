@@ -1,5 +1,5 @@
 // Module types.
-ghost use Rattle.std.specs.Prelude.{◌≡◌, ◌≤◌, ◌<◌, ◌+◌, suc, length, IfOk};
+ghost use Rattle.std.specs.Prelude.{Err, ◌≡◌, ◌≤◌, ◌<◌, ◌+◌, suc, length, ℕ, IfOk};
 ghost use Rattle.fut_ast.specs.ModRows.{
   mod_param,
   mtype_arrow,
@@ -14,6 +14,7 @@ ghost use Rattle.fut_ast.specs.ModRows.{
 ghost use Rattle.fut_ast.specs.Rows.{of_mod, with_type};
 ghost use Rattle.fut_ast.specs.Sorts.{Mod_param, Spec_item, Whole_mtype, Whole_type};
 ghost use Rattle.fut_ast.specs.Tokens.{starts};
+ghost use Rattle.fut_parser.specs.Handed.{Law};
 ghost use Rattle.fut_parser.specs.Phrases.{
   again_at,
   atomic_mtype_at,
@@ -26,21 +27,69 @@ ghost use Rattle.fut_parser.specs.Phrases.{
 };
 ghost use Rattle.fut_parser.specs.Reading.{Gives, many_at, maybe_at, row_at, suffix_at};
 
+use crate::behind::{both, ended, low_enough};
 use crate::fault::{Fault, Stop};
 use crate::heads::heads;
 use crate::mtype_nodes as node;
 use crate::tokens::{
     begins_member, begins_module_type, begins_name_and_colon, greater, next_spot, refused, rest_of,
-    starts_with, starts_with_word, take, take_path, take_word,
+    starts_with, starts_with_word, take, take_path, take_word, without_form,
 };
 use crate::types::{SourceType, whole_type};
-use fut_ast::{ModType, Param, Spec, Spot};
+use fut_ast::{ModType, Param, Spec, Spot, What};
 use fut_scalar::List;
 use fut_token::{Fixed, Token};
 use std::alloc::Global;
 
+/// What is read as a module type, its height, and the tokens behind it.
+pub type ModTypeAnswer<'t> = Result<(ModType, u32, &'t [Token]), Stop>;
+
+/// What is read as a member of a module type, its height, and the tokens behind it.
+pub type MemberAnswer<'t> = Result<(Spec, u32, &'t [Token]), Stop>;
+
+/// What reads the module types in a production.
+pub trait ReadModType: Copy {
+    /// It reads them up to a height.
+    ghost reads: { Self → ℕ → Type 0 };
+
+    /// A module type.
+    fn whole(self, inner: u32, tokens: &[Token]) -> ModTypeAnswer<'_>
+        requires law { reads self inner }
+        ensures exact { Gives (λ x. (x.0, x.1, x.2.now)) result (read_at inner Whole_mtype tokens.now) }
+        ensures low { IfOk result (λ x. x.1 ≤ inner) };
+}
+
+impl<F: for<'t> Fn(&'t [Token]) -> ModTypeAnswer<'t>> ReadModType for &F {
+    ghost reads = { λ f d. F.IsAlwaysCallable f.now × Law Whole_mtype (F.post f.now) d };
+
+    fn whole(self, inner: u32, tokens: &[Token]) -> ModTypeAnswer<'_> {
+        let _inner = inner;
+        self(tokens)
+    }
+}
+
+/// What reads the members in a production.
+pub trait ReadMember: Copy {
+    /// It reads them up to a height.
+    ghost reads: { Self → ℕ → Type 0 };
+
+    /// A member of a module type.
+    fn member(self, inner: u32, tokens: &[Token]) -> MemberAnswer<'_>
+        requires law { reads self inner }
+        ensures exact { Gives (λ x. (x.0, x.1, x.2.now)) result (read_at inner Spec_item tokens.now) }
+        ensures low { IfOk result (λ x. x.1 ≤ inner) };
+}
+
+impl<F: for<'t> Fn(&'t [Token]) -> MemberAnswer<'t>> ReadMember for &F {
+    ghost reads = { λ f d. F.IsAlwaysCallable f.now × Law Spec_item (F.post f.now) d };
+
+    fn member(self, inner: u32, tokens: &[Token]) -> MemberAnswer<'_> {
+        let _inner = inner;
+        self(tokens)
+    }
+}
+
 /// A module type of a height up to the depth.
-#[tactic(auto, unfolding(crate::specs::Phrases::read_at, crate::specs::Phrases::bounded, crate::specs::Phrases::ended, crate::specs::Phrases::step, crate::specs::Reading::refuse_sort))]
 #[cycle(module_types)]
 pub fn module_type(
     alloc: Global,
@@ -51,144 +100,293 @@ pub fn module_type(
     ensures exact { Gives (λ x. (x.0, x.1, x.2.now)) result (read_at depth Whole_mtype tokens.now) }
     ensures low { IfOk result (λ x. x.1 ≤ depth) }
 {
-    if !begins_module_type(tokens) {
-        return Err(Stop::Fault(refused(tokens)));
-    }
     if depth == 0 {
-        return Err(Stop::Fault(Fault::TooDeep(tokens.len())));
+        return Err(Stop::Fault(no_type_below(tokens)));
     }
-    let (tree, height, rest) = whole_below(alloc, depth - 1, tokens)?;
-    if starts_with(rest, Fixed::KeyWith) {
-        return Err(Stop::Fault(refused(rest)));
-    }
-    Ok((tree, height, rest))
+    let inner = depth - 1;
+    whole_node(
+        alloc,
+        &|behind: &[Token]| -> Result<(ModType, u32, &[Token]), Stop>
+            requires { inner ≤ 1000 }
+            ensures exact { Gives (λ x. (x.0, x.1, x.2.now)) result (read_at inner Whole_mtype behind.now) }
+            ensures low { IfOk result (λ x. x.1 ≤ inner) }
+        { module_type(alloc, inner, behind) },
+        &|behind: &[Token]| -> Result<(Spec, u32, &[Token]), Stop>
+            requires { inner ≤ 1000 }
+            ensures exact { Gives (λ x. (x.0, x.1, x.2.now)) result (read_at inner Spec_item behind.now) }
+            ensures low { IfOk result (λ x. x.1 ≤ inner) }
+        { member(alloc, inner, behind) },
+        inner,
+        tokens,
+    )
 }
 
 // A member of a module type.
-#[tactic(auto, unfolding(crate::specs::Phrases::read_at, crate::specs::Phrases::bounded, crate::specs::Phrases::ended, crate::specs::Phrases::step, crate::specs::Reading::refuse_sort))]
 #[cycle(module_types)]
 fn member(alloc: Global, depth: u32, tokens: &[Token]) -> Result<(Spec, u32, &[Token]), Stop>
     requires { depth ≤ 1000 }
     ensures exact { Gives (λ x. (x.0, x.1, x.2.now)) result (read_at depth Spec_item tokens.now) }
     ensures low { IfOk result (λ x. x.1 ≤ depth) }
 {
-    if !begins_member(tokens) {
-        return Err(Stop::Fault(refused(tokens)));
-    }
     if depth == 0 {
-        return Err(Stop::Fault(Fault::TooDeep(tokens.len())));
+        return Err(Stop::Fault(no_member_below(tokens)));
     }
-    let (tree, height, rest) = member_below(alloc, depth - 1, tokens)?;
-    Ok((tree, height, rest))
+    let inner = depth - 1;
+    member_node(
+        alloc,
+        &|behind: &[Token]| -> Result<(ModType, u32, &[Token]), Stop>
+            requires { inner ≤ 1000 }
+            ensures exact { Gives (λ x. (x.0, x.1, x.2.now)) result (read_at inner Whole_mtype behind.now) }
+            ensures low { IfOk result (λ x. x.1 ≤ inner) }
+        { module_type(alloc, inner, behind) },
+        inner,
+        tokens,
+    )
 }
 
-#[tactic(auto, unfolding(crate::specs::Phrases::whole_mtype_at))]
-#[cycle(module_types)]
-fn whole_below(
+/// A parameter of a module.
+pub fn parameter(
     alloc: Global,
     inner: u32,
     tokens: &[Token],
-) -> Result<(ModType, u32, &[Token]), Stop>
+) -> Result<(Param, u32, &[Token]), Stop>
     requires { inner < 1000 }
+    ensures exact { Gives (λ x. (x.0, x.1, x.2.now)) result (phrases (read_at inner) Mod_param tokens.now) }
+    ensures low { IfOk result (λ x. x.1 ≤ inner) }
+{
+    parameter_by(
+        alloc,
+        &|behind: &[Token]| -> Result<(ModType, u32, &[Token]), Stop>
+            requires { inner ≤ 1000 }
+            ensures exact { Gives (λ x. (x.0, x.1, x.2.now)) result (read_at inner Whole_mtype behind.now) }
+            ensures low { IfOk result (λ x. x.1 ≤ inner) }
+        { module_type(alloc, inner, behind) },
+        inner,
+        tokens,
+    )
+}
+
+/// A parameter of a module in a declaration.
+#[tactic(auto, unfolding(crate::specs::Phrases::phrases, crate::specs::Phrases::items, crate::specs::Phrases::nodes, crate::specs::Phrases::flat_at, crate::specs::Reading::row_at, crate::specs::Reading::parts_at, crate::specs::Reading::has_at, crate::specs::Reading::sub_at))]
+pub fn parameter_inside(
+    alloc: Global,
+    inner: u32,
+    tokens: &[Token],
+) -> Result<(Param, u32, &[Token]), Stop>
+    requires { inner < 1000 }
+    ensures exact { Gives (λ x. (x.0, x.1, x.2.now)) result (items (read_at inner) Mod_param tokens.now) }
+    ensures low { IfOk result (λ x. x.1 ≤ inner) }
+{
+    parameter(alloc, inner, tokens)
+}
+
+// Where nothing may stand below, a token that begins a module type is too deep.
+#[tactic(auto, unfolding(crate::specs::Phrases::read_at, crate::specs::Reading::refuse_sort))]
+fn no_type_below(tokens: &[Token]) -> Fault
+    ensures { read_at 0 Whole_mtype tokens.now ≡ Err result }
+{
+    if begins_module_type(tokens) {
+        Fault::TooDeep(tokens.len())
+    } else {
+        refused(tokens)
+    }
+}
+
+// Where nothing may stand below, a token that begins a member is too deep.
+#[tactic(auto, unfolding(crate::specs::Phrases::read_at, crate::specs::Reading::refuse_sort))]
+fn no_member_below(tokens: &[Token]) -> Fault
+    ensures { read_at 0 Spec_item tokens.now ≡ Err result }
+{
+    if begins_member(tokens) {
+        Fault::TooDeep(tokens.len())
+    } else {
+        refused(tokens)
+    }
+}
+
+#[tactic(auto, unfolding(crate::specs::Phrases::read_at, crate::specs::Phrases::bounded, crate::specs::Phrases::ended, crate::specs::Phrases::step, crate::specs::Reading::refuse_sort))]
+fn whole_node<
+    't,
+    F: for<'a> Fn(&'a [Token]) -> ModTypeAnswer<'a>,
+    G: for<'a> Fn(&'a [Token]) -> MemberAnswer<'a>,
+>(alloc: Global, read: &F, read_member: &G, inner: u32, tokens: &'t [Token]) -> ModTypeAnswer<'t>
+    requires callable { F.IsAlwaysCallable read.now }
+    requires law { Law Whole_mtype (F.post read.now) inner }
+    requires member_callable { G.IsAlwaysCallable read_member.now }
+    requires member_law { Law Spec_item (G.post read_member.now) inner }
+    requires room { inner < 1000 }
+    ensures exact { Gives (λ x. (x.0, x.1, x.2.now)) result (read_at (suc inner) Whole_mtype tokens.now) }
+    ensures low { IfOk result (λ x. x.1 ≤ inner + 1) }
+{
+    if !begins_module_type(tokens) {
+        return Err(Stop::Fault(refused(tokens)));
+    }
+    let (tree, height, rest) = whole_below(alloc, read, read_member, inner, tokens)?;
+    ended(tree, height, rest, starts_with(rest, Fixed::KeyWith))
+}
+
+#[tactic(auto, unfolding(crate::specs::Phrases::read_at, crate::specs::Phrases::bounded, crate::specs::Phrases::ended, crate::specs::Phrases::step, crate::specs::Reading::refuse_sort))]
+fn member_node<'t, F: for<'a> Fn(&'a [Token]) -> ModTypeAnswer<'a>>(
+    alloc: Global,
+    read: &F,
+    inner: u32,
+    tokens: &'t [Token],
+) -> MemberAnswer<'t>
+    requires callable { F.IsAlwaysCallable read.now }
+    requires law { Law Whole_mtype (F.post read.now) inner }
+    requires room { inner < 1000 }
+    ensures exact { Gives (λ x. (x.0, x.1, x.2.now)) result (read_at (suc inner) Spec_item tokens.now) }
+    ensures low { IfOk result (λ x. x.1 ≤ inner + 1) }
+{
+    if !begins_member(tokens) {
+        return Err(Stop::Fault(refused(tokens)));
+    }
+    let (tree, height, rest) = member_below(alloc, read, inner, tokens)?;
+    Ok((tree, height, rest))
+}
+
+fn parameter_by<'t, F: for<'a> Fn(&'a [Token]) -> ModTypeAnswer<'a>>(
+    alloc: Global,
+    read: &F,
+    inner: u32,
+    tokens: &'t [Token],
+) -> Result<(Param, u32, &'t [Token]), Stop>
+    requires callable { F.IsAlwaysCallable read.now }
+    requires law { Law Whole_mtype (F.post read.now) inner }
+    requires room { inner < 1000 }
+    ensures exact { Gives (λ x. (x.0, x.1, x.2.now)) result (phrases (read_at inner) Mod_param tokens.now) }
+    ensures low { IfOk result (λ x. x.1 ≤ inner) }
+{
+    parameter_by_reader(alloc, read, inner, tokens)
+}
+
+#[tactic(auto, unfolding(crate::specs::Phrases::whole_mtype_at))]
+fn whole_below<R: ReadModType, S: ReadMember>(
+    alloc: Global,
+    read: R,
+    read_member: S,
+    inner: u32,
+    tokens: &[Token],
+) -> Result<(ModType, u32, &[Token]), Stop>
+    requires law { R.reads read inner }
+    requires member_law { S.reads read_member inner }
+    requires room { inner < 1000 }
     ensures exact { Gives (λ x. (x.0, x.1, x.2.now)) result (whole_mtype_at (phrases (read_at inner)) (suc inner) tokens.now) }
     ensures low { IfOk result (λ x. x.1 ≤ inner + 1) }
 {
-    let (first, height, rest) = atomic_below(alloc, inner, tokens)?;
+    let (first, height, rest) = atomic_below(alloc, read, read_member, inner, tokens)?;
     withs_behind(alloc, inner, next_spot(tokens), first, height, rest)
 }
 
 #[tactic(auto, unfolding(crate::specs::Phrases::atomic_mtype_at))]
-#[cycle(module_types)]
-fn atomic_below(
+fn atomic_below<R: ReadModType, S: ReadMember>(
     alloc: Global,
+    read: R,
+    read_member: S,
     inner: u32,
     tokens: &[Token],
 ) -> Result<(ModType, u32, &[Token]), Stop>
-    requires { inner < 1000 }
+    requires law { R.reads read inner }
+    requires member_law { S.reads read_member inner }
+    requires room { inner < 1000 }
     ensures exact { Gives (λ x. (x.0, x.1, x.2.now)) result (atomic_mtype_at (phrases (read_at inner)) (suc inner) tokens.now) }
     ensures low { IfOk result (λ x. x.1 ≤ inner + 1) }
 {
     if starts_with_word(tokens) {
         path(alloc, inner, tokens)
     } else if starts_with(tokens, Fixed::OpenBrace) {
-        members_in_braces(alloc, inner, tokens)
+        members_in_braces(alloc, read_member, inner, tokens)
     } else if begins_name_and_colon(rest_of(tokens)) {
-        far_arrow(alloc, inner, tokens)
+        far_arrow(alloc, read, inner, tokens)
     } else {
-        round(alloc, inner, tokens)
+        round(read, inner, tokens)
     }
 }
 
 #[tactic(auto, unfolding(crate::specs::Phrases::ended))]
-#[cycle(module_types)]
-fn far_arrow(alloc: Global, inner: u32, tokens: &[Token]) -> Result<(ModType, u32, &[Token]), Stop>
-    requires { inner < 1000 }
+fn far_arrow<R: ReadModType>(
+    alloc: Global,
+    read: R,
+    inner: u32,
+    tokens: &[Token],
+) -> Result<(ModType, u32, &[Token]), Stop>
+    requires law { R.reads read inner }
+    requires room { inner < 1000 }
     ensures exact { Gives (λ x. (x.0, x.1, x.2.now)) result (ended Whole_mtype (row_at (phrases (read_at inner)) (of_mod mtype_arrow) tokens.now)) }
     ensures low { IfOk result (λ x. x.1 ≤ inner + 1) }
 {
-    let (tree, height, rest) = arrow(alloc, inner, tokens)?;
-    if starts_with(rest, Fixed::KeyWith) {
-        return Err(Stop::Fault(refused(rest)));
-    }
-    Ok((tree, height, rest))
+    let (tree, height, rest) = arrow(alloc, read, inner, tokens)?;
+    ended(tree, height, rest, starts_with(rest, Fixed::KeyWith))
 }
 
 #[tactic(auto, unfolding(crate::specs::Reading::row_at, crate::specs::Reading::parts_at, crate::specs::Reading::has_at, crate::specs::Reading::sub_at, crate::specs::Phrases::phrases))]
-#[cycle(module_types)]
-fn arrow(alloc: Global, inner: u32, tokens: &[Token]) -> Result<(ModType, u32, &[Token]), Stop>
-    requires { inner < 1000 }
+fn arrow<R: ReadModType>(
+    alloc: Global,
+    read: R,
+    inner: u32,
+    tokens: &[Token],
+) -> Result<(ModType, u32, &[Token]), Stop>
+    requires law { R.reads read inner }
+    requires room { inner < 1000 }
     ensures exact { Gives (λ x. (x.0, x.1, x.2.now)) result (row_at (phrases (read_at inner)) (of_mod mtype_arrow) tokens.now) }
     ensures low { IfOk result (λ x. x.1 ≤ inner + 1) }
 {
     let at = next_spot(tokens);
-    let (param, param_height, rest) = parameter(alloc, inner, tokens)?;
-    let rest = take(rest, Fixed::Arrow)?;
-    let (to, height, rest) = module_type(alloc, inner, rest)?;
-    Ok((
-        node::arrow(alloc, at, param, to)?,
-        greater(param_height, height) + 1,
-        rest,
-    ))
+    let (param, param_height, rest) = parameter_by_reader(alloc, read, inner, tokens)?;
+    let (param, rest) = both(param, take(rest, Fixed::Arrow))?;
+    let (param, (to, height, rest)) = both(param, read.whole(inner, rest))?;
+    let tree = node::arrow(alloc, at, param, to)?;
+    Ok((tree, greater(param_height, height) + 1, rest))
 }
 
 #[tactic(auto, unfolding(crate::specs::Phrases::phrases, crate::specs::Phrases::bounded, crate::specs::Phrases::ended, crate::specs::Phrases::flat_at, crate::specs::Reading::refuse_sort))]
-#[cycle(module_types)]
-fn parameter(alloc: Global, inner: u32, tokens: &[Token]) -> Result<(Param, u32, &[Token]), Stop>
-    requires { inner < 1000 }
+fn parameter_by_reader<R: ReadModType>(
+    alloc: Global,
+    read: R,
+    inner: u32,
+    tokens: &[Token],
+) -> Result<(Param, u32, &[Token]), Stop>
+    requires law { R.reads read inner }
+    requires room { inner < 1000 }
     ensures exact { Gives (λ x. (x.0, x.1, x.2.now)) result (phrases (read_at inner) Mod_param tokens.now) }
     ensures low { IfOk result (λ x. x.1 ≤ inner) }
 {
     if !starts_with(tokens, Fixed::OpenParen) {
         return Err(Stop::Fault(refused(tokens)));
     }
-    let (param, height, rest) = any_parameter(alloc, inner, tokens)?;
+    let (param, height, rest) = any_parameter(alloc, read, inner, tokens)?;
     Ok((param, height, rest))
 }
 
 #[tactic(auto, unfolding(crate::specs::Reading::row_at, crate::specs::Reading::parts_at, crate::specs::Reading::has_at, crate::specs::Reading::sub_at, crate::specs::Phrases::items))]
-#[cycle(module_types)]
-fn any_parameter(
+fn any_parameter<R: ReadModType>(
     alloc: Global,
+    read: R,
     inner: u32,
     tokens: &[Token],
 ) -> Result<(Param, u32, &[Token]), Stop>
-    requires { inner < 1000 }
+    requires law { R.reads read inner }
+    requires room { inner < 1000 }
     ensures exact { Gives (λ x. (x.0, x.1, x.2.now)) result (row_at (items (read_at inner)) (of_mod mod_param) tokens.now) }
     ensures low { IfOk result (λ x. x.1 ≤ inner) }
 {
     let rest = take(tokens, Fixed::OpenParen)?;
     let place = next_spot(rest).place;
     let (name, rest) = take_word(alloc, rest)?;
-    let rest = take(rest, Fixed::Colon)?;
-    let (bound, height, rest) = module_type(alloc, inner, rest)?;
-    let rest = take(rest, Fixed::CloseParen)?;
+    let (name, rest) = both(name, take(rest, Fixed::Colon))?;
+    let (name, (bound, height, rest)) = both(name, read.whole(inner, rest))?;
+    let ((name, bound), rest) = both((name, bound), take(rest, Fixed::CloseParen))?;
     Ok((node::param(place, name, bound), height, rest))
 }
 
 #[tactic(auto, unfolding(crate::specs::Reading::row_at, crate::specs::Reading::parts_at, crate::specs::Reading::has_at, crate::specs::Reading::sub_at, crate::specs::Phrases::phrases))]
-#[cycle(module_types)]
-fn round(alloc: Global, inner: u32, tokens: &[Token]) -> Result<(ModType, u32, &[Token]), Stop>
-    requires { inner < 1000 }
+fn round<R: ReadModType>(
+    read: R,
+    inner: u32,
+    tokens: &[Token],
+) -> Result<(ModType, u32, &[Token]), Stop>
+    requires law { R.reads read inner }
+    requires room { inner < 1000 }
     ensures exact { Gives (λ x. (x.0, x.1, x.2.now)) result (row_at (phrases (read_at inner)) (of_mod round_mtype) tokens.now) }
     ensures low { IfOk result (λ x. x.1 ≤ inner + 1) }
 {
@@ -196,32 +394,38 @@ fn round(alloc: Global, inner: u32, tokens: &[Token]) -> Result<(ModType, u32, &
     if begins_name_and_colon(rest) {
         return Err(Stop::Fault(refused(rest)));
     }
-    let (tree, height, rest) = module_type(alloc, inner, rest)?;
-    let rest = take(rest, Fixed::CloseParen)?;
+    let (tree, height, rest) = read.whole(inner, rest)?;
+    let (tree, rest) = both(tree, take(rest, Fixed::CloseParen))?;
     Ok((tree, height + 1, rest))
 }
 
 #[tactic(auto, unfolding(crate::specs::Reading::row_at, crate::specs::Reading::parts_at, crate::specs::Reading::has_at, crate::specs::Reading::sub_at, crate::specs::Phrases::phrases))]
-#[cycle(module_types)]
-fn members_in_braces(
+fn members_in_braces<S: ReadMember>(
     alloc: Global,
+    read_member: S,
     inner: u32,
     tokens: &[Token],
 ) -> Result<(ModType, u32, &[Token]), Stop>
-    requires { inner < 1000 }
+    requires law { S.reads read_member inner }
+    requires room { inner < 1000 }
     ensures exact { Gives (λ x. (x.0, x.1, x.2.now)) result (row_at (phrases (read_at inner)) (of_mod mtype_specs) tokens.now) }
     ensures low { IfOk result (λ x. x.1 ≤ inner + 1) }
 {
     let at = next_spot(tokens);
     let rest = take(tokens, Fixed::OpenBrace)?;
-    let (all, height, rest) = members(alloc, inner, rest)?;
-    let rest = take(rest, Fixed::CloseBrace)?;
+    let (all, height, rest) = members(alloc, read_member, inner, rest)?;
+    let (all, rest) = both(all, take(rest, Fixed::CloseBrace))?;
     Ok((node::specs(at, all), height + 1, rest))
 }
 
-#[cycle(module_types)]
-fn members(alloc: Global, inner: u32, tokens: &[Token]) -> Result<(List<Spec>, u32, &[Token]), Stop>
-    requires { inner < 1000 }
+fn members<S: ReadMember>(
+    alloc: Global,
+    read_member: S,
+    inner: u32,
+    tokens: &[Token],
+) -> Result<(List<Spec>, u32, &[Token]), Stop>
+    requires law { S.reads read_member inner }
+    requires room { inner < 1000 }
     ensures exact { Gives (λ x. (x.0, x.1, x.2.now)) result (many_at (phrases (read_at inner)) (length tokens.now) Spec_item 0 tokens.now) }
     ensures low { IfOk result (λ x. x.1 ≤ inner) }
 {
@@ -232,7 +436,7 @@ fn members(alloc: Global, inner: u32, tokens: &[Token]) -> Result<(List<Spec>, u
         if !begins_member(rest) {
             return Ok((all, height, rest));
         }
-        let (item, item_height, after) = member(alloc, inner, rest)?;
+        let (item, item_height, after) = read_member.member(inner, rest)?;
         all.push(item)?;
         height = greater(height, item_height);
         rest = after;
@@ -244,9 +448,14 @@ fn members(alloc: Global, inner: u32, tokens: &[Token]) -> Result<(List<Spec>, u
 }
 
 #[tactic(auto, unfolding(crate::specs::Phrases::spec_at))]
-#[cycle(module_types)]
-fn member_below(alloc: Global, inner: u32, tokens: &[Token]) -> Result<(Spec, u32, &[Token]), Stop>
-    requires { inner < 1000 }
+fn member_below<R: ReadModType>(
+    alloc: Global,
+    read: R,
+    inner: u32,
+    tokens: &[Token],
+) -> Result<(Spec, u32, &[Token]), Stop>
+    requires law { R.reads read inner }
+    requires room { inner < 1000 }
     ensures exact { Gives (λ x. (x.0, x.1, x.2.now)) result (spec_at (phrases (read_at inner)) (suc inner) tokens.now) }
     ensures low { IfOk result (λ x. x.1 ≤ inner + 1) }
 {
@@ -255,16 +464,21 @@ fn member_below(alloc: Global, inner: u32, tokens: &[Token]) -> Result<(Spec, u3
     } else if starts_with(tokens, Fixed::KeyType) {
         type_member(alloc, inner, tokens)
     } else if starts_with(tokens, Fixed::KeyModule) {
-        module_member(alloc, inner, tokens)
+        module_member(alloc, read, inner, tokens)
     } else {
-        include(alloc, inner, tokens)
+        include(alloc, read, inner, tokens)
     }
 }
 
 #[tactic(auto, unfolding(crate::specs::Reading::row_at, crate::specs::Reading::parts_at, crate::specs::Reading::has_at, crate::specs::Reading::sub_at, crate::specs::Phrases::phrases))]
-#[cycle(module_types)]
-fn module_member(alloc: Global, inner: u32, tokens: &[Token]) -> Result<(Spec, u32, &[Token]), Stop>
-    requires { inner < 1000 }
+fn module_member<R: ReadModType>(
+    alloc: Global,
+    read: R,
+    inner: u32,
+    tokens: &[Token],
+) -> Result<(Spec, u32, &[Token]), Stop>
+    requires law { R.reads read inner }
+    requires room { inner < 1000 }
     ensures exact { Gives (λ x. (x.0, x.1, x.2.now)) result (row_at (phrases (read_at inner)) (of_mod spec_module) tokens.now) }
     ensures low { IfOk result (λ x. x.1 ≤ inner + 1) }
 {
@@ -272,25 +486,27 @@ fn module_member(alloc: Global, inner: u32, tokens: &[Token]) -> Result<(Spec, u
     let rest = take(tokens, Fixed::KeyModule)?;
     let place = next_spot(rest).place;
     let (name, rest) = take_word(alloc, rest)?;
-    let rest = take(rest, Fixed::Colon)?;
-    let (bound, height, rest) = module_type(alloc, inner, rest)?;
-    Ok((
-        node::module(alloc, at, place, name, bound)?,
-        height + 1,
-        rest,
-    ))
+    let (name, rest) = both(name, take(rest, Fixed::Colon))?;
+    let (name, (bound, height, rest)) = both(name, read.whole(inner, rest))?;
+    let tree = node::module(alloc, at, place, name, bound)?;
+    Ok((tree, height + 1, rest))
 }
 
 #[tactic(auto, unfolding(crate::specs::Reading::row_at, crate::specs::Reading::parts_at, crate::specs::Reading::has_at, crate::specs::Reading::sub_at, crate::specs::Phrases::phrases))]
-#[cycle(module_types)]
-fn include(alloc: Global, inner: u32, tokens: &[Token]) -> Result<(Spec, u32, &[Token]), Stop>
-    requires { inner < 1000 }
+fn include<R: ReadModType>(
+    alloc: Global,
+    read: R,
+    inner: u32,
+    tokens: &[Token],
+) -> Result<(Spec, u32, &[Token]), Stop>
+    requires law { R.reads read inner }
+    requires room { inner < 1000 }
     ensures exact { Gives (λ x. (x.0, x.1, x.2.now)) result (row_at (phrases (read_at inner)) (of_mod spec_include) tokens.now) }
     ensures low { IfOk result (λ x. x.1 ≤ inner + 1) }
 {
     let at = next_spot(tokens);
     let rest = take(tokens, Fixed::KeyInclude)?;
-    let (tree, height, rest) = module_type(alloc, inner, rest)?;
+    let (tree, height, rest) = read.whole(inner, rest)?;
     Ok((node::include(alloc, at, tree)?, height + 1, rest))
 }
 
@@ -316,16 +532,14 @@ fn value(alloc: Global, inner: u32, tokens: &[Token]) -> Result<(Spec, u32, &[To
 {
     let at = next_spot(tokens);
     let rest = take(tokens, Fixed::KeyVal)?;
+    without_form(What::OperatorDefinition, rest)?;
     let place = next_spot(rest).place;
     let (name, rest) = take_word(alloc, rest)?;
-    let (all, heads_height, rest) = heads(alloc, inner, rest)?;
-    let rest = take(rest, Fixed::Colon)?;
-    let (ty, height, rest) = whole_type(alloc, inner, rest)?;
-    Ok((
-        node::value(at, place, name, all, ty),
-        greater(heads_height, height) + 1,
-        rest,
-    ))
+    let (name, (all, heads_height, rest)) = both(name, heads(alloc, inner, rest))?;
+    let (named, rest) = both((name, all), take(rest, Fixed::Colon))?;
+    let ((name, all), (ty, height, rest)) = both(named, whole_type(alloc, inner, rest))?;
+    let tree = node::value(at, place, name, all, ty);
+    Ok((tree, greater(heads_height, height) + 1, rest))
 }
 
 #[tactic(auto, unfolding(crate::specs::Reading::row_at, crate::specs::Reading::parts_at, crate::specs::Reading::has_at, crate::specs::Reading::sub_at, crate::specs::Phrases::phrases))]
@@ -336,9 +550,10 @@ fn type_member(alloc: Global, inner: u32, tokens: &[Token]) -> Result<(Spec, u32
 {
     let at = next_spot(tokens);
     let rest = take(tokens, Fixed::KeyType)?;
+    without_form(What::LiftedType, rest)?;
     let place = next_spot(rest).place;
     let (name, rest) = take_word(alloc, rest)?;
-    let (ty, height, rest) = maybe_type(alloc, inner, Fixed::Equal, rest)?;
+    let (name, (ty, height, rest)) = both(name, maybe_type(alloc, inner, Fixed::Equal, rest))?;
     Ok((node::type_name(at, place, name, ty), height + 1, rest))
 }
 
@@ -402,14 +617,12 @@ fn with_behind(
     ensures exact { Gives (λ x. (x.0, x.1, x.2.now)) result (suffix_at (phrases (read_at inner)) with_type (suc inner) at first first_height tokens.now) }
     ensures low { IfOk result (λ x. x.1 ≤ inner + 1) }
 {
-    if first_height > inner {
-        return Err(Stop::Fault(Fault::TooDeep(tokens.len())));
-    }
-    let rest = take(tokens, Fixed::KeyWith)?;
+    let first = low_enough(first, first_height, inner, tokens)?;
+    let (first, rest) = both(first, take(tokens, Fixed::KeyWith))?;
     let place = next_spot(rest).place;
-    let (names, rest) = take_path(alloc, rest)?;
-    let rest = take(rest, Fixed::Equal)?;
-    let (ty, height, rest) = whole_type(alloc, inner, rest)?;
+    let (first, (names, rest)) = both(first, take_path(alloc, rest))?;
+    let (named, rest) = both((first, names), take(rest, Fixed::Equal))?;
+    let ((first, names), (ty, height, rest)) = both(named, whole_type(alloc, inner, rest))?;
     let tree = node::with_type(alloc, at, first, place, names, ty)?;
     Ok((tree, greater(first_height, height) + 1, rest))
 }

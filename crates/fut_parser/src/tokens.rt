@@ -3,21 +3,21 @@ ghost use Rattle.std.specs.Prelude.{◌≡◌, ◌&&◌, max, length};
 ghost use Rattle.fut_ast.specs.Behind.{begins, begins_atomic_type, begins_mtype, begins_named, begins_pat, begins_spec, begins_type_argument};
 ghost use Rattle.fut_ast.specs.Grammar.{is_lifted};
 ghost use Rattle.fut_ast.specs.Sorts.{Applied_type, Atomic_type, Head_item, Whole_type};
-ghost use Rattle.fut_ast.specs.LeftOut.{is_char, is_constructor};
+ghost use Rattle.fut_ast.specs.LeftOut.{begins_left_out, is_char, is_constructor};
+ghost use Rattle.fut_ast.specs.Parts.{without};
 ghost use Rattle.fut_ast.specs.Tokens.{
-  code,
   is_int,
   is_text,
   is_variable,
   is_word,
-  kind_code,
+  kind_is_fixed,
   kind_is_int,
   kind_is_word,
   spot_of,
   starts,
   tail,
 };
-ghost use Rattle.fut_parser.specs.Reading.{Fails, Gives, closed_size, expect, names_at, number_at, path_at, refuse, refuse_sort, size_at, size_left_out, variable_at, word_at};
+ghost use Rattle.fut_parser.specs.Reading.{Fails, Gives, closed_size, expect, look_at, names_at, number_at, path_at, refuse, refuse_as, refuse_sort, size_at, size_left_out, variable_at, word_at};
 
 use crate::fault::{Fault, Stop};
 use fut_ast::{Head, HeadForm, SizeExp, SizeForm, Spot, What};
@@ -25,90 +25,12 @@ use fut_scalar::{IntType, List, Name, Place};
 use fut_token::{Fixed, Lift, Token, TokenKind};
 use std::alloc::Global;
 
-fn code_of(fixed: Fixed) -> u8
-    ensures { result ≡ code fixed }
-{
-    match fixed {
-        Fixed::KeyDef => 1,
-        Fixed::KeyLet => 2,
-        Fixed::KeyEntry => 3,
-        Fixed::KeyIn => 4,
-        Fixed::KeyIf => 5,
-        Fixed::KeyThen => 6,
-        Fixed::KeyElse => 7,
-        Fixed::KeyLoop => 8,
-        Fixed::KeyFor => 9,
-        Fixed::KeyWhile => 10,
-        Fixed::KeyDo => 11,
-        Fixed::KeyWith => 12,
-        Fixed::KeyAssert => 13,
-        Fixed::KeyType => 14,
-        Fixed::KeyModule => 15,
-        Fixed::KeyOpen => 16,
-        Fixed::KeyLocal => 17,
-        Fixed::KeyInclude => 18,
-        Fixed::KeyImport => 19,
-        Fixed::KeyVal => 20,
-        Fixed::KeyTrue => 21,
-        Fixed::KeyFalse => 22,
-        Fixed::KeyMatch => 23,
-        Fixed::KeyCase => 24,
-        Fixed::Wildcard => 25,
-        Fixed::Plus => 26,
-        Fixed::Minus => 27,
-        Fixed::Star => 28,
-        Fixed::Slash => 29,
-        Fixed::Percent => 30,
-        Fixed::SlashSlash => 31,
-        Fixed::PercentPercent => 32,
-        Fixed::StarStar => 33,
-        Fixed::EqualEqual => 34,
-        Fixed::BangEqual => 35,
-        Fixed::Less => 36,
-        Fixed::LessEqual => 37,
-        Fixed::Greater => 38,
-        Fixed::GreaterEqual => 39,
-        Fixed::AndAnd => 40,
-        Fixed::OrOr => 41,
-        Fixed::And => 42,
-        Fixed::Or => 43,
-        Fixed::Caret => 44,
-        Fixed::ShiftLeft => 45,
-        Fixed::ShiftRight => 46,
-        Fixed::PipeRight => 47,
-        Fixed::PipeLeft => 48,
-        Fixed::ComposeRight => 49,
-        Fixed::ComposeLeft => 50,
-        Fixed::Equal => 51,
-        Fixed::Arrow => 52,
-        Fixed::Backslash => 53,
-        Fixed::OpenParen => 54,
-        Fixed::CloseParen => 55,
-        Fixed::OpenBracket => 56,
-        Fixed::CloseBracket => 57,
-        Fixed::OpenBrace => 58,
-        Fixed::CloseBrace => 59,
-        Fixed::Comma => 60,
-        Fixed::Colon => 61,
-        Fixed::ColonGreater => 62,
-        Fixed::Dot => 63,
-        Fixed::DotDot => 64,
-        Fixed::DotDotLess => 65,
-        Fixed::DotDotGreater => 66,
-        Fixed::DotDotDot => 67,
-        Fixed::Bang => 68,
-        Fixed::Question => 69,
-        Fixed::Tilde => 70,
-        Fixed::Backtick => 71,
-    }
-}
-
-fn kind_code_of(kind: &TokenKind) -> u8
-    ensures { result ≡ kind_code kind.now }
+fn is_kind(kind: &TokenKind, fixed: Fixed) -> bool
+    ensures { result ≡ kind_is_fixed fixed kind.now }
 {
     match kind {
-        TokenKind::Fixed(fixed) => code_of(*fixed),
-        _ => 0,
+        TokenKind::Fixed(found) => *found == fixed,
+        _ => false,
     }
 }
 
@@ -116,10 +38,9 @@ fn kind_code_of(kind: &TokenKind) -> u8
 pub fn starts_with(tokens: &[Token], fixed: Fixed) -> bool
     ensures { result ≡ starts fixed tokens.now }
 {
-    let wanted = code_of(fixed);
     match tokens {
-        [token, ..] => kind_code_of(&token.kind) == wanted,
-        [] => wanted == 0,
+        [token, ..] => is_kind(&token.kind, fixed),
+        [] => false,
     }
 }
 
@@ -200,24 +121,81 @@ pub fn next_spot(tokens: &[Token]) -> Spot
     }
 }
 
-/// The fault where nothing goes on with the next token.
-#[tactic(auto, unfolding(crate::specs::Reading::refuse))]
-pub fn refused(tokens: &[Token]) -> Fault
-    ensures { result ≡ refuse tokens.now }
+fn starts_with_sum(tokens: &[Token]) -> bool
+    ensures { result ≡ begins_left_out What.SumType tokens.now }
+{
+    starts_with(tokens, Fixed::KeyMatch)
+        || starts_with(tokens, Fixed::KeyCase)
+        || starts_with_constructor(tokens)
+}
+
+// The fault where nothing goes on with the next token: a form that is left out everywhere, else the other fault.
+#[tactic(auto, unfolding(crate::specs::Reading::refuse_as))]
+fn refused_as(other: Fault, tokens: &[Token]) -> Fault
+    ensures { result ≡ refuse_as other tokens.now }
 {
     let left = tokens.len();
     if starts_with_char(tokens) {
         Fault::LeftOut(left, What::Character)
     } else if starts_with_text(tokens) {
         Fault::LeftOut(left, What::Text)
-    } else if starts_with(tokens, Fixed::KeyMatch)
-        || starts_with(tokens, Fixed::KeyCase)
-        || starts_with_constructor(tokens)
-    {
+    } else if starts_with_sum(tokens) {
         Fault::LeftOut(left, What::SumType)
     } else {
-        Fault::Syntax(left)
+        other
     }
+}
+
+/// The fault where nothing goes on with the next token.
+#[tactic(auto, unfolding(crate::specs::Reading::refuse))]
+pub fn refused(tokens: &[Token]) -> Fault
+    ensures { result ≡ refuse tokens.now }
+{
+    refused_as(Fault::Syntax(tokens.len()), tokens)
+}
+
+fn begins_no_size(tokens: &[Token]) -> bool
+    ensures { result ≡ begins_left_out What.SizeExpression tokens.now }
+{
+    match tokens {
+        [] => false,
+        [_, ..] => {
+            !starts_with_word(tokens)
+                && !starts_with_int(tokens)
+                && !starts_with(tokens, Fixed::CloseBracket)
+        }
+    }
+}
+
+/// Whether a form begins here that is left out.
+pub fn begins_form(what: What, tokens: &[Token]) -> bool
+    ensures { result ≡ begins_left_out what tokens.now }
+{
+    match what {
+        What::Character => starts_with_char(tokens),
+        What::Text => starts_with_text(tokens),
+        What::SumType => starts_with_sum(tokens),
+        What::SizeExpression => begins_no_size(tokens),
+        What::LiftedType => {
+            starts_with(tokens, Fixed::Caret) || starts_with(tokens, Fixed::Tilde)
+        }
+        What::ExistentialSize => starts_with(tokens, Fixed::Question),
+        What::OperatorDefinition => starts_with(tokens, Fixed::OpenParen),
+        What::LocalOpen => {
+            starts_with(tokens, Fixed::Dot) && starts_with(rest_of(tokens), Fixed::OpenParen)
+        }
+        What::Stride | What::SliceUpdate => starts_with(tokens, Fixed::Colon),
+    }
+}
+
+/// Nothing is taken, unless a form begins here that is left out.
+pub fn without_form(what: What, tokens: &[Token]) -> Result<(), Stop>
+    ensures { Gives (λ x. tt) result (look_at (without what) tokens.now) }
+{
+    if begins_form(what, tokens) {
+        return Err(Stop::Fault(Fault::LeftOut(tokens.len(), what)));
+    }
+    Ok(())
 }
 
 /// The tokens behind this keyword or symbol.
@@ -393,6 +371,7 @@ fn names(alloc: Global, tokens: &[Token]) -> Result<(List<Name>, &[Token]), Stop
     'names: for _turn in 0..tokens.len() {
         let (name, after) = take_word(alloc, rest)?;
         all.push(name)?;
+        without_form(What::LocalOpen, after)?;
         if !starts_with(after, Fixed::Dot) {
             return Ok((all, after));
         }
@@ -448,7 +427,7 @@ fn left_out_size(tokens: &[Token]) -> Fault
 {
     match tokens {
         [] => Fault::Syntax(0),
-        [_, ..] => Fault::LeftOut(tokens.len(), What::SizeExpression),
+        [_, ..] => refused_as(Fault::LeftOut(tokens.len(), What::SizeExpression), tokens),
     }
 }
 
