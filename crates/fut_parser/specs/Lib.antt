@@ -1,4 +1,3 @@
-pub mod Reading
-pub mod Phrases
-pub mod Tie
-pub mod Handed
+pub mod ModTie
+pub mod Places
+pub mod Answers

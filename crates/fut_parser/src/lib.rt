@@ -1,17 +1,16 @@
 //! The parser, proved equal to the grammar of `fut_ast`.
 #![tactic(auto)]
 
-mod behind;
-mod exp_tokens;
-mod fault;
-mod heads;
+mod declarations;
+mod definitions;
+mod mod_nodes;
+mod mod_tokens;
+mod module_cycle;
+mod module_params;
+mod module_tie;
 mod module_types;
+mod modules;
 mod mtype_nodes;
-mod pat_nodes;
-mod patterns;
-mod tie;
-mod tokens;
-mod type_nodes;
-mod types;
+mod programs;
 
-pub use fault::{Fault, Stop};
+pub use programs::{ParseErr, parse};

@@ -14,8 +14,8 @@ ghost use Rattle.fut_ast.specs.ModRows.{
 ghost use Rattle.fut_ast.specs.Rows.{of_mod, with_type};
 ghost use Rattle.fut_ast.specs.Sorts.{Mod_param, Spec_item, Whole_mtype, Whole_type};
 ghost use Rattle.fut_ast.specs.Tokens.{starts};
-ghost use Rattle.fut_parser.specs.Handed.{Law};
-ghost use Rattle.fut_parser.specs.Phrases.{
+ghost use Rattle.fut_phrases.specs.Handed.{Law};
+ghost use Rattle.fut_phrases.specs.Phrases.{
   again_at,
   atomic_mtype_at,
   ended,
@@ -25,18 +25,18 @@ ghost use Rattle.fut_parser.specs.Phrases.{
   spec_at,
   whole_mtype_at,
 };
-ghost use Rattle.fut_parser.specs.Reading.{Gives, many_at, maybe_at, row_at, suffix_at};
+ghost use Rattle.fut_phrases.specs.Reading.{Gives, many_at, maybe_at, row_at, suffix_at};
 
-use crate::behind::{both, ended, low_enough};
-use crate::fault::{Fault, Stop};
-use crate::heads::heads;
 use crate::mtype_nodes as node;
-use crate::tokens::{
+use fut_ast::{ModType, Param, Spec, Spot, What};
+use fut_phrases::behind::{both, ended, low_enough};
+use fut_phrases::fault::{Fault, Stop};
+use fut_phrases::heads::heads;
+use fut_phrases::tokens::{
     begins_member, begins_module_type, begins_name_and_colon, greater, next_spot, refused, rest_of,
     starts_with, starts_with_word, take, take_path, take_word, without_form,
 };
-use crate::types::{SourceType, whole_type};
-use fut_ast::{ModType, Param, Spec, Spot, What};
+use fut_phrases::types::{SourceType, whole_type};
 use fut_scalar::List;
 use fut_token::{Fixed, Token};
 use std::alloc::Global;
@@ -167,7 +167,7 @@ pub fn parameter(
 }
 
 /// A parameter of a module in a declaration.
-#[tactic(auto, unfolding(crate::specs::Phrases::phrases, crate::specs::Phrases::items, crate::specs::Phrases::nodes, crate::specs::Phrases::flat_at, crate::specs::Reading::row_at, crate::specs::Reading::parts_at, crate::specs::Reading::has_at, crate::specs::Reading::sub_at))]
+#[tactic(auto, unfolding(fut_phrases::specs::Phrases::phrases, fut_phrases::specs::Phrases::items, fut_phrases::specs::Phrases::nodes, fut_phrases::specs::Phrases::flat_at, fut_phrases::specs::Reading::row_at, fut_phrases::specs::Reading::parts_at, fut_phrases::specs::Reading::has_at, fut_phrases::specs::Reading::sub_at))]
 pub fn parameter_inside(
     alloc: Global,
     inner: u32,
@@ -181,7 +181,7 @@ pub fn parameter_inside(
 }
 
 // Where nothing may stand below, a token that begins a module type is too deep.
-#[tactic(auto, unfolding(crate::specs::Phrases::read_at, crate::specs::Reading::refuse_sort))]
+#[tactic(auto, unfolding(fut_phrases::specs::Phrases::read_at, fut_phrases::specs::Reading::refuse_sort))]
 fn no_type_below(tokens: &[Token]) -> Fault
     ensures { read_at 0 Whole_mtype tokens.now ≡ Err result }
 {
@@ -193,7 +193,7 @@ fn no_type_below(tokens: &[Token]) -> Fault
 }
 
 // Where nothing may stand below, a token that begins a member is too deep.
-#[tactic(auto, unfolding(crate::specs::Phrases::read_at, crate::specs::Reading::refuse_sort))]
+#[tactic(auto, unfolding(fut_phrases::specs::Phrases::read_at, fut_phrases::specs::Reading::refuse_sort))]
 fn no_member_below(tokens: &[Token]) -> Fault
     ensures { read_at 0 Spec_item tokens.now ≡ Err result }
 {
@@ -204,7 +204,7 @@ fn no_member_below(tokens: &[Token]) -> Fault
     }
 }
 
-#[tactic(auto, unfolding(crate::specs::Phrases::read_at, crate::specs::Phrases::bounded, crate::specs::Phrases::ended, crate::specs::Phrases::step, crate::specs::Reading::refuse_sort))]
+#[tactic(auto, unfolding(fut_phrases::specs::Phrases::read_at, fut_phrases::specs::Phrases::bounded, fut_phrases::specs::Phrases::ended, fut_phrases::specs::Phrases::step, fut_phrases::specs::Reading::refuse_sort))]
 fn whole_node<
     't,
     F: for<'a> Fn(&'a [Token]) -> ModTypeAnswer<'a>,
@@ -225,7 +225,7 @@ fn whole_node<
     ended(tree, height, rest, starts_with(rest, Fixed::KeyWith))
 }
 
-#[tactic(auto, unfolding(crate::specs::Phrases::read_at, crate::specs::Phrases::bounded, crate::specs::Phrases::ended, crate::specs::Phrases::step, crate::specs::Reading::refuse_sort))]
+#[tactic(auto, unfolding(fut_phrases::specs::Phrases::read_at, fut_phrases::specs::Phrases::bounded, fut_phrases::specs::Phrases::ended, fut_phrases::specs::Phrases::step, fut_phrases::specs::Reading::refuse_sort))]
 fn member_node<'t, F: for<'a> Fn(&'a [Token]) -> ModTypeAnswer<'a>>(
     alloc: Global,
     read: &F,
@@ -260,7 +260,7 @@ fn parameter_by<'t, F: for<'a> Fn(&'a [Token]) -> ModTypeAnswer<'a>>(
     parameter_by_reader(alloc, read, inner, tokens)
 }
 
-#[tactic(auto, unfolding(crate::specs::Phrases::whole_mtype_at))]
+#[tactic(auto, unfolding(fut_phrases::specs::Phrases::whole_mtype_at))]
 fn whole_below<R: ReadModType, S: ReadMember>(
     alloc: Global,
     read: R,
@@ -278,7 +278,7 @@ fn whole_below<R: ReadModType, S: ReadMember>(
     withs_behind(alloc, inner, next_spot(tokens), first, height, rest)
 }
 
-#[tactic(auto, unfolding(crate::specs::Phrases::atomic_mtype_at))]
+#[tactic(auto, unfolding(fut_phrases::specs::Phrases::atomic_mtype_at))]
 fn atomic_below<R: ReadModType, S: ReadMember>(
     alloc: Global,
     read: R,
@@ -303,7 +303,7 @@ fn atomic_below<R: ReadModType, S: ReadMember>(
     }
 }
 
-#[tactic(auto, unfolding(crate::specs::Phrases::ended))]
+#[tactic(auto, unfolding(fut_phrases::specs::Phrases::ended))]
 fn far_arrow<R: ReadModType>(
     alloc: Global,
     read: R,
@@ -319,7 +319,7 @@ fn far_arrow<R: ReadModType>(
     ended(tree, height, rest, starts_with(rest, Fixed::KeyWith))
 }
 
-#[tactic(auto, unfolding(crate::specs::Reading::row_at, crate::specs::Reading::parts_at, crate::specs::Reading::has_at, crate::specs::Reading::sub_at, crate::specs::Phrases::phrases))]
+#[tactic(auto, unfolding(fut_phrases::specs::Reading::row_at, fut_phrases::specs::Reading::parts_at, fut_phrases::specs::Reading::has_at, fut_phrases::specs::Reading::sub_at, fut_phrases::specs::Phrases::phrases))]
 fn arrow<R: ReadModType>(
     alloc: Global,
     read: R,
@@ -339,7 +339,7 @@ fn arrow<R: ReadModType>(
     Ok((tree, greater(param_height, height) + 1, rest))
 }
 
-#[tactic(auto, unfolding(crate::specs::Phrases::phrases, crate::specs::Phrases::bounded, crate::specs::Phrases::ended, crate::specs::Phrases::flat_at, crate::specs::Reading::refuse_sort))]
+#[tactic(auto, unfolding(fut_phrases::specs::Phrases::phrases, fut_phrases::specs::Phrases::bounded, fut_phrases::specs::Phrases::ended, fut_phrases::specs::Phrases::flat_at, fut_phrases::specs::Reading::refuse_sort))]
 fn parameter_by_reader<R: ReadModType>(
     alloc: Global,
     read: R,
@@ -358,7 +358,7 @@ fn parameter_by_reader<R: ReadModType>(
     Ok((param, height, rest))
 }
 
-#[tactic(auto, unfolding(crate::specs::Reading::row_at, crate::specs::Reading::parts_at, crate::specs::Reading::has_at, crate::specs::Reading::sub_at, crate::specs::Phrases::items))]
+#[tactic(auto, unfolding(fut_phrases::specs::Reading::row_at, fut_phrases::specs::Reading::parts_at, fut_phrases::specs::Reading::has_at, fut_phrases::specs::Reading::sub_at, fut_phrases::specs::Phrases::items))]
 fn any_parameter<R: ReadModType>(
     alloc: Global,
     read: R,
@@ -379,7 +379,7 @@ fn any_parameter<R: ReadModType>(
     Ok((node::param(place, name, bound), height, rest))
 }
 
-#[tactic(auto, unfolding(crate::specs::Reading::row_at, crate::specs::Reading::parts_at, crate::specs::Reading::has_at, crate::specs::Reading::sub_at, crate::specs::Phrases::phrases))]
+#[tactic(auto, unfolding(fut_phrases::specs::Reading::row_at, fut_phrases::specs::Reading::parts_at, fut_phrases::specs::Reading::has_at, fut_phrases::specs::Reading::sub_at, fut_phrases::specs::Phrases::phrases))]
 fn round<R: ReadModType>(
     read: R,
     inner: u32,
@@ -399,7 +399,7 @@ fn round<R: ReadModType>(
     Ok((tree, height + 1, rest))
 }
 
-#[tactic(auto, unfolding(crate::specs::Reading::row_at, crate::specs::Reading::parts_at, crate::specs::Reading::has_at, crate::specs::Reading::sub_at, crate::specs::Phrases::phrases))]
+#[tactic(auto, unfolding(fut_phrases::specs::Reading::row_at, fut_phrases::specs::Reading::parts_at, fut_phrases::specs::Reading::has_at, fut_phrases::specs::Reading::sub_at, fut_phrases::specs::Phrases::phrases))]
 fn members_in_braces<S: ReadMember>(
     alloc: Global,
     read_member: S,
@@ -447,7 +447,7 @@ fn members<S: ReadMember>(
     Ok((all, height, rest))
 }
 
-#[tactic(auto, unfolding(crate::specs::Phrases::spec_at))]
+#[tactic(auto, unfolding(fut_phrases::specs::Phrases::spec_at))]
 fn member_below<R: ReadModType>(
     alloc: Global,
     read: R,
@@ -470,7 +470,7 @@ fn member_below<R: ReadModType>(
     }
 }
 
-#[tactic(auto, unfolding(crate::specs::Reading::row_at, crate::specs::Reading::parts_at, crate::specs::Reading::has_at, crate::specs::Reading::sub_at, crate::specs::Phrases::phrases))]
+#[tactic(auto, unfolding(fut_phrases::specs::Reading::row_at, fut_phrases::specs::Reading::parts_at, fut_phrases::specs::Reading::has_at, fut_phrases::specs::Reading::sub_at, fut_phrases::specs::Phrases::phrases))]
 fn module_member<R: ReadModType>(
     alloc: Global,
     read: R,
@@ -492,7 +492,7 @@ fn module_member<R: ReadModType>(
     Ok((tree, height + 1, rest))
 }
 
-#[tactic(auto, unfolding(crate::specs::Reading::row_at, crate::specs::Reading::parts_at, crate::specs::Reading::has_at, crate::specs::Reading::sub_at, crate::specs::Phrases::phrases))]
+#[tactic(auto, unfolding(fut_phrases::specs::Reading::row_at, fut_phrases::specs::Reading::parts_at, fut_phrases::specs::Reading::has_at, fut_phrases::specs::Reading::sub_at, fut_phrases::specs::Phrases::phrases))]
 fn include<R: ReadModType>(
     alloc: Global,
     read: R,
@@ -512,7 +512,7 @@ fn include<R: ReadModType>(
 
 // ---- what has no module types in it
 
-#[tactic(auto, unfolding(crate::specs::Reading::row_at, crate::specs::Reading::parts_at, crate::specs::Reading::has_at))]
+#[tactic(auto, unfolding(fut_phrases::specs::Reading::row_at, fut_phrases::specs::Reading::parts_at, fut_phrases::specs::Reading::has_at))]
 fn path(alloc: Global, inner: u32, tokens: &[Token]) -> Result<(ModType, u32, &[Token]), Stop>
     requires { inner < 1000 }
     ensures exact { Gives (λ x. (x.0, x.1, x.2.now)) result (row_at (phrases (read_at inner)) (of_mod mtype_path) tokens.now) }
@@ -524,7 +524,7 @@ fn path(alloc: Global, inner: u32, tokens: &[Token]) -> Result<(ModType, u32, &[
     Ok((node::path(at, names), 1, rest))
 }
 
-#[tactic(auto, unfolding(crate::specs::Reading::row_at, crate::specs::Reading::parts_at, crate::specs::Reading::has_at, crate::specs::Reading::sub_at, crate::specs::Phrases::phrases))]
+#[tactic(auto, unfolding(fut_phrases::specs::Reading::row_at, fut_phrases::specs::Reading::parts_at, fut_phrases::specs::Reading::has_at, fut_phrases::specs::Reading::sub_at, fut_phrases::specs::Phrases::phrases))]
 fn value(alloc: Global, inner: u32, tokens: &[Token]) -> Result<(Spec, u32, &[Token]), Stop>
     requires { inner < 1000 }
     ensures exact { Gives (λ x. (x.0, x.1, x.2.now)) result (row_at (phrases (read_at inner)) (of_mod spec_value) tokens.now) }
@@ -542,7 +542,7 @@ fn value(alloc: Global, inner: u32, tokens: &[Token]) -> Result<(Spec, u32, &[To
     Ok((tree, greater(heads_height, height) + 1, rest))
 }
 
-#[tactic(auto, unfolding(crate::specs::Reading::row_at, crate::specs::Reading::parts_at, crate::specs::Reading::has_at, crate::specs::Reading::sub_at, crate::specs::Phrases::phrases))]
+#[tactic(auto, unfolding(fut_phrases::specs::Reading::row_at, fut_phrases::specs::Reading::parts_at, fut_phrases::specs::Reading::has_at, fut_phrases::specs::Reading::sub_at, fut_phrases::specs::Phrases::phrases))]
 fn type_member(alloc: Global, inner: u32, tokens: &[Token]) -> Result<(Spec, u32, &[Token]), Stop>
     requires { inner < 1000 }
     ensures exact { Gives (λ x. (x.0, x.1, x.2.now)) result (row_at (phrases (read_at inner)) (of_mod spec_type) tokens.now) }
@@ -557,7 +557,7 @@ fn type_member(alloc: Global, inner: u32, tokens: &[Token]) -> Result<(Spec, u32
     Ok((node::type_name(at, place, name, ty), height + 1, rest))
 }
 
-#[tactic(auto, unfolding(crate::specs::Reading::maybe_at, crate::specs::Phrases::phrases))]
+#[tactic(auto, unfolding(fut_phrases::specs::Reading::maybe_at, fut_phrases::specs::Phrases::phrases))]
 fn maybe_type(
     alloc: Global,
     inner: u32,
@@ -604,7 +604,7 @@ fn withs_behind(
     Ok((tree, height, rest))
 }
 
-#[tactic(auto, unfolding(crate::specs::Reading::suffix_at, crate::specs::Reading::parts_at, crate::specs::Reading::has_at, crate::specs::Reading::sub_at, crate::specs::Phrases::phrases))]
+#[tactic(auto, unfolding(fut_phrases::specs::Reading::suffix_at, fut_phrases::specs::Reading::parts_at, fut_phrases::specs::Reading::has_at, fut_phrases::specs::Reading::sub_at, fut_phrases::specs::Phrases::phrases))]
 fn with_behind(
     alloc: Global,
     inner: u32,

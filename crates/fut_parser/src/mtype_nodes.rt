@@ -4,8 +4,8 @@ ghost use Rattle.fut_ast.specs.ModRows.{mtype_at, spec_at};
 ghost use Rattle.fut_ast.specs.declared.module.ModTypeForm.TheVariants.{Arrow, Path, Specs, With};
 ghost use Rattle.fut_ast.specs.declared.module.SpecForm.TheVariants.{Include, Module, TypeName, Value};
 
-use crate::types::SourceType;
 use fut_ast::{Head, Label, ModType, ModTypeForm, Param, Spec, SpecForm, Spot};
+use fut_phrases::types::SourceType;
 use fut_scalar::{Boxed, List, Name, NoMemory, Place};
 use std::alloc::Global;
 

@@ -2,9 +2,9 @@
 use Rattle.std.proofs.Common.{sym, ◌∙◌, length, arith}
 use Rattle.std.proofs.lemmas.Result.{err_from_is_err_and}
 use Rattle.fut_ast.specs.Sorts.{Spec_item}
-use Rattle.fut_parser.specs.Reading.{many_at}
-use Rattle.fut_parser.specs.Phrases.{phrases, read_at}
-use Rattle.fut_parser.proofs.Loops.{many_go_on, many_end_here, many_fail, many_spent}
+use Rattle.fut_phrases.specs.Reading.{many_at}
+use Rattle.fut_phrases.specs.Phrases.{phrases, read_at}
+use Rattle.fut_phrases.proofs.Loops.{many_go_on, many_end_here, many_fail, many_spent}
 use Rattle.fut_parser.proofs.module_types.members.Goals as goal
 
 pub returns-then-not-begins_member-clause-exact : goal.returns-then-not-begins_member-clause-exact

@@ -1,9 +1,9 @@
 -- What is left to read gives the rest of the phrases.
 use Rattle.std.proofs.Common.{◌≡◌, ◌-◌, ◌≤◌, length}
 use Rattle.fut_ast.specs.Sorts.{Spec_item}
-use Rattle.fut_parser.specs.Reading.{many_at}
-use Rattle.fut_parser.specs.Phrases.{phrases, read_at}
-use Rattle.fut_parser.proofs.Loops.{with_front}
+use Rattle.fut_phrases.specs.Reading.{many_at}
+use Rattle.fut_phrases.specs.Phrases.{phrases, read_at}
+use Rattle.fut_phrases.proofs.Loops.{with_front}
 use Rattle.fut_parser.proofs.module_types.members.Given as goal
 
 abbrev pub invariant-items : goal.invariant-items

@@ -4,8 +4,8 @@ use Rattle.fut_token.specs.declared.token.Fixed.TheVariants as fixed
 use Rattle.fut_ast.specs.Tokens.{starts}
 use Rattle.fut_ast.specs.Sorts.{Whole_mtype}
 use Rattle.fut_ast.specs.Rows.{with_type}
-use Rattle.fut_parser.specs.Phrases.{again_at, phrases, read_at}
-use Rattle.fut_parser.proofs.Loops.{again_ends, again_spent, again_turns, again_fails}
+use Rattle.fut_phrases.specs.Phrases.{again_at, phrases, read_at}
+use Rattle.fut_phrases.proofs.Loops.{again_ends, again_spent, again_turns, again_fails}
 use Rattle.fut_parser.proofs.module_types.withs_behind.Goals as goal
 
 pub returns-clause-exact : goal.returns-clause-exact

@@ -3,7 +3,7 @@ use Rattle.std.proofs.Common.{◌≡◌, suc, ◌+◌, ◌≤◌}
 use Rattle.fut_token.specs.declared.token.Fixed.TheVariants as fixed
 use Rattle.fut_ast.specs.Tokens.{starts}
 use Rattle.fut_ast.specs.Rows.{with_type}
-use Rattle.fut_parser.specs.Phrases.{again_at, phrases, read_at}
+use Rattle.fut_phrases.specs.Phrases.{again_at, phrases, read_at}
 use Rattle.fut_parser.proofs.module_types.withs_behind.Given as goal
 
 abbrev pub invariant-behind : goal.invariant-behind

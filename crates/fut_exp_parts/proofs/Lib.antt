@@ -1,0 +1,3 @@
+pub mod PatLaws
+pub mod IndexLaws
+pub mod FieldLaws

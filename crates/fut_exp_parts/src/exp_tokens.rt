@@ -1,0 +1,462 @@
+// What stands next where an expression does, and taking it.
+ghost use Rattle.std.specs.Prelude.{◌≡◌, ◌≤◌};
+ghost use Rattle.fut_ast.specs.Behind.{
+  begins_argument,
+  begins_atom,
+  begins_big,
+  begins_operand,
+  behind_app,
+  behind_atom,
+  behind_chain,
+  behind_range,
+  behind_typed,
+  behind_updated,
+  goes_back,
+  goes_range,
+  head_follows,
+  is_function_let,
+  is_section,
+  is_update_let,
+};
+ghost use Rattle.fut_ast.specs.Operators.{
+  any_operator,
+  behind_operator,
+  left_level,
+  level,
+  operator_at,
+  operator_from,
+  right_level,
+  section_at,
+};
+ghost use Rattle.fut_ast.specs.Parts.{going_back};
+ghost use Rattle.fut_ast.specs.Tokens.{is_digits, is_one, is_tight, starts_loose, starts_tight};
+ghost use Rattle.fut_phrases.specs.Phrases.{fits, operator_between};
+ghost use Rattle.fut_phrases.specs.Reading.{Gives, backtick_at, digits_at, end_at, look_at, one_at, operator_taken};
+ghost use Rattle.fut_phrases.specs.Reading.{operator_from as named_from};
+
+use fut_ast::{End, Spot, What};
+use fut_phrases::fault::{Fault, Stop};
+use fut_phrases::tokens::{
+    begins_parameter, begins_pattern, next_spot, refused, rest_of, starts_with, starts_with_int,
+    starts_with_word, take, take_number, take_word,
+};
+use fut_scalar::Name;
+use fut_token::{Fixed, Token, TokenKind};
+use std::alloc::Global;
+
+fn stands_tight(tokens: &[Token]) -> bool
+    ensures { result ≡ is_tight tokens.now }
+{
+    match tokens {
+        [token, ..] => token.tight,
+        [] => false,
+    }
+}
+
+/// Whether a bracket that opens an index stands next.
+pub fn starts_with_tight(tokens: &[Token]) -> bool
+    ensures { result ≡ starts_tight tokens.now }
+{
+    starts_with(tokens, Fixed::OpenBracket) && stands_tight(tokens)
+}
+
+fn starts_with_loose(tokens: &[Token]) -> bool
+    ensures { result ≡ starts_loose tokens.now }
+{
+    starts_with(tokens, Fixed::OpenBracket) && !stands_tight(tokens)
+}
+
+fn starts_with_digits(tokens: &[Token]) -> bool
+    ensures { result ≡ is_digits tokens.now }
+{
+    match tokens {
+        [token, ..] => matches!(&token.kind, TokenKind::Field(_)),
+        [] => false,
+    }
+}
+
+/// Whether an argument of an application begins here.
+pub fn begins_exp_argument(tokens: &[Token]) -> bool
+    ensures { result ≡ begins_argument tokens.now }
+{
+    starts_with_word(tokens)
+        || starts_with_int(tokens)
+        || starts_with(tokens, Fixed::KeyTrue)
+        || starts_with(tokens, Fixed::KeyFalse)
+        || starts_with(tokens, Fixed::OpenParen)
+        || starts_with(tokens, Fixed::OpenBrace)
+        || starts_with_loose(tokens)
+}
+
+/// Whether an atom begins here.
+pub fn begins_exp_atom(tokens: &[Token]) -> bool
+    ensures { result ≡ begins_atom tokens.now }
+{
+    begins_exp_argument(tokens) || starts_with(tokens, Fixed::OpenBracket)
+}
+
+/// Whether an operand begins here.
+pub fn begins_exp_operand(tokens: &[Token]) -> bool
+    ensures { result ≡ begins_operand tokens.now }
+{
+    begins_exp_atom(tokens)
+        || starts_with(tokens, Fixed::Minus)
+        || starts_with(tokens, Fixed::Bang)
+        || starts_with(tokens, Fixed::KeyAssert)
+}
+
+/// Whether a form begins here that reaches far.
+pub fn begins_exp_big(tokens: &[Token]) -> bool
+    ensures { result ≡ begins_big tokens.now }
+{
+    starts_with(tokens, Fixed::KeyLet)
+        || starts_with(tokens, Fixed::KeyIf)
+        || starts_with(tokens, Fixed::KeyLoop)
+        || starts_with(tokens, Fixed::Backslash)
+}
+
+/// Whether an index or a field stands next.
+pub fn goes_on_atom(tokens: &[Token]) -> bool
+    ensures { result ≡ behind_atom tokens.now }
+{
+    starts_with_tight(tokens) || starts_with(tokens, Fixed::Dot) || starts_with_digits(tokens)
+}
+
+/// The same, or an argument.
+pub fn goes_on_app(tokens: &[Token]) -> bool
+    ensures { result ≡ behind_app tokens.now }
+{
+    goes_on_atom(tokens) || begins_exp_argument(tokens)
+}
+
+/// The same, or an operator of a level or tighter.
+pub fn goes_on_chain(least: u8, tokens: &[Token]) -> bool
+    ensures { result ≡ behind_chain least tokens.now }
+{
+    goes_on_app(tokens) || next_operator(least, tokens).is_some()
+}
+
+/// Whether the end of a range stands next, or its second element.
+pub fn goes_on_to_range(tokens: &[Token]) -> bool
+    ensures { result ≡ goes_range tokens.now }
+{
+    starts_with(tokens, Fixed::DotDot)
+        || starts_with(tokens, Fixed::DotDotLess)
+        || starts_with(tokens, Fixed::DotDotGreater)
+        || starts_with(tokens, Fixed::DotDotDot)
+}
+
+/// Whether the next tokens go on with a range.
+pub fn goes_on_range(tokens: &[Token]) -> bool
+    ensures { result ≡ behind_range tokens.now }
+{
+    goes_on_chain(1, tokens) || goes_on_to_range(tokens)
+}
+
+/// The same, or an update stands next.
+pub fn goes_on_updated(tokens: &[Token]) -> bool
+    ensures { result ≡ behind_updated tokens.now }
+{
+    goes_on_range(tokens) || starts_with(tokens, Fixed::KeyWith)
+}
+
+/// The same, or a type stands next.
+pub fn goes_on_typed(tokens: &[Token]) -> bool
+    ensures { result ≡ behind_typed tokens.now }
+{
+    goes_on_updated(tokens)
+        || starts_with(tokens, Fixed::Colon)
+        || starts_with(tokens, Fixed::ColonGreater)
+}
+
+/// How tight an operator binds.
+pub fn level_of(fixed: Fixed) -> u8
+    ensures exact { result ≡ level fixed }
+    ensures low { result ≤ 11 }
+{
+    match fixed {
+        Fixed::Backtick => 1,
+        Fixed::PipeRight => 2,
+        Fixed::PipeLeft => 3,
+        Fixed::OrOr => 4,
+        Fixed::AndAnd => 5,
+        Fixed::EqualEqual
+        | Fixed::BangEqual
+        | Fixed::Less
+        | Fixed::LessEqual
+        | Fixed::Greater
+        | Fixed::GreaterEqual
+        | Fixed::ComposeRight
+        | Fixed::ComposeLeft => 6,
+        Fixed::And | Fixed::Caret | Fixed::Or => 7,
+        Fixed::ShiftLeft | Fixed::ShiftRight => 8,
+        Fixed::Plus | Fixed::Minus => 9,
+        Fixed::Star | Fixed::Slash | Fixed::Percent | Fixed::SlashSlash | Fixed::PercentPercent =>
+            10,
+        Fixed::StarStar => 11,
+        _ => 0,
+    }
+}
+
+/// The least level of an operator's left operand.
+pub fn left_level_of(fixed: Fixed) -> u8
+    ensures { result ≡ left_level fixed }
+{
+    let level = level_of(fixed);
+    if level == 3 { level + 1 } else { level }
+}
+
+/// The least level of an operator's right operand.
+pub fn right_level_of(fixed: Fixed) -> u8
+    ensures { result ≡ right_level fixed }
+{
+    let level = level_of(fixed);
+    if level == 3 { level } else { level + 1 }
+}
+
+/// What stands behind an operator.
+pub fn past_operator(fixed: Fixed, tokens: &[Token]) -> &[Token]
+    ensures { result.now ≡ behind_operator fixed tokens.now }
+{
+    match fixed {
+        Fixed::Backtick => rest_of(rest_of(tokens)),
+        _ => tokens,
+    }
+}
+
+fn operator_if(least: u8, fixed: Fixed) -> Option<Fixed>
+    ensures { result ≡ operator_from least fixed }
+{
+    let level = level_of(fixed);
+    if 1 <= level && least <= level {
+        Some(fixed)
+    } else {
+        None
+    }
+}
+
+/// The operator of a level or tighter that stands next.
+pub fn next_operator(least: u8, tokens: &[Token]) -> Option<Fixed>
+    ensures { result ≡ operator_at least tokens.now }
+{
+    match tokens {
+        [token, ..] => match &token.kind {
+            TokenKind::Fixed(fixed) => operator_if(least, *fixed),
+            _ => None,
+        },
+        [] => None,
+    }
+}
+
+/// The operator that stands next, whatever stands behind it.
+pub fn next_any_operator(tokens: &[Token]) -> Option<Fixed>
+    ensures { result ≡ any_operator tokens.now }
+{
+    match tokens {
+        [token, ..] => match &token.kind {
+            TokenKind::Fixed(fixed) => {
+                if 1 <= level_of(*fixed) {
+                    Some(*fixed)
+                } else {
+                    None
+                }
+            }
+            _ => None,
+        },
+        [] => None,
+    }
+}
+
+/// The operator that stands next, with a closing parenthesis behind it.
+pub fn next_section(tokens: &[Token]) -> Option<Fixed>
+    ensures { result ≡ section_at tokens.now }
+{
+    match next_any_operator(tokens) {
+        Some(fixed) => {
+            if starts_with(past_operator(fixed, rest_of(tokens)), Fixed::CloseParen) {
+                Some(fixed)
+            } else {
+                None
+            }
+        }
+        None => None,
+    }
+}
+
+/// The operator that stands next between operands. Where a section may end them, its operator is none of these.
+pub fn next_between(section_ends: bool, least: u8, tokens: &[Token]) -> Option<Fixed>
+    ensures { result ≡ operator_between section_ends least tokens.now }
+{
+    if section_ends && next_section(tokens).is_some() {
+        None
+    } else {
+        next_operator(least, tokens)
+    }
+}
+
+/// Whether an operator directly behind a parenthesis makes a section.
+pub fn makes_section(fixed: Fixed, tokens: &[Token]) -> bool
+    ensures { result ≡ is_section (Some fixed) tokens.now }
+{
+    match fixed {
+        Fixed::Minus => starts_with(tokens, Fixed::CloseParen),
+        _ => true,
+    }
+}
+
+/// Whether an operator may take what stands before it, of which this is the last operator.
+pub fn takes_left(last: Option<Fixed>, least: u8) -> bool
+    ensures { result ≡ fits last least }
+{
+    match last {
+        Some(fixed) => least <= level_of(fixed),
+        None => true,
+    }
+}
+
+fn goes_on_head(tokens: &[Token]) -> bool
+    ensures { result ≡ head_follows tokens.now }
+{
+    let second = rest_of(tokens);
+    let third = rest_of(second);
+    let fourth = rest_of(third);
+    starts_with_word(second)
+        && starts_with(third, Fixed::CloseBracket)
+        && (begins_parameter(fourth) || begins_pattern(fourth))
+}
+
+/// Whether a `let` is an update.
+pub fn begins_update(tokens: &[Token]) -> bool
+    ensures { result ≡ is_update_let tokens.now }
+{
+    let behind = rest_of(tokens);
+    starts_with_word(tokens) && starts_with_tight(behind) && !goes_on_head(behind)
+}
+
+/// Whether a `let` is a function.
+pub fn begins_function(tokens: &[Token]) -> bool
+    ensures { result ≡ is_function_let tokens.now }
+{
+    let behind = rest_of(tokens);
+    starts_with_word(tokens)
+        && (begins_parameter(behind) || begins_pattern(behind))
+        && !begins_update(tokens)
+}
+
+/// A point with digits, and the tokens behind it.
+#[tactic(auto, unfolding(fut_phrases::specs::Reading::digits_at))]
+pub fn take_digits(alloc: Global, tokens: &[Token]) -> Result<(Name, &[Token]), Stop>
+    ensures { Gives (λ x. (x.0, x.1.now)) result (digits_at tokens.now) }
+{
+    match tokens {
+        [token, rest @ ..] => match &token.kind {
+            TokenKind::Field(name) => Ok((name.copy(alloc)?, rest)),
+            _ => Err(Stop::Fault(refused(tokens))),
+        },
+        [] => Err(Stop::Fault(refused(tokens))),
+    }
+}
+
+/// How a range ends, and the tokens behind it.
+#[tactic(auto, unfolding(fut_phrases::specs::Reading::end_at))]
+pub fn take_end(tokens: &[Token]) -> Result<(End, &[Token]), Stop>
+    ensures { Gives (λ x. (x.0, x.1.now)) result (end_at tokens.now) }
+{
+    if starts_with(tokens, Fixed::DotDotLess) {
+        Ok((End::Below, rest_of(tokens)))
+    } else if starts_with(tokens, Fixed::DotDotGreater) {
+        Ok((End::Above, rest_of(tokens)))
+    } else if starts_with(tokens, Fixed::DotDotDot) {
+        Ok((End::Through, rest_of(tokens)))
+    } else {
+        Err(Stop::Fault(refused(tokens)))
+    }
+}
+
+fn starts_with_one(tokens: &[Token]) -> bool
+    ensures { result ≡ is_one tokens.now }
+{
+    match tokens {
+        [token, ..] => matches!(&token.kind, TokenKind::Int { value: 1, .. }),
+        [] => false,
+    }
+}
+
+// Whether "-1" stands next, or the tokens end before it.
+fn goes_backwards(tokens: &[Token]) -> bool
+    ensures { result ≡ goes_back tokens.now }
+{
+    match tokens {
+        [] => true,
+        [_] => starts_with(tokens, Fixed::Minus),
+        [_, rest @ ..] => starts_with(tokens, Fixed::Minus) && starts_with_one(rest),
+    }
+}
+
+/// Nothing is taken from a second colon of an index on, unless other than "-1" stands behind it: a stride is left out.
+pub fn without_stride(tokens: &[Token]) -> Result<(), Stop>
+    ensures { Gives (λ x. tt) result (look_at going_back tokens.now) }
+{
+    if goes_backwards(rest_of(tokens)) {
+        Ok(())
+    } else if starts_with(tokens, Fixed::Colon) {
+        Err(Stop::Fault(Fault::LeftOut(tokens.len(), What::Stride)))
+    } else {
+        Err(Stop::Fault(refused(tokens)))
+    }
+}
+
+/// The integer 1: what follows it.
+#[tactic(auto, unfolding(fut_phrases::specs::Reading::one_at))]
+pub fn take_one(tokens: &[Token]) -> Result<&[Token], Stop>
+    ensures { Gives (λ x. x.now) result (one_at tokens.now) }
+{
+    let (value, _, rest) = take_number(tokens)?;
+    if value == 1 {
+        Ok(rest)
+    } else {
+        Err(Stop::Fault(refused(tokens)))
+    }
+}
+
+#[tactic(auto, unfolding(fut_phrases::specs::Reading::backtick_at))]
+fn quoted_operator(alloc: Global, tokens: &[Token]) -> Result<((Spot, Name), &[Token]), Stop>
+    ensures { Gives (λ x. (x.0, x.1.now)) result (backtick_at tokens.now) }
+{
+    let at = next_spot(tokens);
+    let (name, rest) = take_word(alloc, tokens)?;
+    let rest = take(rest, Fixed::Backtick)?;
+    Ok(((at, name), rest))
+}
+
+fn operator_behind(
+    alloc: Global,
+    fixed: Fixed,
+    at: Spot,
+    tokens: &[Token],
+) -> Result<((Spot, Name), &[Token]), Stop>
+    ensures { Gives (λ x. (x.0, x.1.now)) result (named_from fixed at tokens.now) }
+{
+    match fixed {
+        Fixed::Backtick => quoted_operator(alloc, tokens),
+        _ => Ok(((at, Name::new(alloc, "")?), tokens)),
+    }
+}
+
+/// An operator, and the name where it is one in backticks.
+#[tactic(auto, unfolding(fut_phrases::specs::Reading::operator_taken))]
+pub fn take_operator(
+    alloc: Global,
+    fixed: Fixed,
+    tokens: &[Token],
+) -> Result<((Spot, Name), &[Token]), Stop>
+    ensures { Gives (λ x. (x.0, x.1.now)) result (operator_taken fixed tokens.now) }
+{
+    let at = next_spot(tokens);
+    let rest = take(tokens, fixed)?;
+    if 1 <= level_of(fixed) {
+        operator_behind(alloc, fixed, at, rest)
+    } else {
+        Err(Stop::Fault(refused(tokens)))
+    }
+}

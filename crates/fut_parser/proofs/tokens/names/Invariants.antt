@@ -1,8 +1,0 @@
--- What is left to read gives the rest of the path.
-use Rattle.std.proofs.Common.{◌≡◌, ◌-◌, length}
-use Rattle.fut_parser.specs.Reading.{names_at}
-use Rattle.fut_parser.proofs.Loops.{names_front}
-use Rattle.fut_parser.proofs.tokens.names.Given as goal
-
-abbrev pub invariant-names : goal.invariant-names
-invariant-names l = names_front l.all (names_at (length l.tokens - l._turn) l.rest) ≡ names_at (length l.tokens) l.tokens

@@ -1,0 +1,139 @@
+// The parser of programs.
+ghost use Rattle.std.specs.Prelude.{◌≡◌, ◌≤◌, ◌<◌, ℕ, List, IfErr, IfOk, length, true};
+ghost use Rattle.fut_ast.specs.Grammar.{Derives};
+ghost use Rattle.fut_ast.specs.LeftOut.{begins_left_out};
+ghost use Rattle.fut_ast.specs.Nesting.{Too_deep};
+ghost use Rattle.fut_ast.specs.Sorts.{Dec_item};
+ghost use Rattle.fut_ast.specs.declared.module.Program.{Program};
+ghost use Rattle.fut_ast.specs.declared.node.What.{What};
+ghost use Rattle.fut_phrases.specs.Phrases.{nodes, phrases, program_at, read_at};
+ghost use Rattle.fut_parser.specs.ModTie.{Dec_law};
+ghost use Rattle.fut_parser.specs.Answers.{Explains, Reads, answer_of, place_left};
+ghost use Rattle.fut_parser.specs.Places.{Ends, place_of};
+ghost use Rattle.fut_phrases.specs.Reading.{Gives, many_at};
+ghost use Rattle.fut_scalar.specs.declared.place.Place.{Place};
+ghost use Rattle.fut_token.specs.declared.token.Token.{Token};
+
+use crate::declarations::declarations;
+use crate::module_cycle::declaration;
+use crate::module_tie::DecAnswer;
+use fut_ast::{Dec, Program, What};
+use fut_phrases::fault::{Fault, Stop};
+use fut_phrases::tokens::refused;
+use fut_scalar::{List, Place};
+use fut_token::Token;
+use std::alloc::Global;
+
+/// Why a program could not be parsed.
+///
+/// Each place is that of a token; where the tokens run out, of the last one, and without tokens the file's beginning.
+#[derive(Debug, Drop)]
+pub enum ParseErr {
+    /// The tokens are no program.
+    Syntax { at: Place },
+    /// The token stands inside 201 nodes or more, and at most 200 are allowed.
+    TooDeep { at: Place },
+    /// With the token a form begins that this language leaves out.
+    LeftOut { at: Place, what: What },
+    Memory,
+}
+
+// The closure's lifetimes are known from this bound alone.
+fn declarations_by<'t, D: for<'a> Fn(&'a [Token]) -> DecAnswer<'a>>(
+    alloc: Global,
+    read: &D,
+    inner: u32,
+    tokens: &'t [Token],
+) -> Result<(List<Dec>, u32, &'t [Token]), Stop>
+    requires callable { D.IsAlwaysCallable read.now }
+    requires law { Dec_law (D.post read.now) inner }
+    requires room { inner < 1000 }
+    ensures exact { Gives (λ x. (x.0, x.1, x.2.now)) result (many_at (phrases (read_at inner)) (length tokens.now) Dec_item 0 tokens.now) }
+    ensures low { IfOk result (λ x. x.1 ≤ inner) }
+{
+    declarations(alloc, read, inner, tokens)
+}
+
+// The declarations of a file.
+fn all_declarations(alloc: Global, tokens: &[Token]) -> Result<(List<Dec>, u32, &[Token]), Stop>
+    ensures exact { Gives (λ x. (x.0, x.1, x.2.now)) result (many_at (nodes (read_at 201)) (length tokens.now) Dec_item 0 tokens.now) }
+    ensures low { IfOk result (λ x. x.1 ≤ 201) }
+{
+    declarations_by(
+        alloc,
+        &|behind: &[Token]| -> Result<(Dec, u32, &[Token]), Stop>
+            ensures exact { Gives (λ x. (x.0, x.1, x.2.now)) result (read_at 201 Dec_item behind.now) }
+            ensures low { IfOk result (λ x. x.1 ≤ 201) }
+        { declaration(alloc, 201, behind) },
+        201,
+        tokens,
+    )
+}
+
+#[tactic(auto, unfolding(fut_phrases::specs::Phrases::program_at))]
+fn program(alloc: Global, tokens: &[Token]) -> Result<(Program, u32), Stop>
+    ensures exact { Gives (λ x. (x.0, x.1)) result (program_at tokens.now) }
+    ensures low { IfOk result (λ x. x.1 ≤ 201) }
+{
+    let (decs, height, rest) = all_declarations(alloc, tokens)?;
+    if rest.len() == 0 {
+        Ok((Program { decs }, height))
+    } else {
+        Err(Stop::Fault(refused(rest)))
+    }
+}
+
+// Where the token stands from which on so many are left, or the last one where none is.
+fn place_of_left(file: u32, tokens: &[Token], left: usize) -> Place
+    ensures { result ≡ place_left file tokens.now left }
+{
+    let back = if left == 0 { 1 } else { left };
+    match tokens.get(tokens.len().saturating_sub(back)) {
+        Some(token) => token.place,
+        None => Place {
+            file,
+            line: 1,
+            column: 1,
+        },
+    }
+}
+
+fn answer(file: u32, tokens: &[Token], fault: Fault) -> ParseErr
+    ensures { result ≡ answer_of file tokens.now fault }
+{
+    match fault {
+        Fault::Syntax(left) => ParseErr::Syntax {
+            at: place_of_left(file, tokens, left),
+        },
+        Fault::TooDeep(left) => ParseErr::TooDeep {
+            at: place_of_left(file, tokens, left),
+        },
+        Fault::LeftOut(left, what) => ParseErr::LeftOut {
+            at: place_of_left(file, tokens, left),
+            what,
+        },
+    }
+}
+
+/// The program that the tokens of a file spell.
+///
+/// It is the only one, and its nodes are nested at most 200 deep.
+pub fn parse(alloc: Global, file: u32, tokens: &List<Token>) -> Result<Program, ParseErr>
+    ensures found { IfOk result (λ p. (h : ℕ) × (h ≤ 201) × Derives tokens.now p h) }
+    ensures only { IfOk result (λ p. (q : Program) (h : ℕ) → Derives tokens.now q h → q ≡ p) }
+    ensures none { (at : Place) → result ≡ Err (ParseErr.Syntax at) → (q : Program) (h : ℕ) → Derives tokens.now q h → ⊥ }
+    ensures none_left_out { (at : Place) (what : What) → result ≡ Err (ParseErr.LeftOut at what) → (q : Program) (h : ℕ) → Derives tokens.now q h → ⊥ }
+    ensures too_high { (at : Place) → result ≡ Err (ParseErr.TooDeep at) → (q : Program) (h : ℕ) → Derives tokens.now q h → 201 < h }
+    ensures reads { IfOk result (Reads tokens.now) }
+    ensures refuses { IfErr result (Explains file tokens.now) }
+    ensures syntax { (at : Place) → result ≡ Err (ParseErr.Syntax at) → (rest : List Token) × Ends tokens.now rest × (at ≡ place_of file tokens.now rest) }
+    ensures deep { (at : Place) → result ≡ Err (ParseErr.TooDeep at) → (rest : List Token) × Ends tokens.now rest × (at ≡ place_of file tokens.now rest) × Too_deep tokens.now rest }
+    ensures left_out { (at : Place) (what : What) → result ≡ Err (ParseErr.LeftOut at what) → (rest : List Token) × Ends tokens.now rest × (at ≡ place_of file tokens.now rest) × (begins_left_out what rest ≡ true) }
+{
+    let tokens = tokens.as_slice();
+    match program(alloc, tokens) {
+        Ok((program, _)) => Ok(program),
+        Err(Stop::Memory) => Err(ParseErr::Memory),
+        Err(Stop::Fault(fault)) => Err(answer(file, tokens, fault)),
+    }
+}

@@ -1,0 +1,10 @@
+-- What is left to read gives the rest of the parameters.
+use Rattle.std.proofs.Common.{◌≡◌, ◌-◌, ◌≤◌, length}
+use Rattle.fut_ast.specs.Sorts.{Head_item}
+use Rattle.fut_phrases.specs.Reading.{many_at}
+use Rattle.fut_phrases.specs.Phrases.{phrases, read_at}
+use Rattle.fut_phrases.proofs.Loops.{with_front}
+use Rattle.fut_phrases.proofs.heads.heads.Given as goal
+
+abbrev pub invariant-items : goal.invariant-items
+invariant-items l = (with_front l.all (many_at (phrases (read_at l.inner)) (length l.tokens - l._turn) Head_item l.height l.rest) ≡ many_at (phrases (read_at l.inner)) (length l.tokens) Head_item 0 l.tokens) × (l.height ≤ l.inner)

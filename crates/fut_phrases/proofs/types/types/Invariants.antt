@@ -1,0 +1,10 @@
+-- What is left to read gives the rest of the phrases.
+use Rattle.std.proofs.Common.{◌≡◌, ◌-◌, ◌≤◌, length}
+use Rattle.fut_ast.specs.Sorts.{Whole_type}
+use Rattle.fut_phrases.specs.Reading.{commas_at}
+use Rattle.fut_phrases.specs.Phrases.{phrases, read_at}
+use Rattle.fut_phrases.proofs.Loops.{with_front}
+use Rattle.fut_phrases.proofs.types.types.Given as goal
+
+abbrev pub invariant-items : goal.invariant-items
+invariant-items g l = (with_front l.all (commas_at (phrases (read_at l.inner)) (length l.tokens - l._turn) Whole_type l.height l.rest) ≡ commas_at (phrases (read_at l.inner)) (length l.tokens) Whole_type 0 l.tokens) × (l.height ≤ l.inner)

@@ -1,0 +1,31 @@
+-- What reads the phrases of a sort in a production is handed over to the function that reads the production.
+use Rattle.std.specs.Prelude.{◌≤◌, ℕ, List, Result, IfOk}
+use Rattle.std.specs.Borrow.{Bor}
+use Rattle.fut_token.specs.declared.token.Token.{Token}
+use Rattle.fut_ast.specs.Sorts.{Sort, Tree, Whole_type, Applied_type, Atomic_type}
+use Rattle.fut_phrases.specs.declared.fault.Stop.{Stop}
+use Rattle.fut_phrases.specs.declared.types.TypeSort.{TypeSort}
+use Rattle.fut_phrases.specs.declared.types.TypeSort.TheVariants as sort
+use Rattle.fut_phrases.specs.Reading.{Gives}
+use Rattle.fut_phrases.specs.Phrases.{read_at}
+
+-- a tree, its height, and the tokens behind it
+abbrev pub Answer : Sort → Type 0
+Answer n = Result (Tree n × ℕ × Bor (List Token)) Stop
+
+-- the answer is what reading gives, up to a height of d
+abbrev pub Reads : (n : Sort) → ℕ → List Token → Answer n → Type 0
+Reads n d ts r = Gives (λ x. (x.0, x.1, x.2.now)) r (read_at d n ts) × IfOk r (λ x. x.1 ≤ d)
+
+-- each answer is what reading gives, where post says what is answered
+abbrev pub Law : (n : Sort) → (Bor (List Token) → Answer n → Type 0) → ℕ → Type 0
+Law n post d = (ts : Bor (List Token)) (r : Answer n) → post ts r → Reads n d ts.now r
+
+-- types of three sorts are read by one function
+abbrev pub ReadsType : TypeSort → ℕ → List Token → Answer Whole_type → Type 0
+ReadsType sort.Whole d ts r = Reads Whole_type d ts r
+ReadsType sort.Applied d ts r = Reads Applied_type d ts r
+ReadsType sort.Atomic d ts r = Reads Atomic_type d ts r
+
+abbrev pub TypeLaw : (TypeSort → Bor (List Token) → Answer Whole_type → Type 0) → ℕ → Type 0
+TypeLaw post d = (n : TypeSort) (ts : Bor (List Token)) (r : Answer Whole_type) → post n ts r → ReadsType n d ts.now r
