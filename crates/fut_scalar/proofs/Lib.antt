@@ -1,1 +1,2 @@
 pub mod Reduces
+pub mod Quotients

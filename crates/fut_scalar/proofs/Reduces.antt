@@ -1,22 +1,23 @@
 -- An operation on words, cut to the low bits, is the exact operation reduced to the type.
-use Rattle.std.proofs.Common.{◌≡◌, ◌+◌, ◌-◌, ◌*◌, ◌%◌, ◌^◌, ◌<◌, ℕ, refl, sym, ap, ◌∙◌, arith, w8, w16, w32, w64}
-use Rattle.std.specs.Prelude.{ℤ, pos, negsuc, ◌+ℤ◌, ◌-ℤ◌, ◌*ℤ◌, unsigned_abs, Ok, IsSome}
-use Rattle.std.specs.Int.{cast_signed, cast_unsigned, int_rem_euclid, int_wrap}
-use Rattle.std.proofs.Math.Nat.{add-mul-mod_self_right, mod-mod, mod-lt}
+use Rattle.std.proofs.Common.{◌≡◌, ◌+◌, ◌-◌, ◌*◌, ◌%◌, ◌^◌, ◌<◌, ◌≤◌, ℕ, refl, sym, ap, ◌∙◌, arith, w8, w16, w32, w64}
+use Rattle.std.specs.Prelude.{suc, Bool, true, false, cond, ◌==◌, ℤ, pos, negsuc, ◌+ℤ◌, ◌-ℤ◌, ◌*ℤ◌, neg_ℤ, unsigned_abs, Some, None, Ok, Err}
+use Rattle.std.specs.Int.{cast_signed, cast_unsigned, div_ceil, int_rem_euclid, int_wrap}
+use Rattle.std.proofs.Math.Nat.{add-mul-mod_self_right, mod-mod, mod-lt, div-le_self}
 use Rattle.std.proofs.Math.Pow.{mod-mod-pow}
 use Rattle.std.proofs.lemmas.Nat.{pow_pos}
 use Rattle.std.proofs.lemmas.Int.{ints, int_rem_euclid_is, of_z-to_z, wrapping_add-bits, wrapping_sub-bits, wrapping_mul-bits}
 use mir.Syntax.{Width}
 use mir.Val.{bits}
 use Rattle.fut_scalar.specs.Integers.{width_of, integer_of, reduced, FitsType}
-use Rattle.fut_scalar.specs.Operations.{exact, GivesExact, AreOfOneType}
-use Rattle.fut_scalar.specs.Wrapping.{wrapped_of}
+use Rattle.fut_scalar.specs.Operations.{floor_quotient, is_below_zero, or_else, GivesExact, AreOfOneType}
+use Rattle.fut_scalar.specs.Wrapping.{quotient_word, quotient_of, word_of}
 use Rattle.fut_scalar.specs.declared.scalar.IntType.{IntType}
 use Rattle.fut_scalar.specs.declared.scalar.IntType.TheVariants.{I8, I16, I32, I64, U8, U16, U32, U64}
 use Rattle.fut_scalar.specs.declared.scalar.Scalar.{Scalar}
 use Rattle.fut_scalar.specs.declared.scalar.Scalar.TheVariants as scalar
 use Rattle.fut_scalar.specs.declared.operator.BinOp.{BinOp}
-use Rattle.fut_scalar.specs.declared.operator.BinOp.TheVariants.{Add, Sub, Mul}
+use Rattle.fut_scalar.specs.declared.operator.BinOp.TheVariants.{Add, Sub, Mul, Div}
+use Rattle.fut_scalar.specs.declared.arithmetic.ScalarFault.TheVariants as fault
 
 remainder_below : (z : ℤ) (n : ℕ) → 0 < n → unsigned_abs (int_rem_euclid z (pos n)) < n
 remainder_below (pos a) n h = mod-lt a h
@@ -100,20 +101,81 @@ multiplies U16 m n p q = mod-mod-pow (m * n) 48 16
 multiplies U32 m n p q = mod-mod-pow (m * n) 32 32
 multiplies U64 m n p q = mod-mod (m * n) (2 ^ 64)
 
-exact_of_bits : (op : BinOp) (ty other : IntType) (m n r : ℕ) → IsSome (exact op) → ty ≡ other →
-    m < 2 ^ width_of ty → n < 2 ^ width_of other → r ≡ wrapped_of op m n % 2 ^ width_of ty →
-    GivesExact op (scalar.Int ty m) (scalar.Int other n) (Ok (scalar.Int ty r))
-exact_of_bits Add ty other m n r built same p q e = rw (← same, e) (ap (λ (x : ℕ). Ok (scalar.Int ty x)) (adds ty m n p (rw (← same) at q)))
-exact_of_bits Sub ty other m n r built same p q e = rw (← same, e) (ap (λ (x : ℕ). Ok (scalar.Int ty x)) (subtracts ty m n p (rw (← same) at q)))
-exact_of_bits Mul ty other m n r built same p q e = rw (← same, e) (ap (λ (x : ℕ). Ok (scalar.Int ty x)) (multiplies ty m n p (rw (← same) at q)))
-exact_of_bits op ty other m n r built same p q e = tt
+-- ---- division
 
--- the operation on words, cut to the type, gives the exact result
-pub gives_exact : (op : BinOp) (a b : Scalar) (ty other : IntType) (m n r : ℕ) → a ≡ scalar.Int ty m → b ≡ scalar.Int other n →
-    IsSome (exact op) → AreOfOneType a b → FitsType a → FitsType b → r ≡ wrapped_of op m n % 2 ^ width_of ty →
-    GivesExact op a b (Ok (scalar.Int ty r))
-gives_exact op a b ty other m n r p q built same left right e =
-    let same_type = rw (p, q) at same in
-    let left_fits = rw p at left in
-    let right_fits = rw q at right in
-    rw (p, q) (exact_of_bits op ty other m n r built same_type left_fits right_fits e)
+-- the low bits of the word of what is not above zero
+negated_8 : (c : ℕ) → c ≤ 2 ^ 64 → (2 ^ 64 - c) % 2 ^ 64 % 2 ^ 8 ≡ unsigned_abs (int_rem_euclid (neg_ℤ (pos c)) (pos (2 ^ 8)))
+negated_8 c h = mod-mod-pow (2 ^ 64 - c) 56 8 ∙ sym (ap unsigned_abs (int_rem_euclid_is (neg_ℤ (pos c)) (pos (2 ^ 8)) (2 ^ 8) (2 ^ 56) (2 ^ 64 - c) (pow_pos 8) refl (omega (arith, ints))))
+
+negated_16 : (c : ℕ) → c ≤ 2 ^ 64 → (2 ^ 64 - c) % 2 ^ 64 % 2 ^ 16 ≡ unsigned_abs (int_rem_euclid (neg_ℤ (pos c)) (pos (2 ^ 16)))
+negated_16 c h = mod-mod-pow (2 ^ 64 - c) 48 16 ∙ sym (ap unsigned_abs (int_rem_euclid_is (neg_ℤ (pos c)) (pos (2 ^ 16)) (2 ^ 16) (2 ^ 48) (2 ^ 64 - c) (pow_pos 16) refl (omega (arith, ints))))
+
+negated_32 : (c : ℕ) → c ≤ 2 ^ 64 → (2 ^ 64 - c) % 2 ^ 64 % 2 ^ 32 ≡ unsigned_abs (int_rem_euclid (neg_ℤ (pos c)) (pos (2 ^ 32)))
+negated_32 c h = mod-mod-pow (2 ^ 64 - c) 32 32 ∙ sym (ap unsigned_abs (int_rem_euclid_is (neg_ℤ (pos c)) (pos (2 ^ 32)) (2 ^ 32) (2 ^ 32) (2 ^ 64 - c) (pow_pos 32) refl (omega (arith, ints))))
+
+negated_64 : (c : ℕ) → c ≤ 2 ^ 64 → (2 ^ 64 - c) % 2 ^ 64 % 2 ^ 64 ≡ unsigned_abs (int_rem_euclid (neg_ℤ (pos c)) (pos (2 ^ 64)))
+negated_64 c h = mod-mod (2 ^ 64 - c) (2 ^ 64) ∙ sym (ap unsigned_abs (int_rem_euclid_is (neg_ℤ (pos c)) (pos (2 ^ 64)) (2 ^ 64) 1 (2 ^ 64 - c) (pow_pos 64) refl (omega (arith, ints))))
+
+negated : (ty : IntType) (c : ℕ) → c ≤ 2 ^ 64 → (2 ^ 64 - c) % 2 ^ 64 % 2 ^ width_of ty ≡ reduced ty (neg_ℤ (pos c))
+negated I8 c h = negated_8 c h
+negated I16 c h = negated_16 c h
+negated I32 c h = negated_32 c h
+negated I64 c h = negated_64 c h
+negated U8 c h = negated_8 c h
+negated U16 c h = negated_16 c h
+negated U32 c h = negated_32 c h
+negated U64 c h = negated_64 c h
+
+-- a quotient rounded up is past that rounded down by one at most
+ceil_low : (a b : ℕ) → a < 2 ^ 64 → div_ceil a b ≤ 2 ^ 64
+ceil_low a b h = let less = div-le_self a b in omega arith
+
+quotient_reduces : (ty : IntType) (a b : ℤ) → unsigned_abs a < 2 ^ 64 →
+    quotient_word (is_below_zero a) (is_below_zero b) (unsigned_abs a) (unsigned_abs b) % 2 ^ width_of ty ≡ reduced ty (floor_quotient a b)
+quotient_reduces ty (pos a) (pos b) h = refl
+quotient_reduces ty (pos a) (negsuc b) h = negated ty (div_ceil a (suc b)) (ceil_low a (suc b) h)
+quotient_reduces ty (negsuc a) (pos b) h = negated ty (div_ceil (suc a) b) (ceil_low (suc a) b h)
+quotient_reduces ty (negsuc a) (negsuc b) h = refl
+
+-- ---- all operations
+
+size_low : (ty : IntType) (m : ℕ) → m < 2 ^ width_of ty → unsigned_abs (integer_of ty m) < 2 ^ 64
+size_low I8 m h = omega (arith, ints)
+size_low I16 m h = omega (arith, ints)
+size_low I32 m h = omega (arith, ints)
+size_low I64 m h = omega (arith, ints)
+size_low U8 m h = omega arith
+size_low U16 m h = omega arith
+size_low U32 m h = omega arith
+size_low U64 m h = omega arith
+
+module _ (ty : IntType) (m n : ℕ) (p : m < 2 ^ width_of ty) (q : n < 2 ^ width_of ty) where
+  divides : (is_none : Bool) (w r : ℕ) → (n == 0) ≡ is_none → cond is_none (Err fault.Division) (Ok (quotient_of ty m n)) ≡ Ok w → r ≡ w % 2 ^ width_of ty →
+      Ok (scalar.Int ty r) ≡ or_else (cond is_none (Some fault.Division) None) (scalar.Int ty (reduced ty (floor_quotient (integer_of ty m) (integer_of ty n))))
+  divides true w r is word e = absurd cc
+  divides false w r is word e =
+      let same : quotient_of ty m n ≡ w = cc in
+      rw (e, ← same) (ap (λ (x : ℕ). Ok (scalar.Int ty x)) (quotient_reduces ty (integer_of ty m) (integer_of ty n) (size_low ty m p)))
+
+  value_of_bits : (op : BinOp) (w r : ℕ) → word_of op ty m n ≡ Ok w → r ≡ w % 2 ^ width_of ty →
+      GivesExact op (scalar.Int ty m) (scalar.Int ty n) (Ok (scalar.Int ty r))
+  value_of_bits Add w r word e = let same : (m + n) % 2 ^ 64 ≡ w = cc in rw (e, ← same) (ap (λ (x : ℕ). Ok (scalar.Int ty x)) (adds ty m n p q))
+  value_of_bits Sub w r word e = let same : (m + (2 ^ 64 - n)) % 2 ^ 64 ≡ w = cc in rw (e, ← same) (ap (λ (x : ℕ). Ok (scalar.Int ty x)) (subtracts ty m n p q))
+  value_of_bits Mul w r word e = let same : (m * n) % 2 ^ 64 ≡ w = cc in rw (e, ← same) (ap (λ (x : ℕ). Ok (scalar.Int ty x)) (multiplies ty m n p q))
+  value_of_bits Div w r word e = divides (n == 0) w r refl word e
+  value_of_bits op w r word e = tt
+
+module _ (op : BinOp) (a b : Scalar) (ty other : IntType) (m n : ℕ) (p : a ≡ scalar.Int ty m) (q : b ≡ scalar.Int other n)
+    (same : AreOfOneType a b) (left : FitsType a) (right : FitsType b) where
+  one_type : ty ≡ other
+  one_type = rw (p, q) at same
+
+  left_fits : m < 2 ^ width_of ty
+  left_fits = rw p at left
+
+  right_fits : n < 2 ^ width_of ty
+  right_fits = let fits = rw q at right in rw one_type fits
+
+  -- the word of an operation, cut to the type, gives the exact result
+  pub gives_exact : (w r : ℕ) → word_of op ty m n ≡ Ok w → r ≡ w % 2 ^ width_of ty → GivesExact op a b (Ok (scalar.Int ty r))
+  gives_exact w r word e = rw (p, q, ← one_type) (value_of_bits ty m n left_fits right_fits op w r word e)

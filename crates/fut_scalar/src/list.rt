@@ -1,5 +1,5 @@
 // A vector that contracts see as the list of its elements.
-ghost use Rattle.std.specs.Prelude.{◌≡◌, [], ◌∷◌, ◌++◌, length, OnOk, OnErr, IfOk};
+ghost use Rattle.std.specs.Prelude.{◌≡◌, [], ◌∷◌, ◌++◌, length, take, MatchOption, OnOk, OnErr, IfOk};
 
 use crate::NoMemory;
 use std::alloc::Global;
@@ -60,6 +60,13 @@ impl<T> List<T> {
     {
         self.items.len()
     }
+
+    /// Takes the last item off.
+    pub fn pop(&mut self) -> Option<T>
+        ensures { MatchOption result ((self.old ≡ []) × (self.new ≡ [])) (λ last. self.old ≡ self.new ++ last ∷ []) }
+    {
+        self.items.pop()
+    }
 }
 
 impl<T: Drop> List<T> {
@@ -72,6 +79,13 @@ impl<T: Drop> List<T> {
             Ok(()) => Ok(()),
             Err(_) => Err(NoMemory),
         }
+    }
+
+    /// Keeps the first items, as many as are wanted.
+    pub fn truncate(&mut self, count: usize)
+        ensures { self.new ≡ take count self.old }
+    {
+        self.items.truncate(count);
     }
 }
 

@@ -1,4 +1,4 @@
-// The operators of two operands.
+// The operators.
 
 /// An operation on two scalars. `Div` and `Mod` round towards negative infinity, `Quot` and `Rem` towards zero.
 #[derive(Clone, Copy, Debug, PartialEq, Eq)]
@@ -24,4 +24,15 @@ pub enum BinOp {
     Ge,
     Min,
     Max,
+}
+
+/// An operation on one scalar.
+#[derive(Clone, Copy, Debug, PartialEq, Eq)]
+pub enum UnOp {
+    Neg,
+    Not,
+    /// The size without the sign.
+    Abs,
+    /// The number of bits that are set.
+    Popc,
 }

@@ -1,104 +1,55 @@
--- What is spelled so is read, so that the tokens spell one program at most.
-use Rattle.std.proofs.Common.{◌≡◌, ◌+◌, ◌≤◌, ℕ, List, [], ◌∷◌, ◌++◌, refl, sym, ap, ◌∙◌, subst, arith, append_assoc, append-nil}
-use Rattle.std.specs.Prelude.{Option, Some, None, Ok}
+-- A text of the part that is built is read to its end.
+use Rattle.std.proofs.Common.{◌≡◌, ℕ, Bool, List, [], ◌∷◌, true, refl}
+use Rattle.std.specs.Prelude.{None}
 use Rattle.fut_scalar.specs.declared.place.Place.{Place}
-use Rattle.fut_scalar.specs.declared.operator.BinOp.{BinOp}
-use Rattle.fut_scalar.specs.declared.operator.BinOp.TheVariants.{Mul}
 use Rattle.fut_token.specs.declared.token.Token.{Token}
-use Rattle.futhark_core.specs.Grammar.{height, Fact, Factors, no_factor, factor, Terms, no_term, term, sum as a_sum, no_param, param, Spells, program, IsProgram}
-use Rattle.futhark_core.specs.Reading.{added, depth_of_factor, finished, read_on, read_program, start, beginning}
-use Rattle.futhark_core.specs.declared.program.Exp.{Exp}
-use Rattle.futhark_core.specs.declared.program.Exp.TheVariants as exp
-use Rattle.futhark_core.specs.declared.program.Program.{Program}
-use Rattle.futhark_core.specs.declared.reading.Left.{Left}
-use Rattle.futhark_core.specs.declared.reading.Tall.{Tall}
+use Rattle.futhark_core.specs.Built.{Expression, let_in, chain, Facts, no_fact, fact, Fact, negated, operand as an_operand, round, Params, no_param, param, IsText, text}
+use Rattle.futhark_core.specs.Reading.{reading, is_end, stop_on, stop_of, start, beginning}
+use Rattle.futhark_core.specs.declared.reading.Open.{Open}
+use Rattle.futhark_core.specs.declared.reading.Open.TheVariants.{Paren, Let}
 use Rattle.futhark_core.specs.declared.reading.Reading.{Reading}
 use Rattle.futhark_core.specs.declared.reading.Wanted.{Wanted}
-use Rattle.futhark_core.specs.declared.reading.Wanted.TheVariants.{Def, Operation}
-use Rattle.futhark_core.proofs.Heights.{height_binary, height_times, factors_higher, terms_higher}
-use Rattle.futhark_core.proofs.Steps.{Step, at_def, at_main, at_opening, at_name, at_colon, at_type, at_closing, at_result, at_result_type, at_equal, at_fact, at_star, at_sign, step_is}
-use Rattle.futhark_core.proofs.Sound.{joined, joined_added, Ends, def_ends, main_ends, params_end, name_ends, colon_ends, type_ends, closing_ends, result_ends, equal_ends, fact_ends, terms_end, Behind, spare, Sure, total_height, stays_sure, sure_start}
+use Rattle.futhark_core.specs.declared.reading.Wanted.TheVariants.{ParamOrType, Start, Operation}
+use Rattle.futhark_core.proofs.Steps.{Begins, expression, operand, Step, at_def, at_main, at_opening, at_name, at_colon, at_type, at_closing, at_result, at_result_type, at_equal, at_let, at_let_name, at_let_colon, at_let_type, at_let_equal, at_round, at_minus, at_operand, at_operator, at_close, at_in, step_is}
 
--- ---- where the program is flat enough, no operator goes too deep
+-- from the first reading over some tokens to the second one
+pub data Runs : Reading → List Token → Reading → List Token → Type 0 where
+  here : {r : Reading} {ts : List Token} → Runs r ts r ts
+  on : {r next end : Reading} {t : Token} {ts rest : List Token} → Step r t next → Runs next ts end rest → Runs r (t ∷ ts) end rest
 
-joined_higher : (sum : Option Left) (m : Exp) → height m ≤ height (joined sum m)
-joined_higher None m = omega arith
-joined_higher (Some left) m = omega (arith, height_binary left.op left.exp m)
+then : {a b c : Reading} {ts us vs : List Token} → Runs a ts b us → Runs b us c vs → Runs a ts c vs
+then here more = more
+then (on is runs) more = on is (then runs more)
 
-depth_under : (sum : Option Left) (p : Tall) (m : Exp) → p.height + 1 ≤ height m → depth_of_factor sum p ≤ height (joined sum m)
-depth_under None p m le = le
-depth_under (Some left) p m le = omega (arith, height_binary left.op left.exp m)
+mutual
+  expression_runs : {ts rest : List Token} → Expression ts rest → (opens : List Open) → Runs (reading Start opens) ts (reading Operation opens) rest
+  expression_runs (let_in word x colon ty equal value in_word body) opens =
+      on (at_let word) (on (at_let_name x) (on (at_let_colon colon) (on (at_let_type ty) (on (at_let_equal equal)
+      (then (expression_runs value (Let ∷ opens)) (on (at_in in_word) (expression_runs body opens)))))))
+  expression_runs (chain f more) opens = then (fact_runs f expression opens) (facts_run more opens)
 
-star_low : (sum : Option Left) (p : Tall) {f m e : Exp} {t : Token} {ts us rest vs : List Token} → Sure 0 sum (Some p) →
-    Fact f t → Factors (exp.Binary Mul p.exp f) m ts us → Terms (joined sum m) e rest vs → height e ≤ 200 → depth_of_factor sum p ≤ 200
-star_low sum p {m = m} sure is factors terms flat =
-    let factor_height = height_times p.exp is in
-    let product_higher = factors_higher factors in
-    let body_higher = terms_higher terms in
-    omega (arith, depth_under sum p m (omega (arith, sure.right.0)))
+  facts_run : {ts rest : List Token} → Facts ts rest → (opens : List Open) → Runs (reading Operation opens) ts (reading Operation opens) rest
+  facts_run no_fact opens = here
+  facts_run (fact op f more) opens = on (at_operator op) (then (fact_runs f operand opens) (facts_run more opens))
 
-sign_low : (op : BinOp) (sum : Option Left) (p : Tall) (b : Exp) {e : Exp} {rest vs : List Token} → Sure 0 sum (Some p) →
-    Terms (exp.Binary op (joined sum p.exp) b) e rest vs → height e ≤ 200 → (added sum p).height + 1 ≤ 200
-sign_low op sum p b sure terms flat =
-    let binary_height = height_binary op (joined sum p.exp) b in
-    let body_higher = terms_higher terms in
-    let so_far = total_height sum p sure.left sure.right.0 ∙ ap height (joined_added sum p) in
-    omega arith
+  fact_runs : {w : Wanted} {b : Bool} {ts rest : List Token} → Fact ts rest → Begins w b → (opens : List Open) → Runs (reading w opens) ts (reading Operation opens) rest
+  fact_runs (negated minus f) begins opens = on (at_minus begins minus) (fact_runs f operand opens)
+  fact_runs (an_operand is) begins opens = on (at_operand begins is) here
+  fact_runs (round opening e closing) begins opens = on (at_round begins opening) (then (expression_runs e (Paren ∷ opens)) (on (at_close closing) here))
 
--- ---- the next token
+params_run : {ts rest : List Token} → Params ts rest → Runs (reading ParamOrType []) ts (reading ParamOrType []) rest
+params_run no_param = here
+params_run (param opening x colon ty closing more) =
+    on (at_opening opening) (on (at_name x) (on (at_colon colon) (on (at_type ty) (on (at_closing closing) (params_run more)))))
 
--- the program is read to its end, or a token more of it is read
-abbrev pub Moves : Reading → Program → List Token → Type 0
-Moves r p [] = (last : Place) → finished r.wanted r last ≡ Ok p
-Moves r p (t ∷ ts) = (next : Reading) × Step r t next × Behind next p ts
+text_runs : {ts : List Token} → IsText ts → Runs start ts (reading Operation []) []
+text_runs (text def main params colon ty equal body) =
+    on (at_def def) (on (at_main main) (then (params_run params)
+    (on (at_result colon) (on (at_result_type ty) (on (at_equal equal) (expression_runs body []))))))
 
-moves_end : (before : List (List ℕ)) (sum : Option Left) (p : Tall) →
-    Moves (record { wanted = Operation; params = before; sum = sum; product = Some p }) (record { params = before ++ []; body = joined sum p.exp }) []
-moves_end before sum p = λ last. rw (append-nil before) (rw (joined_added sum p) refl)
+no_stop : {r end : Reading} {ts : List Token} → Runs r ts end [] → is_end end.wanted end.opens ≡ true → (last : Place) → stop_on r last ts ≡ None
+no_stop here ends last = rw ends refl
+no_stop (on {t = t} is more) ends last = rw (step_is is) (no_stop more ends t.place)
 
-moves_on : {wanted : Wanted} {sum : Option Left} {product : Option Tall} {names : List (List ℕ)} {e : Exp} {ts : List Token} →
-    Ends wanted sum product names e ts → (before : List (List ℕ)) → Sure (spare wanted) sum product → height e ≤ 200 →
-    Moves (record { wanted = wanted; params = before; sum = sum; product = product }) (record { params = before ++ names; body = e }) ts
-moves_on (def_ends k ends) before sure flat = (_, at_def k, record { names = _; params = refl; ends = ends })
-moves_on (main_ends k ends) before sure flat = (_, at_main k, record { names = _; params = refl; ends = ends })
-moves_on (params_end no_param k ends) before sure flat = (_, at_result k, record { names = _; params = refl; ends = ends })
-moves_on (params_end (param k word plain colon type closing params) result ends) before sure flat =
-    (_, at_opening k, record { names = _; params = refl; ends = name_ends word plain (colon_ends colon (type_ends type (closing_ends closing (params_end params result ends)))) })
-moves_on (name_ends {word = word} {names = names} k plain ends) before sure flat = (_, at_name k plain, record { names = names; params = sym (append_assoc before (word ∷ []) names); ends = ends })
-moves_on (colon_ends k ends) before sure flat = (_, at_colon k, record { names = _; params = refl; ends = ends })
-moves_on (type_ends k ends) before sure flat = (_, at_type k, record { names = _; params = refl; ends = ends })
-moves_on (closing_ends k ends) before sure flat = (_, at_closing k, record { names = _; params = refl; ends = ends })
-moves_on (result_ends k ends) before sure flat = (_, at_result_type k, record { names = _; params = refl; ends = ends })
-moves_on (equal_ends k ends) before sure flat = (_, at_equal k, record { names = _; params = refl; ends = ends })
-moves_on (fact_ends is ends) before sure flat = (_, at_fact is, record { names = _; params = refl; ends = ends })
-moves_on (terms_end {sum = sum} {p = p} (factor k is factors) terms) before sure flat =
-    (_, at_star k (star_low sum p sure is factors terms flat), record { names = _; params = refl; ends = fact_ends is (terms_end factors terms) })
-moves_on (terms_end {sum = sum} {p = p} no_factor (term {b = b} {op = op} k is factors more)) before sure flat =
-    (_, at_sign k (sign_low op sum p b sure more flat), record { names = _; params = refl; ends = fact_ends is (terms_end factors (rw (joined_added sum p) more)) })
-moves_on (terms_end {sum = sum} {p = p} no_factor no_term) before sure flat = moves_end before sum p
-
-moves : (r : Reading) (p : Program) (ts : List Token) → Sure (spare r.wanted) r.sum r.product → height p.body ≤ 200 → Behind r p ts → Moves r p ts
-moves r p ts sure flat b =
-    let s : record { params = r.params ++ b.names; body = p.body } ≡ p = ap (λ names. record { params = names; body = p.body }) (sym b.params) in
-    subst (λ (q : Program). Moves r q ts) s (moves_on b.ends r.params sure flat)
-
--- ---- the law
-
-complete_on : (ts : List Token) (r : Reading) (last : Place) (p : Program) → Sure (spare r.wanted) r.sum r.product → height p.body ≤ 200 → Behind r p ts → read_on r last ts ≡ Ok p
-complete_on [] r last p sure flat b = moves r p [] sure flat b last
-complete_on (t ∷ ts) r last p sure flat b =
-    let (next, a_step, ends) = moves r p (t ∷ ts) sure flat b in
-    rw (step_is a_step) (complete_on ts next t.place p (stays_sure a_step sure) flat ends)
-
-begins : {p : Program} {ts : List Token} → Spells p ts → Ends Def None None p.params p.body ts
-begins (program def main params colon type equal (a_sum is factors terms)) =
-    def_ends def (main_ends main (params_end params colon (result_ends type (equal_ends equal (fact_ends is (terms_end factors terms))))))
-
-pub complete : (file : ℕ) (ts : List Token) (p : Program) → IsProgram ts p → read_program file ts ≡ Ok p
-complete file ts p is = complete_on ts start (beginning file) p sure_start is.flat (record { names = p.params; params = refl; ends = begins is.spelled })
-
-pub one_program : (ts : List Token) (p q : Program) → IsProgram ts p → IsProgram ts q → p ≡ q
-one_program ts p q first second =
-    let one = complete 0 ts p first in
-    let other = complete 0 ts q second in
-    cc
+pub complete : (file : ℕ) (ts : List Token) → IsText ts → stop_of file ts ≡ None
+complete file ts is = no_stop (text_runs is) refl (beginning file)

@@ -1,214 +1,232 @@
--- Where the files and the input are told and no fault rose, a row of a run says what the run comes to.
-use Rattle.std.proofs.Common.{subst, ◌≡◌, ◌<◌, ℕ, List, length, refl, ap, ◌∙◌, inl, inr, ◌⊎◌}
-use Rattle.std.specs.Prelude.{Option, Some, None, IfSome, IsSomeAnd, Result, Ok, Err}
-use Rattle.fut_scalar.specs.declared.scalar.Scalar.{Scalar}
-use Rattle.fut_io.specs.Outside.{Loaded, LoadOver, AllRead, ReadPast, file_at}
-use Rattle.fut_lexer.specs.Lexing.{OneReading, Refuses}
+-- A row of a run in which no fault rose says what the run comes to, and that it comes to nothing else.
+use Rattle.std.proofs.Common.{◌≡◌, ◌≤◌, ℕ, List, refl, sym, ap, ◌∙◌, arith, inl, inr, ◌⊎◌}
+use Rattle.std.specs.Prelude.{Option, Result, Ok, Err}
+use Rattle.fut_token.specs.declared.token.Token.{Token}
+use Rattle.fut_io.specs.Outside.{Loaded}
+use Rattle.fut_lexer.specs.Lexing.{OneReading}
 use Rattle.fut_lexer.specs.declared.lexer.LexErr.{LexErr}
 use Rattle.fut_lexer.specs.declared.lexer.LexErr.TheVariants as lex
+use Rattle.fut_ast.specs.Grammar.{Derives}
+use Rattle.fut_ast.specs.declared.module.Program.{Program}
+use Rattle.fut_parser.specs.declared.programs.ParseErr.{ParseErr}
+use Rattle.fut_parser.specs.declared.programs.ParseErr.TheVariants as parse
+use Rattle.fut_parser.specs.Answers.{Refuses as RefusesTokens}
 use Rattle.futhark_core.specs.Words.{command_of}
-use Rattle.futhark_core.specs.Front.{RefusesLex, first_file}
-use Rattle.futhark_core.specs.Row.{Outside, Row, TextRow, NamesRow, LoadRow, Started, InputRow, RefusedInput, DoneRow}
-use Rattle.futhark_core.specs.Comes.{Onward, Then, Commanded, Held, Tokenized, Parsed, Bound, FrontComes, Argued, Comes, NoFault, ends_with, Complete}
-use Rattle.futhark_core.specs.declared.program.Program.{Program}
+use Rattle.futhark_core.specs.Front.{IsParsed, RefusesLex, ExplainsParse, first_file}
+use Rattle.futhark_core.specs.Meaning.{output_of}
+use Rattle.futhark_core.specs.Row.{Outside, Row, TextRow, NamesRow, LoadRow, Started, InputRow, NestingRow, ActionRow, ProgramRow, CheckRow, accepted_text, status_for}
+use Rattle.futhark_core.specs.Comes.{Then, Commanded, Held, Tokenized, Parsed, Built, Bound, Accepted, Argued, Acted, Comes, NoFault, ends_with, Complete}
+use Rattle.futhark_core.specs.declared.words.Action.{Action}
+use Rattle.futhark_core.specs.declared.words.Action.TheVariants.{Run, Check}
 use Rattle.futhark_core.specs.declared.status.TextErr.{TextErr}
 use Rattle.futhark_core.specs.declared.status.TextErr.TheVariants as text
-use Rattle.futhark_core.specs.declared.status.ParseErr.TheVariants as parse
 use Rattle.futhark_core.specs.declared.status.ModErr.TheVariants as names
 use Rattle.futhark_core.specs.declared.status.Why.{Why}
 use Rattle.futhark_core.specs.declared.status.Why.TheVariants as why
 use Rattle.futhark_core.specs.declared.status.LimitKind.TheVariants as limit
 use Rattle.futhark_core.specs.declared.status.Status.{Status}
-use Rattle.futhark_core.specs.declared.status.Status.TheVariants.{Done, Usage, LoadFault, Text, Names, Limit, ReadFault, Input, WriteFault, Memory}
-use Rattle.futhark_core.proofs.Functional.{one_front, one_end}
+use Rattle.futhark_core.specs.declared.status.Status.TheVariants.{Done, Usage, LoadFault, Text, Names, Limit, ReadFault, Input, Failure, WriteFault, Memory}
+use Rattle.futhark_core.proofs.Settles.{Settles, then_ok, then_err, commanded_ok, commanded_err, held_ok, held_err, tokenized_ok, tokenized_err, parsed_ok, parsed_err, built_ok, built_err, bound_ok, bound_err, argued_ok, argued_past, argued_err, evaluated_ok, evaluated_err}
 
-told : {A : Type 0} (o : Option A) (x : A) (P : A → Type 0) → o ≡ Some x → IfSome o P → P x
-told o x P e h = rw e at h
+module _ (one : OneReading) (words : List (List ℕ)) (old new : Outside) (quiet : NoFault old new) where
+  abbrev files : Option (List (List ℕ × List ℕ))
+  files = old.loader.files
 
--- a text that is there and too long
-some_long : (o : Option (List ℕ)) → IsSomeAnd o (λ text. 4194304 < length text) → (text : List ℕ) × (o ≡ Some text) × (4194304 < length text)
-some_long (Some text) h = (text, refl, h)
-some_long None h = absurd h
-
-lexed : (bytes : List ℕ) (err : LexErr) → RefusesLex bytes err → Refuses first_file bytes err
-lexed bytes lex.Memory h = absurd h
-lexed bytes (lex.NotUtf8 place) h = h
-lexed bytes (lex.BadToken place) h = h
-lexed bytes (lex.Float place) h = h
-
-module _ (words : List (List ℕ)) (old new : Outside)
-    (files_told : (file : List ℕ) → command_of words ≡ Ok file → (files : List (List ℕ × List ℕ)) × (old.loader.files ≡ Some files))
-    (input_told : (program : Program) → FrontComes words old.loader.files (Ok program) → (bytes : List ℕ) × (old.input.left ≡ Some bytes))
-    (quiet : NoFault old new) where
-  -- the run comes to an end that the status stands for
+  -- the run comes to this end and no other, and the status stands for it
   record Ends (status : Status) : Type 0 where
-    end : Result (List Scalar) Status
-    comes : Comes words old.loader.files old.input.left end
+    end : Result (List ℕ) Status
+    settles : Settles (Comes words files old.input.left) end
     is : status ≡ ends_with end
 
-  held : (file body : List ℕ) → command_of words ≡ Ok file → Loaded old.loader new.loader file body → Held old.loader.files file (Ok body)
-  held file body command l =
-      let t = files_told file command in
-      rw t.1 (told old.loader.files t.0 (λ all. file_at all file ≡ Some body) t.1 l.file, l.short)
-
-  refused : (status : Status) → FrontComes words old.loader.files (Err status) → Ends status
-  refused status front = record { end = Err status; comes = (Err status, front, refl); is = refl }
+  -- ---- refusals
 
   usage : (word : ℕ) → command_of words ≡ Err word → Ends (Usage word)
-  usage word e = refused (Usage word) (Err (Usage word), (word, e, refl), refl)
+  usage word e = record { end = Err (Usage word); settles = then_err (Commanded words) _ (Usage word) (commanded_err words word e); is = refl }
 
-  over : (file : List ℕ) → command_of words ≡ Ok file → LoadOver old.loader new.loader file → Held old.loader.files file (Err (Limit limit.FileBytes))
-  over file command o =
-      let t = files_told file command in
-      let long = some_long (file_at t.0 file) (told old.loader.files t.0 (λ all. IsSomeAnd (file_at all file) (λ body. 4194304 < length body)) t.1 o.long) in
-      rw t.1 (long.0, long.1, long.2, refl)
+  module _ (action : Action) (path : List ℕ) (command : command_of words ≡ Ok (action, path)) where
+    -- the source is refused with this status
+    refused : (status : Status) → Settles (Accepted files path) (Err status) → Ends status
+    refused status settles = record {
+      end = Err status;
+      settles = then_ok (Commanded words) _ (action, path) (Err status) (commanded_ok words (action, path) command)
+          (then_err (Accepted files path) _ status settles);
+      is = refl;
+    }
 
-  too_long : (file : List ℕ) → command_of words ≡ Ok file → LoadOver old.loader new.loader file → Ends (Limit limit.FileBytes)
-  too_long file command o = refused (Limit limit.FileBytes) (Ok file, command, (Err (Limit limit.FileBytes), over file command o, refl))
+    too_long : Settles (Held files path) (Err (Limit limit.FileBytes)) → Ends (Limit limit.FileBytes)
+    too_long settles = refused (Limit limit.FileBytes) (then_err (Held files path) _ (Limit limit.FileBytes) settles)
 
-  refused_text : (reason : Why) (file : List ℕ) → TextRow reason words old new file → Ends (Text (record { why = reason; path = file }))
-  refused_text (why.Lex err) file row =
-      let status = Text (record { why = why.Lex err; path = file }) in
-      let r = row.refused in
-      refused status (Ok file, row.command, (Ok r.text, held file r.text row.command r.loaded, (Err status, (err, lexed r.text err r.refused, refl), refl)))
-  refused_text (why.Parse (parse.NotBuilt place)) file row =
-      let status = Text (record { why = why.Parse (parse.NotBuilt place); path = file }) in
-      let r = row.refused in
-      refused status (
-        Ok file,
-        row.command,
-        (
-          Ok r.text,
-          held file r.text row.command r.loaded,
-          (Ok r.refused.tokens, r.refused.lexed, (Err status, (place, r.refused.stops, refl), refl)),
-        ),
-      )
-  refused_text (why.Parse parse.Memory) file row = absurd row.refused.refused
-  refused_text (why.Names err) file row = absurd row
-  refused_text why.Load file row = absurd row
-  refused_text why.FileBytes file row = absurd row
-  refused_text why.Memory file row = absurd row
+    module _ (body : List ℕ) (loaded : Loaded old.loader new.loader path body) where
+      text_refused : (status : Status) → Settles (Tokenized path body) (Err status) → Ends status
+      text_refused status settles = refused status (then_ok (Held files path) _ body (Err status) (held_ok files path body loaded.file loaded.short)
+          (then_err (Tokenized path body) _ status settles))
 
-  refused_names : (reason : Why) (file : List ℕ) → NamesRow reason words old new file → Ends (Names (record { why = reason; path = file }))
-  refused_names (why.Names (names.Unbound name place)) file row =
-      let status = Names (record { why = why.Names (names.Unbound name place); path = file }) in
-      let r = row.refused in
-      let u = r.refused in
-      refused status (
-        Ok file,
-        row.command,
-        (
-          Ok r.text,
-          held file r.text row.command r.loaded,
-          (Ok u.tokens, u.lexed, (Ok u.program, u.spelled, (name, place, u.first, refl))),
-        ),
-      )
-  refused_names (why.Names names.Memory) file row = absurd row.refused.refused
-  refused_names (why.Lex err) file row = absurd row
-  refused_names (why.Parse err) file row = absurd row
-  refused_names why.Load file row = absurd row
-  refused_names why.FileBytes file row = absurd row
-  refused_names why.Memory file row = absurd row
+      lexed : (err : LexErr) → RefusesLex body err → Ends (status_for (why.Lex err) path)
+      lexed lex.Memory h = absurd h
+      lexed (lex.NotUtf8 place) h = text_refused (status_for (why.Lex (lex.NotUtf8 place)) path) (tokenized_err one path body (lex.NotUtf8 place) h)
+      lexed (lex.BadToken place) h = text_refused (status_for (why.Lex (lex.BadToken place)) path) (tokenized_err one path body (lex.BadToken place) h)
+      lexed (lex.Float place) h = text_refused (status_for (why.Lex (lex.Float place)) path) (tokenized_err one path body (lex.Float place) h)
 
-  no_load : (reason : Why) (file : List ℕ) (status : Status) → LoadRow reason words old new file → Ends status
-  no_load why.Load file status row = absurd (quiet.loader row.refused.faults)
-  no_load (why.Lex err) file status row = absurd row
-  no_load (why.Parse err) file status row = absurd row
-  no_load (why.Names err) file status row = absurd row
-  no_load why.FileBytes file status row = absurd row
-  no_load why.Memory file status row = absurd row
+      module _ (tokens : List Token) (spelled : Settles (Tokenized path body) (Ok tokens)) where
+        tree_refused : (err : ParseErr) → ((program : Program) (h : ℕ) → h ≤ 201 → Derives tokens program h → ⊥) → RefusesTokens first_file tokens err →
+            Ends (status_for (why.Parse err) path)
+        tree_refused err none refuses = refused (status_for (why.Parse err) path)
+            (then_ok (Held files path) _ body (Err (status_for (why.Parse err) path)) (held_ok files path body loaded.file loaded.short)
+            (then_ok (Tokenized path body) _ tokens (Err (status_for (why.Parse err) path)) spelled
+            (then_err (Parsed path tokens) _ (status_for (why.Parse err) path) (parsed_err path tokens err none refuses))))
 
-  -- an accepted program, and what its input comes to
-  front : (program : Program) → Started words old new program → FrontComes words old.loader.files (Ok program)
-  front program s =
-      let a = s.accepted in
-      let source = a.source in
-      (Ok s.file, s.command, (Ok a.text, held s.file a.text s.command a.loaded, (Ok source.tokens, source.lexed, (Ok program, source.spelled, (source.bound, refl)))))
+        parsed : (err : ParseErr) → (err ≡ parse.Memory → ⊥) → ExplainsParse tokens err → Ends (status_for (why.Parse err) path)
+        parsed (parse.Syntax place) some h = tree_refused (parse.Syntax place) (λ program k le is. h.none program k is) h.refuses
+        parsed (parse.LeftOut place what) some h = tree_refused (parse.LeftOut place what) (λ program k le is. h.none program k is) h.refuses
+        parsed (parse.TooDeep place) some h = tree_refused (parse.TooDeep place) (λ program k le is. let deep = h.deep program k is in omega arith) h.refuses
+        parsed parse.Memory some h = absurd (some refl)
 
-  module _ (program : Program) (s : Started words old new program) where
-    bytes : List ℕ
-    bytes = (input_told program (front program s)).0
+        module _ (program : Program) (is : IsParsed tokens program) where
+          program_refused : (status : Status) → Settles (Then (Built path tokens program) (λ built. Bound path built)) (Err status) → Ends status
+          program_refused status settles = refused status
+              (then_ok (Held files path) _ body (Err status) (held_ok files path body loaded.file loaded.short)
+              (then_ok (Tokenized path body) _ tokens (Err status) spelled
+              (then_ok (Parsed path tokens) _ program (Err status) (parsed_ok path tokens program is) settles)))
 
-    is_left : old.input.left ≡ Some bytes
-    unfolding bytes
-    is_left = (input_told program (front program s)).1
+  refused_text : (reason : Why) (path : List ℕ) → TextRow reason words old new path → Ends (Text (record { why = reason; path = path }))
+  refused_text (why.Lex err) path row = lexed row.action path row.command row.refused.text row.refused.loaded err row.refused.refused
+  refused_text (why.Parse (parse.Syntax place)) path row =
+      let r = row.refused in let t = r.refused in
+      parsed row.action path row.command r.text r.loaded t.tokens (tokenized_ok one path r.text t.tokens t.lexed) (parse.Syntax place) (λ e. cc) t.refused
+  refused_text (why.Parse (parse.LeftOut place what)) path row =
+      let r = row.refused in let t = r.refused in
+      parsed row.action path row.command r.text r.loaded t.tokens (tokenized_ok one path r.text t.tokens t.lexed) (parse.LeftOut place what) (λ e. cc) t.refused
+  refused_text (why.Parse (parse.TooDeep place)) path row = absurd row
+  refused_text (why.Parse parse.Memory) path row = absurd row.refused.refused.refused
+  refused_text (why.NotBuilt place) path row =
+      let r = row.refused in let t = r.refused in let p = t.refused in
+      program_refused row.action path row.command r.text r.loaded t.tokens (tokenized_ok one path r.text t.tokens t.lexed) p.program p.parsed
+      (Text (record { why = why.NotBuilt place; path = path }))
+      (then_err (Built path t.tokens p.program) _ (Text (record { why = why.NotBuilt place; path = path })) (built_err path t.tokens p.program place p.refused))
+  refused_text (why.Names err) path row = absurd row
+  refused_text why.Load path row = absurd row
+  refused_text why.FileBytes path row = absurd row
+  refused_text why.Memory path row = absurd row
 
-    started : (status : Status) (end : Result (List Scalar) Status) → status ≡ ends_with end → Argued program (Some bytes) end → Ends status
-    started status end is argued = record { end = end; comes = (Ok program, front program s, rw is_left argued); is = is }
+  refused_names : (reason : Why) (path : List ℕ) → NamesRow reason words old new path → Ends (Names (record { why = reason; path = path }))
+  refused_names (why.Names (names.Unbound name place)) path row =
+      let r = row.refused in let t = r.refused in let p = t.refused in
+      let status = Names (record { why = why.Names (names.Unbound name place); path = path }) in
+      program_refused row.action path row.command r.text r.loaded t.tokens (tokenized_ok one path r.text t.tokens t.lexed) p.program p.parsed status
+      (then_ok (Built path t.tokens p.program) _ p.program (Err status) (built_ok path t.tokens p.program p.refused.0)
+      (bound_err path t.tokens p.program name place p.refused.1))
+  refused_names (why.Names names.Memory) path row = absurd row.refused.refused.refused.refused
+  refused_names (why.Lex err) path row = absurd row
+  refused_names (why.Parse err) path row = absurd row
+  refused_names (why.NotBuilt place) path row = absurd row
+  refused_names why.Load path row = absurd row
+  refused_names why.FileBytes path row = absurd row
+  refused_names why.Memory path row = absurd row
 
-    whole : (read : List ℕ) → AllRead old.input new.input read → read ≡ bytes
-    whole read all = told old.input.left bytes (λ left. read ≡ left) is_left all.all
+  no_load : (reason : Why) (path : List ℕ) (status : Status) → LoadRow reason words old new path → Ends status
+  no_load why.Load path status row = absurd (quiet.loader row.refused.faults)
+  no_load (why.Lex err) path status row = absurd row
+  no_load (why.Parse err) path status row = absurd row
+  no_load (why.NotBuilt place) path status row = absurd row
+  no_load (why.Names err) path status row = absurd row
+  no_load why.FileBytes path status row = absurd row
+  no_load why.Memory path status row = absurd row
 
-    past : ReadPast old.input new.input 67108864 → Ends (Limit limit.InputBytes)
-    past p = started (Limit limit.InputBytes) (Err (Limit limit.InputBytes)) refl
-        (inl (told old.input.left bytes (λ left. 67108864 < length left) is_left p.long, refl))
+  too_deep : NestingRow words old new → Ends (Limit limit.Nesting)
+  too_deep row =
+      let f = row.row in let r = f.refused in let t = r.refused in
+      parsed f.action row.path f.command r.text r.loaded t.tokens (tokenized_ok one row.path r.text t.tokens t.lexed) (parse.TooDeep row.place) (λ e. cc) t.refused
 
-    ended_input : (err : TextErr) → RefusedInput program (record { input = old.input; out = old.out }) (record { input = new.input; out = new.out }) err → Ends (Input err)
-    ended_input err row =
-        let same = whole row.bytes row.read in
-        let short = rw same at row.short in
-        let refuses = rw same at row.refuses in
-        started (Input err) (Err (Input err)) refl (inr (err, short, refuses, refl))
+  -- ---- an accepted program
 
-    done : DoneRow program (record { input = old.input; out = old.out }) (record { input = new.input; out = new.out }) → Ends Done
-    done row =
-        let same = whole row.gives.bytes row.gives.read in
-        let short = rw same at row.gives.short in
-        let reads = rw same at row.gives.reads in
-        started Done (Ok row.gives.values) refl (short, reads)
+  module _ (action : Action) (file : List ℕ) (program : Program) (s : Started words old new action file program) where
+    accepted : Settles (Accepted files file) (Ok program)
+    accepted =
+        let a = s.accepted in let source = a.source in
+        then_ok (Held files file) _ a.text (Ok program) (held_ok files file a.text a.loaded.file a.loaded.short)
+        (then_ok (Tokenized file a.text) _ source.tokens (Ok program) (tokenized_ok one file a.text source.tokens source.lexed)
+        (then_ok (Parsed file source.tokens) _ program (Ok program) (parsed_ok file source.tokens program source.parsed)
+        (then_ok (Built file source.tokens program) _ program (Ok program) (built_ok file source.tokens program source.built)
+        (bound_ok file source.tokens program source.bound))))
 
+    acted : (status : Status) (end : Result (List ℕ) Status) → status ≡ ends_with end → Settles (Acted action file old.input.left program) end → Ends status
+    acted status end is settles = record {
+      end = end;
+      settles = then_ok (Commanded words) _ (action, file) end (commanded_ok words (action, file) s.command)
+          (then_ok (Accepted files file) _ program end accepted settles);
+      is = is;
+    }
+
+  module _ (file : List ℕ) (program : Program) (s : Started words old new Run file program) where
     refused_input : (err : TextErr) → InputRow program (record { input = old.input; out = old.out }) (record { input = new.input; out = new.out }) err → Ends (Input err)
     refused_input text.Memory row = absurd row
-    refused_input (text.BadText position) row = ended_input (text.BadText position) row
-    refused_input (text.OutOfRange position) row = ended_input (text.OutOfRange position) row
-    refused_input (text.Missing param) row = ended_input (text.Missing param) row
-    refused_input (text.Extra position) row = ended_input (text.Extra position) row
+    refused_input (text.BadText position) row = acted Run file program s (Input (text.BadText position)) (Err (Input (text.BadText position))) refl
+        (then_err (Argued program old.input.left) _ _ (argued_err program old.input.left row.bytes (text.BadText position) row.read.all row.short row.refuses))
+    refused_input (text.OutOfRange position) row = acted Run file program s (Input (text.OutOfRange position)) (Err (Input (text.OutOfRange position))) refl
+        (then_err (Argued program old.input.left) _ _ (argued_err program old.input.left row.bytes (text.OutOfRange position) row.read.all row.short row.refuses))
+    refused_input (text.Missing param) row = acted Run file program s (Input (text.Missing param)) (Err (Input (text.Missing param))) refl
+        (then_err (Argued program old.input.left) _ _ (argued_err program old.input.left row.bytes (text.Missing param) row.read.all row.short row.refuses))
+    refused_input (text.Extra position) row = acted Run file program s (Input (text.Extra position)) (Err (Input (text.Extra position))) refl
+        (then_err (Argued program old.input.left) _ _ (argued_err program old.input.left row.bytes (text.Extra position) row.read.all row.short row.refuses))
+
+    ran : (status : Status) → ProgramRow status file program (record { input = old.input; out = old.out }) (record { input = new.input; out = new.out }) → Ends status ⊎ (status ≡ Memory)
+    ran Done row =
+        let c = row.comes in
+        inl (acted Run file program s Done (Ok (output_of row.value)) refl
+        (then_ok (Argued program old.input.left) _ c.values (Ok (output_of row.value)) (argued_ok program old.input.left c.bytes c.values c.read.all c.short c.reads)
+        (evaluated_ok program file c.values row.value c.means)))
+    ran (Limit limit.InputBytes) row = inl (acted Run file program s (Limit limit.InputBytes) (Err (Limit limit.InputBytes)) refl
+        (then_err (Argued program old.input.left) _ (Limit limit.InputBytes) (argued_past program old.input.left row.past.long)))
+    ran ReadFault row = absurd (quiet.input row.faults)
+    ran (Input err) row = inl (refused_input err row)
+    ran (Failure report path) row =
+        let c = row.comes in
+        inl (acted Run file program s (Failure report path) (Err (Failure report file)) (ap (Failure report) row.path_is)
+        (then_ok (Argued program old.input.left) _ c.values (Err (Failure report file)) (argued_ok program old.input.left c.bytes c.values c.read.all c.short c.reads)
+        (evaluated_err program file c.values report c.means)))
+    ran WriteFault row = absurd (quiet.out row.out.faults)
+    ran Memory row = inr refl
+    ran (Usage word) row = absurd row
+    ran (LoadFault refused) row = absurd row
+    ran (Text refused) row = absurd row
+    ran (Names refused) row = absurd row
+    ran (Limit limit.FileBytes) row = absurd row
+    ran (Limit limit.Nesting) row = absurd row
+
+  told : (a : Result (List ℕ) Status) (file : List ℕ) (program : Program) → Acted Check file old.input.left program a → a ≡ Ok accepted_text
+  told (Ok text) file program p = ap Ok p
+  told (Err status) file program p = absurd p
+
+  module _ (file : List ℕ) (program : Program) (s : Started words old new Check file program) where
+    checked : (status : Status) → CheckRow status (record { input = old.input; out = old.out }) (record { input = new.input; out = new.out }) → Ends status ⊎ (status ≡ Memory)
+    checked Done row = inl (acted Check file program s Done (Ok accepted_text) refl (λ a p. told a file program p))
+    checked WriteFault row = absurd (quiet.out row.out.faults)
+    checked status row = absurd row
+
+  acts : (action : Action) (status : Status) (file : List ℕ) (program : Program) → Started words old new action file program →
+      ActionRow action status file program (record { input = old.input; out = old.out }) (record { input = new.input; out = new.out }) → Ends status ⊎ (status ≡ Memory)
+  acts Run status file program s row = ran file program s status row
+  acts Check status file program s row = checked file program s status row
 
   ends : (status : Status) → Row status words old new → Ends status ⊎ (status ≡ Memory)
   ends (Usage word) row = inl (usage word row.command)
   ends (LoadFault refused) row = inl (no_load refused.why refused.path (LoadFault refused) row)
   ends (Text refused) row = inl (refused_text refused.why refused.path row)
   ends (Names refused) row = inl (refused_names refused.why refused.path row)
-  ends (Limit limit.FileBytes) row = inl (too_long row.path row.row.command row.row.refused)
-  ends (Limit limit.InputBytes) row = inl (past row.program row.started row.ended.past)
-  ends ReadFault row = absurd (quiet.input row.ended.faults)
-  ends (Input err) row = inl (refused_input row.program row.started err row.ended)
-  ends WriteFault row = absurd (quiet.out row.ended.out.faults)
-  ends Done row = inl (done row.program row.started row.ended)
+  ends (Limit limit.FileBytes) row =
+      let f = row.row in inl (too_long f.action row.path f.command (held_err files row.path f.refused.long))
+  ends (Limit limit.Nesting) row = inl (too_deep row)
+  ends (Limit limit.InputBytes) row = acts row.action (Limit limit.InputBytes) row.file row.program row.started row.ended
+  ends ReadFault row = acts row.action ReadFault row.file row.program row.started row.ended
+  ends (Input err) row = acts row.action (Input err) row.file row.program row.started row.ended
+  ends (Failure report path) row = acts row.action (Failure report path) row.file row.program row.started row.ended
+  ends WriteFault row = acts row.action WriteFault row.file row.program row.started row.ended
+  ends Done row = acts row.action Done row.file row.program row.started row.ended
   ends Memory row = inr refl
 
-  the_end : OneReading → (status : Status) (end : Result (List Scalar) Status) → Comes words old.loader.files old.input.left end →
-      Ends status ⊎ (status ≡ Memory) → (status ≡ ends_with end) ⊎ (status ≡ Memory)
-  the_end one status end comes (inl e) = inl (e.is ∙ ap ends_with (one_end one words old.loader.files old.input.left e.end end e.comes comes))
-  the_end one status end comes (inr m) = inr m
-
--- ---- what a run that comes to an end was told
-
-held_told : (files : Option (List (List ℕ × List ℕ))) (file : List ℕ) (middle : Result (List ℕ) Status) → Held files file middle →
-    (all : List (List ℕ × List ℕ)) × (files ≡ Some all)
-held_told None file middle h = absurd h
-held_told (Some all) file middle h = (all, refl)
-
-argued_told : (program : Program) (left : Option (List ℕ)) (end : Result (List Scalar) Status) → Argued program left end → (bytes : List ℕ) × (left ≡ Some bytes)
-argued_told program None end h = absurd h
-argued_told program (Some bytes) end h = (bytes, refl)
-
-module _ (words : List (List ℕ)) (files : Option (List (List ℕ × List ℕ))) where
-  named : (command : Result (List ℕ) Status) (middle : Result Program Status) → Commanded words command →
-      Onward command (λ file. Then (Held files file) (λ text. Then (Tokenized file text) (λ tokens. Then (Parsed file tokens) (λ program. Bound file program)))) middle →
-      (file : List ℕ) → command_of words ≡ Ok file → (all : List (List ℕ × List ℕ)) × (files ≡ Some all)
-  named (Ok path) middle c onward file e = held_told files path onward.0 onward.1
-  named (Err status) middle c onward file e = let w = c.1 in absurd cc
-
-  read_on : OneReading → (left : Option (List ℕ)) (end : Result (List Scalar) Status) (middle : Result Program Status) →
-      FrontComes words files middle → Onward middle (λ program. Argued program left) end →
-      (program : Program) → FrontComes words files (Ok program) → (bytes : List ℕ) × (left ≡ Some bytes)
-  read_on one left end middle front onward program own =
-      let same = one_front one words files middle (Ok program) front own in
-      argued_told program left end (subst (λ (m : Result Program Status). Onward m (λ program. Argued program left) end) same onward)
-
 pub complete : OneReading → (status : Status) (words : List (List ℕ)) (old new : Outside) → Row status words old new → Complete status words old new
-complete one status words old new row end comes quiet =
-    let files_told = named words old.loader.files comes.1.0 comes.0 comes.1.1 comes.1.2 in
-    let input_told = read_on words old.loader.files one old.input.left end comes.0 comes.1 comes.2 in
-    the_end words old new files_told input_told quiet one status end comes (ends words old new files_told input_told quiet status row)
+complete one status words old new row end comes quiet = conclude (ends one words old new quiet status row)
+  where
+    conclude : Ends one words old new quiet status ⊎ (status ≡ Memory) → (status ≡ ends_with end) ⊎ (status ≡ Memory)
+    conclude (inl e) = inl (e.is ∙ ap ends_with (sym (e.settles end comes)))
+    conclude (inr m) = inr m

@@ -1,23 +1,39 @@
--- A program whose names are bound has a value for each list of arguments of its length.
-use Rattle.std.proofs.Common.{◌≡◌, ℕ, Bool, true, false, cond, ◌||◌, List, [], ◌∷◌, length, refl, sym, ap, ◌∙◌, arith}
-use Rattle.std.specs.Prelude.{Option, Some, None, IsSome, option_map}
+-- A built expression whose names are bound comes to a value or a failure.
+use Rattle.std.proofs.Common.{◌≡◌, Bool, true, false, cond, ◌&&◌, ◌||◌, List, [], ◌∷◌, ◌++◌, length, map, refl, sym, ap, ◌∙◌, subst, arith}
+use Rattle.std.proofs.lemmas.List.{map-append}
+use Rattle.std.specs.Prelude.{ℤ, Option, Some, None, IsSome, is_some, Result, Ok, Err}
+use Rattle.std.specs.List.{list_all}
 use Rattle.std.specs.Str.{bytes_eq}
-use Rattle.fut_scalar.specs.Operations.{exact}
+use Rattle.fut_scalar.specs.Operations.{exact, fault_of, or_else, reduced_result}
 use Rattle.fut_scalar.specs.declared.place.Place.{Place}
 use Rattle.fut_scalar.specs.declared.operator.BinOp.{BinOp}
-use Rattle.fut_scalar.specs.declared.operator.BinOp.TheVariants.{Mul}
-use Rattle.fut_scalar.specs.declared.scalar.IntType.TheVariants as int
+use Rattle.fut_scalar.specs.declared.operator.BinOp.TheVariants.{Add, Sub, Mul, Div}
+use Rattle.fut_scalar.specs.declared.arithmetic.ScalarFault.{ScalarFault}
 use Rattle.fut_scalar.specs.declared.scalar.Scalar.{Scalar}
-use Rattle.fut_scalar.specs.declared.scalar.Scalar.TheVariants as scalar
-use Rattle.fut_token.specs.declared.token.Token.{Token}
-use Rattle.futhark_core.specs.Grammar.{Fact, name, integer, typed_integer, IsSign, plus, minus, Factors, no_factor, factor, Terms, no_term, term, Sum, sum, Spells, program, IsProgram}
-use Rattle.futhark_core.specs.Meaning.{first_of, is_bound, argument, operated, unbound_step, unbound_of, value_step, value_of}
-use Rattle.futhark_core.specs.declared.program.Exp.{Exp, map-Exp}
-use Rattle.futhark_core.specs.declared.program.Exp.TheVariants as exp
-use Rattle.futhark_core.specs.declared.program.Program.{Program}
-use Rattle.futhark_core.proofs.Folds.{unbound_out, value_out}
+use Rattle.fut_ast.specs.Sorts.{Text, Path, SourcePat, SourceExp}
+use Rattle.fut_ast.specs.declared.node.Oper.{Oper}
+use Rattle.fut_ast.specs.declared.node.Oper.TheVariants as oper
+use Rattle.fut_ast.specs.declared.exp.Exp.{Exp-F, roll-Exp, ind-Exp}
+use Rattle.fut_ast.specs.declared.exp.Form.{Form, Form-F, out-Form, map-Form, out-roll-Form}
+use Rattle.fut_ast.specs.declared.exp.Bind.{Bind, Bind-F}
+use Rattle.fut_ast.specs.declared.exp.Ix.{Ix}
+use Rattle.fut_ast.specs.declared.exp.LoopForm.{LoopForm}
+use Rattle.futhark_core.specs.Forms.{is_arithmetic, is_minus, is_i64_suffix, is_none, one_name, typed_name, is_built, is_built_bind}
+use Rattle.futhark_core.specs.Meaning.{Scope, Unbound, first_of, is_bound, with_name, names_of, unbound_use, unbound_lets, unbound_bind, unbound_of, Environment, Outcome, Gives, Fails, Wrong, Meaning, value_in, given, behind, reported, operated, operated_by, negated, value_use, value_lets, value_bind, value_of, with_bound, arguments}
+use Rattle.futhark_core.proofs.Folds.{Layer, built_layer, built_out, unbound_layer, unbound_out, value_layer, value_out}
 
--- ---- arguments
+abbrev pub names : Environment → Scope
+names env = map (λ (bound : Text × Scalar). bound.0) env
+
+both : (a b : Bool) → (a && b) ≡ true → (a ≡ true) × (b ≡ true)
+both true b e = (refl, e)
+both false b e = absurd cc
+
+first_none : (x y : Unbound) → first_of x y ≡ None → (x ≡ None) × (y ≡ None)
+first_none (Some z) y e = absurd cc
+first_none None y e = (refl, e)
+
+-- ---- names that are bound have values
 
 picked : (x : Option Scalar) (same others : Bool) (v : Scalar) → (same || others) ≡ true → (others ≡ true → IsSome x) →
     IsSome (first_of x (cond same (Some v) None))
@@ -25,87 +41,158 @@ picked (Some y) same others v h k = refl
 picked None true others v h k = refl
 picked None false others v h k = k h
 
-has_argument : (names : List (List ℕ)) (values : List Scalar) (w : List ℕ) → length values ≡ length names → is_bound names w ≡ true →
-    IsSome (argument names values w)
-has_argument [] values w e h = absurd cc
-has_argument (n ∷ names) [] w e h = absurd (omega arith)
-has_argument (n ∷ names) (v ∷ values) w e h = picked (argument names values w) (bytes_eq n w) (is_bound names w) v h (has_argument names values w (omega arith))
+has_value_in : (env : Environment) (name : Text) → is_bound (names env) name ≡ true → IsSome (value_in env name)
+has_value_in [] name h = absurd cc
+has_value_in (bound ∷ env) name h = picked (value_in env name) (bytes_eq bound.0 name) (is_bound (names env) name) bound.1 h (has_value_in env name)
 
--- ---- both parts of a binary expression
+given_sure : (value : Option Scalar) → IsSome value → given value ≡ Wrong → ⊥
+given_sure (Some v) h e = cc
+given_sure None h e = absurd cc
 
-first_none : (x y : Option (List ℕ × Place)) → first_of x y ≡ None → (x ≡ None) × (y ≡ None)
-first_none (Some z) y e = absurd cc
-first_none None y e = (refl, e)
+abbrev unbound_if : Bool → Text → Place → Unbound
+unbound_if b name place = cond b None (Some (name, place))
 
-mapped : {A B : Type 0} (f : A → B) (o : Option A) → IsSome o → IsSome (option_map f o)
-mapped f (Some z) h = refl
-mapped f None h = h
+use_sure : (name : Option Text) (place : Place) (env : Environment) → is_some name ≡ true → unbound_use name place (names env) ≡ None → value_use name env ≡ Wrong → ⊥
+use_sure None place env built none e = absurd cc
+use_sure (Some name) place env built none e = given_sure (value_in env name) (has_value_in env name (bound (is_bound (names env) name) none)) e
+  where
+    bound : (b : Bool) → unbound_if b name place ≡ None → b ≡ true
+    bound true h = refl
+    bound false h = absurd cc
 
-both_some : (op : BinOp) (x y : Option Scalar) → IsSome (exact op) → IsSome x → IsSome y → IsSome (operated op x y)
-both_some op (Some a) (Some b) built p q = mapped _ (exact op) built
-both_some op (Some a) None built p q = q
-both_some op None y built p q = p
+-- ---- operations
 
-built_sign : {op : BinOp} {t : Token} → IsSign op t → IsSome (exact op)
-built_sign (plus is) = refl
-built_sign (minus is) = refl
+int_sure : (b : Bool) (value : Scalar) → b ≡ true → cond b (Gives value) Wrong ≡ Wrong → ⊥
+int_sure true value h e = cc
+int_sure false value h e = absurd cc
 
-module _ (names : List (List ℕ)) (values : List Scalar) (arity : length values ≡ length names) where
-  -- the equations of an expression by its constructor
-  unbound_name : (w : List ℕ) (place : Place) → unbound_of names (exp.Name w place) ≡ cond (is_bound names w) None (Some (w, place))
-  unbound_name w place = unbound_out names (exp.Name w place)
-      ∙ ap (λ layer. unbound_step names (map-Exp Exp (Option (List ℕ × Place)) (unbound_of names) layer)) (exp.outs-Name w place)
+behind_sure : (o : Outcome) (next : Scalar → Outcome) → (o ≡ Wrong → ⊥) → ((v : Scalar) → next v ≡ Wrong → ⊥) → behind o next ≡ Wrong → ⊥
+behind_sure (Gives v) next first more e = more v e
+behind_sure (Fails r) next first more e = cc
+behind_sure Wrong next first more e = first refl
 
-  value_name : (w : List ℕ) (place : Place) → value_of names values (exp.Name w place) ≡ argument names values w
-  value_name w place = value_out names values (exp.Name w place)
-      ∙ ap (λ layer. value_step names values (map-Exp Exp (Option Scalar) (value_of names values) layer)) (exp.outs-Name w place)
+reported_sure : (place : Place) (r : Result Scalar ScalarFault) → reported place r ≡ Wrong → ⊥
+reported_sure place (Ok v) e = cc
+reported_sure place (Err fault) e = cc
 
-  value_integer : (n : ℕ) → value_of names values (exp.Integer n) ≡ Some (scalar.Int int.I64 n)
-  value_integer n = value_out names values (exp.Integer n)
-      ∙ ap (λ layer. value_step names values (map-Exp Exp (Option Scalar) (value_of names values) layer)) (exp.outs-Integer n)
+bin_sure : (f : Option (ℤ → ℤ → ℤ)) (op : BinOp) (place : Place) (a b : Scalar) → IsSome f → operated_by f op place a b ≡ Wrong → ⊥
+bin_sure (Some f) op place a b h e = reported_sure place (or_else (fault_of op b) (reduced_result f a b)) e
+bin_sure None op place a b h e = absurd cc
 
-  unbound_binary : (op : BinOp) (a b : Exp) → unbound_of names (exp.Binary op a b) ≡ first_of (unbound_of names a) (unbound_of names b)
-  unbound_binary op a b = unbound_out names (exp.Binary op a b)
-      ∙ ap (λ layer. unbound_step names (map-Exp Exp (Option (List ℕ × Place)) (unbound_of names) layer)) (exp.outs-Binary op a b)
+operated_sure : (op : Oper) (place : Place) (a b : Scalar) → is_arithmetic op ≡ true → operated op place a b ≡ Wrong → ⊥
+operated_sure (oper.Bin Add) place a b h e = bin_sure (exact Add) Add place a b refl e
+operated_sure (oper.Bin Sub) place a b h e = bin_sure (exact Sub) Sub place a b refl e
+operated_sure (oper.Bin Mul) place a b h e = bin_sure (exact Mul) Mul place a b refl e
+operated_sure (oper.Bin Div) place a b h e = bin_sure (exact Div) Div place a b refl e
+operated_sure op place a b h e = absurd cc
 
-  value_binary : (op : BinOp) (a b : Exp) → value_of names values (exp.Binary op a b) ≡ operated op (value_of names values a) (value_of names values b)
-  value_binary op a b = value_out names values (exp.Binary op a b)
-      ∙ ap (λ layer. value_step names values (map-Exp Exp (Option Scalar) (value_of names values) layer)) (exp.outs-Binary op a b)
+negated_sure : (op : Oper) (a : Scalar) → is_minus op ≡ true → negated op a ≡ Wrong → ⊥
+negated_sure oper.Neg a h e = cc
+negated_sure op a h e = absurd cc
 
-  abbrev Good : Exp → Type 0
-  Good e = unbound_of names e ≡ None → IsSome (value_of names values e)
+-- ---- expressions
 
-  bound_test : (b : Bool) (found : List ℕ × Place) → cond b None (Some found) ≡ None → b ≡ true
-  bound_test true found e = refl
-  bound_test false found e = absurd cc
+abbrev Sure : SourceExp → Type 0
+Sure e = is_built e ≡ true → (env : Environment) → unbound_of e (names env) ≡ None → value_of e env ≡ Wrong → ⊥
 
-  good_fact : {f : Exp} {t : Token} → Fact f t → Good f
-  good_fact (name {t = t} {word = w} kind plain) none =
-      rw (value_name w t.place) (has_argument names values w arity (bound_test _ _ (sym (unbound_name w t.place) ∙ none)))
-  good_fact (integer {value = n} kind) none = rw (value_integer n) refl
-  good_fact (typed_integer {value = n} kind) none = rw (value_integer n) refl
+abbrev LayerSure : Layer → Type 0
+LayerSure layer = (place mark : Place) → built_layer layer ≡ true → (env : Environment) → unbound_layer layer place (names env) ≡ None → value_layer layer mark env ≡ Wrong → ⊥
 
-  good_binary : (op : BinOp) (a b : Exp) → IsSome (exact op) → Good a → Good b → Good (exp.Binary op a b)
-  good_binary op a b built p q none =
-      let both = first_none _ _ (sym (unbound_binary op a b) ∙ none) in
-      rw (value_binary op a b) (both_some op _ _ built (p both.0) (q both.1))
+abbrev FormSure : Form Path Text → Type 0
+FormSure form = LayerSure (out-Form Path Text form)
 
-  good_factors : {a e : Exp} {ts rest : List Token} → Factors a e ts rest → Good a → Good e
-  good_factors no_factor p = p
-  good_factors (factor {a = a} {f = f} star is more) p = good_factors more (good_binary Mul a f refl p (good_fact is))
+abbrev BindSure : Bind Path Text → Type 0
+BindSure bind = Sure bind.value
 
-  good_terms : {a e : Exp} {ts rest : List Token} → Terms a e ts rest → Good a → Good e
-  good_terms no_term p = p
-  good_terms (term {a = a} {b = b} {op = op} sign is factors more) p =
-      good_terms more (good_binary op a b (built_sign sign) p (good_factors factors (good_fact is)))
+abbrev SuchForm : Type 0
+SuchForm = (form : Form Path Text) × FormSure form
 
-  good_sum : {e : Exp} {ts : List Token} → Sum e ts → Good e
-  good_sum (sum is factors terms) = good_terms terms (good_factors factors (good_fact is))
+abbrev SuchIx : Type 0
+SuchIx = (ix : Ix Path Text) × Unit {0}
 
-body_good : (values : List Scalar) (p : Program) (ts : List Token) → Spells p ts → length values ≡ length p.params →
-    unbound_of p.params p.body ≡ None → IsSome (value_of p.params values p.body)
-body_good values _ _ (program {names = names} def main params colon ty equal body) arity none = good_sum names values arity body none
+abbrev SuchOver : Type 0
+SuchOver = (over : LoopForm Path Text) × Unit {0}
 
-pub has_value : (values : List Scalar) (p : Program) (ts : List Token) → IsProgram ts p → length values ≡ length p.params →
-    unbound_of p.params p.body ≡ None → IsSome (value_of p.params values p.body)
-has_value values p ts is arity none = body_good values p ts is.spelled arity none
+abbrev SuchBind : Type 0
+SuchBind = (bind : Bind Path Text) × BindSure bind
+
+abbrev SuchExp : Type 0
+SuchExp = (e : SourceExp) × Sure e
+
+let_sure : (name : Option Text) (value : Meaning) (rest : List (Option Text × Meaning)) (body : Meaning) (env : Environment) → is_some name ≡ true →
+    (value env ≡ Wrong → ⊥) → ((x : Text) (v : Scalar) → name ≡ Some x → value_lets rest body (env ++ (x, v) ∷ []) ≡ Wrong → ⊥) →
+    value_lets ((name, value) ∷ rest) body env ≡ Wrong → ⊥
+let_sure None value rest body env some first more e = absurd cc
+let_sure (Some x) value rest body env some first more e = behind_sure (value env) _ first (λ v. more x v refl) e
+
+bind_parts : (bind : Bind Path Text) → is_built_bind bind ≡ true → (is_some (typed_name bind.pat) ≡ true) × (is_built bind.value ≡ true)
+bind_parts bind e =
+    let sizes = both (is_none bind.sizes) _ e in
+    let heads = both (is_none bind.heads) _ sizes.1 in
+    both (is_some (typed_name bind.pat)) _ heads.1
+
+lets_sure : (binds : List SuchBind) (body : SuchExp) (env : Environment) → list_all is_built_bind (map (λ (b : SuchBind). b.0) binds) ≡ true → is_built body.0 ≡ true →
+    unbound_lets (map unbound_bind (map (λ (b : SuchBind). b.0) binds)) (unbound_of body.0) (names env) ≡ None →
+    value_lets (map value_bind (map (λ (b : SuchBind). b.0) binds)) (value_of body.0) env ≡ Wrong → ⊥
+lets_sure [] body env all built none e = body.1 built env none e
+lets_sure (b ∷ binds) body env all built none e =
+    let each = both (is_built_bind b.0) _ all in
+    let parts = bind_parts b.0 each.0 in
+    let bound = first_none _ _ none in
+    let_sure (typed_name b.0.pat) (value_of b.0.value) _ (value_of body.0) env parts.0 (λ w. b.1 parts.1 env bound.0 w)
+    (λ x v is w. lets_sure binds body (env ++ (x, v) ∷ []) each.1 built
+    (subst (λ (scope : Scope). unbound_lets (map unbound_bind (map (λ (b : SuchBind). b.0) binds)) (unbound_of body.0) scope ≡ None)
+    (ap (with_name (names env)) is ∙ sym (map-append (λ (bound : Text × Scalar). bound.0) env ((x, v) ∷ []))) bound.1) w) e
+
+layer_sure : (y : Form-F Path Text SuchForm SuchIx SuchOver SuchBind SuchExp) →
+    LayerSure (map-Form Path Text _ _ _ _ _ _ _ _ _ _ (λ (f : SuchForm). f.0) (λ (i : SuchIx). i.0) (λ (o : SuchOver). o.0) (λ (b : SuchBind). b.0) (λ (e : SuchExp). e.0) y)
+layer_sure (Form-F.Path path) place mark built env none e = use_sure (one_name path) place env built none e
+layer_sure (Form-F.Int value suffix) place mark built env none e = int_sure (is_i64_suffix suffix) _ built e
+layer_sure (Form-F.Binary op a b) place mark built env none e =
+    let arithmetic = both (is_arithmetic op) _ built in
+    let each = both (is_built a.0) _ arithmetic.1 in
+    let bound = first_none _ _ none in
+    behind_sure (value_of a.0 env) _ (a.1 each.0 env bound.0)
+    (λ x. behind_sure (value_of b.0 env) _ (b.1 each.1 env bound.1) (λ y. operated_sure op mark x y arithmetic.0)) e
+layer_sure (Form-F.Unary op a) place mark built env none e =
+    let each = both (is_minus op) _ built in
+    behind_sure (value_of a.0 env) _ (a.1 each.1 env none) (λ x. negated_sure op x each.0) e
+layer_sure (Form-F.Lets binds body) place mark built env none e =
+    let each = both (list_all is_built_bind (map (λ (b : SuchBind). b.0) binds)) _ built in
+    lets_sure binds body env each.0 each.1 none e
+layer_sure y place mark built env none e = absurd cc
+
+of_form : (e : SourceExp) → FormSure e.form → Sure e
+of_form e sure built env none w =
+    sure e.place e.mark (sym (built_out e) ∙ built) env (sym (unbound_out e (names env)) ∙ none) (sym (value_out e env) ∙ w)
+
+abbrev BindLayer : Type 0
+BindLayer = Bind-F Path Text (Form Path Text) (Ix Path Text) (LoopForm Path Text) (Bind Path Text) SourceExp
+
+abbrev ExpLayer : Type 0
+ExpLayer = Exp-F Path Text (Form Path Text) (Ix Path Text) (LoopForm Path Text) (Bind Path Text) SourceExp
+
+exp_sure : (e : SourceExp) → Sure e
+exp_sure = ind-Exp Path Text FormSure (λ ix. Unit {0}) (λ over. Unit {0}) BindSure Sure
+    (λ x y is. subst LayerSure (is ∙ sym (out-roll-Form Path Text x)) (layer_sure y))
+    (λ x y is. tt)
+    (λ x y is. tt)
+    (λ x y is. subst Sure (ap (λ (z : BindLayer). z.value) is) y.value.1)
+    (λ x y is. of_form (roll-Exp Path Text x) (subst FormSure (ap (λ (z : ExpLayer). z.form) is) y.form.1))
+
+-- ---- programs
+
+one_name_more : (name : Option Text) (value : Scalar) (env : Environment) (scope : Scope) → names env ≡ scope →
+    names (with_bound name value env) ≡ with_name [] name ++ scope
+one_name_more None value env scope e = e
+one_name_more (Some x) value env scope e = ap (λ (rest : Scope). x ∷ rest) e
+
+argument_names : (params : List SourcePat) (values : List Scalar) → length values ≡ length params → names (arguments params values) ≡ names_of params
+argument_names [] values e = refl
+argument_names (p ∷ params) [] e = absurd (omega arith)
+argument_names (p ∷ params) (value ∷ values) e = one_name_more (typed_name p) value _ _ (argument_names params values (omega arith))
+
+pub never_wrong : (params : List SourcePat) (body : SourceExp) (values : List Scalar) → length values ≡ length params → is_built body ≡ true →
+    unbound_of body (names_of params) ≡ None → value_of body (arguments params values) ≡ Wrong → ⊥
+never_wrong params body values arity built none e =
+    exp_sure body built (arguments params values) (ap (unbound_of body) (argument_names params values arity) ∙ none) e

@@ -3,30 +3,36 @@ use Rattle.std.proofs.Common.{◌≡◌, ◌+◌, ◌-◌, ◌<◌, ◌≤◌, �
 use Rattle.std.specs.Prelude.{Ok, Err}
 use Rattle.std.proofs.lemmas.List.{drop_more}
 use Rattle.fut_scalar.specs.declared.scalar.Scalar.{Scalar}
-use Rattle.futhark_core.specs.Arguments.{Values, values_on, value_at, with_front, is_none, gap_at, Reader, Refuses, ExplainsText}
+use Rattle.futhark_core.specs.Arguments.{Values, values_on, value_at, with_front, gap_at, Reader, Refuses, ExplainsText}
+use Rattle.fut_ast.specs.Sorts.{SourcePat}
+use Rattle.futhark_core.specs.Forms.{is_none}
 use Rattle.futhark_core.specs.Values.{behind_front}
 use Rattle.futhark_core.specs.declared.status.TextErr.{TextErr}
 use Rattle.futhark_core.specs.declared.status.TextErr.TheVariants as text
 
-pub explains : (params : List (List ℕ)) (bytes : List ℕ) (err : TextErr) → Refuses params bytes err → ExplainsText params bytes err
+pub explains : (params : List SourcePat) (bytes : List ℕ) (err : TextErr) → Refuses params bytes err → ExplainsText params bytes err
 explains params bytes text.Memory h = tt
 explains params bytes (text.BadText position) h = h
 explains params bytes (text.OutOfRange position) h = h
 explains params bytes (text.Missing param) h = h
 explains params bytes (text.Extra position) h = h
 
+some_of : (params : List SourcePat) (i : ℕ) → i < length params → SourcePat
+some_of (p ∷ params) i within = p
+some_of [] i within = absurd (omega arith)
+
 shift : (values : List Scalar) (v : Scalar) (rest : Values) → behind_front (values ++ v ∷ []) rest ≡ behind_front values (with_front v rest)
 shift values v (Ok others) = ap Ok (append_assoc values (v ∷ []) others)
 shift values v (Err err) = refl
 
-module _ (params : List (List ℕ)) (i : ℕ) (d : List ℕ) (values : List Scalar) (position : ℕ) (bytes : List ℕ) (whole : Values)
+module _ (params : List SourcePat) (i : ℕ) (values : List Scalar) (position : ℕ) (bytes : List ℕ) (whole : Values)
     (last : Bool) (gap : ℕ) (front : List ℕ) where
   -- what is read from here on is a value of this parameter, and then the others
   opened : i < length params → behind_front values (values_on (drop i params) (i + 1) position bytes) ≡ whole →
       last ≡ is_none (drop (i + 1) params) → gap ≡ gap_at bytes → front ≡ drop gap bytes →
       behind_front values (value_at last (values_on (drop (i + 1) params)) (i + 1) (position + gap) front) ≡ whole
   opened within same is_last is_gap is_front =
-      let next = rw (drop_more params i d within) at same in
+      let next = rw (drop_more params i (some_of params i within) within) at same in
       rw (is_last, is_front, is_gap) next
 
   pub refused : (err : TextErr) → i < length params → behind_front values (values_on (drop i params) (i + 1) position bytes) ≡ whole →
@@ -50,7 +56,7 @@ count_step position gap n total bytes front rest whole p q is_front is_rest =
     omega arith
 
 -- behind the last value something else than blanks stands
-pub extra : (params : List (List ℕ)) (i position gap : ℕ) (values : List Scalar) (bytes : List ℕ) (whole : Values) →
+pub extra : (params : List SourcePat) (i position gap : ℕ) (values : List Scalar) (bytes : List ℕ) (whole : Values) →
     drop i params ≡ [] → behind_front values (values_on (drop i params) (i + 1) position bytes) ≡ whole → gap ≡ gap_at bytes → gap < length bytes →
     whole ≡ Err (text.Extra (position + gap))
 extra params i position gap values bytes whole none same is_gap more =

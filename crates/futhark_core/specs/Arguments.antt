@@ -5,6 +5,8 @@ use Rattle.std.specs.Int.{w64, cast_unsigned}
 use Rattle.fut_scalar.specs.declared.scalar.IntType.TheVariants as int
 use Rattle.fut_scalar.specs.declared.scalar.Scalar.{Scalar}
 use Rattle.fut_scalar.specs.declared.scalar.Scalar.TheVariants as scalar
+use Rattle.fut_ast.specs.Sorts.{SourcePat}
+use Rattle.futhark_core.specs.Forms.{is_none}
 use Rattle.futhark_core.specs.declared.integer.Integer.{Integer}
 use Rattle.futhark_core.specs.declared.status.TextErr.{TextErr}
 use Rattle.futhark_core.specs.declared.status.TextErr.TheVariants as text
@@ -97,10 +99,6 @@ abbrev pub in_range : (position : ℕ) → Option Scalar → (Scalar → Values)
 in_range position None next = Err (text.OutOfRange position)
 in_range position (Some value) next = next value
 
-abbrev pub is_none : List (List ℕ) → Bool
-is_none [] = true
-is_none (param ∷ params) = false
-
 -- what reads the values of further parameters: their number, the position, the text there
 abbrev pub Reader : Type 0
 Reader = ℕ → ℕ → List ℕ → Values
@@ -119,19 +117,19 @@ gap_at bytes = prefix_len is_blank bytes
 
 -- the values of the parameters, of which the first has this number, in the text that begins at this position,
 -- or the first refusal
-abbrev pub values_on : List (List ℕ) → Reader
+abbrev pub values_on : List SourcePat → Reader
 values_on [] param position bytes = nothing_at (position + gap_at bytes) (drop (gap_at bytes) bytes)
 values_on (name ∷ names) param position bytes = value_at (is_none names) (values_on names) param (position + gap_at bytes) (drop (gap_at bytes) bytes)
 
 -- the text reads as these values, one for each parameter
-abbrev pub Reads : List (List ℕ) → List ℕ → List Scalar → Type 0
+abbrev pub Reads : List SourcePat → List ℕ → List Scalar → Type 0
 Reads params bytes values = values_on params 1 0 bytes ≡ Ok values
 
 -- the text is refused as arguments, first for this reason
-abbrev pub Refuses : List (List ℕ) → List ℕ → TextErr → Type 0
+abbrev pub Refuses : List SourcePat → List ℕ → TextErr → Type 0
 Refuses params bytes err = values_on params 1 0 bytes ≡ Err err
 
 -- why no values were given: memory ran out, or the text is refused
-abbrev pub ExplainsText : List (List ℕ) → List ℕ → TextErr → Type 0
+abbrev pub ExplainsText : List SourcePat → List ℕ → TextErr → Type 0
 ExplainsText params bytes text.Memory = Unit {0}
 ExplainsText params bytes err = Refuses params bytes err

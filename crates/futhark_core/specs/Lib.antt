@@ -1,9 +1,11 @@
 pub mod Words
-pub mod Status
-pub mod Grammar
+pub mod Forms
+pub mod Built
 pub mod Reading
-pub mod Front
 pub mod Meaning
+pub mod Evaluation
+pub mod Status
+pub mod Front
 pub mod Arguments
 pub mod Values
 pub mod Report

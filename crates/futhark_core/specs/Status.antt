@@ -3,8 +3,12 @@ use Rattle.std.specs.Prelude.{ℕ, List, [], ◌∷◌, codes, decimal, flat_map
 use Rattle.fut_scalar.specs.declared.place.Place.{Place}
 use Rattle.fut_lexer.specs.declared.lexer.LexErr.{LexErr}
 use Rattle.fut_lexer.specs.declared.lexer.LexErr.TheVariants as lex
-use Rattle.futhark_core.specs.declared.status.ParseErr.{ParseErr}
-use Rattle.futhark_core.specs.declared.status.ParseErr.TheVariants as parse
+use Rattle.fut_ast.specs.LeftOut.{name_of}
+use Rattle.fut_parser.specs.declared.programs.ParseErr.{ParseErr}
+use Rattle.fut_parser.specs.declared.programs.ParseErr.TheVariants as parse
+use Rattle.fut_scalar.specs.declared.report.FailKind.{FailKind}
+use Rattle.fut_scalar.specs.declared.report.FailKind.TheVariants as kind
+use Rattle.fut_scalar.specs.declared.report.Report.{Report}
 use Rattle.futhark_core.specs.declared.status.ModErr.{ModErr}
 use Rattle.futhark_core.specs.declared.status.ModErr.TheVariants as names
 use Rattle.futhark_core.specs.declared.status.TextErr.{TextErr}
@@ -14,7 +18,7 @@ use Rattle.futhark_core.specs.declared.status.Why.TheVariants as why
 use Rattle.futhark_core.specs.declared.status.LimitKind.{LimitKind}
 use Rattle.futhark_core.specs.declared.status.LimitKind.TheVariants as limit
 use Rattle.futhark_core.specs.declared.status.Status.{Status}
-use Rattle.futhark_core.specs.declared.status.Status.TheVariants.{Done, Usage, LoadFault, Text, Names, Limit, ReadFault, Input, WriteFault, Memory}
+use Rattle.futhark_core.specs.declared.status.Status.TheVariants.{Done, Usage, LoadFault, Text, Names, Limit, ReadFault, Input, Failure, WriteFault, Memory}
 
 abbrev pub code_of : Status → ℕ
 code_of Done = 0
@@ -25,6 +29,7 @@ code_of (Names refused) = 4
 code_of (Limit what) = 9
 code_of ReadFault = 10
 code_of (Input err) = 11
+code_of (Failure report path) = 12
 code_of WriteFault = 14
 code_of Memory = 15
 
@@ -40,8 +45,13 @@ lex_parts (lex.Float place) path = placed path place (codes ": float is left out
 lex_parts lex.Memory path = []
 
 abbrev pub parse_parts : ParseErr → List ℕ → List (List ℕ)
-parse_parts (parse.NotBuilt place) path = placed path place (codes ": not built yet\n" ∷ [])
+parse_parts (parse.Syntax place) path = placed path place (codes ": syntax\n" ∷ [])
+parse_parts (parse.LeftOut place what) path = placed path place (codes ": " ∷ name_of what ∷ codes " is left out\n" ∷ [])
+parse_parts (parse.TooDeep place) path = []
 parse_parts parse.Memory path = []
+
+abbrev pub not_built_parts : Place → List ℕ → List (List ℕ)
+not_built_parts place path = placed path place (codes ": not built yet\n" ∷ [])
 
 abbrev pub unbound_parts : List ℕ → Place → List ℕ → List (List ℕ)
 unbound_parts name place path = placed path place (codes ": " ∷ name ∷ codes " is not bound\n" ∷ [])
@@ -57,12 +67,14 @@ abbrev pub why_parts : Why → List ℕ → List (List ℕ)
 why_parts why.Load path = load_parts path
 why_parts (why.Lex err) path = lex_parts err path
 why_parts (why.Parse err) path = parse_parts err path
+why_parts (why.NotBuilt place) path = not_built_parts place path
 why_parts (why.Names err) path = names_parts err path
 why_parts why.FileBytes path = []
 why_parts why.Memory path = []
 
 abbrev pub limit_parts : LimitKind → List (List ℕ)
 limit_parts limit.FileBytes = codes "futhark: limit: file bytes over 4194304\n" ∷ []
+limit_parts limit.Nesting = codes "futhark: limit: nesting over 200\n" ∷ []
 limit_parts limit.InputBytes = codes "futhark: limit: input bytes over 67108864\n" ∷ []
 
 -- what is said of a position of the input
@@ -79,6 +91,14 @@ input_parts (text.Missing param) = missing_parts param
 input_parts (text.Extra position) = input_at position (codes ": extra text\n")
 input_parts text.Memory = []
 
+-- what a failure is called
+abbrev pub kind_text : FailKind → List ℕ
+kind_text kind.Division = codes "division by zero"
+kind_text kind.Power = codes "negative exponent"
+
+abbrev pub failure_parts : Report → List ℕ → List (List ℕ)
+failure_parts report path = placed path report.place (codes ": failure: " ∷ kind_text report.kind ∷ codes "\n" ∷ [])
+
 abbrev pub line_parts : Status → List (List ℕ)
 line_parts Done = []
 line_parts (Usage word) = codes "futhark: usage: word " ∷ decimal word ∷ codes "\n" ∷ []
@@ -88,6 +108,7 @@ line_parts (Names refused) = why_parts refused.why refused.path
 line_parts (Limit what) = limit_parts what
 line_parts ReadFault = codes "futhark: read failed\n" ∷ []
 line_parts (Input err) = input_parts err
+line_parts (Failure report path) = failure_parts report path
 line_parts WriteFault = codes "futhark: write failed\n" ∷ []
 line_parts Memory = codes "futhark: out of memory\n" ∷ []
 

@@ -1,16 +1,18 @@
 // Reading the input text as the arguments of a program.
 ghost use Rattle.std.specs.Prelude.{◌≡◌, ◌+◌, ◌<◌, ◌≤◌, ◌^◌, length, drop, MatchResult, Err, IfOk, IfErr};
 ghost use Rattle.std.specs.List.{All};
-ghost use Rattle.futhark_core.specs.Arguments.{ExplainsText, Reader, Reads, is_none, value_at, with_front};
+ghost use Rattle.futhark_core.specs.Arguments.{ExplainsText, Reader, Reads, value_at, with_front};
+ghost use Rattle.futhark_core.specs.Forms.{is_none};
 ghost use Rattle.futhark_core.specs.Meaning.{IsI64};
 
+use crate::forms::SourcePat;
 use crate::integer::{behind, gap, integer_at, value_of};
 use crate::status::TextErr;
-use fut_scalar::{List, Name, Scalar};
+use fut_scalar::{List, Scalar};
 use std::alloc::Global;
 
 /// Whether there are no further parameters.
-fn is_none(params: &[Name]) -> bool
+fn is_none(params: &[SourcePat]) -> bool
     ensures { result ≡ is_none params.now }
 {
     params.is_empty()
@@ -53,7 +55,7 @@ fn read_value(last: bool, param: u64, position: u64, text: &[u8]) -> Result<Foun
 }
 
 /// The arguments that a text reads as, one for each parameter.
-pub fn read_args(alloc: Global, params: &[Name], text: &[u8]) -> Result<List<Scalar>, TextErr>
+pub fn read_args(alloc: Global, params: &[SourcePat], text: &[u8]) -> Result<List<Scalar>, TextErr>
     ensures reads { IfOk result (Reads params.now text.now) }
     ensures arity { IfOk result (λ values. length values ≡ length params.now) }
     ensures integers { IfOk result (All IsI64) }

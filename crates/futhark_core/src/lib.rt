@@ -5,18 +5,18 @@
 
 mod arguments;
 mod evaluator;
+mod forms;
 mod front;
 mod integer;
 mod line;
 mod output;
-mod parser;
-mod program;
 mod reading;
 mod run;
 mod scope;
+mod stack;
 mod status;
 mod words;
 
 pub use line::report;
 pub use run::run_futhark;
-pub use status::{LimitKind, ModErr, ParseErr, Refused, Status, TextErr, Why, code};
+pub use status::{LimitKind, ModErr, Refused, Status, TextErr, Why, code};

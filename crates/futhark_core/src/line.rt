@@ -2,12 +2,14 @@
 ghost use Rattle.std.specs.Prelude.{◌≡◌, ◌∷◌, [], flat_map, map, OnOk, OnErr};
 ghost use Rattle.fut_io.specs.Outside.{Took, TookPart};
 ghost use Rattle.futhark_core.specs.Report.{piece_bytes, Reported, Told};
-ghost use Rattle.futhark_core.specs.Status.{input_at, input_parts, missing_parts, lex_parts, limit_parts, line_of, load_parts, unbound_parts, joined, names_parts, parse_parts, placed, why_parts};
+ghost use Rattle.futhark_core.specs.Status.{failure_parts, input_at, input_parts, joined, kind_text, lex_parts, limit_parts, line_of, load_parts, missing_parts, names_parts, parse_parts, placed, why_parts};
 
-use crate::status::{LimitKind, ModErr, ParseErr, Refused, Status, TextErr, Why};
+use crate::status::{LimitKind, ModErr, Refused, Status, TextErr, Why};
+use fut_ast::form_name;
 use fut_io::{Failed, Sink, write_all};
 use fut_lexer::LexErr;
-use fut_scalar::Place;
+use fut_parser::ParseErr;
+use fut_scalar::{FailKind, Place, Report};
 use itoa::Buffer;
 
 /// A part of a line.
@@ -75,6 +77,34 @@ fn write_placed<'a, E: Sink>(
     )
 }
 
+/// Writes what is said of a place of a file, in three parts.
+fn write_named<'a, E: Sink>(
+    err: &mut E,
+    path: &'a [u8],
+    at: Place,
+    before: &'a [u8],
+    named: &'a [u8],
+    behind: &'a [u8],
+) -> Result<(), Failed>
+    ensures ok { OnOk result (Took (E.seen err.old) (E.seen err.new) (joined (placed path.now at (before.now ∷ named.now ∷ behind.now ∷ [])))) }
+    ensures failed { OnErr result (TookPart (E.seen err.old) (E.seen err.new) (joined (placed path.now at (before.now ∷ named.now ∷ behind.now ∷ [])))) }
+{
+    write_pieces(
+        err,
+        &[
+            Piece::Text(b"futhark: "),
+            Piece::Text(path),
+            Piece::Text(b":"),
+            Piece::Number(u64::from(at.line)),
+            Piece::Text(b":"),
+            Piece::Number(u64::from(at.column)),
+            Piece::Text(before),
+            Piece::Text(named),
+            Piece::Text(behind),
+        ],
+    )
+}
+
 fn write_lex<E: Sink>(err: &mut E, reason: LexErr, path: &[u8]) -> Result<(), Failed>
     ensures ok { OnOk result (Took (E.seen err.old) (E.seen err.new) (joined (lex_parts reason path.now))) }
     ensures failed { OnErr result (TookPart (E.seen err.old) (E.seen err.new) (joined (lex_parts reason path.now))) }
@@ -87,40 +117,18 @@ fn write_lex<E: Sink>(err: &mut E, reason: LexErr, path: &[u8]) -> Result<(), Fa
     }
 }
 
-fn write_parse<E: Sink>(err: &mut E, reason: ParseErr, path: &[u8]) -> Result<(), Failed>
-    ensures ok { OnOk result (Took (E.seen err.old) (E.seen err.new) (joined (parse_parts reason path.now))) }
-    ensures failed { OnErr result (TookPart (E.seen err.old) (E.seen err.new) (joined (parse_parts reason path.now))) }
+fn write_parse<E: Sink>(err: &mut E, reason: &ParseErr, path: &[u8]) -> Result<(), Failed>
+    ensures ok { OnOk result (Took (E.seen err.old) (E.seen err.new) (joined (parse_parts reason.now path.now))) }
+    ensures failed { OnErr result (TookPart (E.seen err.old) (E.seen err.new) (joined (parse_parts reason.now path.now))) }
 {
     match reason {
-        ParseErr::NotBuilt { at } => write_placed(err, path, at, b": not built yet\n"),
-        ParseErr::Memory => write_pieces(err, &[]),
+        ParseErr::Syntax { at } => write_placed(err, path, *at, b": syntax\n"),
+        ParseErr::LeftOut { at, what } => {
+            let form = form_name(*what).as_bytes();
+            write_named(err, path, *at, b": ", form, b" is left out\n")
+        }
+        ParseErr::TooDeep { at: _ } | ParseErr::Memory => write_pieces(err, &[]),
     }
-}
-
-/// Writes that a name is not bound.
-fn write_unbound<'a, E: Sink>(
-    err: &mut E,
-    name: &'a [u8],
-    at: Place,
-    path: &'a [u8],
-) -> Result<(), Failed>
-    ensures ok { OnOk result (Took (E.seen err.old) (E.seen err.new) (joined (unbound_parts name.now at path.now))) }
-    ensures failed { OnErr result (TookPart (E.seen err.old) (E.seen err.new) (joined (unbound_parts name.now at path.now))) }
-{
-    write_pieces(
-        err,
-        &[
-            Piece::Text(b"futhark: "),
-            Piece::Text(path),
-            Piece::Text(b":"),
-            Piece::Number(u64::from(at.line)),
-            Piece::Text(b":"),
-            Piece::Number(u64::from(at.column)),
-            Piece::Text(b": "),
-            Piece::Text(name),
-            Piece::Text(b" is not bound\n"),
-        ],
-    )
 }
 
 fn write_names<'a, E: Sink>(err: &mut E, reason: &'a ModErr, path: &'a [u8]) -> Result<(), Failed>
@@ -128,7 +136,10 @@ fn write_names<'a, E: Sink>(err: &mut E, reason: &'a ModErr, path: &'a [u8]) -> 
     ensures failed { OnErr result (TookPart (E.seen err.old) (E.seen err.new) (joined (names_parts reason.now path.now))) }
 {
     match reason {
-        ModErr::Unbound { name, at } => write_unbound(err, name.as_str().as_bytes(), *at, path),
+        ModErr::Unbound { name, at } => {
+            let name = name.as_str().as_bytes();
+            write_named(err, path, *at, b": ", name, b" is not bound\n")
+        }
         ModErr::Memory => write_pieces(err, &[]),
     }
 }
@@ -156,7 +167,8 @@ fn write_refused<E: Sink>(err: &mut E, refused: &Refused) -> Result<(), Failed>
     match &refused.why {
         Why::Load => write_load(err, path),
         Why::Lex(reason) => write_lex(err, *reason, path),
-        Why::Parse(reason) => write_parse(err, *reason, path),
+        Why::Parse(reason) => write_parse(err, reason, path),
+        Why::NotBuilt { at } => write_placed(err, path, *at, b": not built yet\n"),
         Why::Names(reason) => write_names(err, reason, path),
         Why::FileBytes | Why::Memory => write_pieces(err, &[]),
     }
@@ -171,6 +183,9 @@ fn write_limit<E: Sink>(err: &mut E, what: LimitKind) -> Result<(), Failed>
             err,
             &[Piece::Text(b"futhark: limit: file bytes over 4194304\n")],
         ),
+        LimitKind::Nesting => {
+            write_pieces(err, &[Piece::Text(b"futhark: limit: nesting over 200\n")])
+        }
         LimitKind::InputBytes => write_pieces(
             err,
             &[Piece::Text(b"futhark: limit: input bytes over 67108864\n")],
@@ -221,6 +236,25 @@ fn write_input<E: Sink>(err: &mut E, reason: TextErr) -> Result<(), Failed>
     }
 }
 
+/// What a failure is called.
+fn kind_text(kind: FailKind) -> &'static [u8]
+    ensures { result.now ≡ kind_text kind }
+{
+    match kind {
+        FailKind::Division => b"division by zero",
+        FailKind::Power => b"negative exponent",
+    }
+}
+
+/// Writes that the program failed.
+fn write_failure<E: Sink>(err: &mut E, report: Report, path: &[u8]) -> Result<(), Failed>
+    ensures ok { OnOk result (Took (E.seen err.old) (E.seen err.new) (joined (failure_parts report path.now))) }
+    ensures failed { OnErr result (TookPart (E.seen err.old) (E.seen err.new) (joined (failure_parts report path.now))) }
+{
+    let kind = kind_text(report.kind);
+    write_named(err, path, report.place, b": failure: ", kind, b"\n")
+}
+
 /// Writes the line of a status.
 fn write_line<E: Sink>(err: &mut E, status: &Status) -> Result<(), Failed>
     ensures ok { OnOk result (Took (E.seen err.old) (E.seen err.new) (line_of status.now)) }
@@ -242,6 +276,7 @@ fn write_line<E: Sink>(err: &mut E, status: &Status) -> Result<(), Failed>
         Status::Limit { what } => write_limit(err, *what),
         Status::ReadFault => write_pieces(err, &[Piece::Text(b"futhark: read failed\n")]),
         Status::Input(reason) => write_input(err, *reason),
+        Status::Failure(report, path) => write_failure(err, *report, path.as_str().as_bytes()),
         Status::WriteFault => write_pieces(err, &[Piece::Text(b"futhark: write failed\n")]),
         Status::Memory => write_pieces(err, &[Piece::Text(b"futhark: out of memory\n")]),
     }

@@ -1,13 +1,13 @@
-// Reading a program token by token.
-ghost use Rattle.std.specs.Prelude.{◌≡◌, ◌≤◌, codes, IfOk, IfSome, None, option_map};
+// Reading a text of the part of the language that is built, token by token.
+ghost use Rattle.std.specs.Prelude.{◌≡◌, ◌∷◌, IfOk, option_map};
 ghost use Rattle.std.specs.List.{list_any};
-ghost use Rattle.futhark_core.specs.Grammar.{is_plain};
 ghost use Rattle.std.specs.Str.{bytes_eq};
-ghost use Rattle.futhark_core.specs.Reading.{added, behind_sign, behind_word, depth_of_factor, fact_of, is_word, multiplied, sign_of, start, step, want, with_fact, with_operator, with_param, with_star, with_term, finished, AnswersReading, IsLow};
+ghost use Rattle.fut_token.specs.declared.token.TokenKind.TheVariants as token;
+ghost use Rattle.futhark_core.specs.Built.{is_plain};
+ghost use Rattle.futhark_core.specs.Reading.{behind_head, behind_operand, behind_operation, behind_sign, closed, is_end, is_name, is_word, name_sign, reading, same_open, sign_of, start, step, stop_of, wanted_if};
 
-use crate::program::{Exp, Program};
-use crate::status::ParseErr;
-use fut_scalar::{BinOp, Boxed, IntType, List, Name, NoMemory, Place};
+use crate::stack::Stack;
+use fut_scalar::{IntType, NoMemory, Place};
 use fut_token::{Fixed, Token, TokenKind};
 use std::alloc::Global;
 
@@ -58,9 +58,6 @@ pub const PRELUDE_NAMES: [&str; 43] = [
     "foldr",
 ];
 
-/// The deepest nesting of a program's nodes.
-const MOST_NESTING: u64 = 200;
-
 /// What may come next.
 #[derive(Clone, Copy, Debug, PartialEq, Eq)]
 pub enum Wanted {
@@ -73,46 +70,49 @@ pub enum Wanted {
     ParamEnd,
     ResultType,
     Equal,
+    LetName,
+    LetColon,
+    LetType,
+    LetEqual,
+    /// An expression.
+    Start,
+    /// An operand, so no let.
     Operand,
     Operation,
 }
 
-/// A keyword or symbol of the part of the language that is built, or another token.
+/// What a token is to the part of the language that is built.
 #[derive(Clone, Copy, Debug, PartialEq, Eq)]
 pub enum Sign {
     Def,
+    Let,
+    In,
     Open,
     Close,
     Colon,
     Equal,
-    Plus,
+    /// An operator, and the beginning of an operand.
     Minus,
-    Star,
+    /// Another operator.
+    Operator,
+    /// A name or an integer.
+    Operand,
     Other,
 }
 
-/// An expression and how deep its nodes are nested.
-#[derive(Drop)]
-pub struct Tall {
-    pub exp: Exp,
-    pub height: u64,
+/// What is open and has to end.
+#[derive(Clone, Copy, Debug, PartialEq, Eq)]
+pub enum Open {
+    Paren,
+    /// A let before its `in`.
+    Let,
 }
 
-/// A sum and the operator behind it.
-#[derive(Drop)]
-pub struct Left {
-    pub exp: Exp,
-    pub height: u64,
-    pub op: BinOp,
-}
-
-/// What has been read so far: the parameters, the sum and behind it the product to which the next operand belongs.
+/// What is wanted next, and what is open, the innermost first.
 #[derive(Drop)]
 pub struct Reading {
     pub wanted: Wanted,
-    pub params: List<Name>,
-    pub sum: Option<Left>,
-    pub product: Option<Tall>,
+    pub opens: Stack<Open>,
 }
 
 fn is_among(words: &[&str], name: &str) -> bool
@@ -122,30 +122,94 @@ fn is_among(words: &[&str], name: &str) -> bool
 }
 
 /// Whether a name is no primitive and no function of the prelude.
-#[tactic(auto, unfolding(crate::specs::Grammar::is_plain))]
+#[tactic(auto, unfolding(crate::specs::Built::is_plain))]
 fn is_plain(name: &str) -> bool
     ensures { result ≡ is_plain name.now }
 {
     !is_among(&PRELUDE_NAMES, name)
 }
 
-fn sign_of(kind: &TokenKind) -> Sign
-    ensures { result ≡ sign_of kind.now }
+fn fixed_sign(fixed: Fixed) -> Sign
+    ensures { result ≡ sign_of (token.Fixed fixed) }
 {
-    match kind {
-        TokenKind::Fixed(Fixed::KeyDef) => Sign::Def,
-        TokenKind::Fixed(Fixed::OpenParen) => Sign::Open,
-        TokenKind::Fixed(Fixed::CloseParen) => Sign::Close,
-        TokenKind::Fixed(Fixed::Colon) => Sign::Colon,
-        TokenKind::Fixed(Fixed::Equal) => Sign::Equal,
-        TokenKind::Fixed(Fixed::Plus) => Sign::Plus,
-        TokenKind::Fixed(Fixed::Minus) => Sign::Minus,
-        TokenKind::Fixed(Fixed::Star) => Sign::Star,
+    match fixed {
+        Fixed::KeyDef => Sign::Def,
+        Fixed::KeyLet => Sign::Let,
+        Fixed::KeyIn => Sign::In,
+        Fixed::OpenParen => Sign::Open,
+        Fixed::CloseParen => Sign::Close,
+        Fixed::Colon => Sign::Colon,
+        Fixed::Equal => Sign::Equal,
+        Fixed::Minus => Sign::Minus,
+        Fixed::Plus | Fixed::Star | Fixed::Slash => Sign::Operator,
         _ => Sign::Other,
     }
 }
 
-/// What is wanted behind a sign, where nothing but the sign counts.
+fn name_sign(name: &str) -> Sign
+    ensures { result ≡ name_sign (is_plain name.now) }
+{
+    if is_plain(name) {
+        Sign::Operand
+    } else {
+        Sign::Other
+    }
+}
+
+fn sign_of(kind: &TokenKind) -> Sign
+    ensures { result ≡ sign_of kind.now }
+{
+    match kind {
+        TokenKind::Fixed(fixed) => fixed_sign(*fixed),
+        TokenKind::Name(name) => name_sign(name.as_str()),
+        TokenKind::Int {
+            value: _,
+            suffix: None | Some(IntType::I64),
+        } => Sign::Operand,
+        _ => Sign::Other,
+    }
+}
+
+fn is_word(word: &str, kind: &TokenKind) -> bool
+    ensures { result ≡ is_word word.now kind.now }
+{
+    match kind {
+        TokenKind::Name(name) => name.as_str() == word,
+        _ => false,
+    }
+}
+
+fn is_name(kind: &TokenKind) -> bool
+    ensures { result ≡ is_name kind.now }
+{
+    match kind {
+        TokenKind::Name(name) => is_plain(name.as_str()),
+        _ => false,
+    }
+}
+
+fn wanted_if(passes: bool, wanted: Wanted) -> Option<Wanted>
+    ensures { result ≡ wanted_if passes wanted }
+{
+    if passes { Some(wanted) } else { None }
+}
+
+/// What is wanted behind a name in the head of a definition or of a let.
+fn behind_head(wanted: Wanted, kind: &TokenKind) -> Option<Wanted>
+    ensures { result ≡ behind_head wanted kind.now }
+{
+    match wanted {
+        Wanted::Main => wanted_if(is_word("main", kind), Wanted::ParamOrType),
+        Wanted::ParamName => wanted_if(is_name(kind), Wanted::ParamColon),
+        Wanted::ParamType => wanted_if(is_word("i64", kind), Wanted::ParamEnd),
+        Wanted::ResultType => wanted_if(is_word("i64", kind), Wanted::Equal),
+        Wanted::LetName => wanted_if(is_name(kind), Wanted::LetColon),
+        Wanted::LetType => wanted_if(is_word("i64", kind), Wanted::LetEqual),
+        _ => None,
+    }
+}
+
+/// What is wanted behind a sign in such a head.
 fn behind_sign(wanted: Wanted, sign: Sign) -> Option<Wanted>
     ensures { result ≡ behind_sign wanted sign }
 {
@@ -155,252 +219,157 @@ fn behind_sign(wanted: Wanted, sign: Sign) -> Option<Wanted>
         (Wanted::ParamOrType, Sign::Colon) => Some(Wanted::ResultType),
         (Wanted::ParamColon, Sign::Colon) => Some(Wanted::ParamType),
         (Wanted::ParamEnd, Sign::Close) => Some(Wanted::ParamOrType),
-        (Wanted::Equal, Sign::Equal) => Some(Wanted::Operand),
+        (Wanted::Equal, Sign::Equal) => Some(Wanted::Start),
+        (Wanted::LetColon, Sign::Colon) => Some(Wanted::LetType),
+        (Wanted::LetEqual, Sign::Equal) => Some(Wanted::Start),
         _ => None,
     }
 }
 
-/// What is wanted behind a fixed name.
-fn behind_word(word: &str, kind: &TokenKind, wanted: Wanted) -> Option<Wanted>
-    ensures { result ≡ behind_word word.now kind.now wanted }
+fn same_open(a: Open, b: Open) -> bool
+    ensures { result ≡ same_open a b }
 {
-    match kind {
-        TokenKind::Name(name) if name.as_str() == word => Some(wanted),
-        _ => None,
-    }
-}
-
-/// The operand that a token is.
-fn fact_of(alloc: Global, token: &Token) -> Result<Option<Exp>, NoMemory>
-    ensures { IfOk result (λ fact. fact ≡ fact_of token.now.kind token.now.place) }
-{
-    let fact = match &token.kind {
-        TokenKind::Name(name) if is_plain(name.as_str()) => Exp::Name {
-            name: name.copy(alloc)?,
-            place: token.place,
-        },
-        TokenKind::Int {
-            value,
-            suffix: None | Some(IntType::I64),
-        } => Exp::Integer(*value),
-        _ => return Ok(None),
-    };
-    Ok(Some(fact))
-}
-
-/// A product with one factor more.
-fn multiplied(alloc: Global, product: Option<Tall>, fact: Exp) -> Result<Tall, NoMemory>
-    requires { IfSome product (λ product. product.height ≤ 199) }
-    ensures { IfOk result (λ tall. tall ≡ multiplied product fact) }
-{
-    match product {
-        None => Ok(Tall {
-            exp: fact,
-            height: 1,
-        }),
-        Some(product) => Ok(Tall {
-            exp: Exp::Binary(
-                BinOp::Mul,
-                Boxed::new(alloc, product.exp)?,
-                Boxed::new(alloc, fact)?,
-            ),
-            height: product.height + 1,
-        }),
-    }
-}
-
-/// A sum with one term more.
-fn added(alloc: Global, sum: Option<Left>, product: Tall) -> Result<Tall, NoMemory>
-    requires left { IfSome sum (λ left. left.height ≤ 199) }
-    requires right { product.height ≤ 200 }
-    ensures { IfOk result (λ tall. tall ≡ added sum product) }
-{
-    match sum {
-        None => Ok(product),
-        Some(left) => Ok(Tall {
-            exp: Exp::Binary(
-                left.op,
-                Boxed::new(alloc, left.exp)?,
-                Boxed::new(alloc, product.exp)?,
-            ),
-            height: left.height.max(product.height) + 1,
-        }),
+    match (a, b) {
+        (Open::Paren, Open::Paren) | (Open::Let, Open::Let) => true,
+        _ => false,
     }
 }
 
 impl Reading {
     /// Nothing is read yet.
-    pub fn new(alloc: Global) -> Reading
+    fn new(alloc: Global) -> Reading
         ensures { result ≡ start }
     {
         Reading {
             wanted: Wanted::Def,
-            params: List::new(alloc),
-            sum: None,
-            product: None,
+            opens: Stack::new(alloc),
         }
     }
 
-    fn with_param(self, alloc: Global, kind: &TokenKind) -> Result<Option<Reading>, NoMemory>
-        requires low { IsLow self }
-        requires wanted { self.wanted ≡ Wanted.ParamName }
-        ensures value { IfOk result (λ next. next ≡ with_param self kind.now) }
-        ensures low { IfOk result (λ next. IfSome next IsLow) }
+    fn with_wanted(self, wanted: Option<Wanted>) -> Option<Reading>
+        ensures { result ≡ option_map (λ next. reading next self.opens) wanted }
     {
-        match kind {
-            TokenKind::Name(name) if is_plain(name.as_str()) => {
-                let mut next = self;
-                next.params.push(name.copy(alloc)?)?;
-                next.wanted = Wanted::ParamColon;
-                Ok(Some(next))
-            }
-            _ => Ok(None),
-        }
-    }
-
-    fn with_fact(self, alloc: Global, token: &Token) -> Result<Option<Reading>, NoMemory>
-        requires low { IsLow self }
-        requires wanted { self.wanted ≡ Wanted.Operand }
-        ensures value { IfOk result (λ next. next ≡ with_fact self (fact_of token.now.kind token.now.place)) }
-        ensures low { IfOk result (λ next. IfSome next IsLow) }
-    {
-        let Some(fact) = fact_of(alloc, token)? else {
-            return Ok(None);
-        };
-        let Reading {
-            wanted: _,
-            params,
-            sum,
-            product,
-        } = self;
-        Ok(Some(Reading {
-            wanted: Wanted::Operation,
-            params,
-            sum,
-            product: Some(multiplied(alloc, product, fact)?),
-        }))
-    }
-
-    fn with_term(self, alloc: Global, op: BinOp) -> Result<Option<Reading>, NoMemory>
-        requires low { IsLow self }
-        requires wanted { self.wanted ≡ Wanted.Operation }
-        ensures value { IfOk result (λ next. next ≡ with_term self self.product op) }
-        ensures low { IfOk result (λ next. IfSome next IsLow) }
-    {
-        let Reading {
-            wanted: _,
-            params,
-            sum,
-            product,
-        } = self;
-        let Some(product) = product else {
-            return Ok(None);
-        };
-        let total = added(alloc, sum, product)?;
-        if total.height >= MOST_NESTING {
-            return Ok(None);
-        }
-        Ok(Some(Reading {
-            wanted: Wanted::Operand,
-            params,
-            sum: Some(Left {
-                exp: total.exp,
-                height: total.height,
-                op,
+        match wanted {
+            Some(wanted) => Some(Reading {
+                wanted,
+                opens: self.opens,
             }),
-            product: None,
-        }))
-    }
-
-    fn with_star(self) -> Option<Reading>
-        requires low { IsLow self }
-        requires wanted { self.wanted ≡ Wanted.Operation }
-        ensures value { result ≡ with_star self self.product }
-        ensures low { IfSome result IsLow }
-    {
-        let depth = match (&self.sum, &self.product) {
-            (None, Some(product)) => product.height + 1,
-            (Some(_), Some(product)) => product.height + 2,
-            (_, None) => return None,
-        };
-        if depth > MOST_NESTING {
-            return None;
+            None => None,
         }
-        let mut next = self;
-        next.wanted = Wanted::Operand;
-        Some(next)
     }
 
-    fn with_operator(self, alloc: Global, sign: Sign) -> Result<Option<Reading>, NoMemory>
-        requires low { IsLow self }
-        requires wanted { self.wanted ≡ Wanted.Operation }
-        ensures value { IfOk result (λ next. next ≡ with_operator self sign) }
-        ensures low { IfOk result (λ next. IfSome next IsLow) }
+    /// One more parenthesis or let is open.
+    fn opened(self, opener: Open, wanted: Wanted) -> Result<Reading, NoMemory>
+        ensures { IfOk result (λ next. next ≡ reading wanted (opener ∷ self.opens)) }
+    {
+        let mut next = self;
+        next.opens.push(opener)?;
+        next.wanted = wanted;
+        Ok(next)
+    }
+
+    /// The innermost that is open ends, where it is this.
+    fn closed(self, opener: Open, wanted: Wanted) -> Option<Reading>
+        ensures { result ≡ closed opener wanted self.opens }
+    {
+        let mut next = self;
+        let innermost = next.opens.pop()?;
+        next.wanted = wanted;
+        if same_open(innermost, opener) {
+            Some(next)
+        } else {
+            None
+        }
+    }
+
+    fn behind_operand(
+        self,
+        alloc: Global,
+        is_start: bool,
+        sign: Sign,
+    ) -> Result<Option<Reading>, NoMemory>
+        ensures { IfOk result (λ next. next ≡ behind_operand is_start self.opens sign) }
     {
         match sign {
-            Sign::Star => Ok(self.with_star()),
-            Sign::Plus => self.with_term(alloc, BinOp::Add),
-            Sign::Minus => self.with_term(alloc, BinOp::Sub),
+            Sign::Let if is_start => Ok(Some(self.opened(Open::Let, Wanted::LetName)?)),
+            Sign::Open => Ok(Some(self.opened(Open::Paren, Wanted::Start)?)),
+            Sign::Minus => Ok(self.with_wanted(Some(Wanted::Operand))),
+            Sign::Operand => Ok(self.with_wanted(Some(Wanted::Operation))),
             _ => Ok(None),
         }
     }
 
-    /// The reading that wants something else, before the body.
-    #[tactic(auto, using(crate::proofs::Low::low_without_product))]
-    fn with_wanted(self, wanted: Option<Wanted>) -> Option<Reading>
-        requires low { IsLow self }
-        requires before_body { self.product ≡ None }
-        ensures value { result ≡ option_map (want self) wanted }
-        ensures low { IfSome result IsLow }
+    fn behind_operation(self, sign: Sign) -> Option<Reading>
+        ensures { result ≡ behind_operation self.opens sign }
     {
-        let mut next = self;
-        next.wanted = wanted?;
-        Some(next)
+        match sign {
+            Sign::Minus | Sign::Operator => self.with_wanted(Some(Wanted::Operand)),
+            Sign::Close => self.closed(Open::Paren, Wanted::Operation),
+            Sign::In => self.closed(Open::Let, Wanted::Start),
+            _ => None,
+        }
     }
 
     /// What is read once this token is, or nothing where it can't follow.
     #[tactic(auto, unfolding(crate::specs::Reading::step))]
-    pub fn with_token(self, alloc: Global, token: &Token) -> Result<Option<Reading>, NoMemory>
-        requires { IsLow self }
-        ensures value { IfOk result (λ next. next ≡ step self token.now) }
-        ensures low { IfOk result (λ next. IfSome next IsLow) }
+    fn with_token(self, alloc: Global, token: &Token) -> Result<Option<Reading>, NoMemory>
+        ensures { IfOk result (λ next. next ≡ step self token.now) }
     {
         let kind = &token.kind;
         match self.wanted {
-            Wanted::Main => Ok(self.with_wanted(behind_word("main", kind, Wanted::ParamOrType))),
-            Wanted::ParamType => Ok(self.with_wanted(behind_word("i64", kind, Wanted::ParamEnd))),
-            Wanted::ResultType => Ok(self.with_wanted(behind_word("i64", kind, Wanted::Equal))),
-            Wanted::ParamName => self.with_param(alloc, kind),
-            Wanted::Operand => self.with_fact(alloc, token),
-            Wanted::Operation => self.with_operator(alloc, sign_of(kind)),
+            Wanted::Start => self.behind_operand(alloc, true, sign_of(kind)),
+            Wanted::Operand => self.behind_operand(alloc, false, sign_of(kind)),
+            Wanted::Operation => Ok(self.behind_operation(sign_of(kind))),
+            wanted @ (Wanted::Main
+            | Wanted::ParamName
+            | Wanted::ParamType
+            | Wanted::ResultType
+            | Wanted::LetName
+            | Wanted::LetType) => Ok(self.with_wanted(behind_head(wanted, kind))),
             wanted @ (Wanted::Def
             | Wanted::ParamOrType
             | Wanted::ParamColon
             | Wanted::ParamEnd
-            | Wanted::Equal) => Ok(self.with_wanted(behind_sign(wanted, sign_of(kind)))),
+            | Wanted::Equal
+            | Wanted::LetColon
+            | Wanted::LetEqual) => Ok(self.with_wanted(behind_sign(wanted, sign_of(kind)))),
         }
     }
 
-    /// The program that is read where the tokens end here; `last` is the place of the last one.
-    pub fn finish(self, alloc: Global, last: Place) -> Result<Program, ParseErr>
-        requires { IsLow self }
-        ensures { AnswersReading result (finished self.wanted self last) }
+    /// Whether a text may end here.
+    fn is_end(&self) -> bool
+        ensures { result ≡ is_end self.now.wanted self.now.opens }
     {
-        let Reading {
-            wanted,
-            params,
-            sum,
-            product,
-        } = self;
-        if wanted != Wanted::Operation {
-            return Err(ParseErr::NotBuilt { at: last });
+        match self.wanted {
+            Wanted::Operation => self.opens.is_empty(),
+            _ => false,
         }
-        let Some(product) = product else {
-            return Err(ParseErr::NotBuilt { at: last });
+    }
+}
+
+/// The place where tokens leave the part of the language that is built.
+///
+/// It is that of the first token that can't follow, or of the last one where the tokens run out, or the beginning of
+/// the file where there is none.
+pub fn stop_of(alloc: Global, file: u32, tokens: &[Token]) -> Result<Option<Place>, NoMemory>
+    ensures { IfOk result (λ place. place ≡ stop_of file tokens.now) }
+{
+    let mut reading = Reading::new(alloc);
+    let mut last = Place {
+        file,
+        line: 1,
+        column: 1,
+    };
+    for token in tokens {
+        last = token.place;
+        let Some(next) = reading.with_token(alloc, token)? else {
+            return Ok(Some(last));
         };
-        Ok(Program {
-            params,
-            body: added(alloc, sum, product)?.exp,
-        })
+        reading = next;
+    }
+    if reading.is_end() {
+        Ok(None)
+    } else {
+        Ok(Some(last))
     }
 }

@@ -1,19 +1,23 @@
 // The run, from its words to its status.
-ghost use Rattle.std.specs.Prelude.{◌≡◌};
+ghost use Rattle.std.specs.Prelude.{◌≡◌, IsSome, Some};
 ghost use Rattle.futhark_core.specs.Comes.{Complete};
+ghost use Rattle.futhark_core.specs.Forms.{main_of, params_of};
 ghost use Rattle.futhark_core.specs.Report.{Reported};
-ghost use Rattle.futhark_core.specs.Row.{status_for, NeverStuck, ProgramRow, Row};
+ghost use Rattle.futhark_core.specs.declared.evaluator.EvalErr.TheVariants.{Wrong};
+ghost use Rattle.futhark_core.specs.Row.{failed_status, status_for, ActionRow, CheckRow, IsRunnable, ProgramRow, Row};
 
 use crate::arguments::read_args;
-use crate::evaluator::evaluate;
+use crate::evaluator::{EvalErr, evaluate_main};
+use crate::forms::{Main, main_of};
 use crate::front::accept;
 use crate::line::report;
 use crate::output::print_value;
-use crate::program::Program;
 use crate::status::{LimitKind, Refused, Status, TextErr, Why};
-use crate::words::read_words;
+use crate::words::{Action, read_words};
+use fut_ast::Program;
 use fut_io::{Loader, ReadErr, Sink, Source, read_all, write_all};
 use fut_lexer::a_text_has_one_reading;
+use fut_parser::ParseErr;
 use fut_scalar::{List, Name};
 use std::alloc::Global;
 
@@ -29,9 +33,38 @@ fn status_of(why: Why, path: Name) -> Status
         Why::FileBytes => Status::Limit {
             what: LimitKind::FileBytes,
         },
-        Why::Lex(_) | Why::Parse(_) => Status::Text(Refused { why, path }),
+        Why::Parse(ParseErr::TooDeep { at: _ }) => Status::Limit {
+            what: LimitKind::Nesting,
+        },
+        Why::Lex(_) | Why::Parse(_) | Why::NotBuilt { at: _ } => {
+            Status::Text(Refused { why, path })
+        }
         Why::Names(_) => Status::Names(Refused { why, path }),
         Why::Memory => Status::Memory,
+    }
+}
+
+/// The status of a program that has no value.
+fn failed_status(err: EvalErr, path: Name) -> Status
+    requires { err ≡ Wrong → ⊥ }
+    ensures { result ≡ failed_status err path }
+{
+    match err {
+        EvalErr::Failed(report) => Status::Failure(report, path),
+        EvalErr::Wrong => unreachable!(),
+        EvalErr::Memory => Status::Memory,
+    }
+}
+
+/// `main` of an accepted program.
+fn main_part(program: &Program) -> Main<'_>
+    requires { IsSome (main_of program.now) }
+    ensures main { main_of program.now ≡ Some (result.params.now, result.body.now) }
+    ensures params { params_of program.now ≡ result.params.now }
+{
+    match main_of(program) {
+        Some(main) => main,
+        None => unreachable!(),
     }
 }
 
@@ -39,11 +72,12 @@ fn status_of(why: Why, path: Name) -> Status
 fn run_program<S: Source, K: Sink>(
     alloc: Global,
     program: &Program,
+    path: Name,
     input: &mut S,
     out: &mut K,
 ) -> Status
-    requires { NeverStuck program.now }
-    ensures { ProgramRow result program.now
+    requires { IsRunnable program.now }
+    ensures { ProgramRow result path program.now
         (record { input = S.seen input.old; out = K.seen out.old })
         (record { input = S.seen input.new; out = K.seen out.new }) }
 {
@@ -55,18 +89,55 @@ fn run_program<S: Source, K: Sink>(
         },
         Err(ReadErr::Memory) => return Status::Memory,
     };
-    let values = match read_args(alloc, program.params.as_slice(), bytes.as_slice()) {
+    let main = main_part(program);
+    let values = match read_args(alloc, main.params, bytes.as_slice()) {
         Ok(values) => values,
         Err(TextErr::Memory) => return Status::Memory,
         Err(err) => return Status::Input(err),
     };
-    let value = evaluate(&program.body, program.params.as_slice(), values.as_slice());
+    let value = match evaluate_main(alloc, main.params, main.body, values.as_slice()) {
+        Ok(value) => value,
+        Err(err) => return failed_status(err, path),
+    };
     let Ok(text) = print_value(alloc, value) else {
         return Status::Memory;
     };
     match write_all(out, &text) {
         Ok(()) => Status::Done,
         Err(_) => Status::WriteFault,
+    }
+}
+
+/// Tells that a source is accepted.
+fn tell_accepted<S: Source, K: Sink>(input: &S, out: &mut K) -> Status
+    ensures { CheckRow result
+        (record { input = S.seen input.now; out = K.seen out.old })
+        (record { input = S.seen input.now; out = K.seen out.new }) }
+{
+    let _input = input;
+    match write_all(out, b"accepted\n") {
+        Ok(()) => Status::Done,
+        Err(_) => Status::WriteFault,
+    }
+}
+
+/// What is done with an accepted program.
+fn act<S: Source, K: Sink>(
+    alloc: Global,
+    action: Action,
+    program: &Program,
+    path: Name,
+    input: &mut S,
+    out: &mut K,
+) -> Status
+    requires { IsRunnable program.now }
+    ensures { ActionRow action result path program.now
+        (record { input = S.seen input.old; out = K.seen out.old })
+        (record { input = S.seen input.new; out = K.seen out.new }) }
+{
+    match action {
+        Action::Run => run_program(alloc, program, path, input, out),
+        Action::Check => tell_accepted(&*input, out),
     }
 }
 
@@ -82,15 +153,15 @@ fn run_stages<L: Loader, S: Source, K: Sink>(
         (record { loader = L.seen loader.old; input = S.seen input.old; out = K.seen out.old })
         (record { loader = L.seen loader.new; input = S.seen input.new; out = K.seen out.new }) }
 {
-    let file = match read_words(words) {
-        Ok(file) => file,
+    let command = match read_words(words) {
+        Ok(command) => command,
         Err(word) => return Status::Usage { word },
     };
-    let Ok(path) = file.copy(alloc) else {
+    let Ok(path) = command.file.copy(alloc) else {
         return Status::Memory;
     };
-    match accept(alloc, loader, file) {
-        Ok(program) => run_program(alloc, &program, input, out),
+    match accept(alloc, loader, command.file) {
+        Ok(program) => act(alloc, command.action, &program, path, input, out),
         Err(why) => status_of(why, path),
     }
 }
@@ -115,7 +186,8 @@ fn run_command<L: Loader, S: Source, K: Sink>(
     status
 }
 
-/// Runs the program that the words name on the input. Out gets its result, err the line of another status.
+/// Runs the program that the words name on the input, or checks it. Out gets its result, or `accepted`, and err the line
+/// of another status.
 ///
 /// The words are those behind the program's name. Nothing is read from input before the source is accepted.
 pub fn run_futhark<L: Loader, S: Source, K: Sink, E: Sink>(

@@ -3,32 +3,25 @@ ghost use Rattle.std.specs.Prelude.{◌≡◌};
 ghost use Rattle.futhark_core.specs.Status.{code_of};
 
 use fut_lexer::LexErr;
-use fut_scalar::{Name, NoMemory, Place};
-
-/// Why tokens are no program.
-#[derive(Clone, Copy, Debug, PartialEq, Eq)]
-pub enum ParseErr {
-    /// At this token, or at the last one where they run out, they leave the part of the language that is built.
-    NotBuilt { at: Place },
-    Memory,
-}
-
-impl From<NoMemory> for ParseErr {
-    ghost use Rattle.futhark_core.specs.declared.status.ParseErr.TheVariants.{Memory};
-
-    ghost from_gives = { λ _ err. err ≡ Memory };
-
-    fn from(_error: NoMemory) -> ParseErr {
-        ParseErr::Memory
-    }
-}
+use fut_parser::ParseErr;
+use fut_scalar::{Name, NoMemory, Place, Report};
 
 /// Why the names of a program are refused.
 #[derive(Debug, Drop)]
 pub enum ModErr {
-    /// No parameter has this name.
+    /// No parameter and no let before it has this name.
     Unbound { name: Name, at: Place },
     Memory,
+}
+
+impl From<NoMemory> for ModErr {
+    ghost use Rattle.futhark_core.specs.declared.status.ModErr.TheVariants.{Memory};
+
+    ghost from_gives = { λ _ err. err ≡ Memory };
+
+    fn from(_error: NoMemory) -> ModErr {
+        ModErr::Memory
+    }
 }
 
 /// Why an input text isn't the arguments of a program. Positions count bytes from 0, parameters from 1.
@@ -61,6 +54,8 @@ pub enum Why {
     Load,
     Lex(LexErr),
     Parse(ParseErr),
+    /// At this token the text leaves the part of the language that is built.
+    NotBuilt { at: Place },
     Names(ModErr),
     /// The file has more than 4,194,304 bytes.
     FileBytes,
@@ -78,13 +73,15 @@ pub struct Refused {
 #[derive(Clone, Copy, Debug, PartialEq, Eq)]
 pub enum LimitKind {
     FileBytes,
+    /// Of the nodes of a source text in one another.
+    Nesting,
     InputBytes,
 }
 
 /// The end of a run.
 #[derive(Debug, Drop)]
 pub enum Status {
-    /// The whole result is on out.
+    /// The whole text is on out.
     Done,
     /// The words are no command; the number, from 1, of the first word that breaks a rule.
     Usage { word: u64 },
@@ -94,7 +91,9 @@ pub enum Status {
     Limit { what: LimitKind },
     ReadFault,
     Input(TextErr),
-    /// A write failed; out took a prefix of the result.
+    /// The program failed; the path is that of the report's place.
+    Failure(Report, Name),
+    /// A write failed; out took a prefix of the text.
     WriteFault,
     Memory,
 }
@@ -112,6 +111,7 @@ pub fn code(status: &Status) -> u8
         Status::Limit { what: _ } => 9,
         Status::ReadFault => 10,
         Status::Input(_) => 11,
+        Status::Failure(_, _) => 12,
         Status::WriteFault => 14,
         Status::Memory => 15,
     }

@@ -1,4 +1,5 @@
-//! The program: `run FILE` runs the function `main` of a file on the arguments of standard input.
+//! The program: `run FILE` runs the function `main` of a file on the arguments of standard input, and `check FILE` tells
+//! whether the file is accepted.
 #![tactic(auto)]
 
 use fut_io::{FileLoader, Sink, StdSink, StdSource, write_all};
@@ -10,11 +11,14 @@ use std::process::ExitCode;
 
 const HELP: &str = "\
 usage: futhark run FILE
+       futhark check FILE
        futhark --help
        futhark --version
 
 `run` reads the arguments of the function `main` of FILE from standard input,
 and writes its result on standard output.
+`check` writes `accepted` on standard output where FILE could be run, and reads
+no input.
 
 The exit status is 0, or tells why there is no result; standard error has the line.
 ";

@@ -3,7 +3,8 @@ ghost use Rattle.std.specs.Prelude.{◌<◌, ◌^◌};
 ghost use Rattle.fut_scalar.specs.Integers.{width_of};
 
 use fut_scalar::{
-    BinOp, Boxed, IntType, List, Name, Scalar, ScalarFault, binop, bits_of_signed, signed_of_bits,
+    BinOp, Boxed, IntType, List, Name, Scalar, ScalarFault, UnOp, binop, bits_of_signed,
+    signed_of_bits, unop,
 };
 use fut_token::{Fixed, fixed_text, is_same_fixed};
 use std::test::Fail;
@@ -54,6 +55,51 @@ fn integers_wrap_at_their_width(rt: HostRuntime) -> Result<(), Fail> {
         results(IntType::U64, u64::MAX, u64::MAX),
         [u64::MAX - 1, 0, 1]
     );
+    Ok(())
+}
+
+/// The bits of the quotient, or none where it has none.
+fn quotient(ty: IntType, left: u64, right: u64) -> Option<u64>
+    requires left { left < 2 ^ width_of ty }
+    requires right { right < 2 ^ width_of ty }
+{
+    let left = Scalar::Int { ty, bits: left };
+    let right = Scalar::Int { ty, bits: right };
+    match binop(BinOp::Div, left, right) {
+        Ok(Scalar::Int { ty: _, bits }) => Some(bits),
+        _ => None,
+    }
+}
+
+// The expected bits are those of the exact quotients, rounded towards negative infinity, in two's complement.
+#[test]
+fn quotients_are_rounded_down(rt: HostRuntime) -> Result<(), Fail> {
+    let rows = [
+        (IntType::I8, 7, 2, 3),
+        (IntType::I8, 0xf9, 2, 0xfc),
+        (IntType::I8, 7, 0xfe, 0xfc),
+        (IntType::I8, 0xf9, 0xfe, 3),
+        (IntType::I8, 0x80, 0xff, 0x80),
+        (IntType::U8, 0xf9, 2, 0x7c),
+        (IntType::I32, 0xffff_ffff, 3, 0xffff_ffff),
+        (IntType::U32, 0xffff_ffff, 3, 0x5555_5555),
+        (IntType::U64, u64::MAX, 2, u64::MAX / 2),
+        (IntType::I64, u64::MAX, 2, u64::MAX),
+    ];
+    for (ty, left, right, wanted) in rows {
+        assert_eq!(rt; quotient(ty, left, right), Some(wanted), "{left} {right}");
+        assert_eq!(rt; quotient(ty, left, 0), None, "{left}");
+    }
+    let lowest = Scalar::Int {
+        ty: IntType::I16,
+        bits: 0x8000,
+    };
+    assert_eq!(rt; unop(UnOp::Neg, lowest), lowest);
+    let one = Scalar::Int {
+        ty: IntType::U16,
+        bits: 1,
+    };
+    assert_eq!(rt; bits_of(Ok(unop(UnOp::Neg, one))), 0xffff);
     Ok(())
 }
 

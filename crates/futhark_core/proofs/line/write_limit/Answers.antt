@@ -11,3 +11,9 @@ returns-in-InputBytes-clause-ok g c = rw c.in-InputBytes.is c.write_pieces-in-In
 
 pub returns-in-InputBytes-clause-failed : goal.returns-in-InputBytes-clause-failed
 returns-in-InputBytes-clause-failed g c = rw c.in-InputBytes.is c.write_pieces-in-InputBytes.ensures.failed
+
+pub returns-in-Nesting-clause-ok : goal.returns-in-Nesting-clause-ok
+returns-in-Nesting-clause-ok g c = rw c.in-Nesting.is c.write_pieces-in-Nesting.ensures.ok
+
+pub returns-in-Nesting-clause-failed : goal.returns-in-Nesting-clause-failed
+returns-in-Nesting-clause-failed g c = rw c.in-Nesting.is c.write_pieces-in-Nesting.ensures.failed

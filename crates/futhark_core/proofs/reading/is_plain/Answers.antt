@@ -1,6 +1,6 @@
 use Rattle.std.proofs.Common.{ap}
 use Rattle.std.specs.Prelude.{not}
-use Rattle.futhark_core.specs.Grammar.{is_plain}
+use Rattle.futhark_core.specs.Built.{is_plain}
 use Rattle.futhark_core.proofs.reading.is_plain.Goals as goal
 
 pub returns : goal.returns

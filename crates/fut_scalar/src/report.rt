@@ -1,0 +1,29 @@
+// Failures of running programs.
+ghost use Rattle.std.specs.Prelude.{◌≡◌};
+ghost use Rattle.fut_scalar.specs.Reports.{kind_of};
+
+use crate::{Place, ScalarFault};
+
+/// What a running program fails by. Further kinds come with the forms that can fail so.
+#[derive(Clone, Copy, Debug, PartialEq, Eq)]
+pub enum FailKind {
+    Division,
+    Power,
+}
+
+/// A failure and the place that reports it.
+#[derive(Clone, Copy, Debug, PartialEq, Eq)]
+pub struct Report {
+    pub kind: FailKind,
+    pub place: Place,
+}
+
+/// The kind of failure that a fault of an operation is.
+pub fn fail_kind(fault: ScalarFault) -> FailKind
+    ensures { result ≡ kind_of fault }
+{
+    match fault {
+        ScalarFault::Division => FailKind::Division,
+        ScalarFault::Power => FailKind::Power,
+    }
+}
