@@ -1,5 +1,5 @@
 -- The value of the field is made before the record.
-use Rattle.std.proofs.Common.{◌≡◌, ◌+◌, ◌∷◌, Result, IfOk, subst}
+use Rattle.std.proofs.Common.{◌≡◌, ◌+◌, Result, IfOk, subst}
 use Rattle.fut_scalar.specs.declared.memory.NoMemory.{NoMemory}
 use Rattle.fut_ast.specs.Sorts.{SourceExp}
 use Rattle.fut_ast.specs.Nodes.{replaced}

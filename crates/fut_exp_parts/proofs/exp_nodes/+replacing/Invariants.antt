@@ -1,5 +1,5 @@
 -- Each turn is at a shorter path.
-use Rattle.std.proofs.Common.{ℕ, ◌+◌, ◌*◌, length}
+use Rattle.std.proofs.Common.{◌+◌, ◌*◌, length}
 use Rattle.fut_exp_parts.proofs.exp_nodes.+replacing.Given as goal
 
 abbrev pub decreases-with_field_replaced : goal.decreases-with_field_replaced
