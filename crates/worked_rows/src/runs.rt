@@ -549,6 +549,7 @@ fn programs_are_checked(rt: HostRuntime) -> Result<(), Fail> {
     let texts = [
         SQUARE,
         RATIO,
+        "def main (x: i64) (y: i64): i64 = x + y",
         "def main: i64 = 0x1F + 0b11 + 1_000",
         "def main: i64 = 7 / 2 * 2 - -(1 + 1)",
         "def main (x: i64): i64 = (1 / x) + (2 / x)",
