@@ -1,5 +1,5 @@
 -- The nodes of trees, and the forms that stand for others (sugar).
-use Rattle.std.specs.Prelude.{ℕ, zero, suc, ◌+◌, ◌-◌, ◌*◌, ◌/◌, ◌%◌, ◌++◌, Bool, true, false, ◌||◌, List, [], ◌∷◌, map, replicate, Option, Some, None}
+use Rattle.std.specs.Prelude.{ℕ, zero, suc, ◌+◌, ◌/◌, ◌%◌, ◌++◌, Bool, true, false, ◌||◌, List, [], ◌∷◌, map, replicate, Option, Some, None}
 use Rattle.fut_scalar.specs.declared.place.Place.{Place}
 use Rattle.fut_scalar.specs.declared.operator.BinOp.TheVariants as bin
 use Rattle.fut_token.specs.declared.token.Fixed.{Fixed}
@@ -25,59 +25,66 @@ use Rattle.fut_ast.specs.Sorts.{Text, Path, SourceType, SourcePat, SourceExp}
 
 -- ---- types and patterns
 
-abbrev pub type_at : Spot → TypeForm Path Text → SourceType
-type_at at form = roll-TypeExp Path Text (record { place = at.place; form = form })
+abbrev pub type_at : Place → TypeForm Path Text → SourceType
+type_at place form = roll-TypeExp Path Text (record { place = place; form = form })
 
 -- types in parentheses: one alone is that type
-abbrev pub round_type_of : Spot → List SourceType → SourceType
-round_type_of at [] = type_at at type_form.Unit
-round_type_of at (t ∷ []) = t
-round_type_of at (t ∷ u ∷ ts) = type_at at (type_form.Tuple (t ∷ u ∷ ts))
+abbrev pub round_type_of : Place → List SourceType → SourceType
+round_type_of place [] = type_at place type_form.Unit
+round_type_of place (t ∷ []) = t
+round_type_of place (t ∷ u ∷ ts) = type_at place (type_form.Tuple (t ∷ u ∷ ts))
 
-abbrev pub pat_at : Spot → PatForm Path Text → SourcePat
-pat_at at form = roll-Pat Path Text (record { place = at.place; start = at.start; form = form })
+abbrev pub pat_at : Place → PatForm Path Text → SourcePat
+pat_at place form = roll-Pat Path Text (record { place = place; form = form })
 
-abbrev pub round_pat_of : Spot → List SourcePat → SourcePat
-round_pat_of at [] = pat_at at pat_form.Unit
-round_pat_of at (p ∷ []) = p
-round_pat_of at (p ∷ q ∷ ps) = pat_at at (pat_form.Tuple (p ∷ q ∷ ps))
+abbrev pub round_pat_of : Place → List SourcePat → SourcePat
+round_pat_of place [] = pat_at place pat_form.Unit
+round_pat_of place (p ∷ []) = p
+round_pat_of place (p ∷ q ∷ ps) = pat_at place (pat_form.Tuple (p ∷ q ∷ ps))
 
 -- ---- expressions
 
--- The node of the token at a spot, the further nodes of one token having the slots 1, 2 and 3; then where the
--- expression begins and where its reports stand.
-abbrev pub node : Spot → ℕ → Place → Place → Form Path Text → SourceExp
-node key slot place mark form =
-    roll-Exp Path Text (record { id = record { file = key.place.file; number = 4 * key.start + slot }; place = place; mark = mark; form = form })
+-- an expression: where it begins, where its reports stand, and its form
+abbrev pub node : Place → Place → Form Path Text → SourceExp
+node place mark form = roll-Exp Path Text (record { place = place; mark = mark; form = form })
 
--- an expression of the token that it begins with
-abbrev pub exp_at : Spot → Form Path Text → SourceExp
-exp_at at form = node at 0 at.place at.place form
+-- an expression whose reports stand where it begins
+abbrev pub exp_at : Place → Form Path Text → SourceExp
+exp_at place form = node place place form
 
 -- expressions in parentheses: one alone is that expression
-abbrev pub round_exp_of : Spot → List SourceExp → SourceExp
-round_exp_of at [] = exp_at at form.Unit
-round_exp_of at (e ∷ []) = e
-round_exp_of at (e ∷ f ∷ es) = exp_at at (form.Tuple (e ∷ f ∷ es))
+abbrev pub round_exp_of : Place → List SourceExp → SourceExp
+round_exp_of place [] = exp_at place form.Unit
+round_exp_of place (e ∷ []) = e
+round_exp_of place (e ∷ f ∷ es) = exp_at place (form.Tuple (e ∷ f ∷ es))
 
 -- names that no text can spell, since they are of blanks alone
-abbrev pub fresh : ℕ → Text
-fresh k = replicate (suc k) 32
+abbrev pub blanks : ℕ → Text
+blanks k = replicate (suc k) 32
 
--- the byte before a token, which numbers what is made beside the token's own nodes
-abbrev pub before : Spot → Spot
-before at = record { place = at.place; start = at.start - 1 }
+-- the new names of sugar: of a value that is held, of a function's first and second parameter, and of what `|>` hands on
+abbrev pub held_name : Text
+held_name = blanks 0
+
+abbrev pub first_name : Text
+first_name = blanks 1
+
+abbrev pub second_name : Text
+second_name = blanks 2
+
+abbrev pub piped_name : Text
+piped_name = blanks 3
 
 abbrev pub flat : List (List (Bind Path Text)) → List (Bind Path Text)
 flat [] = []
 flat (xs ∷ xss) = xs ++ flat xss
 
 -- a use of a name, and a name bound
-abbrev pub use_of : Spot → ℕ → Place → Text → SourceExp
-use_of key slot place x = node key slot place place (form.Path (x ∷ []))
+abbrev pub use_of : Place → Text → SourceExp
+use_of place x = exp_at place (form.Path (x ∷ []))
 
-abbrev pub bound : Spot → Text → SourcePat
-bound at x = pat_at at (pat_form.Var x)
+abbrev pub bound : Place → Text → SourcePat
+bound place x = pat_at place (pat_form.Var x)
 
 abbrev pub let_one : SourcePat → SourceExp → Bind Path Text
 let_one p e = roll-Bind Path Text (record { sizes = []; pat = p; heads = []; value = e })
@@ -116,46 +123,46 @@ joining fixed.PipeLeft = way.PipedBack
 joining fixed.Backtick = way.Named
 joining o = way.Plain (oper_of o)
 
--- `a && b` is `if a then b else false`, `a || b` is `if a then true else b`, `x |> f` is `let v = x in f v`, `f <| x` is
--- `f x`, and x `f` y is `f x y`. `from` is where the whole begins, `at` where the operator stands, and the text is the
+-- `a && b` is `if a then b else false`, `a || b` is `if a then true else b`, `x |> f` is `let w = x in f w`, `f <| x` is
+-- `f x`, and x `f` y is `f x y`. `from` is where the whole begins, `mark` where the operator stands, and the text is the
 -- name in backticks.
-abbrev pub joined_by : Joining → Place → Spot → Text → SourceExp → SourceExp → SourceExp
-joined_by way.Both from at name a b = node at 0 from at.place (form.If a b (node at 1 at.place at.place (form.Bool false)))
-joined_by way.Either from at name a b = node at 0 from at.place (form.If a (node at 1 at.place at.place (form.Bool true)) b)
-joined_by way.Piped from at name a b =
-    node at 0 from at.place (form.Lets (let_one (bound at (fresh 0)) a ∷ []) (node at 1 b.place at.place (form.Apply b (use_of at 2 a.place (fresh 0)))))
-joined_by way.PipedBack from at name a b = node at 0 from at.place (form.Apply a b)
-joined_by way.Named from at name a b =
-    node at 0 from at.place (form.Apply (node at 1 from at.place (form.Apply (use_of at 2 at.place name) a)) b)
-joined_by (way.Plain op) from at name a b = node at 0 from at.place (form.Binary op a b)
+abbrev pub joined_by : Joining → Place → Place → Text → SourceExp → SourceExp → SourceExp
+joined_by way.Both from mark name a b = node from mark (form.If a b (exp_at mark (form.Bool false)))
+joined_by way.Either from mark name a b = node from mark (form.If a (exp_at mark (form.Bool true)) b)
+joined_by way.Piped from mark name a b =
+    node from mark (form.Lets (let_one (bound mark piped_name) a ∷ []) (node b.place mark (form.Apply b (use_of a.place piped_name))))
+joined_by way.PipedBack from mark name a b = node from mark (form.Apply a b)
+joined_by way.Named from mark name a b = node from mark (form.Apply (node from mark (form.Apply (use_of mark name) a)) b)
+joined_by (way.Plain op) from mark name a b = node from mark (form.Binary op a b)
 
-abbrev pub joined : Fixed → Place → Spot → Text → SourceExp → SourceExp → SourceExp
-joined o from at name a b = joined_by (joining o) from at name a b
+abbrev pub joined : Fixed → Place → Place → Text → SourceExp → SourceExp → SourceExp
+joined o from mark name a b = joined_by (joining o) from mark name a b
+
+-- between two names: `x |> f` is `f x`, since a name needs no other name
+abbrev pub joined_names_by : Joining → Place → Place → Text → SourceExp → SourceExp → SourceExp
+joined_names_by way.Piped from mark name a b = node from mark (form.Apply b a)
+joined_names_by way from mark name a b = joined_by way from mark name a b
 
 -- `(op)` is `\x y -> x op y`
-abbrev pub operator_section : Fixed → Spot → Spot → Text → SourceExp
-operator_section o paren at name =
-    exp_at paren (form.Lambda (bound paren (fresh 1) ∷ bound paren (fresh 2) ∷ []) None
-    (joined o paren.place at name (use_of paren 1 paren.place (fresh 1)) (use_of paren 2 paren.place (fresh 2))))
+abbrev pub operator_section : Fixed → Place → Place → Text → SourceExp
+operator_section o paren mark name =
+    exp_at paren (form.Lambda (bound paren first_name ∷ bound paren second_name ∷ []) None (joined_names_by (joining o) paren mark name (use_of paren first_name) (use_of paren second_name)))
 
 -- `(op e)` is `let v = e in \x -> x op v`
-abbrev pub right_section : Fixed → Spot → Spot → Text → SourceExp → SourceExp
-right_section o paren at name e =
-    exp_at paren (form.Lets (let_one (bound paren (fresh 0)) e ∷ [])
-    (node paren 1 paren.place paren.place (form.Lambda (bound paren (fresh 1) ∷ []) None
-    (joined o paren.place at name (use_of paren 2 paren.place (fresh 1)) (use_of at 3 e.place (fresh 0))))))
+abbrev pub right_section : Fixed → Place → Place → Text → SourceExp → SourceExp
+right_section o paren mark name e =
+    exp_at paren (form.Lets (let_one (bound paren held_name) e ∷ [])
+    (exp_at paren (form.Lambda (bound paren first_name ∷ []) None (joined o paren mark name (use_of paren first_name) (use_of e.place held_name)))))
 
 -- `(e op)` is `let v = e in \y -> v op y`
-abbrev pub left_section : Fixed → Spot → SourceExp → Spot → Text → SourceExp
-left_section o paren e at name =
-    exp_at paren (form.Lets (let_one (bound paren (fresh 0)) e ∷ [])
-    (node paren 1 paren.place paren.place (form.Lambda (bound paren (fresh 2) ∷ []) None
-    (joined o paren.place at name (use_of paren 2 e.place (fresh 0)) (use_of at 3 paren.place (fresh 2))))))
+abbrev pub left_section : Fixed → Place → SourceExp → Place → Text → SourceExp
+left_section o paren e mark name =
+    exp_at paren (form.Lets (let_one (bound paren held_name) e ∷ [])
+    (exp_at paren (form.Lambda (bound paren second_name ∷ []) None (joined o e.place mark name (use_of e.place held_name) (use_of paren second_name)))))
 
 -- `(.f.g)` is `\r -> r.f.g`
-abbrev pub field_section : Spot → Spot → Path → SourceExp
-field_section paren dot names =
-    exp_at paren (form.Lambda (bound paren (fresh 0) ∷ []) None (node dot 0 dot.place dot.place (form.Path (fresh 0 ∷ names))))
+abbrev pub field_section : Place → Place → Path → SourceExp
+field_section paren dot names = exp_at paren (form.Lambda (bound dot held_name ∷ []) None (exp_at dot (form.Path (held_name ∷ names))))
 
 -- `(.[i])` is `let v = i in \a -> a[v]`: each expression of the index is named and evaluated first, from left to
 -- right. Its name is made of a position in the text, behind a blank.
@@ -167,10 +174,10 @@ abbrev pub name_of_position : ℕ → Text
 name_of_position n = 32 ∷ letters_of 5 n
 
 abbrev pub let_named : Spot → SourceExp → Bind Path Text
-let_named at e = let_one (bound at (name_of_position at.start)) e
+let_named at e = let_one (bound at.place (name_of_position at.start)) e
 
 abbrev pub use_named : Spot → SourceExp → SourceExp
-use_named at e = use_of (before at) 3 e.place (name_of_position at.start)
+use_named at e = use_of e.place (name_of_position at.start)
 
 -- a part of an index, of its first expression and what stands behind it
 abbrev pub index_of : SourceExp → Option (Spot × Option SourceExp) → Ix Path Text
@@ -189,38 +196,40 @@ abbrev pub named_index_of : Spot → SourceExp → Option (Spot × Option Source
 named_index_of at e None = (let_named at e ∷ [], ix.At (use_named at e))
 named_index_of at e (Some upto) = named_upto at e upto.0 upto.1
 
-abbrev pub index_section : Spot → Spot → List (List (Bind Path Text) × Ix Path Text) → SourceExp
-index_section paren bracket items =
-    exp_at paren (form.Lets (flat (map (λ (i : List (Bind Path Text) × Ix Path Text). i.0) items))
-    (node paren 1 paren.place paren.place (form.Lambda (bound paren (fresh 0) ∷ []) None
-    (node bracket 0 paren.place bracket.place (form.Index (use_of paren 2 paren.place (fresh 0)) (map (λ (i : List (Bind Path Text) × Ix Path Text). i.1) items))))))
+-- lets and what stands behind them: no lets are no row
+abbrev pub behind_lets : Place → List (Bind Path Text) → SourceExp → SourceExp
+behind_lets place [] e = e
+behind_lets place (b ∷ bs) e = exp_at place (form.Lets (b ∷ bs) e)
 
--- `r with f.g = e` is `let v = r in v with f = (v.f with g = e)`. The nodes of each name are numbered from the
--- `with` on, eight further for each step.
-abbrev pub replaced : Spot → ℕ → Place → SourceExp → Path → SourceExp → SourceExp
-replaced at step from r [] e = e
-replaced at step from r (f ∷ []) e = node at (8 * step) from from (form.Replace r f e)
-replaced at step from r (f ∷ g ∷ fs) e =
-    node at (8 * step) from from (form.Lets (let_one (bound at (fresh 0)) r ∷ [])
-    (node at (8 * step + 1) from from (form.Replace (use_of at (8 * step + 2) from (fresh 0)) f
-    (replaced at (suc step) from (node at (8 * step + 3) from from (form.Path (fresh 0 ∷ f ∷ []))) (g ∷ fs) e))))
+abbrev pub index_section : Place → Place → List (List (Bind Path Text) × Ix Path Text) → SourceExp
+index_section paren bracket items =
+    behind_lets paren (flat (map (λ (i : List (Bind Path Text) × Ix Path Text). i.0) items))
+    (exp_at paren (form.Lambda (bound paren held_name ∷ []) None (node paren bracket (form.Index (use_of paren held_name) (map (λ (i : List (Bind Path Text) × Ix Path Text). i.1) items)))))
+
+-- `r with f.g = e` is `let v = r in v with f = (v.f with g = e)`. All of it stands where r begins.
+abbrev pub replaced : Place → SourceExp → Path → SourceExp → SourceExp
+replaced from r [] e = e
+replaced from r (f ∷ []) e = exp_at from (form.Replace r f e)
+replaced from r (f ∷ g ∷ fs) e =
+    exp_at from (form.Lets (let_one (bound from held_name) r ∷ [])
+    (exp_at from (form.Replace (use_of from held_name) f (replaced from (exp_at from (form.Path (held_name ∷ f ∷ []))) (g ∷ fs) e))))
 
 -- ---- the expression of a loop's pattern
 
 abbrev pub PatExp : Type 0
-PatExp = Spot → SourceExp
+PatExp = Place → SourceExp
 
 abbrev pub pat_form_exp : PatForm-F Path Text PatExp SourceExp → PatExp
-pat_form_exp (PatForm-F.Var x) at = node at 1 at.place at.place (form.Path (x ∷ []))
-pat_form_exp PatForm-F.Wild at = node at 1 at.place at.place form.Unit
-pat_form_exp PatForm-F.Unit at = node at 1 at.place at.place form.Unit
-pat_form_exp (PatForm-F.Tuple es) at = node at 1 at.place at.place (form.Tuple es)
-pat_form_exp (PatForm-F.Record fs) at = node at 1 at.place at.place (form.Record fs)
-pat_form_exp (PatForm-F.Ascribe e t) at = e
+pat_form_exp (PatForm-F.Var x) place = use_of place x
+pat_form_exp PatForm-F.Wild place = exp_at place form.Unit
+pat_form_exp PatForm-F.Unit place = exp_at place form.Unit
+pat_form_exp (PatForm-F.Tuple es) place = exp_at place (form.Tuple es)
+pat_form_exp (PatForm-F.Record fs) place = exp_at place (form.Record fs)
+pat_form_exp (PatForm-F.Ascribe e t) place = e
 
 -- a pattern as an expression has its names in its places
 abbrev pub exp_of_pat : SourcePat → SourceExp
-exp_of_pat = fold-Pat Path Text PatExp SourceExp pat_form_exp (λ p. p.form (record { place = p.place; start = p.start }))
+exp_of_pat = fold-Pat Path Text PatExp SourceExp pat_form_exp (λ p. p.form p.place)
 
 abbrev pub any_wild : List Bool → Bool
 any_wild [] = false

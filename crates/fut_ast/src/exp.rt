@@ -1,5 +1,5 @@
 // Expressions.
-use crate::node::{BindId, End, NodeId, Oper, Ref};
+use crate::node::{BindId, End, Oper, Ref};
 use crate::pat::{Head, Pat};
 use crate::ty::TypeExp;
 use fut_scalar::{Boxed, IntType, List, Name, Place};
@@ -8,7 +8,6 @@ use fut_scalar::{Boxed, IntType, List, Name, Place};
 #[cycle(exp)]
 #[derive(Drop)]
 pub struct Exp<P: Drop, B: Drop> {
-    pub id: NodeId,
     /// The place of its first token.
     pub place: Place,
     /// Where a report or a consumption of this form stands: its bracket, operator or keyword, else its place.

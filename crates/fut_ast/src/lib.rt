@@ -12,8 +12,8 @@ mod ty;
 
 pub use exp::{Bind, Exp, FlatExp, Form, Ix, LoopForm, SourceExp};
 pub use module::{
-    Dec, DecForm, ModExp, ModForm, ModType, ModTypeForm, Param, Program, Spec, SpecForm,
+    Dec, DecForm, ModExp, ModForm, ModType, ModTypeForm, Param, Program, Spec, SpecForm, With,
 };
-pub use node::{BindId, End, Joining, Label, NodeId, Oper, Ref, Spot, What, form_name};
+pub use node::{BindId, End, Ended, Joining, Label, Oper, Ref, Spot, What, form_name};
 pub use pat::{Head, HeadForm, Pat, PatForm};
 pub use ty::{SizeExp, SizeForm, TypeArg, TypeExp, TypeForm};

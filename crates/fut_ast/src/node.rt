@@ -1,19 +1,9 @@
-// What numbers nodes and names, and the plain enums of the trees.
+// The plain enums of the trees, and what names and places they hold.
 ghost use Rattle.std.specs.Prelude.{◌≡◌};
 ghost use Rattle.fut_ast.specs.LeftOut.{name_of};
 
 use fut_scalar::{BinOp, Name, Place};
-
-/// The number of a node: its file, and a number that no other node of that file has.
-///
-/// The number follows from the token that makes the node a node: it is four times the position of that
-/// token in the text, and 1, 2 or 3 more for the further nodes of the same token. So nodes are numbered in
-/// reading order, and a path of k names has k numbers of its own from its first on.
-#[derive(Clone, Copy, Debug, PartialEq, Eq)]
-pub struct NodeId {
-    pub file: u32,
-    pub number: u32,
-}
+use fut_token::Fixed;
 
 /// The number of a bound name.
 #[derive(Clone, Copy, Debug, PartialEq, Eq)]
@@ -70,6 +60,19 @@ pub enum End {
     Above,
     /// `...`
     Through,
+}
+
+/// How an expression ended, which tells what may go on with it.
+#[derive(Clone, Copy, Debug, PartialEq, Eq)]
+pub enum Ended {
+    /// Operands, and the last operator between them if there is one.
+    Operands(Option<Fixed>),
+    /// The end of a range.
+    Range,
+    /// An update.
+    Update,
+    /// A type.
+    Type,
 }
 
 /// Where a token stands: its place, and the position in bytes of its first byte.

@@ -1,3 +1,3 @@
-pub mod PatLaws
-pub mod IndexLaws
 pub mod FieldLaws
+pub mod IndexLaws
+pub mod PatLaws

@@ -1,544 +1,502 @@
 // The nodes of expressions.
-ghost use Rattle.std.specs.Prelude.{◌≡◌, ◌<◌, ◌+◌, ◌*◌, ◌^◌, length, IfOk, Option, [], ◌∷◌, None};
-ghost use Rattle.fut_ast.specs.Nodes.{
-  before,
-  bound,
-  exp_at,
-  fresh,
-  index_of,
-  let_one,
-  node,
-  replaced,
-  round_exp_of,
-  use_of,
-};
+ghost use Rattle.std.specs.Prelude.{◌≡◌, IfOk, [], ◌∷◌, None};
+ghost use Rattle.fut_ast.specs.Nodes.{bound, exp_at, held_name, let_one, node, round_exp_of, use_of};
 ghost use Rattle.fut_ast.specs.declared.exp.Form.TheVariants as form;
-ghost use Rattle.fut_ast.specs.declared.exp.Ix.TheVariants as ix;
+ghost use Rattle.fut_tree.specs.Exps.{bind_of, binds_of, exp_fields, ixs_of};
+ghost use Rattle.fut_tree.specs.Names.{all, maybe, names};
 
-use fut_ast::{Bind, End, Form, Ix, NodeId, Oper, SourceExp, Spot};
-use fut_phrases::keeping::{boxed_beside, boxed_three, boxed_two, kept};
+use bumpalo::Bump;
+use fut_ast::{End, Oper};
 use fut_phrases::pat_nodes;
-use fut_phrases::patterns::SourcePat;
-use fut_phrases::types::SourceType;
-use fut_scalar::{Boxed, List, Name, NoMemory, Place};
-use std::alloc::Global;
+use fut_scalar::{IntType, NoMemory, Place};
+use fut_tree::{Bind, Exp, ExpField, Form, Held, Ix, Pat, TypeExp};
 
-/// A form of a source text.
-pub type SourceForm = Form<List<Name>, Name>;
-
-/// A `let` of a source text.
-pub type SourceBind = Bind<List<Name>, Name>;
-
-/// A part of an index of a source text.
-pub type SourceIx = Ix<List<Name>, Name>;
-
-/// The node of a token, or one of its further nodes. Where its number would not fit, memory is said to run out: no text
-/// that can be held has such a token.
-pub fn at_slot(
-    key: Spot,
-    slot: u64,
-    place: Place,
-    mark: Place,
-    form: SourceForm,
-) -> Result<SourceExp, NoMemory>
-    ensures { IfOk result (λ e. e ≡ node key slot place mark form) }
+/// An expression that the arena holds. A form is handed over inside its expression alone: by itself it is dear to prove.
+pub fn held<'a>(bump: &'a Bump, e: Exp<'a>) -> Result<&'a Exp<'a>, NoMemory>
+    ensures { IfOk result (λ x. x.now ≡ e.entry) }
 {
-    if key.start > 500_000_000 || slot > 500_000_000 {
-        return Err(NoMemory);
-    }
-    let number = (4 * key.start + slot) as u32;
-    let file = key.place.file;
-    Ok(SourceExp {
-        id: NodeId { file, number },
-        place,
-        mark,
-        form,
-    })
+    Ok(bump.try_alloc(e)?)
 }
 
-/// An expression of the token that it begins with.
-pub fn simple(at: Spot, form: SourceForm) -> Result<SourceExp, NoMemory>
-    ensures { IfOk result (λ e. e ≡ exp_at at form) }
+// ---- of one token or in brackets
+
+/// A path of names.
+pub fn path<'a>(bump: &'a Bump, place: Place, path: &'a [&'a str]) -> Result<&'a Exp<'a>, NoMemory>
+    ensures { IfOk result (λ e. e.now ≡ exp_at place (form.Path (names path.now))) }
 {
-    at_slot(at, 0, at.place, at.place, form)
+    held(
+        bump,
+        Exp {
+            place,
+            mark: place,
+            form: Form::Path(path),
+        },
+    )
+}
+
+/// An integer.
+pub fn integer<'a>(
+    bump: &'a Bump,
+    place: Place,
+    value: u64,
+    ty: Option<IntType>,
+) -> Result<&'a Exp<'a>, NoMemory>
+    ensures { IfOk result (λ e. e.now ≡ exp_at place (form.Int value ty)) }
+{
+    held(
+        bump,
+        Exp {
+            place,
+            mark: place,
+            form: Form::Int { value, ty },
+        },
+    )
+}
+
+/// `true` or `false`
+pub fn truth<'a>(bump: &'a Bump, place: Place, value: bool) -> Result<&'a Exp<'a>, NoMemory>
+    ensures { IfOk result (λ e. e.now ≡ exp_at place (form.Bool value)) }
+{
+    held(
+        bump,
+        Exp {
+            place,
+            mark: place,
+            form: Form::Bool(value),
+        },
+    )
+}
+
+/// `()`
+pub fn unit<'a>(bump: &'a Bump, place: Place) -> Result<&'a Exp<'a>, NoMemory>
+    ensures { IfOk result (λ e. e.now ≡ exp_at place form.Unit) }
+{
+    held(
+        bump,
+        Exp {
+            place,
+            mark: place,
+            form: Form::Unit,
+        },
+    )
+}
+
+/// Several expressions in parentheses.
+pub fn tuple<'a>(
+    bump: &'a Bump,
+    place: Place,
+    parts: &'a [Held<'a, Exp<'a>>],
+) -> Result<&'a Exp<'a>, NoMemory>
+    ensures { IfOk result (λ e. e.now ≡ exp_at place (form.Tuple (all parts.now))) }
+{
+    held(
+        bump,
+        Exp {
+            place,
+            mark: place,
+            form: Form::Tuple(parts),
+        },
+    )
 }
 
 /// Expressions in parentheses: one alone is that expression.
-pub fn round(at: Spot, expressions: List<SourceExp>) -> Result<SourceExp, NoMemory>
-    ensures { IfOk result (λ e. e ≡ round_exp_of at expressions) }
+pub fn round<'a>(
+    bump: &'a Bump,
+    place: Place,
+    expressions: &'a [Held<'a, Exp<'a>>],
+) -> Result<&'a Exp<'a>, NoMemory>
+    ensures { IfOk result (λ e. e.now ≡ round_exp_of place (all expressions.now)) }
 {
-    let count = expressions.len();
-    if count == 1 {
-        let mut all = expressions.into_vec();
-        match all.pop() {
-            Some(only) => Ok(only),
-            None => simple(at, Form::Unit),
-        }
-    } else if count == 0 {
-        simple(at, Form::Unit)
-    } else {
-        simple(at, Form::Tuple(expressions))
+    match expressions {
+        [] => unit(bump, place),
+        [only] => Ok(only.at),
+        [_, _, ..] => tuple(bump, place, expressions),
     }
 }
 
-// ---- names
-
-/// A name that no text can spell.
-pub fn fresh_value(alloc: Global) -> Result<Name, NoMemory>
-    ensures { IfOk result (λ n. n ≡ fresh 0) }
+/// The elements of an array.
+pub fn array<'a>(
+    bump: &'a Bump,
+    place: Place,
+    elements: &'a [Held<'a, Exp<'a>>],
+) -> Result<&'a Exp<'a>, NoMemory>
+    ensures { IfOk result (λ e. e.now ≡ exp_at place (form.Array (all elements.now))) }
 {
-    Name::new(alloc, " ")
+    held(
+        bump,
+        Exp {
+            place,
+            mark: place,
+            form: Form::Array(elements),
+        },
+    )
 }
 
-/// Another one.
-pub fn fresh_left(alloc: Global) -> Result<Name, NoMemory>
-    ensures { IfOk result (λ n. n ≡ fresh 1) }
+/// The fields of a record.
+pub fn record<'a>(
+    bump: &'a Bump,
+    place: Place,
+    fields: &'a [ExpField<'a>],
+) -> Result<&'a Exp<'a>, NoMemory>
+    ensures { IfOk result (λ e. e.now ≡ exp_at place (form.Record (exp_fields fields.now))) }
 {
-    Name::new(alloc, "  ")
-}
-
-/// A third one.
-pub fn fresh_right(alloc: Global) -> Result<Name, NoMemory>
-    ensures { IfOk result (λ n. n ≡ fresh 2) }
-{
-    Name::new(alloc, "   ")
+    held(
+        bump,
+        Exp {
+            place,
+            mark: place,
+            form: Form::Record(fields),
+        },
+    )
 }
 
 /// A use of a name.
-pub fn name_used(
-    alloc: Global,
-    key: Spot,
-    slot: u64,
-    place: Place,
-    name: Name,
-) -> Result<SourceExp, NoMemory>
-    ensures { IfOk result (λ e. e ≡ use_of key slot place name) }
+pub fn name_used<'a>(bump: &'a Bump, place: Place, name: &'a str) -> Result<&'a Exp<'a>, NoMemory>
+    ensures { IfOk result (λ e. e.now ≡ use_of place name.now) }
 {
-    let mut path = List::new(alloc);
-    path.push(name)?;
-    at_slot(key, slot, place, place, Form::Path(path))
-}
-
-/// A use of the name that no text can spell.
-pub fn value_used(alloc: Global, key: Spot, slot: u64, place: Place) -> Result<SourceExp, NoMemory>
-    ensures { IfOk result (λ e. e ≡ use_of key slot place (fresh 0)) }
-{
-    name_used(alloc, key, slot, place, fresh_value(alloc)?)
-}
-
-/// The pattern that binds it.
-pub fn value_bound(alloc: Global, at: Spot) -> Result<SourcePat, NoMemory>
-    ensures { IfOk result (λ p. p ≡ bound at (fresh 0)) }
-{
-    Ok(pat_nodes::name(at, fresh_value(alloc)?))
+    let names = bump.try_alloc_slice_copy(&[name])?;
+    path(bump, place, names)
 }
 
 // ---- rows of lets, functions and calls
 
 /// A `let` of one pattern.
-pub fn one_let(alloc: Global, pat: SourcePat, value: SourceExp) -> SourceBind
-    ensures { result ≡ let_one pat value }
+pub fn one_let<'a>(pat: &'a Pat<'a>, value: &'a Exp<'a>) -> Bind<'a>
+    ensures { bind_of result ≡ let_one pat.now value.now }
 {
     Bind {
-        sizes: List::new(alloc),
+        sizes: &[],
         pat,
-        heads: List::new(alloc),
+        heads: &[],
         value,
     }
 }
 
-/// A row of one `let`, which binds the name that no text can spell.
-pub fn value_row(alloc: Global, at: Spot, value: SourceExp) -> Result<List<SourceBind>, NoMemory>
-    ensures { IfOk result (λ bs. bs ≡ let_one (bound at (fresh 0)) value ∷ []) }
+/// A `let` of one name.
+pub fn name_let<'a>(
+    bump: &'a Bump,
+    place: Place,
+    name: &'a str,
+    value: &'a Exp<'a>,
+) -> Result<Bind<'a>, NoMemory>
+    ensures { IfOk result (λ b. bind_of b ≡ let_one (bound place name.now) value.now) }
 {
-    let (value, pat) = kept(value, value_bound(alloc, at))?;
-    let mut row = List::new(alloc);
-    row.push(one_let(alloc, pat, value))?;
-    Ok(row)
+    Ok(one_let(pat_nodes::name(bump, place, name)?, value))
+}
+
+/// One `let` of a name before a body.
+pub fn let_before<'a>(
+    bump: &'a Bump,
+    place: Place,
+    mark: Place,
+    bind: Bind<'a>,
+    body: &'a Exp<'a>,
+) -> Result<&'a Exp<'a>, NoMemory>
+    ensures { IfOk result (λ e. e.now ≡ node place mark (form.Lets (bind_of bind.entry ∷ []) body.now)) }
+{
+    let row = bump.try_alloc_slice_copy(&[bind])?;
+    lets(bump, place, mark, row, body)
 }
 
 /// A row of `let`s before a body.
-pub fn lets(
-    alloc: Global,
-    key: Spot,
-    slot: u64,
+pub fn lets<'a>(
+    bump: &'a Bump,
     place: Place,
     mark: Place,
-    row: List<SourceBind>,
-    body: SourceExp,
-) -> Result<SourceExp, NoMemory>
-    ensures { IfOk result (λ e. e ≡ node key slot place mark (form.Lets row body)) }
+    row: &'a [Bind<'a>],
+    body: &'a Exp<'a>,
+) -> Result<&'a Exp<'a>, NoMemory>
+    ensures { IfOk result (λ e. e.now ≡ node place mark (form.Lets (binds_of row.now) body.now)) }
 {
-    let (row, body) = boxed_beside(alloc, row, body)?;
-    at_slot(key, slot, place, mark, Form::Lets(row, body))
-}
-
-/// A function with a type behind its parameters, or none.
-pub fn function(
-    alloc: Global,
-    key: Spot,
-    slot: u64,
-    params: List<SourcePat>,
-    ty: Option<SourceType>,
-    body: SourceExp,
-) -> Result<SourceExp, NoMemory>
-    ensures { IfOk result (λ e. e ≡ node key slot key.place key.place (form.Lambda params ty body)) }
-{
-    let (params, body) = boxed_beside(alloc, params, body)?;
-    let ((params, body), ty) = kept((params, body), boxed_type(alloc, ty))?;
-    at_slot(
-        key,
-        slot,
-        key.place,
-        key.place,
-        Form::Lambda(params, ty, body),
+    held(
+        bump,
+        Exp {
+            place,
+            mark,
+            form: Form::Lets(row, body),
+        },
     )
 }
 
-fn boxed_type(alloc: Global, ty: Option<SourceType>) -> Result<Option<Boxed<SourceType>>, NoMemory>
-    ensures { IfOk result (λ t. t ≡ ty) }
+/// A function with a type behind its parameters, or none.
+pub fn function<'a>(
+    bump: &'a Bump,
+    place: Place,
+    params: &'a [Held<'a, Pat<'a>>],
+    ty: Option<&'a TypeExp<'a>>,
+    body: &'a Exp<'a>,
+) -> Result<&'a Exp<'a>, NoMemory>
+    ensures { IfOk result (λ e. e.now ≡ exp_at place (form.Lambda (all params.now) (maybe ty.entry) body.now)) }
 {
-    match ty {
-        None => Ok(None),
-        Some(ty) => Ok(Some(Boxed::new(alloc, ty)?)),
-    }
+    held(
+        bump,
+        Exp {
+            place,
+            mark: place,
+            form: Form::Lambda(params, ty, body),
+        },
+    )
 }
 
-/// A function without a type behind its parameters.
-pub fn lambda(
-    alloc: Global,
-    key: Spot,
-    slot: u64,
-    params: List<SourcePat>,
-    body: SourceExp,
-) -> Result<SourceExp, NoMemory>
-    ensures { IfOk result (λ e. e ≡ node key slot key.place key.place (form.Lambda params None body)) }
+/// A function of one parameter.
+pub fn lambda<'a>(
+    bump: &'a Bump,
+    place: Place,
+    param: &'a Pat<'a>,
+    body: &'a Exp<'a>,
+) -> Result<&'a Exp<'a>, NoMemory>
+    ensures { IfOk result (λ e. e.now ≡ exp_at place (form.Lambda (param.now ∷ []) None body.now)) }
 {
-    function(alloc, key, slot, params, None, body)
-}
-
-pub fn one_param(alloc: Global, param: SourcePat) -> Result<List<SourcePat>, NoMemory>
-    ensures { IfOk result (λ ps. ps ≡ param ∷ []) }
-{
-    let mut params = List::new(alloc);
-    params.push(param)?;
-    Ok(params)
+    let params = bump.try_alloc_slice_copy(&[Held { at: param }])?;
+    function(bump, place, params, None, body)
 }
 
 /// A function and its argument.
-pub fn call(
-    alloc: Global,
-    key: Spot,
-    slot: u64,
+pub fn call<'a>(
+    bump: &'a Bump,
     place: Place,
     mark: Place,
-    callee: SourceExp,
-    argument: SourceExp,
-) -> Result<SourceExp, NoMemory>
-    ensures { IfOk result (λ e. e ≡ node key slot place mark (form.Apply callee argument)) }
+    callee: &'a Exp<'a>,
+    argument: &'a Exp<'a>,
+) -> Result<&'a Exp<'a>, NoMemory>
+    ensures { IfOk result (λ e. e.now ≡ node place mark (form.Apply callee.now argument.now)) }
 {
-    let (callee, argument) = boxed_two(alloc, callee, argument)?;
-    at_slot(key, slot, place, mark, Form::Apply(callee, argument))
+    held(
+        bump,
+        Exp {
+            place,
+            mark,
+            form: Form::Apply(callee, argument),
+        },
+    )
 }
 
 // ---- forms that begin with a keyword or an operator
 
 /// `if`
-pub fn choice(
-    alloc: Global,
-    key: Spot,
+pub fn choice<'a>(
+    bump: &'a Bump,
     place: Place,
-    test: SourceExp,
-    yes: SourceExp,
-    no: SourceExp,
-) -> Result<SourceExp, NoMemory>
-    ensures { IfOk result (λ e. e ≡ node key 0 place key.place (form.If test yes no)) }
+    mark: Place,
+    test: &'a Exp<'a>,
+    yes: &'a Exp<'a>,
+    no: &'a Exp<'a>,
+) -> Result<&'a Exp<'a>, NoMemory>
+    ensures { IfOk result (λ e. e.now ≡ node place mark (form.If test.now yes.now no.now)) }
 {
-    let (test, yes, no) = boxed_three(alloc, test, yes, no)?;
-    at_slot(key, 0, place, key.place, Form::If(test, yes, no))
+    held(
+        bump,
+        Exp {
+            place,
+            mark,
+            form: Form::If(test, yes, no),
+        },
+    )
 }
 
 /// An operator before its operand.
-pub fn unary(
-    alloc: Global,
-    at: Spot,
+pub fn unary<'a>(
+    bump: &'a Bump,
+    place: Place,
     operator: Oper,
-    operand: SourceExp,
-) -> Result<SourceExp, NoMemory>
-    ensures { IfOk result (λ e. e ≡ exp_at at (form.Unary operator operand)) }
+    operand: &'a Exp<'a>,
+) -> Result<&'a Exp<'a>, NoMemory>
+    ensures { IfOk result (λ e. e.now ≡ exp_at place (form.Unary operator operand.now)) }
 {
-    let operand = Boxed::new(alloc, operand)?;
-    simple(at, Form::Unary(operator, operand))
+    held(
+        bump,
+        Exp {
+            place,
+            mark: place,
+            form: Form::Unary(operator, operand),
+        },
+    )
+}
+
+/// An operator between its operands.
+pub fn binary<'a>(
+    bump: &'a Bump,
+    place: Place,
+    mark: Place,
+    operator: Oper,
+    left: &'a Exp<'a>,
+    right: &'a Exp<'a>,
+) -> Result<&'a Exp<'a>, NoMemory>
+    ensures { IfOk result (λ e. e.now ≡ node place mark (form.Binary operator left.now right.now)) }
+{
+    held(
+        bump,
+        Exp {
+            place,
+            mark,
+            form: Form::Binary(operator, left, right),
+        },
+    )
 }
 
 /// `assert`
-pub fn assertion(
-    alloc: Global,
-    at: Spot,
-    test: SourceExp,
-    value: SourceExp,
-) -> Result<SourceExp, NoMemory>
-    ensures { IfOk result (λ e. e ≡ exp_at at (form.Assert test value)) }
+pub fn assertion<'a>(
+    bump: &'a Bump,
+    place: Place,
+    test: &'a Exp<'a>,
+    value: &'a Exp<'a>,
+) -> Result<&'a Exp<'a>, NoMemory>
+    ensures { IfOk result (λ e. e.now ≡ exp_at place (form.Assert test.now value.now)) }
 {
-    let (test, value) = boxed_two(alloc, test, value)?;
-    simple(at, Form::Assert(test, value))
+    held(
+        bump,
+        Exp {
+            place,
+            mark: place,
+            form: Form::Assert(test, value),
+        },
+    )
 }
 
 // ---- what stands behind an expression
 
 /// An element of an array.
-pub fn index(
-    alloc: Global,
-    key: Spot,
+pub fn index<'a>(
+    bump: &'a Bump,
     place: Place,
-    array: SourceExp,
-    parts: List<SourceIx>,
-) -> Result<SourceExp, NoMemory>
-    ensures { IfOk result (λ e. e ≡ node key 0 place key.place (form.Index array parts)) }
+    mark: Place,
+    array: &'a Exp<'a>,
+    parts: &'a [Ix<'a>],
+) -> Result<&'a Exp<'a>, NoMemory>
+    ensures { IfOk result (λ e. e.now ≡ node place mark (form.Index array.now (ixs_of parts.now))) }
 {
-    let (parts, array) = boxed_beside(alloc, parts, array)?;
-    at_slot(key, 0, place, key.place, Form::Index(array, parts))
+    held(
+        bump,
+        Exp {
+            place,
+            mark,
+            form: Form::Index(array, parts),
+        },
+    )
 }
 
 /// A field of a record.
-pub fn field(
-    alloc: Global,
-    key: Spot,
+pub fn field<'a>(
+    bump: &'a Bump,
     place: Place,
-    holder: SourceExp,
-    name: Name,
-) -> Result<SourceExp, NoMemory>
-    ensures { IfOk result (λ e. e ≡ node key 0 place place (form.Field holder name)) }
+    holder: &'a Exp<'a>,
+    name: &'a str,
+) -> Result<&'a Exp<'a>, NoMemory>
+    ensures { IfOk result (λ e. e.now ≡ exp_at place (form.Field holder.now name.now)) }
 {
-    let (name, holder) = boxed_beside(alloc, name, holder)?;
-    at_slot(key, 0, place, place, Form::Field(holder, name))
+    held(
+        bump,
+        Exp {
+            place,
+            mark: place,
+            form: Form::Field(holder, name),
+        },
+    )
 }
 
 /// A range, of its first value, its second where one is told, and its end.
-pub fn range(
-    alloc: Global,
-    key: Spot,
+pub fn range<'a>(
+    bump: &'a Bump,
     place: Place,
-    bounds: (SourceExp, SourceExp),
-    next: Option<Boxed<SourceExp>>,
+    mark: Place,
+    from: &'a Exp<'a>,
+    next: Option<&'a Exp<'a>>,
     end: End,
-) -> Result<SourceExp, NoMemory>
-    ensures { IfOk result (λ e. e ≡ node key 0 place key.place (form.Range bounds.0 next end bounds.1)) }
+    to: &'a Exp<'a>,
+) -> Result<&'a Exp<'a>, NoMemory>
+    ensures { IfOk result (λ e. e.now ≡ node place mark (form.Range from.now (maybe next.entry) end to.now)) }
 {
-    let (first, last) = bounds;
-    let (next, (from, to)) = kept(next, boxed_two(alloc, first, last))?;
-    let form = Form::Range {
-        from,
-        next,
-        end,
-        to,
-    };
-    at_slot(key, 0, place, key.place, form)
+    held(
+        bump,
+        Exp {
+            place,
+            mark,
+            form: Form::Range {
+                from,
+                next,
+                end,
+                to,
+            },
+        },
+    )
 }
 
 /// An array with another element.
-pub fn updated(
-    alloc: Global,
-    key: Spot,
+pub fn updated<'a>(
+    bump: &'a Bump,
     place: Place,
-    array: SourceExp,
-    indices: List<SourceExp>,
-    value: SourceExp,
-) -> Result<SourceExp, NoMemory>
-    ensures { IfOk result (λ e. e ≡ node key 0 place key.place (form.Update array indices value)) }
+    mark: Place,
+    array: &'a Exp<'a>,
+    indices: &'a [Held<'a, Exp<'a>>],
+    value: &'a Exp<'a>,
+) -> Result<&'a Exp<'a>, NoMemory>
+    ensures { IfOk result (λ e. e.now ≡ node place mark (form.Update array.now (all indices.now) value.now)) }
 {
-    let (indices, (array, value)) = kept(indices, boxed_two(alloc, array, value))?;
-    at_slot(
-        key,
-        0,
-        place,
-        key.place,
-        Form::Update(array, indices, value),
+    held(
+        bump,
+        Exp {
+            place,
+            mark,
+            form: Form::Update(array, indices, value),
+        },
     )
 }
 
 /// An expression and its type.
-pub fn ascribed(
-    alloc: Global,
-    key: Spot,
+pub fn ascribed<'a>(
+    bump: &'a Bump,
     place: Place,
-    e: SourceExp,
-    ty: SourceType,
-) -> Result<SourceExp, NoMemory>
-    ensures { IfOk result (λ t. t ≡ node key 0 place place (form.Ascribe e ty)) }
+    e: &'a Exp<'a>,
+    ty: &'a TypeExp<'a>,
+) -> Result<&'a Exp<'a>, NoMemory>
+    ensures { IfOk result (λ t. t.now ≡ exp_at place (form.Ascribe e.now ty.now)) }
 {
-    let (e, ty) = boxed_two(alloc, e, ty)?;
-    at_slot(key, 0, place, place, Form::Ascribe(e, ty))
+    held(
+        bump,
+        Exp {
+            place,
+            mark: place,
+            form: Form::Ascribe(e, ty),
+        },
+    )
 }
 
 /// An expression and the type that it is given.
-pub fn coerced(
-    alloc: Global,
-    key: Spot,
+pub fn coerced<'a>(
+    bump: &'a Bump,
     place: Place,
-    e: SourceExp,
-    ty: SourceType,
-) -> Result<SourceExp, NoMemory>
-    ensures { IfOk result (λ t. t ≡ node key 0 place key.place (form.Coerce e ty)) }
+    mark: Place,
+    e: &'a Exp<'a>,
+    ty: &'a TypeExp<'a>,
+) -> Result<&'a Exp<'a>, NoMemory>
+    ensures { IfOk result (λ t. t.now ≡ node place mark (form.Coerce e.now ty.now)) }
 {
-    let (e, ty) = boxed_two(alloc, e, ty)?;
-    at_slot(key, 0, place, key.place, Form::Coerce(e, ty))
+    held(
+        bump,
+        Exp {
+            place,
+            mark,
+            form: Form::Coerce(e, ty),
+        },
+    )
 }
 
-/// The byte before a token.
-pub fn byte_before(at: Spot) -> Spot
-    ensures { result ≡ before at }
+/// A record with another field.
+pub fn replace<'a>(
+    bump: &'a Bump,
+    place: Place,
+    holder: &'a Exp<'a>,
+    name: &'a str,
+    value: &'a Exp<'a>,
+) -> Result<&'a Exp<'a>, NoMemory>
+    ensures { IfOk result (λ e. e.now ≡ exp_at place (form.Replace holder.now name.now value.now)) }
 {
-    Spot {
-        place: at.place,
-        start: at.start.saturating_sub(1),
-    }
-}
-
-// ---- fields replaced
-
-/// A record with another value of a field inside, where a path leads to it.
-#[cycle(replacing)]
-pub fn with_field_replaced(
-    alloc: Global,
-    at: Spot,
-    step: u64,
-    from: Place,
-    holder: SourceExp,
-    path: &[Name],
-    e: SourceExp,
-) -> Result<SourceExp, NoMemory>
-    requires slots { 8 * (step + length path.now) < 2 ^ 64 }
-    ensures { IfOk result (λ s. s ≡ replaced at step from holder path.now e) }
-{
-    match path {
-        [] => Ok(e),
-        [field, rest @ ..] => field_replaced(alloc, at, step, from, holder, field, rest, e),
-    }
-}
-
-// The same, of a path that goes on behind a field.
-#[cycle(replacing)]
-fn field_replaced(
-    alloc: Global,
-    at: Spot,
-    step: u64,
-    from: Place,
-    holder: SourceExp,
-    field: &Name,
-    path: &[Name],
-    e: SourceExp,
-) -> Result<SourceExp, NoMemory>
-    requires slots { 8 * (step + length path.now) + 8 < 2 ^ 64 }
-    ensures { IfOk result (λ s. s ≡ replaced at step from holder (field.now ∷ path.now) e) }
-{
-    match path {
-        [] => one_field_replaced(alloc, at, 8 * step, from, holder, field, e),
-        [_, ..] => {
-            let inner = inner_replaced(alloc, at, step, from, field, path, e);
-            let (holder, value) = kept(holder, inner)?;
-            inside_replaced(alloc, at, step, from, holder, field, value)
-        }
-    }
-}
-
-// The record's field with another value of a field inside.
-#[cycle(replacing)]
-fn inner_replaced(
-    alloc: Global,
-    at: Spot,
-    step: u64,
-    from: Place,
-    field: &Name,
-    path: &[Name],
-    e: SourceExp,
-) -> Result<SourceExp, NoMemory>
-    requires slots { 8 * (step + length path.now) + 8 < 2 ^ 64 }
-    ensures { IfOk result (λ s. s ≡ replaced at (step + 1) from (node at (8 * step + 3) from from (form.Path (fresh 0 ∷ field.now ∷ []))) path.now e) }
-{
-    let (e, inner) = kept(e, field_used(alloc, at, 8 * step + 3, from, field))?;
-    with_field_replaced(alloc, at, step + 1, from, inner, path, e)
-}
-
-fn field_used(
-    alloc: Global,
-    at: Spot,
-    slot: u64,
-    from: Place,
-    field: &Name,
-) -> Result<SourceExp, NoMemory>
-    ensures { IfOk result (λ e. e ≡ node at slot from from (form.Path (fresh 0 ∷ field.now ∷ []))) }
-{
-    let mut path = List::new(alloc);
-    path.push(fresh_value(alloc)?)?;
-    path.push(field.copy(alloc)?)?;
-    at_slot(at, slot, from, from, Form::Path(path))
-}
-
-fn one_field_replaced(
-    alloc: Global,
-    at: Spot,
-    slot: u64,
-    from: Place,
-    holder: SourceExp,
-    field: &Name,
-    e: SourceExp,
-) -> Result<SourceExp, NoMemory>
-    ensures { IfOk result (λ s. s ≡ node at slot from from (form.Replace holder field.now e)) }
-{
-    let ((holder, e), field) = kept((holder, e), field.copy(alloc))?;
-    let (field, (holder, e)) = kept(field, boxed_two(alloc, holder, e))?;
-    at_slot(at, slot, from, from, Form::Replace(holder, field, e))
-}
-
-// The record has a name, since its field is used in its new value.
-fn inside_replaced(
-    alloc: Global,
-    at: Spot,
-    step: u64,
-    from: Place,
-    holder: SourceExp,
-    field: &Name,
-    e: SourceExp,
-) -> Result<SourceExp, NoMemory>
-    requires { 8 * step + 8 < 2 ^ 64 }
-    ensures { IfOk result (λ s. s ≡ node at (8 * step) from from (form.Lets (let_one (bound at (fresh 0)) holder ∷ []) (node at (8 * step + 1) from from (form.Replace (use_of at (8 * step + 2) from (fresh 0)) field.now e)))) }
-{
-    let ((holder, e), value) = kept((holder, e), value_used(alloc, at, 8 * step + 2, from))?;
-    let (holder, body) = kept(
-        holder,
-        one_field_replaced(alloc, at, 8 * step + 1, from, value, field, e),
-    )?;
-    let (body, row) = kept(body, value_row(alloc, at, holder))?;
-    lets(alloc, at, 8 * step, from, from, row, body)
-}
-
-// ---- indices
-
-/// A part of an index, of its first expression and what stands behind it.
-pub fn index_part(
-    alloc: Global,
-    e: SourceExp,
-    upto: Option<(Spot, Option<SourceExp>)>,
-) -> Result<SourceIx, NoMemory>
-    ensures { IfOk result (λ i. i ≡ index_of e upto) }
-{
-    match upto {
-        None => Ok(Ix::At(Boxed::new(alloc, e)?)),
-        Some((_, None)) => Ok(Ix::Slice(Some(Boxed::new(alloc, e)?), None)),
-        Some((_, Some(f))) => {
-            let (e, f) = boxed_two(alloc, e, f)?;
-            Ok(Ix::Slice(Some(e), Some(f)))
-        }
-    }
-}
-
-/// A part of an index without a first expression.
-pub fn index_up_to(alloc: Global, upto: Option<SourceExp>) -> Result<SourceIx, NoMemory>
-    ensures { IfOk result (λ i. i ≡ ix.Slice None upto) }
-{
-    match upto {
-        None => Ok(Ix::Slice(None, None)),
-        Some(f) => Ok(Ix::Slice(None, Some(Boxed::new(alloc, f)?))),
-    }
+    held(
+        bump,
+        Exp {
+            place,
+            mark: place,
+            form: Form::Replace(holder, name, value),
+        },
+    )
 }

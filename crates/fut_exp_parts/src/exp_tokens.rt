@@ -21,6 +21,9 @@ ghost use Rattle.fut_ast.specs.Behind.{
 ghost use Rattle.fut_ast.specs.Operators.{
   any_operator,
   behind_operator,
+  fits,
+  fitting_at,
+  is_whole,
   left_level,
   level,
   operator_at,
@@ -30,19 +33,17 @@ ghost use Rattle.fut_ast.specs.Operators.{
 };
 ghost use Rattle.fut_ast.specs.Parts.{going_back};
 ghost use Rattle.fut_ast.specs.Tokens.{is_digits, is_one, is_tight, starts_loose, starts_tight};
-ghost use Rattle.fut_phrases.specs.Phrases.{fits, operator_between};
-ghost use Rattle.fut_phrases.specs.Reading.{Gives, backtick_at, digits_at, end_at, look_at, one_at, operator_taken};
-ghost use Rattle.fut_phrases.specs.Reading.{operator_from as named_from};
+ghost use Rattle.fut_grammar.specs.Phrases.{operator_between};
+ghost use Rattle.fut_grammar.specs.Reading.{Gives, backtick_at, digits_at, end_at, look_at, one_at, operator_taken};
+ghost use Rattle.fut_grammar.specs.Reading.{operator_from as named_from};
 
-use fut_ast::{End, Spot, What};
-use fut_phrases::fault::{Fault, Stop};
+use fut_ast::{End, Ended, Spot, What};
+use fut_grammar::{Fault, Stop};
 use fut_phrases::tokens::{
     begins_parameter, begins_pattern, next_spot, refused, rest_of, starts_with, starts_with_int,
     starts_with_word, take, take_number, take_word,
 };
-use fut_scalar::Name;
 use fut_token::{Fixed, Token, TokenKind};
-use std::alloc::Global;
 
 fn stands_tight(tokens: &[Token]) -> bool
     ensures { result ≡ is_tight tokens.now }
@@ -129,11 +130,14 @@ pub fn goes_on_app(tokens: &[Token]) -> bool
     goes_on_atom(tokens) || begins_exp_argument(tokens)
 }
 
-/// The same, or an operator of a level or tighter.
-pub fn goes_on_chain(least: u8, tokens: &[Token]) -> bool
-    ensures { result ≡ behind_chain least tokens.now }
+/// The same, or an operator of a level or tighter, behind what ended so.
+pub fn goes_on_chain(least: u8, ended: Ended, tokens: &[Token]) -> bool
+    ensures { result ≡ behind_chain least ended tokens.now }
 {
-    goes_on_app(tokens) || next_operator(least, tokens).is_some()
+    match ended {
+        Ended::Operands(_) => goes_on_app(tokens) || next_fitting(ended, least, tokens).is_some(),
+        Ended::Range | Ended::Update | Ended::Type => false,
+    }
 }
 
 /// Whether the end of a range stands next, or its second element.
@@ -146,25 +150,27 @@ pub fn goes_on_to_range(tokens: &[Token]) -> bool
         || starts_with(tokens, Fixed::DotDotDot)
 }
 
-/// Whether the next tokens go on with a range.
-pub fn goes_on_range(tokens: &[Token]) -> bool
-    ensures { result ≡ behind_range tokens.now }
+/// Whether the next tokens go on with a range that ended so.
+pub fn goes_on_range(ended: Ended, tokens: &[Token]) -> bool
+    ensures { result ≡ behind_range ended tokens.now }
 {
-    goes_on_chain(1, tokens) || goes_on_to_range(tokens)
+    goes_on_chain(1, ended, tokens)
+        || (matches!(ended, Ended::Operands(_)) && goes_on_to_range(tokens))
 }
 
 /// The same, or an update stands next.
-pub fn goes_on_updated(tokens: &[Token]) -> bool
-    ensures { result ≡ behind_updated tokens.now }
+pub fn goes_on_updated(ended: Ended, tokens: &[Token]) -> bool
+    ensures { result ≡ behind_updated ended tokens.now }
 {
-    goes_on_range(tokens) || starts_with(tokens, Fixed::KeyWith)
+    goes_on_range(ended, tokens)
+        || (!matches!(ended, Ended::Type) && starts_with(tokens, Fixed::KeyWith))
 }
 
 /// The same, or a type stands next.
-pub fn goes_on_typed(tokens: &[Token]) -> bool
-    ensures { result ≡ behind_typed tokens.now }
+pub fn goes_on_typed(ended: Ended, tokens: &[Token]) -> bool
+    ensures { result ≡ behind_typed ended tokens.now }
 {
-    goes_on_updated(tokens)
+    goes_on_updated(ended, tokens)
         || starts_with(tokens, Fixed::Colon)
         || starts_with(tokens, Fixed::ColonGreater)
 }
@@ -248,6 +254,22 @@ pub fn next_operator(least: u8, tokens: &[Token]) -> Option<Fixed>
     }
 }
 
+/// The same, if it may have on its left what stands there, which ended so.
+pub fn next_fitting(ended: Ended, least: u8, tokens: &[Token]) -> Option<Fixed>
+    ensures { result ≡ fitting_at ended least tokens.now }
+{
+    match next_operator(least, tokens) {
+        Some(fixed) => {
+            if takes_left(ended, left_level_of(fixed)) {
+                Some(fixed)
+            } else {
+                None
+            }
+        }
+        None => None,
+    }
+}
+
 /// The operator that stands next, whatever stands behind it.
 pub fn next_any_operator(tokens: &[Token]) -> Option<Fixed>
     ensures { result ≡ any_operator tokens.now }
@@ -267,13 +289,28 @@ pub fn next_any_operator(tokens: &[Token]) -> Option<Fixed>
     }
 }
 
+// Whether a name and a backtick stand behind a backtick.
+fn stands_whole(fixed: Fixed, tokens: &[Token]) -> bool
+    ensures { result ≡ is_whole fixed tokens.now }
+{
+    match fixed {
+        Fixed::Backtick => {
+            starts_with_word(tokens) && starts_with(rest_of(tokens), Fixed::Backtick)
+        }
+        _ => true,
+    }
+}
+
 /// The operator that stands next, with a closing parenthesis behind it.
 pub fn next_section(tokens: &[Token]) -> Option<Fixed>
     ensures { result ≡ section_at tokens.now }
 {
+    let behind = rest_of(tokens);
     match next_any_operator(tokens) {
         Some(fixed) => {
-            if starts_with(past_operator(fixed, rest_of(tokens)), Fixed::CloseParen) {
+            if stands_whole(fixed, behind)
+                && starts_with(past_operator(fixed, behind), Fixed::CloseParen)
+            {
                 Some(fixed)
             } else {
                 None
@@ -283,14 +320,14 @@ pub fn next_section(tokens: &[Token]) -> Option<Fixed>
     }
 }
 
-/// The operator that stands next between operands. Where a section may end them, its operator is none of these.
-pub fn next_between(section_ends: bool, least: u8, tokens: &[Token]) -> Option<Fixed>
-    ensures { result ≡ operator_between section_ends least tokens.now }
+/// The operator that stands next behind operands that ended so. Where a section may end them, its operator is none of these.
+pub fn next_between(section_ends: bool, ended: Ended, least: u8, tokens: &[Token]) -> Option<Fixed>
+    ensures { result ≡ operator_between section_ends ended least tokens.now }
 {
     if section_ends && next_section(tokens).is_some() {
         None
     } else {
-        next_operator(least, tokens)
+        next_fitting(ended, least, tokens)
     }
 }
 
@@ -304,13 +341,14 @@ pub fn makes_section(fixed: Fixed, tokens: &[Token]) -> bool
     }
 }
 
-/// Whether an operator may take what stands before it, of which this is the last operator.
-pub fn takes_left(last: Option<Fixed>, least: u8) -> bool
-    ensures { result ≡ fits last least }
+/// Whether what ended so may stand on the left of an operator that wants this level or a tighter one there.
+pub fn takes_left(ended: Ended, least: u8) -> bool
+    ensures { result ≡ fits ended least }
 {
-    match last {
-        Some(fixed) => least <= level_of(fixed),
-        None => true,
+    match ended {
+        Ended::Operands(Some(last)) => least <= level_of(last),
+        Ended::Operands(None) => true,
+        Ended::Range | Ended::Update | Ended::Type => false,
     }
 }
 
@@ -344,13 +382,13 @@ pub fn begins_function(tokens: &[Token]) -> bool
 }
 
 /// A point with digits, and the tokens behind it.
-#[tactic(auto, unfolding(fut_phrases::specs::Reading::digits_at))]
-pub fn take_digits(alloc: Global, tokens: &[Token]) -> Result<(Name, &[Token]), Stop>
-    ensures { Gives (λ x. (x.0, x.1.now)) result (digits_at tokens.now) }
+#[tactic(auto, unfolding(fut_grammar::specs::Reading::digits_at))]
+pub fn take_digits<'a>(tokens: &'a [Token]) -> Result<(&'a str, &'a [Token]), Stop>
+    ensures { Gives (λ x. (x.0.now, x.1.now)) result (digits_at tokens.now) }
 {
     match tokens {
         [token, rest @ ..] => match &token.kind {
-            TokenKind::Field(name) => Ok((name.copy(alloc)?, rest)),
+            TokenKind::Field(name) => Ok((name.as_str(), rest)),
             _ => Err(Stop::Fault(refused(tokens))),
         },
         [] => Err(Stop::Fault(refused(tokens))),
@@ -358,7 +396,7 @@ pub fn take_digits(alloc: Global, tokens: &[Token]) -> Result<(Name, &[Token]), 
 }
 
 /// How a range ends, and the tokens behind it.
-#[tactic(auto, unfolding(fut_phrases::specs::Reading::end_at))]
+#[tactic(auto, unfolding(fut_grammar::specs::Reading::end_at))]
 pub fn take_end(tokens: &[Token]) -> Result<(End, &[Token]), Stop>
     ensures { Gives (λ x. (x.0, x.1.now)) result (end_at tokens.now) }
 {
@@ -407,7 +445,7 @@ pub fn without_stride(tokens: &[Token]) -> Result<(), Stop>
 }
 
 /// The integer 1: what follows it.
-#[tactic(auto, unfolding(fut_phrases::specs::Reading::one_at))]
+#[tactic(auto, unfolding(fut_grammar::specs::Reading::one_at))]
 pub fn take_one(tokens: &[Token]) -> Result<&[Token], Stop>
     ensures { Gives (λ x. x.now) result (one_at tokens.now) }
 {
@@ -419,43 +457,41 @@ pub fn take_one(tokens: &[Token]) -> Result<&[Token], Stop>
     }
 }
 
-#[tactic(auto, unfolding(fut_phrases::specs::Reading::backtick_at))]
-fn quoted_operator(alloc: Global, tokens: &[Token]) -> Result<((Spot, Name), &[Token]), Stop>
-    ensures { Gives (λ x. (x.0, x.1.now)) result (backtick_at tokens.now) }
+#[tactic(auto, unfolding(fut_grammar::specs::Reading::backtick_at))]
+fn quoted_operator<'a>(tokens: &'a [Token]) -> Result<((Spot, &'a str), &'a [Token]), Stop>
+    ensures { Gives (λ x. ((x.0.0, x.0.1.now), x.1.now)) result (backtick_at tokens.now) }
 {
     let at = next_spot(tokens);
-    let (name, rest) = take_word(alloc, tokens)?;
+    let (name, rest) = take_word(tokens)?;
     let rest = take(rest, Fixed::Backtick)?;
     Ok(((at, name), rest))
 }
 
-fn operator_behind(
-    alloc: Global,
+fn operator_behind<'a>(
     fixed: Fixed,
     at: Spot,
-    tokens: &[Token],
-) -> Result<((Spot, Name), &[Token]), Stop>
-    ensures { Gives (λ x. (x.0, x.1.now)) result (named_from fixed at tokens.now) }
+    tokens: &'a [Token],
+) -> Result<((Spot, &'a str), &'a [Token]), Stop>
+    ensures { Gives (λ x. ((x.0.0, x.0.1.now), x.1.now)) result (named_from fixed at tokens.now) }
 {
     match fixed {
-        Fixed::Backtick => quoted_operator(alloc, tokens),
-        _ => Ok(((at, Name::new(alloc, "")?), tokens)),
+        Fixed::Backtick => quoted_operator(tokens),
+        _ => Ok(((at, ""), tokens)),
     }
 }
 
 /// An operator, and the name where it is one in backticks.
-#[tactic(auto, unfolding(fut_phrases::specs::Reading::operator_taken))]
-pub fn take_operator(
-    alloc: Global,
+#[tactic(auto, unfolding(fut_grammar::specs::Reading::operator_taken))]
+pub fn take_operator<'a>(
     fixed: Fixed,
-    tokens: &[Token],
-) -> Result<((Spot, Name), &[Token]), Stop>
-    ensures { Gives (λ x. (x.0, x.1.now)) result (operator_taken fixed tokens.now) }
+    tokens: &'a [Token],
+) -> Result<((Spot, &'a str), &'a [Token]), Stop>
+    ensures { Gives (λ x. ((x.0.0, x.0.1.now), x.1.now)) result (operator_taken fixed tokens.now) }
 {
     let at = next_spot(tokens);
     let rest = take(tokens, fixed)?;
     if 1 <= level_of(fixed) {
-        operator_behind(alloc, fixed, at, rest)
+        operator_behind(fixed, at, rest)
     } else {
         Err(Stop::Fault(refused(tokens)))
     }

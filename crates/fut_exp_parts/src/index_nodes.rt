@@ -1,10 +1,12 @@
-// The parts of an index in a section, where each expression gets a name.
-ghost use Rattle.std.specs.Prelude.{◌≡◌, ◌+◌, ◌%◌, ◌++◌, [], ◌∷◌, None, Option, IfOk, map};
-ghost use Rattle.std.specs.String.{string_bytes};
+// The parts of an index, also in a section, where each expression gets a name.
+ghost use Rattle.std.specs.Prelude.{◌≡◌, ◌+◌, ◌%◌, [], ◌∷◌, None, IfOk, map};
 ghost use Rattle.fut_ast.specs.Nodes.{
+  behind_lets,
   bound,
+  exp_at,
   flat,
-  fresh,
+  held_name,
+  index_of,
   index_section,
   let_named,
   name_of_position,
@@ -16,180 +18,220 @@ ghost use Rattle.fut_ast.specs.Nodes.{
 };
 ghost use Rattle.fut_ast.specs.declared.exp.Form.TheVariants as form;
 ghost use Rattle.fut_ast.specs.declared.exp.Ix.TheVariants as ix;
+ghost use Rattle.fut_exp_parts.specs.Parts.{named_all, named_of, upto_of};
+ghost use Rattle.fut_tree.specs.Exps.{bind_of, binds_of, ix_of, ixs_of};
+ghost use Rattle.fut_tree.specs.Names.{maybe};
 
-use crate::exp_nodes::{
-    SourceBind, SourceIx, byte_before, index, lambda, lets, name_used, one_let, one_param,
-    value_bound, value_used,
-};
-use fut_ast::{Bind, Ix, SourceExp, Spot};
-use fut_phrases::keeping::{appended, boxed_beside, in_front, kept};
+use crate::exp_nodes::{index, lambda, lets, name_let, name_used};
+use crate::new_names::name_of_held;
+use bumpalo::Bump;
+use bumpalo::collections::into_bump_slice;
+use fut_ast::Spot;
 use fut_phrases::pat_nodes;
-use fut_scalar::{Boxed, List, Name, NoMemory};
-use std::alloc::Global;
+use fut_scalar::{NoMemory, Place};
+use fut_tree::{Bind, Exp, Ix};
+
+/// What stands behind the first expression of a part: a colon, and an expression or none.
+#[derive(Clone, Copy)]
+pub struct Upto<'a> {
+    pub colon: Spot,
+    pub end: Option<&'a Exp<'a>>,
+}
 
 /// The names of a part's expressions, and the part with the names in their places.
-pub type NamedPart = (List<Bind<List<Name>, Name>>, Ix<List<Name>, Name>);
-
-// A letter of a name: a digit to the base 64.
-fn letter(number: u64) -> char
-    ensures { result ≡ 33 + number % 64 }
-{
-    char::from((33 + number % 64) as u8)
+#[derive(Clone, Copy)]
+pub struct NamedPart<'a> {
+    pub binds: &'a [Bind<'a>],
+    pub part: Ix<'a>,
 }
 
-fn with_letter(text: String, number: u64) -> Result<String, NoMemory>
-    ensures { IfOk result (λ t. string_bytes t ≡ string_bytes text ++ (33 + number % 64) ∷ []) }
+/// A part of an index, of its first expression and what stands behind it.
+pub fn index_part<'a>(e: &'a Exp<'a>, upto: Option<Upto<'a>>) -> Ix<'a>
+    ensures { ix_of result ≡ index_of e.now (upto_of upto.entry) }
 {
-    let mut longer = text;
-    longer.push(letter(number))?;
-    Ok(longer)
-}
-
-fn position_text(alloc: Global, position: u64) -> Result<String, NoMemory>
-    ensures { IfOk result (λ t. string_bytes t ≡ name_of_position position) }
-{
-    let text = String::from_str(alloc, " ")?;
-    let text = with_letter(text, position)?;
-    let text = with_letter(text, position / 64)?;
-    let text = with_letter(text, position / 64 / 64)?;
-    let text = with_letter(text, position / 64 / 64 / 64)?;
-    with_letter(text, position / 64 / 64 / 64 / 64)
-}
-
-fn position_name(alloc: Global, position: u64) -> Result<Name, NoMemory>
-    ensures { IfOk result (λ n. n ≡ name_of_position position) }
-{
-    Ok(Name::from_string(position_text(alloc, position)?))
-}
-
-fn bind_named(alloc: Global, at: Spot, e: SourceExp) -> Result<SourceBind, NoMemory>
-    ensures { IfOk result (λ b. b ≡ let_named at e) }
-{
-    let (e, name) = kept(e, position_name(alloc, at.start))?;
-    Ok(one_let(alloc, pat_nodes::name(at, name), e))
-}
-
-fn named_use(alloc: Global, at: Spot, e: &SourceExp) -> Result<SourceExp, NoMemory>
-    ensures { IfOk result (λ u. u ≡ use_named at e.now) }
-{
-    let name = position_name(alloc, at.start)?;
-    name_used(alloc, byte_before(at), 3, e.place, name)
-}
-
-// An expression of an index bound to a name, and the use of that name.
-fn named(alloc: Global, at: Spot, e: SourceExp) -> Result<(SourceBind, Boxed<SourceExp>), NoMemory>
-    ensures { IfOk result (λ x. (x.0 ≡ let_named at e) × (x.1 ≡ use_named at e)) }
-{
-    let value = named_use(alloc, at, &e);
-    let (e, value) = kept(e, value)?;
-    let (value, bind) = kept(value, bind_named(alloc, at, e))?;
-    boxed_beside(alloc, bind, value)
-}
-
-fn two_binds(
-    alloc: Global,
-    first: SourceBind,
-    second: SourceBind,
-) -> Result<List<SourceBind>, NoMemory>
-    ensures { IfOk result (λ bs. bs ≡ first ∷ second ∷ []) }
-{
-    let (first, row) = kept(first, in_front(second, List::new(alloc)))?;
-    in_front(first, row)
-}
-
-/// `::-1` in a section.
-pub fn named_reversed(alloc: Global) -> NamedPart
-    ensures { result ≡ ([], ix.Backwards) }
-{
-    (List::new(alloc), Ix::Backwards)
+    match upto {
+        None => Ix::At(e),
+        Some(upto) => Ix::Slice(Some(e), upto.end),
+    }
 }
 
 /// A part of an index without a first expression.
-pub fn named_up_to(
-    alloc: Global,
-    colon: Spot,
-    upto: Option<SourceExp>,
-) -> Result<NamedPart, NoMemory>
-    ensures { IfOk result (λ p. p ≡ named_slice_of colon upto) }
+pub fn index_up_to<'a>(end: Option<&'a Exp<'a>>) -> Ix<'a>
+    ensures { ix_of result ≡ ix.Slice None (maybe end.entry) }
 {
-    match upto {
-        None => Ok((List::new(alloc), Ix::Slice(None, None))),
-        Some(f) => {
-            let (bind, value) = named(alloc, colon, f)?;
-            let row = in_front(bind, List::new(alloc));
-            let (value, row) = kept(value, row)?;
-            Ok((row, Ix::Slice(None, Some(value))))
+    Ix::Slice(None, end)
+}
+
+// ---- the names of expressions in an index
+
+// A letter of a name: a digit to the base 64.
+fn letter(number: u64) -> u8
+    ensures { result ≡ 33 + number % 64 }
+{
+    (33 + number % 64) as u8
+}
+
+// A name made of a position: a blank, and the digits of the position.
+fn position_name<'a>(bump: &'a Bump, position: u64) -> Result<&'a str, NoMemory>
+    ensures { IfOk result (λ n. n.now ≡ name_of_position position) }
+{
+    let letters = bump.try_alloc_slice_copy(&[
+        b' ',
+        letter(position),
+        letter(position / 64),
+        letter(position / 64 / 64),
+        letter(position / 64 / 64 / 64),
+        letter(position / 64 / 64 / 64 / 64),
+    ])?;
+    // It is always a text, since each letter is below 128.
+    match str::from_utf8(letters) {
+        Ok(name) => Ok(name),
+        Err(_) => Err(NoMemory),
+    }
+}
+
+// An expression bound to a name, and the use of that name.
+#[derive(Clone, Copy)]
+struct NamedExp<'a> {
+    bind: Bind<'a>,
+    used: &'a Exp<'a>,
+}
+
+fn named<'a>(bump: &'a Bump, at: Spot, e: &'a Exp<'a>) -> Result<NamedExp<'a>, NoMemory>
+    ensures { IfOk result (λ x. (bind_of x.bind ≡ let_named at e.now) × (x.used.now ≡ use_named at e.now)) }
+{
+    let name = position_name(bump, at.start)?;
+    let used = name_used(bump, e.place, name)?;
+    let bind = name_let(bump, at.place, name, e)?;
+    Ok(NamedExp { bind, used })
+}
+
+// ---- parts in a section
+
+/// `::-1` in a section.
+pub fn named_reversed<'a>() -> NamedPart<'a>
+    ensures { named_of result ≡ ([], ix.Backwards) }
+{
+    NamedPart {
+        binds: &[],
+        part: Ix::Backwards,
+    }
+}
+
+/// A part of an index without a first expression.
+pub fn named_up_to<'a>(
+    bump: &'a Bump,
+    colon: Spot,
+    end: Option<&'a Exp<'a>>,
+) -> Result<NamedPart<'a>, NoMemory>
+    ensures { IfOk result (λ p. named_of p ≡ named_slice_of colon (maybe end.entry)) }
+{
+    match end {
+        None => Ok(NamedPart {
+            binds: &[],
+            part: Ix::Slice(None, None),
+        }),
+        Some(end) => {
+            let last = named(bump, colon, end)?;
+            Ok(NamedPart {
+                binds: bump.try_alloc_slice_copy(&[last.bind])?,
+                part: Ix::Slice(None, Some(last.used)),
+            })
         }
     }
 }
 
 /// A part of an index, of its first expression and what stands behind it.
-pub fn named_part(
-    alloc: Global,
+pub fn named_part<'a>(
+    bump: &'a Bump,
     at: Spot,
-    e: SourceExp,
-    upto: Option<(Spot, Option<SourceExp>)>,
-) -> Result<NamedPart, NoMemory>
-    ensures { IfOk result (λ p. p ≡ named_index_of at e upto) }
+    e: &'a Exp<'a>,
+    upto: Option<Upto<'a>>,
+) -> Result<NamedPart<'a>, NoMemory>
+    ensures { IfOk result (λ p. named_of p ≡ named_index_of at e.now (upto_of upto.entry)) }
 {
-    let (bind, first) = named(alloc, at, e)?;
+    let first = named(bump, at, e)?;
     match upto {
-        None => {
-            let (first, row) = kept(first, in_front(bind, List::new(alloc)))?;
-            Ok((row, Ix::At(first)))
-        }
-        Some((_, None)) => {
-            let (first, row) = kept(first, in_front(bind, List::new(alloc)))?;
-            Ok((row, Ix::Slice(Some(first), None)))
-        }
-        Some((colon, Some(f))) => {
-            let ((bind, first), (other, last)) = kept((bind, first), named(alloc, colon, f))?;
-            let ((first, last), row) = kept((first, last), two_binds(alloc, bind, other))?;
-            Ok((row, Ix::Slice(Some(first), Some(last))))
+        None => Ok(NamedPart {
+            binds: bump.try_alloc_slice_copy(&[first.bind])?,
+            part: Ix::At(first.used),
+        }),
+        Some(Upto { end: None, .. }) => Ok(NamedPart {
+            binds: bump.try_alloc_slice_copy(&[first.bind])?,
+            part: Ix::Slice(Some(first.used), None),
+        }),
+        Some(
+            Upto {
+                colon,
+                end: Some(end),
+            },
+        ) => {
+            let last = named(bump, colon, end)?;
+            Ok(NamedPart {
+                binds: bump.try_alloc_slice_copy(&[first.bind, last.bind])?,
+                part: Ix::Slice(Some(first.used), Some(last.used)),
+            })
         }
     }
 }
 
 /// An index in parentheses, of its named parts.
-pub fn section_of_index(
-    alloc: Global,
-    paren: Spot,
-    bracket: Spot,
-    parts: List<NamedPart>,
-) -> Result<SourceExp, NoMemory>
-    ensures { IfOk result (λ s. s ≡ index_section paren bracket parts) }
+pub fn section_of_index<'a>(
+    bump: &'a Bump,
+    paren: Place,
+    bracket: Place,
+    parts: &'a [NamedPart<'a>],
+) -> Result<&'a Exp<'a>, NoMemory>
+    ensures { IfOk result (λ s. s.now ≡ index_section paren bracket (named_all parts.now)) }
 {
-    let (row, index) = split(alloc, parts)?;
-    let (row, function) = kept(row, function_of_array(alloc, paren, bracket, index))?;
-    lets(alloc, paren, 0, paren.place, paren.place, row, function)
+    let function = function_of_array(bump, paren, bracket, indices_of(bump, parts)?)?;
+    behind_row(bump, paren, row_of(bump, parts)?, function)
 }
 
-fn function_of_array(
-    alloc: Global,
-    paren: Spot,
-    bracket: Spot,
-    parts: List<SourceIx>,
-) -> Result<SourceExp, NoMemory>
-    ensures { IfOk result (λ s. s ≡ node paren 1 paren.place paren.place (form.Lambda (bound paren (fresh 0) ∷ []) None (node bracket 0 paren.place bracket.place (form.Index (use_of paren 2 paren.place (fresh 0)) parts)))) }
+fn behind_row<'a>(
+    bump: &'a Bump,
+    place: Place,
+    row: &'a [Bind<'a>],
+    body: &'a Exp<'a>,
+) -> Result<&'a Exp<'a>, NoMemory>
+    ensures { IfOk result (λ e. e.now ≡ behind_lets place (binds_of row.now) body.now) }
 {
-    let (parts, array) = kept(parts, value_used(alloc, paren, 2, paren.place))?;
-    let body = index(alloc, bracket, paren.place, array, parts)?;
-    let (body, param) = kept(body, value_bound(alloc, paren))?;
-    let (body, params) = kept(body, one_param(alloc, param))?;
-    lambda(alloc, paren, 1, params, body)
-}
-
-fn split(
-    alloc: Global,
-    parts: List<NamedPart>,
-) -> Result<(List<SourceBind>, List<SourceIx>), NoMemory>
-    ensures { IfOk result (λ x. (x.0 ≡ flat (map (λ i. i.0) parts)) × (x.1 ≡ map (λ i. i.1) parts)) }
-{
-    let mut row = List::new(alloc);
-    let mut index = List::new(alloc);
-    'parts: for (binds, part) in parts.into_vec() {
-        row = appended(row, binds)?;
-        index.push(part)?;
+    match row {
+        [] => Ok(body),
+        [_, ..] => lets(bump, place, place, row, body),
     }
-    Ok((row, index))
+}
+
+fn function_of_array<'a>(
+    bump: &'a Bump,
+    paren: Place,
+    bracket: Place,
+    parts: &'a [Ix<'a>],
+) -> Result<&'a Exp<'a>, NoMemory>
+    ensures { IfOk result (λ s. s.now ≡ exp_at paren (form.Lambda (bound paren held_name ∷ []) None (node paren bracket (form.Index (use_of paren held_name) (ixs_of parts.now))))) }
+{
+    let array = name_used(bump, paren, name_of_held())?;
+    let body = index(bump, paren, bracket, array, parts)?;
+    let param = pat_nodes::name(bump, paren, name_of_held())?;
+    lambda(bump, paren, param, body)
+}
+
+fn row_of<'a>(bump: &'a Bump, parts: &'a [NamedPart<'a>]) -> Result<&'a [Bind<'a>], NoMemory>
+    ensures { IfOk result (λ bs. binds_of bs.now ≡ flat (map (λ i. i.0) (named_all parts.now))) }
+{
+    let mut row = Vec::new(bump);
+    'parts: for part in parts {
+        row.extend_from_slice(part.binds)?;
+    }
+    Ok(into_bump_slice(row))
+}
+
+fn indices_of<'a>(bump: &'a Bump, parts: &'a [NamedPart<'a>]) -> Result<&'a [Ix<'a>], NoMemory>
+    ensures { IfOk result (λ ixs. ixs_of ixs.now ≡ map (λ i. i.1) (named_all parts.now)) }
+{
+    let mut indices = Vec::new(bump);
+    'parts: for part in parts {
+        indices.push(part.part)?;
+    }
+    Ok(into_bump_slice(indices))
 }

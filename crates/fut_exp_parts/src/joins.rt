@@ -1,33 +1,14 @@
-// Operators between their operands, and operators in parentheses.
-ghost use Rattle.std.specs.Prelude.{◌≡◌, IfOk, [], ◌∷◌, None};
-ghost use Rattle.fut_ast.specs.Nodes.{
-  bound,
-  field_section,
-  fresh,
-  joined,
-  joined_by,
-  joining,
-  left_section,
-  let_one,
-  node,
-  oper_of,
-  operator_section,
-  right_section,
-  use_of,
-};
-ghost use Rattle.fut_ast.specs.declared.exp.Form.TheVariants as form;
+// Operators between their operands.
+ghost use Rattle.std.specs.Prelude.{◌≡◌, IfOk, []};
+ghost use Rattle.fut_ast.specs.Nodes.{joined, joined_by, joined_names_by, joining, oper_of};
 
-use crate::exp_nodes::{
-    at_slot, call, choice, fresh_left, fresh_right, fresh_value, lambda, lets, name_used,
-    one_param, value_bound, value_row, value_used,
-};
-use fut_ast::{Form, Joining, Oper, SourceExp, Spot};
-use fut_phrases::keeping::{boxed_two, kept};
-use fut_phrases::pat_nodes;
-use fut_phrases::patterns::SourcePat;
-use fut_scalar::{BinOp, List, Name, NoMemory, Place};
+use crate::exp_nodes::{binary, call, choice, let_before, name_let, name_used, truth};
+use crate::new_names::name_of_piped;
+use bumpalo::Bump;
+use fut_ast::{Joining, Oper};
+use fut_scalar::{BinOp, NoMemory, Place};
 use fut_token::Fixed;
-use std::alloc::Global;
+use fut_tree::Exp;
 
 fn oper_for(fixed: Fixed) -> Oper
     ensures { result ≡ oper_of fixed }
@@ -71,269 +52,124 @@ fn joining_of(fixed: Fixed) -> Joining
     }
 }
 
-fn both(
-    alloc: Global,
+fn both<'a>(
+    bump: &'a Bump,
     from: Place,
-    at: Spot,
-    a: SourceExp,
-    b: SourceExp,
-) -> Result<SourceExp, NoMemory>
-    ensures { IfOk result (λ e. e ≡ joined_by Joining.Both from at [] a b) }
+    mark: Place,
+    a: &'a Exp<'a>,
+    b: &'a Exp<'a>,
+) -> Result<&'a Exp<'a>, NoMemory>
+    ensures { IfOk result (λ e. e.now ≡ joined_by Joining.Both from mark [] a.now b.now) }
 {
-    let no = at_slot(at, 1, at.place, at.place, Form::Bool(false));
-    let ((a, b), no) = kept((a, b), no)?;
-    choice(alloc, at, from, a, b, no)
+    choice(bump, from, mark, a, b, truth(bump, mark, false)?)
 }
 
-fn either(
-    alloc: Global,
+fn either<'a>(
+    bump: &'a Bump,
     from: Place,
-    at: Spot,
-    a: SourceExp,
-    b: SourceExp,
-) -> Result<SourceExp, NoMemory>
-    ensures { IfOk result (λ e. e ≡ joined_by Joining.Either from at [] a b) }
+    mark: Place,
+    a: &'a Exp<'a>,
+    b: &'a Exp<'a>,
+) -> Result<&'a Exp<'a>, NoMemory>
+    ensures { IfOk result (λ e. e.now ≡ joined_by Joining.Either from mark [] a.now b.now) }
 {
-    let yes = at_slot(at, 1, at.place, at.place, Form::Bool(true));
-    let ((a, b), yes) = kept((a, b), yes)?;
-    choice(alloc, at, from, a, yes, b)
+    choice(bump, from, mark, a, truth(bump, mark, true)?, b)
 }
 
-fn piped(
-    alloc: Global,
+fn piped<'a>(
+    bump: &'a Bump,
     from: Place,
-    at: Spot,
-    a: SourceExp,
-    b: SourceExp,
-) -> Result<SourceExp, NoMemory>
-    ensures { IfOk result (λ e. e ≡ joined_by Joining.Piped from at [] a b) }
+    mark: Place,
+    a: &'a Exp<'a>,
+    b: &'a Exp<'a>,
+) -> Result<&'a Exp<'a>, NoMemory>
+    ensures { IfOk result (λ e. e.now ≡ joined_by Joining.Piped from mark [] a.now b.now) }
 {
-    let place = b.place;
-    let value = value_used(alloc, at, 2, a.place);
-    let ((a, b), value) = kept((a, b), value)?;
-    let (a, called) = kept(a, call(alloc, at, 1, place, at.place, b, value))?;
-    let (called, row) = kept(called, value_row(alloc, at, a))?;
-    lets(alloc, at, 0, from, at.place, row, called)
+    let value = name_used(bump, a.place, name_of_piped())?;
+    let called = call(bump, b.place, mark, b, value)?;
+    let bind = name_let(bump, mark, name_of_piped(), a)?;
+    let_before(bump, from, mark, bind, called)
 }
 
-fn named_call(
-    alloc: Global,
+fn named_call<'a>(
+    bump: &'a Bump,
     from: Place,
-    at: Spot,
-    name: Name,
-    a: SourceExp,
-    b: SourceExp,
-) -> Result<SourceExp, NoMemory>
-    ensures { IfOk result (λ e. e ≡ joined_by Joining.Named from at name a b) }
+    mark: Place,
+    name: &'a str,
+    a: &'a Exp<'a>,
+    b: &'a Exp<'a>,
+) -> Result<&'a Exp<'a>, NoMemory>
+    ensures { IfOk result (λ e. e.now ≡ joined_by Joining.Named from mark name.now a.now b.now) }
 {
-    let ((a, b), function) = kept((a, b), name_used(alloc, at, 2, at.place, name))?;
-    let (b, first) = kept(b, call(alloc, at, 1, from, at.place, function, a))?;
-    call(alloc, at, 0, from, at.place, first, b)
+    let function = name_used(bump, mark, name)?;
+    let first = call(bump, from, mark, function, a)?;
+    call(bump, from, mark, first, b)
 }
 
-fn plain(
-    alloc: Global,
-    operator: Oper,
-    from: Place,
-    at: Spot,
-    a: SourceExp,
-    b: SourceExp,
-) -> Result<SourceExp, NoMemory>
-    ensures { IfOk result (λ e. e ≡ joined_by (Joining.Plain operator) from at [] a b) }
-{
-    let (a, b) = boxed_two(alloc, a, b)?;
-    at_slot(at, 0, from, at.place, Form::Binary(operator, a, b))
-}
-
-fn joined_as(
-    alloc: Global,
+fn joined_as<'a>(
+    bump: &'a Bump,
     how: Joining,
     from: Place,
-    at: Spot,
-    name: Name,
-    a: SourceExp,
-    b: SourceExp,
-) -> Result<SourceExp, NoMemory>
-    ensures { IfOk result (λ e. e ≡ joined_by how from at name a b) }
+    mark: Place,
+    name: &'a str,
+    a: &'a Exp<'a>,
+    b: &'a Exp<'a>,
+) -> Result<&'a Exp<'a>, NoMemory>
+    ensures { IfOk result (λ e. e.now ≡ joined_by how from mark name.now a.now b.now) }
 {
     match how {
-        Joining::Both => both(alloc, from, at, a, b),
-        Joining::Either => either(alloc, from, at, a, b),
-        Joining::Piped => piped(alloc, from, at, a, b),
-        Joining::PipedBack => call(alloc, at, 0, from, at.place, a, b),
-        Joining::Named => named_call(alloc, from, at, name, a, b),
-        Joining::Plain(operator) => plain(alloc, operator, from, at, a, b),
+        Joining::Both => both(bump, from, mark, a, b),
+        Joining::Either => either(bump, from, mark, a, b),
+        Joining::Piped => piped(bump, from, mark, a, b),
+        Joining::PipedBack => call(bump, from, mark, a, b),
+        Joining::Named => named_call(bump, from, mark, name, a, b),
+        Joining::Plain(operator) => binary(bump, from, mark, operator, a, b),
     }
 }
 
 /// Two operands and an operator between them; the name is that of an operator in backticks.
-pub fn join(
-    alloc: Global,
+pub fn join<'a>(
+    bump: &'a Bump,
     fixed: Fixed,
     from: Place,
-    at: Spot,
-    name: Name,
-    a: SourceExp,
-    b: SourceExp,
-) -> Result<SourceExp, NoMemory>
-    ensures { IfOk result (λ e. e ≡ joined fixed from at name a b) }
+    mark: Place,
+    name: &'a str,
+    a: &'a Exp<'a>,
+    b: &'a Exp<'a>,
+) -> Result<&'a Exp<'a>, NoMemory>
+    ensures { IfOk result (λ e. e.now ≡ joined fixed from mark name.now a.now b.now) }
 {
-    joined_as(alloc, joining_of(fixed), from, at, name, a, b)
+    joined_as(bump, joining_of(fixed), from, mark, name, a, b)
 }
 
-// ---- operators in parentheses
-
-fn left_used(alloc: Global, key: Spot, slot: u64, place: Place) -> Result<SourceExp, NoMemory>
-    ensures { IfOk result (λ e. e ≡ use_of key slot place (fresh 1)) }
+fn names_joined_as<'a>(
+    bump: &'a Bump,
+    how: Joining,
+    from: Place,
+    mark: Place,
+    name: &'a str,
+    a: &'a Exp<'a>,
+    b: &'a Exp<'a>,
+) -> Result<&'a Exp<'a>, NoMemory>
+    ensures { IfOk result (λ e. e.now ≡ joined_names_by how from mark name.now a.now b.now) }
 {
-    name_used(alloc, key, slot, place, fresh_left(alloc)?)
+    match how {
+        Joining::Piped => call(bump, from, mark, b, a),
+        _ => joined_as(bump, how, from, mark, name, a, b),
+    }
 }
 
-fn right_used(alloc: Global, key: Spot, slot: u64, place: Place) -> Result<SourceExp, NoMemory>
-    ensures { IfOk result (λ e. e ≡ use_of key slot place (fresh 2)) }
-{
-    name_used(alloc, key, slot, place, fresh_right(alloc)?)
-}
-
-fn left_param(alloc: Global, at: Spot) -> Result<List<SourcePat>, NoMemory>
-    ensures { IfOk result (λ ps. ps ≡ bound at (fresh 1) ∷ []) }
-{
-    one_param(alloc, pat_nodes::name(at, fresh_left(alloc)?))
-}
-
-fn right_param(alloc: Global, at: Spot) -> Result<List<SourcePat>, NoMemory>
-    ensures { IfOk result (λ ps. ps ≡ bound at (fresh 2) ∷ []) }
-{
-    one_param(alloc, pat_nodes::name(at, fresh_right(alloc)?))
-}
-
-fn both_params(alloc: Global, at: Spot) -> Result<List<SourcePat>, NoMemory>
-    ensures { IfOk result (λ ps. ps ≡ bound at (fresh 1) ∷ bound at (fresh 2) ∷ []) }
-{
-    let right = pat_nodes::name(at, fresh_right(alloc)?);
-    let (right, left) = kept(right, left_param(alloc, at))?;
-    let mut params = left;
-    params.push(right)?;
-    Ok(params)
-}
-
-/// An operator alone in parentheses.
-pub fn operator_alone(
-    alloc: Global,
+/// The same between two names, of which `|>` needs no other.
+pub fn join_names<'a>(
+    bump: &'a Bump,
     fixed: Fixed,
-    paren: Spot,
-    at: Spot,
-    name: Name,
-) -> Result<SourceExp, NoMemory>
-    ensures { IfOk result (λ e. e ≡ operator_section fixed paren at name) }
+    from: Place,
+    mark: Place,
+    name: &'a str,
+    a: &'a Exp<'a>,
+    b: &'a Exp<'a>,
+) -> Result<&'a Exp<'a>, NoMemory>
+    ensures { IfOk result (λ e. e.now ≡ joined_names_by (joining fixed) from mark name.now a.now b.now) }
 {
-    let left = left_used(alloc, paren, 1, paren.place)?;
-    let (left, right) = kept(left, right_used(alloc, paren, 2, paren.place))?;
-    let body = join(alloc, fixed, paren.place, at, name, left, right)?;
-    let (body, params) = kept(body, both_params(alloc, paren))?;
-    lambda(alloc, paren, 0, params, body)
-}
-
-// An expression that is evaluated before the function that uses it.
-fn evaluated_first(
-    alloc: Global,
-    paren: Spot,
-    e: SourceExp,
-    function: SourceExp,
-) -> Result<SourceExp, NoMemory>
-    ensures { IfOk result (λ s. s ≡ node paren 0 paren.place paren.place (form.Lets (let_one (bound paren (fresh 0)) e ∷ []) function)) }
-{
-    let (function, row) = kept(function, value_row(alloc, paren, e))?;
-    lets(alloc, paren, 0, paren.place, paren.place, row, function)
-}
-
-/// An operator and its right operand in parentheses.
-pub fn section_of_right(
-    alloc: Global,
-    fixed: Fixed,
-    paren: Spot,
-    at: Spot,
-    name: Name,
-    e: SourceExp,
-) -> Result<SourceExp, NoMemory>
-    ensures { IfOk result (λ s. s ≡ right_section fixed paren at name e) }
-{
-    let place = e.place;
-    let function = function_of_left(alloc, fixed, paren, at, name, place);
-    let (e, function) = kept(e, function)?;
-    evaluated_first(alloc, paren, e, function)
-}
-
-fn function_of_left(
-    alloc: Global,
-    fixed: Fixed,
-    paren: Spot,
-    at: Spot,
-    name: Name,
-    place: Place,
-) -> Result<SourceExp, NoMemory>
-    ensures { IfOk result (λ s. s ≡ node paren 1 paren.place paren.place (form.Lambda (bound paren (fresh 1) ∷ []) None (joined fixed paren.place at name (use_of paren 2 paren.place (fresh 1)) (use_of at 3 place (fresh 0))))) }
-{
-    let left = left_used(alloc, paren, 2, paren.place)?;
-    let (left, right) = kept(left, value_used(alloc, at, 3, place))?;
-    let body = join(alloc, fixed, paren.place, at, name, left, right)?;
-    let (body, params) = kept(body, left_param(alloc, paren))?;
-    lambda(alloc, paren, 1, params, body)
-}
-
-/// An operator and its left operand in parentheses.
-pub fn section_of_left(
-    alloc: Global,
-    fixed: Fixed,
-    paren: Spot,
-    e: SourceExp,
-    at: Spot,
-    name: Name,
-) -> Result<SourceExp, NoMemory>
-    ensures { IfOk result (λ s. s ≡ left_section fixed paren e at name) }
-{
-    let place = e.place;
-    let function = function_of_right(alloc, fixed, paren, at, name, place);
-    let (e, function) = kept(e, function)?;
-    evaluated_first(alloc, paren, e, function)
-}
-
-fn function_of_right(
-    alloc: Global,
-    fixed: Fixed,
-    paren: Spot,
-    at: Spot,
-    name: Name,
-    place: Place,
-) -> Result<SourceExp, NoMemory>
-    ensures { IfOk result (λ s. s ≡ node paren 1 paren.place paren.place (form.Lambda (bound paren (fresh 2) ∷ []) None (joined fixed paren.place at name (use_of paren 2 place (fresh 0)) (use_of at 3 paren.place (fresh 2))))) }
-{
-    let left = value_used(alloc, paren, 2, place)?;
-    let (left, right) = kept(left, right_used(alloc, at, 3, paren.place))?;
-    let body = join(alloc, fixed, paren.place, at, name, left, right)?;
-    let (body, params) = kept(body, right_param(alloc, paren))?;
-    lambda(alloc, paren, 1, params, body)
-}
-
-/// Fields behind a point in parentheses.
-pub fn section_of_fields(
-    alloc: Global,
-    paren: Spot,
-    dot: Spot,
-    names: List<Name>,
-) -> Result<SourceExp, NoMemory>
-    ensures { IfOk result (λ s. s ≡ field_section paren dot names) }
-{
-    let mut path = names.into_vec();
-    path.insert(0, fresh_value(alloc)?)?;
-    let body = at_slot(
-        dot,
-        0,
-        dot.place,
-        dot.place,
-        Form::Path(List::from_vec(path)),
-    )?;
-    let (body, param) = kept(body, value_bound(alloc, paren))?;
-    let (body, params) = kept(body, one_param(alloc, param))?;
-    lambda(alloc, paren, 0, params, body)
+    names_joined_as(bump, joining_of(fixed), from, mark, name, a, b)
 }

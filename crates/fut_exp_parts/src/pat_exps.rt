@@ -1,34 +1,38 @@
 // The expression of a loop's pattern, which is its first value where none is written.
-ghost use Rattle.std.specs.Prelude.{◌≡◌, ◌++◌, IfOk, map, take};
+ghost use Rattle.std.specs.Prelude.{◌≡◌, IfOk, map};
 ghost use Rattle.fut_ast.specs.Nodes.{any_wild, exp_of_pat, has_wild};
+ghost use Rattle.fut_tree.specs.Exps.{exp_fields};
+ghost use Rattle.fut_tree.specs.Names.{all};
+ghost use Rattle.fut_tree.specs.Pats.{pat_fields};
 
-use crate::exp_nodes::at_slot;
-use fut_ast::{Form, PatForm, SourceExp, Spot};
-use fut_phrases::patterns::SourcePat;
-use fut_scalar::{List, Name, NoMemory};
-use std::alloc::Global;
+use crate::exp_nodes::{name_used, record, tuple, unit};
+use bumpalo::Bump;
+use bumpalo::collections::into_bump_slice;
+use fut_scalar::NoMemory;
+use fut_tree::{Exp, ExpField, Held, Pat, PatField, PatForm};
 
 /// Whether a `_` stands in the pattern.
 #[cycle(wildcards)]
-#[tactic(auto, using(crate::proofs::PatLaws::has_wild_is))]
-pub fn has_wildcard(pattern: &SourcePat) -> bool
+#[tactic(auto, using(crate::proofs::PatLaws::wild_held))]
+pub fn has_wildcard<'a>(pattern: &'a Pat<'a>) -> bool
     ensures { result ≡ has_wild pattern.now }
 {
-    match &pattern.form {
-        PatForm::Var(_) | PatForm::Unit => false,
+    match pattern.form {
+        PatForm::Var(_) => false,
+        PatForm::Unit => false,
         PatForm::Wild => true,
-        PatForm::Tuple(all) => any_wildcard(all.as_slice()),
-        PatForm::Record(all) => any_field_wildcard(all.as_slice()),
-        PatForm::Ascribe(inside, _) => has_wildcard(inside.get()),
+        PatForm::Tuple(parts) => any_wildcard(parts),
+        PatForm::Record(fields) => any_field_wildcard(fields),
+        PatForm::Ascribe(inside, _) => has_wildcard(inside),
     }
 }
 
 #[cycle(wildcards)]
-fn any_wildcard(all: &[SourcePat]) -> bool
-    ensures { result ≡ any_wild (map has_wild all.now) }
+fn any_wildcard<'a>(parts: &'a [Held<'a, Pat<'a>>]) -> bool
+    ensures { result ≡ any_wild (map has_wild (all parts.now)) }
 {
-    'all: for pattern in all {
-        if has_wildcard(pattern) {
+    'parts: for part in parts {
+        if has_wildcard(part.at) {
             return true;
         }
     }
@@ -36,11 +40,11 @@ fn any_wildcard(all: &[SourcePat]) -> bool
 }
 
 #[cycle(wildcards)]
-fn any_field_wildcard(all: &[(Name, SourcePat)]) -> bool
-    ensures { result ≡ any_wild (map (λ f. has_wild f.1) all.now) }
+fn any_field_wildcard<'a>(fields: &'a [PatField<'a>]) -> bool
+    ensures { result ≡ any_wild (map (λ f. has_wild f.1) (pat_fields fields.now)) }
 {
-    'all: for (_, pattern) in all {
-        if has_wildcard(pattern) {
+    'fields: for field in fields {
+        if has_wildcard(field.pat) {
             return true;
         }
     }
@@ -49,52 +53,46 @@ fn any_field_wildcard(all: &[(Name, SourcePat)]) -> bool
 
 /// The pattern as an expression, its names in its places.
 #[cycle(patexps)]
-#[tactic(auto, using(crate::proofs::PatLaws::exp_of_pat_is))]
-pub fn exp_of_pattern(alloc: Global, pattern: &SourcePat) -> Result<SourceExp, NoMemory>
-    ensures { IfOk result (λ e. e ≡ exp_of_pat pattern.now) }
+#[tactic(auto, using(crate::proofs::PatLaws::exp_held))]
+pub fn exp_of_pattern<'a>(bump: &'a Bump, pattern: &'a Pat<'a>) -> Result<&'a Exp<'a>, NoMemory>
+    ensures { IfOk result (λ e. e.now ≡ exp_of_pat pattern.now) }
 {
-    let at = Spot {
-        place: pattern.place,
-        start: pattern.start,
-    };
-    match &pattern.form {
-        PatForm::Var(name) => {
-            let mut path = List::new(alloc);
-            path.push(name.copy(alloc)?)?;
-            at_slot(at, 1, at.place, at.place, Form::Path(path))
-        }
-        PatForm::Wild | PatForm::Unit => at_slot(at, 1, at.place, at.place, Form::Unit),
-        PatForm::Tuple(all) => {
-            let all = exps_of(alloc, all.as_slice())?;
-            at_slot(at, 1, at.place, at.place, Form::Tuple(all))
-        }
-        PatForm::Record(all) => {
-            let all = fields_of(alloc, all.as_slice())?;
-            at_slot(at, 1, at.place, at.place, Form::Record(all))
-        }
-        PatForm::Ascribe(inside, _) => exp_of_pattern(alloc, inside.get()),
+    match pattern.form {
+        PatForm::Var(name) => name_used(bump, pattern.place, name),
+        PatForm::Wild => unit(bump, pattern.place),
+        PatForm::Unit => unit(bump, pattern.place),
+        PatForm::Tuple(parts) => tuple(bump, pattern.place, exps_of(bump, parts)?),
+        PatForm::Record(fields) => record(bump, pattern.place, fields_of(bump, fields)?),
+        PatForm::Ascribe(inside, _) => exp_of_pattern(bump, inside),
     }
 }
 
 #[cycle(patexps)]
-fn exps_of(alloc: Global, all: &[SourcePat]) -> Result<List<SourceExp>, NoMemory>
-    ensures { IfOk result (λ es. es ≡ map exp_of_pat all.now) }
+fn exps_of<'a>(
+    bump: &'a Bump,
+    parts: &'a [Held<'a, Pat<'a>>],
+) -> Result<&'a [Held<'a, Exp<'a>>], NoMemory>
+    ensures { IfOk result (λ es. all es.now ≡ map exp_of_pat (all parts.now)) }
 {
-    let mut made = List::new(alloc);
-    'all: for pattern in all {
-        made.push(exp_of_pattern(alloc, pattern)?)?;
+    let mut made = Vec::new(bump);
+    'parts: for part in parts {
+        let at = exp_of_pattern(bump, part.at)?;
+        made.push(Held { at })?;
     }
-    Ok(made)
+    Ok(into_bump_slice(made))
 }
 
 #[cycle(patexps)]
-fn fields_of(alloc: Global, all: &[(Name, SourcePat)]) -> Result<List<(Name, SourceExp)>, NoMemory>
-    ensures { IfOk result (λ fs. fs ≡ map (λ f. (f.0, exp_of_pat f.1)) all.now) }
+fn fields_of<'a>(bump: &'a Bump, fields: &'a [PatField<'a>]) -> Result<&'a [ExpField<'a>], NoMemory>
+    ensures { IfOk result (λ fs. exp_fields fs.now ≡ map (λ f. (f.0, exp_of_pat f.1)) (pat_fields fields.now)) }
 {
-    let mut made = List::new(alloc);
-    'all: for (name, pattern) in all {
-        let name = name.copy(alloc)?;
-        made.push((name, exp_of_pattern(alloc, pattern)?))?;
+    let mut made = Vec::new(bump);
+    'fields: for field in fields {
+        let exp = exp_of_pattern(bump, field.pat)?;
+        made.push(ExpField {
+            name: field.name,
+            exp,
+        })?;
     }
-    Ok(made)
+    Ok(into_bump_slice(made))
 }

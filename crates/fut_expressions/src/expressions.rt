@@ -1,176 +1,215 @@
 // Expressions: the one function that reads what stands in productions.
-ghost use Rattle.std.specs.Prelude.{◌≡◌, ◌≤◌, ◌<◌, ◌+◌, suc, IfOk};
-ghost use Rattle.fut_ast.specs.Sorts.{Atom, Chain, Inside, Operand, Right, Unary, Whole};
-ghost use Rattle.fut_phrases.specs.Phrases.{read_at};
-ghost use Rattle.fut_phrases.specs.Reading.{Gives};
-ghost use Rattle.fut_expressions.specs.Tie.{Law, Reads};
+ghost use Rattle.std.specs.Prelude.{◌≡◌, ◌≤◌, ◌<◌, ◌+◌, suc, Err, IfOk};
+ghost use Rattle.fut_ast.specs.Sorts.{Atom, Inside, Last, Operand, Operands, Replacing, Right, Unary, Whole};
+ghost use Rattle.fut_atoms.specs.Tie.{Law, Reads, ending_found, inside_found, replacing_found};
+ghost use Rattle.fut_grammar.specs.Phrases.{read_at};
+ghost use Rattle.fut_grammar.specs.Reading.{Gives};
+ghost use Rattle.fut_phrases.specs.Found.{tree_found};
 
-use crate::atoms::atom_below;
-use crate::lets::{inside_below, operand_below, right_below, whole_below};
-use crate::operators::{chain_below, unary_below};
-use crate::tie::{ExpAnswer, ExpSort, ReadExp};
-use fut_ast::SourceExp;
+use crate::insides::inside_below;
+use crate::operators::unary_below;
+use crate::updates::replacing_below;
+use crate::wholes::{last_below, operand_below, operands_below, right_below, whole_below};
+use bumpalo::Bump;
+use fut_ast::Ended;
+use fut_atoms::atoms::atom_below;
+use fut_atoms::tie::{AnyExp, Ending, ExpAnswer, ExpSort, FirstInside, ReadExp, Replacement};
 use fut_exp_parts::exp_tokens::{
-    begins_exp_atom, begins_exp_big, begins_exp_operand, goes_on_app, goes_on_atom, goes_on_chain,
-    goes_on_range, goes_on_typed, next_section,
+    begins_exp_atom, begins_exp_big, begins_exp_operand, goes_on_app, goes_on_atom, goes_on_typed,
 };
-use fut_phrases::behind::ended;
-use fut_phrases::fault::{Fault, Stop};
-use fut_phrases::tokens::refused;
-use fut_token::{Fixed, Token};
-use std::alloc::Global;
+use fut_grammar::{Fault, Stop};
+use fut_phrases::found::Found;
+use fut_phrases::tokens::{refused, starts_with_word};
+use fut_token::Token;
+use fut_tree::Exp;
 
-#[tactic(auto, unfolding(fut_phrases::specs::Phrases::read_at, fut_phrases::specs::Phrases::bounded, fut_phrases::specs::Phrases::ended, fut_phrases::specs::Phrases::step, fut_phrases::specs::Reading::refuse_sort))]
-fn atom_node<R: ReadExp>(
-    alloc: Global,
+#[tactic(auto, unfolding(fut_grammar::specs::Phrases::read_at, fut_grammar::specs::Phrases::bounded, fut_grammar::specs::Phrases::ended, fut_grammar::specs::Phrases::step, fut_grammar::specs::Reading::refuse_sort))]
+fn atom_node<'a, R: ReadExp<'a>>(
+    bump: &'a Bump,
     read: R,
     inner: u32,
-    tokens: &[Token],
-) -> Result<(SourceExp, u32, &[Token]), Stop>
+    tokens: &'a [Token],
+) -> Result<Found<'a, &'a Exp<'a>>, Stop>
     requires law { R.reads read inner }
     requires room { inner < 1000 }
-    ensures exact { Gives (λ x. (x.0, x.1, x.2.now)) result (read_at (suc inner) Atom tokens.now) }
-    ensures low { IfOk result (λ x. x.1 ≤ inner + 1) }
+    ensures exact { Gives tree_found result (read_at (suc inner) Atom tokens.now) }
+    ensures low { IfOk result (λ x. x.height ≤ inner + 1) }
 {
     if !begins_exp_atom(tokens) {
         return Err(Stop::Fault(refused(tokens)));
     }
-    let (tree, height, rest) = atom_below(alloc, read, inner, tokens)?;
-    ended(tree, height, rest, goes_on_atom(rest))
+    let found = atom_below(bump, read, inner, tokens)?;
+    if goes_on_atom(found.rest) {
+        return Err(Stop::Fault(refused(found.rest)));
+    }
+    Ok(found)
 }
 
-#[tactic(auto, unfolding(fut_phrases::specs::Phrases::read_at, fut_phrases::specs::Phrases::bounded, fut_phrases::specs::Phrases::ended, fut_phrases::specs::Phrases::step, fut_phrases::specs::Reading::refuse_sort))]
-fn unary_node<R: ReadExp>(
-    alloc: Global,
+#[tactic(auto, unfolding(fut_grammar::specs::Phrases::read_at, fut_grammar::specs::Phrases::bounded, fut_grammar::specs::Phrases::ended, fut_grammar::specs::Phrases::step, fut_grammar::specs::Reading::refuse_sort))]
+fn unary_node<'a, R: ReadExp<'a>>(
+    bump: &'a Bump,
     read: R,
     inner: u32,
-    tokens: &[Token],
-) -> Result<(SourceExp, u32, &[Token]), Stop>
+    tokens: &'a [Token],
+) -> Result<Found<'a, &'a Exp<'a>>, Stop>
     requires law { R.reads read inner }
     requires room { inner < 1000 }
-    ensures exact { Gives (λ x. (x.0, x.1, x.2.now)) result (read_at (suc inner) Unary tokens.now) }
-    ensures low { IfOk result (λ x. x.1 ≤ inner + 1) }
+    ensures exact { Gives tree_found result (read_at (suc inner) Unary tokens.now) }
+    ensures low { IfOk result (λ x. x.height ≤ inner + 1) }
 {
     if !begins_exp_operand(tokens) {
         return Err(Stop::Fault(refused(tokens)));
     }
-    let (tree, height, rest) = unary_below(alloc, read, inner, tokens)?;
-    ended(tree, height, rest, goes_on_app(rest))
+    let found = unary_below(bump, read, inner, tokens)?;
+    if goes_on_app(found.rest) {
+        return Err(Stop::Fault(refused(found.rest)));
+    }
+    Ok(found)
 }
 
-#[tactic(auto, unfolding(fut_phrases::specs::Phrases::read_at, fut_phrases::specs::Phrases::bounded, fut_phrases::specs::Phrases::ended, fut_phrases::specs::Phrases::step, fut_phrases::specs::Reading::refuse_sort))]
-fn chain_node<R: ReadExp>(
-    alloc: Global,
+#[tactic(auto, unfolding(fut_grammar::specs::Phrases::read_at, fut_grammar::specs::Phrases::bounded, fut_grammar::specs::Phrases::ended, fut_grammar::specs::Phrases::step, fut_grammar::specs::Reading::refuse_sort))]
+fn operands_node<'a, R: ReadExp<'a>>(
+    bump: &'a Bump,
     read: R,
     inner: u32,
     least: u8,
-    tokens: &[Token],
-) -> Result<(SourceExp, u32, &[Token]), Stop>
+    tokens: &'a [Token],
+) -> Result<Found<'a, &'a Exp<'a>>, Stop>
     requires law { R.reads read inner }
     requires room { inner < 1000 }
-    ensures exact { Gives (λ x. (x.0, x.1, x.2.now)) result (read_at (suc inner) (Chain least) tokens.now) }
-    ensures low { IfOk result (λ x. x.1 ≤ inner + 1) }
+    ensures exact { Gives tree_found result (read_at (suc inner) (Operands least) tokens.now) }
+    ensures low { IfOk result (λ x. x.height ≤ inner + 1) }
 {
     if !begins_exp_operand(tokens) {
         return Err(Stop::Fault(refused(tokens)));
     }
-    let (tree, height, rest) = chain_below(alloc, read, inner, least, tokens)?;
-    ended(tree, height, rest, goes_on_chain(least, rest))
+    operands_below(bump, read, inner, least, tokens)
 }
 
-#[tactic(auto, unfolding(fut_phrases::specs::Phrases::read_at, fut_phrases::specs::Phrases::bounded, fut_phrases::specs::Phrases::ended, fut_phrases::specs::Phrases::step, fut_phrases::specs::Reading::refuse_sort))]
-fn operand_node<R: ReadExp>(
-    alloc: Global,
+#[tactic(auto, unfolding(fut_grammar::specs::Phrases::read_at, fut_grammar::specs::Phrases::bounded, fut_grammar::specs::Phrases::ended, fut_grammar::specs::Phrases::step, fut_grammar::specs::Reading::refuse_sort))]
+fn operand_node<'a, R: ReadExp<'a>>(
+    bump: &'a Bump,
     read: R,
     inner: u32,
     least: u8,
-    tokens: &[Token],
-) -> Result<(SourceExp, u32, &[Token]), Stop>
+    tokens: &'a [Token],
+) -> Result<Found<'a, &'a Exp<'a>>, Stop>
     requires law { R.reads read inner }
     requires room { inner < 1000 }
-    ensures exact { Gives (λ x. (x.0, x.1, x.2.now)) result (read_at (suc inner) (Operand least) tokens.now) }
-    ensures low { IfOk result (λ x. x.1 ≤ inner + 1) }
+    ensures exact { Gives tree_found result (read_at (suc inner) (Operand least) tokens.now) }
+    ensures low { IfOk result (λ x. x.height ≤ inner + 1) }
 {
     if !begins_exp_operand(tokens) && !begins_exp_big(tokens) {
         return Err(Stop::Fault(refused(tokens)));
     }
-    let (tree, height, rest) = operand_below(alloc, read, inner, least, tokens)?;
-    ended(tree, height, rest, goes_on_chain(least, rest))
+    operand_below(bump, read, inner, least, tokens)
 }
 
-#[tactic(auto, unfolding(fut_phrases::specs::Phrases::read_at, fut_phrases::specs::Phrases::bounded, fut_phrases::specs::Phrases::ended, fut_phrases::specs::Phrases::step, fut_phrases::specs::Reading::refuse_sort))]
-fn right_node<R: ReadExp>(
-    alloc: Global,
+#[tactic(auto, unfolding(fut_grammar::specs::Phrases::read_at, fut_grammar::specs::Phrases::bounded, fut_grammar::specs::Phrases::ended, fut_grammar::specs::Phrases::step, fut_grammar::specs::Reading::refuse_sort))]
+fn right_node<'a, R: ReadExp<'a>>(
+    bump: &'a Bump,
     read: R,
     inner: u32,
-    tokens: &[Token],
-) -> Result<(SourceExp, u32, &[Token]), Stop>
+    tokens: &'a [Token],
+) -> Result<Found<'a, &'a Exp<'a>>, Stop>
     requires law { R.reads read inner }
     requires room { inner < 1000 }
-    ensures exact { Gives (λ x. (x.0, x.1, x.2.now)) result (read_at (suc inner) Right tokens.now) }
-    ensures low { IfOk result (λ x. x.1 ≤ inner + 1) }
+    ensures exact { Gives tree_found result (read_at (suc inner) Right tokens.now) }
+    ensures low { IfOk result (λ x. x.height ≤ inner + 1) }
 {
     if !begins_exp_operand(tokens) && !begins_exp_big(tokens) {
         return Err(Stop::Fault(refused(tokens)));
     }
-    let (tree, height, rest) = right_below(alloc, read, inner, tokens)?;
-    ended(tree, height, rest, goes_on_range(rest))
+    right_below(bump, read, inner, tokens)
 }
 
-#[tactic(auto, unfolding(fut_phrases::specs::Phrases::read_at, fut_phrases::specs::Phrases::bounded, fut_phrases::specs::Phrases::ended, fut_phrases::specs::Phrases::step, fut_phrases::specs::Reading::refuse_sort))]
-fn whole_node<R: ReadExp>(
-    alloc: Global,
+#[tactic(auto, unfolding(fut_grammar::specs::Phrases::read_at, fut_grammar::specs::Phrases::bounded, fut_grammar::specs::Phrases::ended, fut_grammar::specs::Phrases::step, fut_grammar::specs::Reading::refuse_sort))]
+fn whole_node<'a, R: ReadExp<'a>>(
+    bump: &'a Bump,
     read: R,
     inner: u32,
-    tokens: &[Token],
-) -> Result<(SourceExp, u32, &[Token]), Stop>
+    tokens: &'a [Token],
+) -> Result<Found<'a, &'a Exp<'a>>, Stop>
     requires law { R.reads read inner }
     requires room { inner < 1000 }
-    ensures exact { Gives (λ x. (x.0, x.1, x.2.now)) result (read_at (suc inner) Whole tokens.now) }
-    ensures low { IfOk result (λ x. x.1 ≤ inner + 1) }
+    ensures exact { Gives tree_found result (read_at (suc inner) Whole tokens.now) }
+    ensures low { IfOk result (λ x. x.height ≤ inner + 1) }
 {
     if !begins_exp_operand(tokens) && !begins_exp_big(tokens) {
         return Err(Stop::Fault(refused(tokens)));
     }
-    let (tree, height, rest) = whole_below(alloc, read, inner, tokens)?;
-    ended(tree, height, rest, goes_on_typed(rest))
+    whole_below(bump, read, inner, tokens)
 }
 
-#[tactic(auto, unfolding(fut_phrases::specs::Phrases::read_at, fut_phrases::specs::Phrases::bounded, fut_phrases::specs::Phrases::ended, fut_phrases::specs::Phrases::step, fut_phrases::specs::Reading::refuse_sort))]
-fn inside_node<R: ReadExp>(
-    alloc: Global,
+#[tactic(auto, unfolding(fut_grammar::specs::Phrases::read_at, fut_grammar::specs::Phrases::bounded, fut_grammar::specs::Phrases::ended, fut_grammar::specs::Phrases::step, fut_grammar::specs::Reading::refuse_sort))]
+fn last_node<'a, R: ReadExp<'a>>(
+    bump: &'a Bump,
     read: R,
     inner: u32,
-    tokens: &[Token],
-) -> Result<((SourceExp, Option<Fixed>), u32, &[Token]), Stop>
+    tokens: &'a [Token],
+) -> Result<Found<'a, Ending<'a>>, Stop>
     requires law { R.reads read inner }
     requires room { inner < 1000 }
-    ensures exact { Gives (λ x. (x.0, x.1, x.2.now)) result (read_at (suc inner) Inside tokens.now) }
-    ensures low { IfOk result (λ x. x.1 ≤ inner + 1) }
+    ensures exact { Gives ending_found result (read_at (suc inner) Last tokens.now) }
+    ensures low { IfOk result (λ x. x.height ≤ inner + 1) }
 {
     if !begins_exp_operand(tokens) && !begins_exp_big(tokens) {
         return Err(Stop::Fault(refused(tokens)));
     }
-    let (tree, height, rest) = inside_below(alloc, read, inner, tokens)?;
-    ended(
-        tree,
-        height,
-        rest,
-        goes_on_typed(rest) && next_section(rest).is_none(),
-    )
+    let found = last_below(bump, read, inner, tokens)?;
+    if goes_on_typed(found.tree.ended, found.rest) {
+        return Err(Stop::Fault(refused(found.rest)));
+    }
+    Ok(found)
+}
+
+#[tactic(auto, unfolding(fut_grammar::specs::Phrases::read_at, fut_grammar::specs::Phrases::bounded, fut_grammar::specs::Phrases::ended, fut_grammar::specs::Phrases::step, fut_grammar::specs::Reading::refuse_sort))]
+fn inside_node<'a, R: ReadExp<'a>>(
+    bump: &'a Bump,
+    read: R,
+    inner: u32,
+    tokens: &'a [Token],
+) -> Result<Found<'a, FirstInside<'a>>, Stop>
+    requires law { R.reads read inner }
+    requires room { inner < 1000 }
+    ensures exact { Gives inside_found result (read_at (suc inner) Inside tokens.now) }
+    ensures low { IfOk result (λ x. x.height ≤ inner + 1) }
+{
+    if !begins_exp_operand(tokens) && !begins_exp_big(tokens) {
+        return Err(Stop::Fault(refused(tokens)));
+    }
+    inside_below(bump, read, inner, tokens)
+}
+
+#[tactic(auto, unfolding(fut_grammar::specs::Phrases::read_at, fut_grammar::specs::Phrases::bounded, fut_grammar::specs::Phrases::ended, fut_grammar::specs::Phrases::step, fut_grammar::specs::Reading::refuse_sort))]
+fn replacing_node<'a, R: ReadExp<'a>>(
+    bump: &'a Bump,
+    read: R,
+    inner: u32,
+    tokens: &'a [Token],
+) -> Result<Found<'a, Replacement<'a>>, Stop>
+    requires law { R.reads read inner }
+    requires room { inner < 1000 }
+    ensures exact { Gives replacing_found result (read_at (suc inner) Replacing tokens.now) }
+    ensures low { IfOk result (λ x. x.height ≤ inner + 1) }
+{
+    if !starts_with_word(tokens) {
+        return Err(Stop::Fault(refused(tokens)));
+    }
+    replacing_below(bump, read, inner, tokens)
 }
 
 // Where nothing may stand below, a token that begins an expression is too deep.
-#[tactic(auto, unfolding(fut_phrases::specs::Phrases::read_at, fut_phrases::specs::Reading::refuse_sort))]
+#[tactic(auto, unfolding(fut_grammar::specs::Phrases::read_at, fut_grammar::specs::Reading::refuse_sort))]
 fn nothing_below(sort: ExpSort, tokens: &[Token]) -> Fault
     ensures { Reads sort 0 tokens.now (Err (Stop.Fault result)) }
 {
     let begins = match sort {
         ExpSort::Atom => begins_exp_atom(tokens),
-        ExpSort::Unary | ExpSort::Chain(_) => begins_exp_operand(tokens),
-        ExpSort::Operand(_) | ExpSort::Right | ExpSort::Whole | ExpSort::Inside => {
-            begins_exp_operand(tokens) || begins_exp_big(tokens)
-        }
+        ExpSort::Unary | ExpSort::Operands(_) => begins_exp_operand(tokens),
+        ExpSort::Operand(_) | ExpSort::Right | ExpSort::Whole | ExpSort::Last | ExpSort::Inside =>
+            begins_exp_operand(tokens) || begins_exp_big(tokens),
+        ExpSort::Replacing => starts_with_word(tokens),
     };
     if begins {
         Fault::TooDeep(tokens.len())
@@ -179,88 +218,143 @@ fn nothing_below(sort: ExpSort, tokens: &[Token]) -> Fault
     }
 }
 
-fn node<R: ReadExp>(
-    alloc: Global,
+// What was read, of a sort that is an expression alone.
+fn alone<'a>(found: Found<'a, &'a Exp<'a>>) -> Found<'a, AnyExp<'a>>
+    ensures tree { result.tree.exp.now ≡ found.entry.tree.now }
+    ensures height { result.height ≡ found.entry.height }
+    ensures rest { result.rest.now ≡ found.entry.rest.now }
+{
+    Found {
+        tree: AnyExp {
+            exp: found.tree,
+            ended: Ended::Type,
+            section: None,
+            path: &[],
+        },
+        height: found.height,
+        rest: found.rest,
+    }
+}
+
+// The same with how it ended.
+fn with_ending<'a>(found: Found<'a, Ending<'a>>) -> Found<'a, AnyExp<'a>>
+    ensures tree { (result.tree.exp.now ≡ found.entry.tree.exp.now) × (result.tree.ended ≡ found.entry.tree.ended) }
+    ensures height { result.height ≡ found.entry.height }
+    ensures rest { result.rest.now ≡ found.entry.rest.now }
+{
+    Found {
+        tree: AnyExp {
+            exp: found.tree.exp,
+            ended: found.tree.ended,
+            section: None,
+            path: &[],
+        },
+        height: found.height,
+        rest: found.rest,
+    }
+}
+
+// The same with the operator of a section.
+fn with_section<'a>(found: Found<'a, FirstInside<'a>>) -> Found<'a, AnyExp<'a>>
+    ensures tree { (result.tree.exp.now ≡ found.entry.tree.exp.now) × (result.tree.section ≡ found.entry.tree.section) }
+    ensures height { result.height ≡ found.entry.height }
+    ensures rest { result.rest.now ≡ found.entry.rest.now }
+{
+    Found {
+        tree: AnyExp {
+            exp: found.tree.exp,
+            ended: Ended::Type,
+            section: found.tree.section,
+            path: &[],
+        },
+        height: found.height,
+        rest: found.rest,
+    }
+}
+
+// The same with the names of a field.
+fn with_path<'a>(found: Found<'a, Replacement<'a>>) -> Found<'a, AnyExp<'a>>
+    ensures tree { (result.tree.exp.now ≡ found.entry.tree.exp.now) × (result.tree.path.now ≡ found.entry.tree.path.now) }
+    ensures height { result.height ≡ found.entry.height }
+    ensures rest { result.rest.now ≡ found.entry.rest.now }
+{
+    Found {
+        tree: AnyExp {
+            exp: found.tree.exp,
+            ended: Ended::Type,
+            section: None,
+            path: found.tree.path,
+        },
+        height: found.height,
+        rest: found.rest,
+    }
+}
+
+fn node<'a, R: ReadExp<'a>>(
+    bump: &'a Bump,
     read: R,
     inner: u32,
     sort: ExpSort,
-    tokens: &[Token],
-) -> ExpAnswer<'_>
+    tokens: &'a [Token],
+) -> ExpAnswer<'a>
     requires law { R.reads read inner }
     requires room { inner < 1000 }
     ensures exact { Reads sort (suc inner) tokens.now result }
-    ensures low { IfOk result (λ x. x.2 ≤ inner + 1) }
+    ensures low { IfOk result (λ x. x.height ≤ inner + 1) }
 {
     match sort {
-        ExpSort::Atom => {
-            let (tree, height, rest) = atom_node(alloc, read, inner, tokens)?;
-            Ok((tree, None, height, rest))
-        }
-        ExpSort::Unary => {
-            let (tree, height, rest) = unary_node(alloc, read, inner, tokens)?;
-            Ok((tree, None, height, rest))
-        }
-        ExpSort::Chain(least) => {
-            let (tree, height, rest) = chain_node(alloc, read, inner, least, tokens)?;
-            Ok((tree, None, height, rest))
-        }
-        ExpSort::Operand(least) => {
-            let (tree, height, rest) = operand_node(alloc, read, inner, least, tokens)?;
-            Ok((tree, None, height, rest))
-        }
-        ExpSort::Right => {
-            let (tree, height, rest) = right_node(alloc, read, inner, tokens)?;
-            Ok((tree, None, height, rest))
-        }
-        ExpSort::Whole => {
-            let (tree, height, rest) = whole_node(alloc, read, inner, tokens)?;
-            Ok((tree, None, height, rest))
-        }
-        ExpSort::Inside => {
-            let ((tree, operator), height, rest) = inside_node(alloc, read, inner, tokens)?;
-            Ok((tree, operator, height, rest))
-        }
+        ExpSort::Atom => Ok(alone(atom_node(bump, read, inner, tokens)?)),
+        ExpSort::Unary => Ok(alone(unary_node(bump, read, inner, tokens)?)),
+        ExpSort::Operands(least) => Ok(alone(operands_node(bump, read, inner, least, tokens)?)),
+        ExpSort::Operand(least) => Ok(alone(operand_node(bump, read, inner, least, tokens)?)),
+        ExpSort::Right => Ok(alone(right_node(bump, read, inner, tokens)?)),
+        ExpSort::Whole => Ok(alone(whole_node(bump, read, inner, tokens)?)),
+        ExpSort::Last => Ok(with_ending(last_node(bump, read, inner, tokens)?)),
+        ExpSort::Inside => Ok(with_section(inside_node(bump, read, inner, tokens)?)),
+        ExpSort::Replacing => Ok(with_path(replacing_node(bump, read, inner, tokens)?)),
     }
 }
 
 // The closure's lifetimes are known from this bound alone.
-fn node_by<'t, F: for<'a> Fn(ExpSort, &'a [Token]) -> ExpAnswer<'a>>(
-    alloc: Global,
+fn node_by<'a, F: Fn(ExpSort, &'a [Token]) -> ExpAnswer<'a>>(
+    bump: &'a Bump,
     function: &F,
     inner: u32,
     sort: ExpSort,
-    tokens: &'t [Token],
-) -> ExpAnswer<'t>
+    tokens: &'a [Token],
+) -> ExpAnswer<'a>
     requires callable { F.IsAlwaysCallable function.now }
     requires law { Law (F.post function.now) inner }
     requires room { inner < 1000 }
     ensures exact { Reads sort (suc inner) tokens.now result }
-    ensures low { IfOk result (λ x. x.2 ≤ inner + 1) }
+    ensures low { IfOk result (λ x. x.height ≤ inner + 1) }
 {
-    node(alloc, function, inner, sort, tokens)
+    node(bump, function, inner, sort, tokens)
 }
 
 /// An expression of a height up to the depth.
 #[cycle(expressions)]
-pub fn expression(alloc: Global, depth: u32, sort: ExpSort, tokens: &[Token]) -> ExpAnswer<'_>
+pub fn expression<'a>(
+    bump: &'a Bump,
+    depth: u32,
+    sort: ExpSort,
+    tokens: &'a [Token],
+) -> ExpAnswer<'a>
     requires { depth ≤ 1000 }
     ensures exact { Reads sort depth tokens.now result }
-    ensures low { IfOk result (λ x. x.2 ≤ depth) }
+    ensures low { IfOk result (λ x. x.height ≤ depth) }
 {
     if depth == 0 {
         return Err(Stop::Fault(nothing_below(sort, tokens)));
     }
     let inner = depth - 1;
     node_by(
-        alloc,
-        &|next: ExpSort, behind: &[Token]| -> Result<
-            (SourceExp, Option<Fixed>, u32, &[Token]),
-            Stop,
-        >
+        bump,
+        &|next, behind| -> Result<Found<AnyExp>, Stop>
             requires { inner ≤ 1000 }
             ensures exact { Reads next inner behind.now result }
-            ensures low { IfOk result (λ x. x.2 ≤ inner) }
-        { expression(alloc, inner, next, behind) },
+            ensures low { IfOk result (λ x. x.height ≤ inner) }
+        { expression(bump, inner, next, behind) },
         inner,
         sort,
         tokens,
@@ -268,15 +362,19 @@ pub fn expression(alloc: Global, depth: u32, sort: ExpSort, tokens: &[Token]) ->
 }
 
 /// Any expression of a height up to the depth.
-pub fn whole_expression(
-    alloc: Global,
+pub fn whole_expression<'a>(
+    bump: &'a Bump,
     depth: u32,
-    tokens: &[Token],
-) -> Result<(SourceExp, u32, &[Token]), Stop>
+    tokens: &'a [Token],
+) -> Result<Found<'a, &'a Exp<'a>>, Stop>
     requires { depth ≤ 1000 }
-    ensures exact { Gives (λ x. (x.0, x.1, x.2.now)) result (read_at depth Whole tokens.now) }
-    ensures low { IfOk result (λ x. x.1 ≤ depth) }
+    ensures exact { Gives tree_found result (read_at depth Whole tokens.now) }
+    ensures low { IfOk result (λ x. x.height ≤ depth) }
 {
-    let (tree, _, height, rest) = expression(alloc, depth, ExpSort::Whole, tokens)?;
-    Ok((tree, height, rest))
+    let found = expression(bump, depth, ExpSort::Whole, tokens)?;
+    Ok(Found {
+        tree: found.tree.exp,
+        height: found.height,
+        rest: found.rest,
+    })
 }

@@ -1,17 +1,15 @@
-//! Expressions, read as `fut_phrases` says.
+//! Expressions, read as `fut_grammar` says.
 //!
 //! `whole_expression` is the one call: the tree of an expression, its height, and the tokens behind it.
 #![tactic(auto)]
 
-mod atoms;
+mod behind;
 mod expressions;
-mod forms;
-mod indices;
-mod lets;
+mod insides;
 mod operators;
-mod parens;
-mod tie;
+mod ranges;
+mod typed;
 mod updates;
-mod written;
+mod wholes;
 
 pub use expressions::whole_expression;

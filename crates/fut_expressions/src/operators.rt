@@ -1,323 +1,347 @@
 // Operands, applications and operators.
-ghost use Rattle.std.specs.Prelude.{◌≡◌, ◌≤◌, ◌<◌, ◌+◌, ◌-◌, suc, length, if◌then◌else◌, IfErr, IfOk};
-ghost use Rattle.fut_ast.specs.Behind.{begins_argument, behind_app, behind_atom};
+ghost use Rattle.std.specs.Prelude.{◌≡◌, ◌≤◌, ◌<◌, ◌+◌, suc, length, if◌then◌else◌, Err, IfOk, List, ℕ};
+ghost use Rattle.fut_ast.specs.Behind.{begins_argument, behind_app};
 ghost use Rattle.fut_ast.specs.ExpRows.{assertion, complement, negation};
+ghost use Rattle.fut_token.specs.declared.token.Token.{Token};
+ghost use Rattle.fut_ast.specs.Sorts.{SourceExp};
+ghost use Rattle.fut_ast.specs.declared.node.Ended.{Ended};
 ghost use Rattle.fut_ast.specs.Rows.{applied, of_exp};
-ghost use Rattle.fut_ast.specs.Sorts.{App};
-ghost use Rattle.fut_phrases.specs.Phrases.{again_at, app_at, chain_at, graded_at, operation_at, operators_at, phrases, read_at, unary_at};
-ghost use Rattle.fut_phrases.specs.Reading.{Gives, refuse, row_at, suffix_at};
+ghost use Rattle.fut_atoms.specs.Tie.{ending_found};
+ghost use Rattle.fut_phrases.specs.Found.{tree_found};
+ghost use Rattle.fut_grammar.specs.Phrases.{again_at, app_at, chain_at, graded_at, operand_too_deep, operation_at, operators_at, phrases, read_at, unary_at};
+ghost use Rattle.fut_grammar.specs.Reading.{Fails, Gives, refuse, row_at, suffix_at};
 
-use crate::atoms::atom_below;
-use crate::tie::{ReadExp, atom, operand, unary};
-use fut_ast::{Oper, SourceExp, Spot};
-use fut_exp_parts::exp_nodes::{assertion, byte_before, call, unary as unary_node};
+use crate::behind::too_high;
+use bumpalo::Bump;
+use fut_ast::{Ended, Oper, Spot};
+use fut_atoms::atoms::atom_below;
+use fut_atoms::tie::{Ending, ReadExp, atom, operand, unary};
+use fut_exp_parts::exp_nodes::{assertion, call, unary as unary_node};
 use fut_exp_parts::exp_tokens::{
-    begins_exp_argument, begins_exp_atom, goes_on_app, goes_on_atom, left_level_of, next_between,
-    right_level_of, take_operator, takes_left,
+    begins_exp_argument, begins_exp_atom, begins_exp_big, begins_exp_operand, goes_on_app,
+    goes_on_atom, next_between, right_level_of, take_operator,
 };
 use fut_exp_parts::joins::join;
-use fut_phrases::behind::{both, low_enough, refused_if};
-use fut_phrases::fault::{Fault, Stop};
+use fut_grammar::{Fault, Stop};
+use fut_phrases::found::Found;
 use fut_phrases::tokens::{greater, next_spot, refused, starts_with, take};
 use fut_token::{Fixed, Token};
-use std::alloc::Global;
+use fut_tree::Exp;
 
 /// An operand of an operator.
-#[tactic(auto, unfolding(fut_phrases::specs::Phrases::unary_at))]
-pub fn unary_below<R: ReadExp>(
-    alloc: Global,
+#[tactic(auto, unfolding(fut_grammar::specs::Phrases::unary_at))]
+pub fn unary_below<'a, R: ReadExp<'a>>(
+    bump: &'a Bump,
     read: R,
     inner: u32,
-    tokens: &[Token],
-) -> Result<(SourceExp, u32, &[Token]), Stop>
+    tokens: &'a [Token],
+) -> Result<Found<'a, &'a Exp<'a>>, Stop>
     requires law { R.reads read inner }
     requires room { inner < 1000 }
-    ensures exact { Gives (λ x. (x.0, x.1, x.2.now)) result (unary_at (phrases (read_at inner)) (suc inner) tokens.now) }
-    ensures low { IfOk result (λ x. x.1 ≤ inner + 1) }
+    ensures exact { Gives tree_found result (unary_at (phrases (read_at inner)) (suc inner) tokens.now) }
+    ensures low { IfOk result (λ x. x.height ≤ inner + 1) }
 {
     if begins_exp_atom(tokens) {
-        app_below(alloc, read, inner, tokens)
+        app_below(bump, read, inner, tokens)
     } else if starts_with(tokens, Fixed::Minus) {
-        negated(alloc, read, inner, tokens)
+        negated(bump, read, inner, tokens)
     } else if starts_with(tokens, Fixed::Bang) {
-        complemented(alloc, read, inner, tokens)
+        complemented(bump, read, inner, tokens)
     } else {
-        asserted(alloc, read, inner, tokens)
+        asserted(bump, read, inner, tokens)
     }
 }
 
-#[tactic(auto, unfolding(fut_phrases::specs::Reading::row_at, fut_phrases::specs::Reading::parts_at, fut_phrases::specs::Reading::has_at, fut_phrases::specs::Reading::sub_at, fut_phrases::specs::Phrases::phrases))]
-fn negated<R: ReadExp>(
-    alloc: Global,
+#[tactic(auto, unfolding(fut_grammar::specs::Reading::row_at, fut_grammar::specs::Reading::parts_at, fut_grammar::specs::Reading::has_at, fut_grammar::specs::Reading::sub_at, fut_grammar::specs::Phrases::phrases))]
+fn negated<'a, R: ReadExp<'a>>(
+    bump: &'a Bump,
     read: R,
     inner: u32,
-    tokens: &[Token],
-) -> Result<(SourceExp, u32, &[Token]), Stop>
+    tokens: &'a [Token],
+) -> Result<Found<'a, &'a Exp<'a>>, Stop>
     requires law { R.reads read inner }
     requires room { inner < 1000 }
-    ensures exact { Gives (λ x. (x.0, x.1, x.2.now)) result (row_at (phrases (read_at inner)) (of_exp negation) tokens.now) }
-    ensures low { IfOk result (λ x. x.1 ≤ inner + 1) }
+    ensures exact { Gives tree_found result (row_at (phrases (read_at inner)) (of_exp negation) tokens.now) }
+    ensures low { IfOk result (λ x. x.height ≤ inner + 1) }
 {
-    let at = next_spot(tokens);
-    let rest = take(tokens, Fixed::Minus)?;
-    let (tree, height, rest) = unary(read, inner, rest)?;
-    Ok((unary_node(alloc, at, Oper::Neg, tree)?, height + 1, rest))
+    let place = next_spot(tokens).place;
+    let found = unary(read, inner, take(tokens, Fixed::Minus)?)?;
+    Ok(Found {
+        tree: unary_node(bump, place, Oper::Neg, found.tree)?,
+        height: found.height + 1,
+        rest: found.rest,
+    })
 }
 
-#[tactic(auto, unfolding(fut_phrases::specs::Reading::row_at, fut_phrases::specs::Reading::parts_at, fut_phrases::specs::Reading::has_at, fut_phrases::specs::Reading::sub_at, fut_phrases::specs::Phrases::phrases))]
-fn complemented<R: ReadExp>(
-    alloc: Global,
+#[tactic(auto, unfolding(fut_grammar::specs::Reading::row_at, fut_grammar::specs::Reading::parts_at, fut_grammar::specs::Reading::has_at, fut_grammar::specs::Reading::sub_at, fut_grammar::specs::Phrases::phrases))]
+fn complemented<'a, R: ReadExp<'a>>(
+    bump: &'a Bump,
     read: R,
     inner: u32,
-    tokens: &[Token],
-) -> Result<(SourceExp, u32, &[Token]), Stop>
+    tokens: &'a [Token],
+) -> Result<Found<'a, &'a Exp<'a>>, Stop>
     requires law { R.reads read inner }
     requires room { inner < 1000 }
-    ensures exact { Gives (λ x. (x.0, x.1, x.2.now)) result (row_at (phrases (read_at inner)) (of_exp complement) tokens.now) }
-    ensures low { IfOk result (λ x. x.1 ≤ inner + 1) }
+    ensures exact { Gives tree_found result (row_at (phrases (read_at inner)) (of_exp complement) tokens.now) }
+    ensures low { IfOk result (λ x. x.height ≤ inner + 1) }
 {
-    let at = next_spot(tokens);
-    let rest = take(tokens, Fixed::Bang)?;
-    let (tree, height, rest) = unary(read, inner, rest)?;
-    Ok((unary_node(alloc, at, Oper::Not, tree)?, height + 1, rest))
+    let place = next_spot(tokens).place;
+    let found = unary(read, inner, take(tokens, Fixed::Bang)?)?;
+    Ok(Found {
+        tree: unary_node(bump, place, Oper::Not, found.tree)?,
+        height: found.height + 1,
+        rest: found.rest,
+    })
 }
 
-#[tactic(auto, unfolding(fut_phrases::specs::Reading::row_at, fut_phrases::specs::Reading::parts_at, fut_phrases::specs::Reading::has_at, fut_phrases::specs::Reading::sub_at, fut_phrases::specs::Phrases::phrases, fut_phrases::specs::Reading::argument_at))]
-fn asserted<R: ReadExp>(
-    alloc: Global,
+#[tactic(auto, unfolding(fut_grammar::specs::Reading::row_at, fut_grammar::specs::Reading::parts_at, fut_grammar::specs::Reading::has_at, fut_grammar::specs::Reading::sub_at, fut_grammar::specs::Phrases::phrases, fut_grammar::specs::Reading::argument_at))]
+fn asserted<'a, R: ReadExp<'a>>(
+    bump: &'a Bump,
     read: R,
     inner: u32,
-    tokens: &[Token],
-) -> Result<(SourceExp, u32, &[Token]), Stop>
+    tokens: &'a [Token],
+) -> Result<Found<'a, &'a Exp<'a>>, Stop>
     requires law { R.reads read inner }
     requires room { inner < 1000 }
-    ensures exact { Gives (λ x. (x.0, x.1, x.2.now)) result (row_at (phrases (read_at inner)) (of_exp assertion) tokens.now) }
-    ensures low { IfOk result (λ x. x.1 ≤ inner + 1) }
+    ensures exact { Gives tree_found result (row_at (phrases (read_at inner)) (of_exp assertion) tokens.now) }
+    ensures low { IfOk result (λ x. x.height ≤ inner + 1) }
 {
-    let at = next_spot(tokens);
-    let rest = take(tokens, Fixed::KeyAssert)?;
-    let (test, test_height, rest) = atom(read, inner, rest)?;
-    let test = refused_if(test, !begins_exp_argument(rest), rest)?;
-    let (test, (value, height, rest)) = both(test, atom(read, inner, rest))?;
-    let tree = assertion(alloc, at, test, value)?;
-    Ok((tree, greater(test_height, height) + 1, rest))
+    let place = next_spot(tokens).place;
+    let test = atom(read, inner, take(tokens, Fixed::KeyAssert)?)?;
+    if !begins_exp_argument(test.rest) {
+        return Err(Stop::Fault(refused(test.rest)));
+    }
+    let value = atom(read, inner, test.rest)?;
+    Ok(Found {
+        tree: assertion(bump, place, test.tree, value.tree)?,
+        height: greater(test.height, value.height) + 1,
+        rest: value.rest,
+    })
 }
 
 /// An atom and its arguments.
-#[tactic(auto, unfolding(fut_phrases::specs::Phrases::app_at))]
-pub fn app_below<R: ReadExp>(
-    alloc: Global,
+#[tactic(auto, unfolding(fut_grammar::specs::Phrases::app_at))]
+pub fn app_below<'a, R: ReadExp<'a>>(
+    bump: &'a Bump,
     read: R,
     inner: u32,
-    tokens: &[Token],
-) -> Result<(SourceExp, u32, &[Token]), Stop>
+    tokens: &'a [Token],
+) -> Result<Found<'a, &'a Exp<'a>>, Stop>
     requires law { R.reads read inner }
     requires room { inner < 1000 }
-    ensures exact { Gives (λ x. (x.0, x.1, x.2.now)) result (app_at (phrases (read_at inner)) (suc inner) tokens.now) }
-    ensures low { IfOk result (λ x. x.1 ≤ inner + 1) }
+    ensures exact { Gives tree_found result (app_at (phrases (read_at inner)) (suc inner) tokens.now) }
+    ensures low { IfOk result (λ x. x.height ≤ inner + 1) }
 {
-    let (first, height, rest) = atom_below(alloc, read, inner, tokens)?;
-    arguments_behind(alloc, read, inner, next_spot(tokens), first, height, rest)
+    let first = atom_below(bump, read, inner, tokens)?;
+    arguments_behind(bump, read, inner, next_spot(tokens), first)
 }
 
-fn arguments_behind<R: ReadExp>(
-    alloc: Global,
+fn arguments_behind<'a, R: ReadExp<'a>>(
+    bump: &'a Bump,
     read: R,
     inner: u32,
     at: Spot,
-    first: SourceExp,
-    first_height: u32,
-    tokens: &[Token],
-) -> Result<(SourceExp, u32, &[Token]), Stop>
+    first: Found<'a, &'a Exp<'a>>,
+) -> Result<Found<'a, &'a Exp<'a>>, Stop>
     requires law { R.reads read inner }
-    requires room { (inner < 1000) × (first_height ≤ inner + 1) }
-    ensures exact { Gives (λ x. (x.0, x.1, x.2.now)) result (again_at (phrases (read_at inner)) (suc inner) begins_argument (λ us. applied) at (suc inner) first first_height tokens.now) }
-    ensures low { IfOk result (λ x. x.1 ≤ inner + 1) }
+    requires room { (inner < 1000) × (first.height ≤ inner + 1) }
+    ensures exact { Gives tree_found result (again_at (phrases (read_at inner)) (suc inner) begins_argument (λ us. applied) at (suc inner) first.entry.tree.now first.entry.height first.entry.rest.now) }
+    ensures low { IfOk result (λ x. x.height ≤ inner + 1) }
 {
-    let mut tree = first;
-    let mut height = first_height;
-    let mut rest = tokens;
+    let mut found = first;
     let mut turns = inner + 1;
-    'behind: while begins_exp_argument(rest) {
+    'behind: while begins_exp_argument(found.rest) {
         if turns == 0 {
-            return Err(Stop::Fault(too_many_arguments(rest)));
+            return Err(Stop::Fault(too_high(goes_on_atom(found.rest), found.rest)));
         }
         turns -= 1;
-        let (longer, longer_height, after) = argument_behind(
-            alloc, read, inner, at, tree, height, rest,
-        )?;
-        tree = longer;
-        height = longer_height;
-        rest = after;
+        found = argument_behind(bump, read, inner, at, found)?;
     }
-    Ok((tree, height, rest))
+    Ok(found)
 }
 
-// The fault where one more argument would make the tree too high.
-fn too_many_arguments(tokens: &[Token]) -> Fault
-    ensures { result ≡ (if behind_atom tokens.now then refuse tokens.now else Fault.TooDeep (length tokens.now)) }
-{
-    if goes_on_atom(tokens) {
-        refused(tokens)
-    } else {
-        Fault::TooDeep(tokens.len())
-    }
-}
-
-#[tactic(auto, unfolding(fut_phrases::specs::Reading::suffix_at, fut_phrases::specs::Reading::parts_at, fut_phrases::specs::Reading::has_at, fut_phrases::specs::Reading::sub_at, fut_phrases::specs::Phrases::phrases, fut_phrases::specs::Reading::argument_at))]
-fn argument_behind<R: ReadExp>(
-    alloc: Global,
+#[tactic(auto, unfolding(fut_grammar::specs::Reading::suffix_at, fut_grammar::specs::Reading::parts_at, fut_grammar::specs::Reading::has_at, fut_grammar::specs::Reading::sub_at, fut_grammar::specs::Phrases::phrases, fut_grammar::specs::Reading::argument_at))]
+fn argument_behind<'a, R: ReadExp<'a>>(
+    bump: &'a Bump,
     read: R,
     inner: u32,
     at: Spot,
-    first: SourceExp,
-    first_height: u32,
-    tokens: &[Token],
-) -> Result<(SourceExp, u32, &[Token]), Stop>
+    first: Found<'a, &'a Exp<'a>>,
+) -> Result<Found<'a, &'a Exp<'a>>, Stop>
     requires law { R.reads read inner }
-    requires room { (inner < 1000) × (first_height ≤ inner + 1) }
-    ensures exact { Gives (λ x. (x.0, x.1, x.2.now)) result (suffix_at (phrases (read_at inner)) applied (suc inner) at first first_height tokens.now) }
-    ensures low { IfOk result (λ x. x.1 ≤ inner + 1) }
+    requires room { (inner < 1000) × (first.height ≤ inner + 1) }
+    ensures exact { Gives tree_found result (suffix_at (phrases (read_at inner)) applied (suc inner) at first.entry.tree.now first.entry.height first.entry.rest.now) }
+    ensures low { IfOk result (λ x. x.height ≤ inner + 1) }
 {
-    let key = byte_before(next_spot(tokens));
-    let first = refused_if(first, goes_on_atom(tokens), tokens)?;
-    let first = low_enough(first, first_height, inner, tokens)?;
-    let first = refused_if(first, !begins_exp_argument(tokens), tokens)?;
-    let (first, (value, height, rest)) = both(first, atom(read, inner, tokens))?;
-    let tree = call(alloc, key, 3, at.place, at.place, first, value)?;
-    Ok((tree, greater(first_height, height) + 1, rest))
+    let tokens = first.rest;
+    if goes_on_atom(tokens) {
+        return Err(Stop::Fault(refused(tokens)));
+    }
+    if first.height > inner {
+        return Err(Stop::Fault(Fault::TooDeep(tokens.len())));
+    }
+    if !begins_exp_argument(tokens) {
+        return Err(Stop::Fault(refused(tokens)));
+    }
+    let value = atom(read, inner, tokens)?;
+    Ok(Found {
+        tree: call(bump, at.place, at.place, first.tree, value.tree)?,
+        height: greater(first.height, value.height) + 1,
+        rest: value.rest,
+    })
 }
 
 /// Operands and operators of a level or tighter.
-#[tactic(auto, unfolding(fut_phrases::specs::Phrases::chain_at))]
-pub fn chain_below<R: ReadExp>(
-    alloc: Global,
+#[tactic(auto, unfolding(fut_grammar::specs::Phrases::chain_at))]
+pub fn chain_below<'a, R: ReadExp<'a>>(
+    bump: &'a Bump,
     read: R,
     inner: u32,
     least: u8,
-    tokens: &[Token],
-) -> Result<(SourceExp, u32, &[Token]), Stop>
+    tokens: &'a [Token],
+) -> Result<Found<'a, Ending<'a>>, Stop>
     requires law { R.reads read inner }
     requires room { inner < 1000 }
-    ensures exact { Gives (λ x. (x.0, x.1, x.2.now)) result (chain_at (phrases (read_at inner)) (suc inner) least tokens.now) }
-    ensures low { IfOk result (λ x. x.1 ≤ inner + 1) }
+    ensures exact { Gives ending_found result (chain_at (phrases (read_at inner)) (suc inner) least tokens.now) }
+    ensures low { IfOk result (λ x. x.height ≤ inner + 1) }
 {
-    let ((tree, _), height, rest) = graded(alloc, read, inner, false, least, tokens)?;
-    Ok((tree, height, rest))
+    graded(bump, read, inner, false, least, tokens)
 }
 
-/// The same, and the last of the operators. Where a section may end the operands, its operator is none of these.
-#[tactic(auto, unfolding(fut_phrases::specs::Phrases::graded_at))]
-pub fn graded<R: ReadExp>(
-    alloc: Global,
+/// The same. Where a section may end the operands, its operator is none of these.
+#[tactic(auto, unfolding(fut_grammar::specs::Phrases::graded_at))]
+pub fn graded<'a, R: ReadExp<'a>>(
+    bump: &'a Bump,
     read: R,
     inner: u32,
     section_ends: bool,
     least: u8,
-    tokens: &[Token],
-) -> Result<((SourceExp, Option<Fixed>), u32, &[Token]), Stop>
+    tokens: &'a [Token],
+) -> Result<Found<'a, Ending<'a>>, Stop>
     requires law { R.reads read inner }
     requires room { inner < 1000 }
-    ensures exact { Gives (λ x. (x.0, x.1, x.2.now)) result (graded_at (phrases (read_at inner)) (suc inner) section_ends least tokens.now) }
-    ensures low { IfOk result (λ x. x.1 ≤ inner + 1) }
+    ensures exact { Gives ending_found result (graded_at (phrases (read_at inner)) (suc inner) section_ends least tokens.now) }
+    ensures low { IfOk result (λ x. x.height ≤ inner + 1) }
 {
-    let (first, height, rest) = unary_below(alloc, read, inner, tokens)?;
+    let found = unary_below(bump, read, inner, tokens)?;
+    let first = Found {
+        tree: Ending {
+            exp: found.tree,
+            ended: Ended::Operands(None),
+        },
+        height: found.height,
+        rest: found.rest,
+    };
     operators_behind(
-        alloc,
+        bump,
         read,
         inner,
         section_ends,
         least,
         next_spot(tokens),
         first,
-        height,
-        rest,
     )
 }
 
-fn operators_behind<R: ReadExp>(
-    alloc: Global,
+fn operators_behind<'a, R: ReadExp<'a>>(
+    bump: &'a Bump,
     read: R,
     inner: u32,
     section_ends: bool,
     least: u8,
     at: Spot,
-    first: SourceExp,
-    first_height: u32,
-    tokens: &[Token],
-) -> Result<((SourceExp, Option<Fixed>), u32, &[Token]), Stop>
+    first: Found<'a, Ending<'a>>,
+) -> Result<Found<'a, Ending<'a>>, Stop>
     requires law { R.reads read inner }
-    requires room { (inner < 1000) × (first_height ≤ inner + 1) }
-    ensures exact { Gives (λ x. (x.0, x.1, x.2.now)) result (operators_at (phrases (read_at inner)) (suc inner) section_ends least at (suc inner) first None first_height tokens.now) }
-    ensures low { IfOk result (λ x. x.1 ≤ inner + 1) }
+    requires room { (inner < 1000) × (first.height ≤ inner + 1) }
+    ensures exact { Gives ending_found result (operators_at (phrases (read_at inner)) (suc inner) section_ends least at (suc inner) (first.entry.tree.exp.now, first.entry.tree.ended) first.entry.height first.entry.rest.now) }
+    ensures low { IfOk result (λ x. x.height ≤ inner + 1) }
 {
-    let mut tree = first;
-    let mut last = None;
-    let mut height = first_height;
-    let mut rest = tokens;
+    let mut found = first;
     let mut turns = inner + 1;
-    'behind: while let Some(operator) = next_between(section_ends, least, rest) {
-        let takes = takes_left(last, left_level_of(operator));
-        let left = refused_if(tree, !takes, rest)?;
-        let (left, fewer) = next_turn(left, turns, rest)?;
-        let (longer, longer_height, after) = operation(
-            alloc, read, inner, least, operator, at, left, height, rest,
-        )?;
-        turns = fewer;
-        tree = longer;
-        last = Some(operator);
-        height = longer_height;
-        rest = after;
+    'behind: while let Some(operator) = next_between(
+        section_ends,
+        found.tree.ended,
+        least,
+        found.rest,
+    ) {
+        if turns == 0 {
+            return Err(too_many_operators(operator, found.rest));
+        }
+        turns -= 1;
+        found = operation(bump, read, inner, least, operator, at, found)?;
     }
-    Ok(((tree, last), height, rest))
+    Ok(found)
 }
 
-// One more operator behind what was read, where turns are left: each makes the tree higher.
-fn next_turn<T: Drop>(tree: T, turns: u32, tokens: &[Token]) -> Result<(T, u32), Stop>
-    ensures left { IfOk result (λ x. (x.0 ≡ tree) × (0 < turns) × (x.1 ≡ turns - 1)) }
-    ensures spent { IfErr result (λ e. (e ≡ Stop.Fault (if behind_app tokens.now then refuse tokens.now else Fault.TooDeep (length tokens.now))) × (turns ≡ 0)) }
-{
-    if turns == 0 {
-        return Err(Stop::Fault(too_many_operators(tokens)));
-    }
-    Ok((tree, turns - 1))
-}
-
-// The fault where one more operator would make the tree too high.
-fn too_many_operators(tokens: &[Token]) -> Fault
-    ensures { result ≡ (if behind_app tokens.now then refuse tokens.now else Fault.TooDeep (length tokens.now)) }
+// Why reading stops where one more operator would make the tree too high.
+fn too_many_operators(operator: Fixed, tokens: &[Token]) -> Stop
+    ensures { (inner : ℕ) → Fails {Y = (SourceExp × Ended) × ℕ × List Token} result (if behind_app tokens.now then Err (refuse tokens.now) else operand_too_deep (phrases (read_at inner)) (suc inner) operator tokens.now) }
 {
     if goes_on_app(tokens) {
-        refused(tokens)
+        Stop::Fault(refused(tokens))
     } else {
-        Fault::TooDeep(tokens.len())
+        operand_too_deep(operator, tokens)
     }
 }
 
-#[tactic(auto, unfolding(fut_phrases::specs::Phrases::operation_at, fut_phrases::specs::Reading::parts_at, fut_phrases::specs::Reading::has_at, fut_phrases::specs::Reading::sub_at, fut_phrases::specs::Phrases::phrases))]
-fn operation<R: ReadExp>(
-    alloc: Global,
+// Why reading stops at the right operand of an operator behind what is as high as may be.
+#[tactic(auto, unfolding(fut_grammar::specs::Phrases::operand_too_deep))]
+fn operand_too_deep(operator: Fixed, tokens: &[Token]) -> Stop
+    ensures { (inner : ℕ) → Fails {Y = (SourceExp × Ended) × ℕ × List Token} result (operand_too_deep (phrases (read_at inner)) (suc inner) operator tokens.now) }
+{
+    match take_operator(operator, tokens) {
+        Ok((_, rest)) => {
+            if begins_exp_operand(rest) || begins_exp_big(rest) {
+                Stop::Fault(Fault::TooDeep(rest.len()))
+            } else {
+                Stop::Fault(refused(rest))
+            }
+        }
+        Err(stop) => stop,
+    }
+}
+
+#[tactic(auto, unfolding(fut_grammar::specs::Phrases::operation_at, fut_grammar::specs::Reading::parts_at, fut_grammar::specs::Reading::has_at, fut_grammar::specs::Reading::sub_at, fut_grammar::specs::Phrases::phrases))]
+fn operation<'a, R: ReadExp<'a>>(
+    bump: &'a Bump,
     read: R,
     inner: u32,
     least: u8,
     fixed: Fixed,
     at: Spot,
-    first: SourceExp,
-    first_height: u32,
-    tokens: &[Token],
-) -> Result<(SourceExp, u32, &[Token]), Stop>
+    first: Found<'a, Ending<'a>>,
+) -> Result<Found<'a, Ending<'a>>, Stop>
     requires law { R.reads read inner }
-    requires room { (inner < 1000) × (first_height ≤ inner + 1) }
-    ensures exact { Gives (λ x. (x.0, x.1, x.2.now)) result (operation_at (phrases (read_at inner)) (suc inner) least fixed at first first_height tokens.now) }
-    ensures low { IfOk result (λ x. x.1 ≤ inner + 1) }
+    requires room { (inner < 1000) × (first.height ≤ inner + 1) }
+    ensures exact { Gives ending_found result (operation_at (phrases (read_at inner)) (suc inner) least fixed at (first.entry.tree.exp.now, first.entry.tree.ended) first.entry.height first.entry.rest.now) }
+    ensures low { IfOk result (λ x. x.height ≤ inner + 1) }
 {
     let _least = least;
-    let first = refused_if(first, goes_on_app(tokens), tokens)?;
-    let first = low_enough(first, first_height, inner, tokens)?;
-    let (first, (operator, rest)) = both(first, take_operator(alloc, fixed, tokens))?;
-    let second = operand(read, inner, right_level_of(fixed), rest);
-    let ((first, operator), (second, height, rest)) = both((first, operator), second)?;
-    let (key, name) = operator;
-    let tree = join(alloc, fixed, at.place, key, name, first, second)?;
-    Ok((tree, greater(first_height, height) + 1, rest))
+    let tokens = first.rest;
+    if goes_on_app(tokens) {
+        return Err(Stop::Fault(refused(tokens)));
+    }
+    if first.height > inner {
+        return Err(operand_too_deep(fixed, tokens));
+    }
+    let ((operator, name), rest) = take_operator(fixed, tokens)?;
+    let second = operand(read, inner, right_level_of(fixed), rest)?;
+    let exp = join(
+        bump,
+        fixed,
+        at.place,
+        operator.place,
+        name,
+        first.tree.exp,
+        second.tree,
+    )?;
+    Ok(Found {
+        tree: Ending {
+            exp,
+            ended: Ended::Operands(Some(fixed)),
+        },
+        height: greater(first.height, second.height) + 1,
+        rest: second.rest,
+    })
 }

@@ -1,8 +1,8 @@
-// What a source, a sink and a loader promise, whatever stands behind them.
-ghost use Rattle.std.specs.Prelude.{◌≡◌, ◌<◌, ◌≤◌, [], length, take, IfOk, OnErr, IsErrOf, IfSome};
+// What words, a source, a sink and a loader promise, whatever stands behind them.
+ghost use Rattle.std.specs.Prelude.{◌≡◌, ◌<◌, ◌≤◌, ℕ, List, [], length, take, Option, slice_get, IfOk, OnErr, IsErrOf, IfSome};
 ghost use Rattle.fut_io.specs.Outside.{SourceSeen, SinkSeen, LoaderSeen, Gave, SourceFailed, Took, SinkFailed, LoadFailed, LoadOver, Loaded};
 
-use fut_scalar::List;
+use fut_scalar::{List, NoMemory};
 use std::alloc::Global;
 
 /// The object failed, and counted a fault.
@@ -22,6 +22,15 @@ pub enum LoadErr {
 
 /// The most bytes of one file.
 pub const MOST_FILE_BYTES: u64 = 4_194_304;
+
+/// Gives the words that a program is called with, behind its own name.
+pub trait Words {
+    ghost told: { Self → Option (List (List ℕ)) };
+
+    /// The bytes of the word at this index, or nothing behind the last word. The words stay the same.
+    fn word(&self, alloc: Global, index: usize) -> Result<Option<List<u8>>, NoMemory>
+        ensures { IfOk result (λ word. IfSome (told self.now) (λ words. slice_get words index ≡ word)) };
+}
 
 /// Gives bytes in order, until there are no more.
 pub trait Source {

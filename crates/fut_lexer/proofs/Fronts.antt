@@ -3,11 +3,11 @@ use Rattle.std.proofs.Common.{◌≡◌, ℕ, Bool, List, [], refl, sym, subst, 
 use Rattle.fut_token.specs.declared.token.TokenKind.{TokenKind}
 use Rattle.fut_lexer.specs.declared.front.Front.{Front}
 use Rattle.fut_lexer.specs.declared.front.Front.TheVariants as front
-use Rattle.fut_lexer.specs.Reading.{front_at}
+use Rattle.fut_lexer.specs.Private.FrontReading.{front_at}
 use Rattle.fut_lexer.specs.Rules as rules
 use Rattle.fut_lexer.specs.Rules.{Stands}
-use Rattle.fut_lexer.proofs.Sound.{Right, good, bad, front_right}
-use Rattle.fut_lexer.proofs.Complete.{stands_is}
+use Rattle.fut_lexer.proofs.FrontsSound.{Right, good, bad, front_right}
+use Rattle.fut_lexer.proofs.FrontsComplete.{stands_is}
 
 pub same_front : {joined : Bool} {text : List ℕ} {f g : Front} → Stands joined text f → Stands joined text g → f ≡ g
 same_front {joined} {text} {f} {g} s t = sym (stands_is joined text f s) ∙ stands_is joined text g t

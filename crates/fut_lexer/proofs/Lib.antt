@@ -1,9 +1,10 @@
 pub mod Runs
-pub mod Sound
-pub mod Complete
+pub mod FrontsSound
+pub mod FrontsComplete
 pub mod Fronts
 pub mod Readings
 pub mod Moves
-pub mod Turns
+pub mod LexerTurns
+pub mod Existence
 pub mod Whole
 pub mod Spans

@@ -18,11 +18,11 @@ use Rattle.fut_lexer.specs.declared.number.Base.TheVariants as base
 use Rattle.fut_lexer.specs.declared.position.Position.{Position}
 use Rattle.fut_lexer.specs.Words.{is_blank, is_digit, starts_name, suffix_of, symbol_1, symbol_2, symbol_3}
 use Rattle.fut_lexer.specs.Numbers.{is_digit_of, is_in_number, value, ends_in_underscore}
-use Rattle.fut_lexer.specs.Reading.{word_len, name_len, with_suffix, integer_in, integer_at, type_variable, type_variable_at, quote_at, attribute, hash_at, text_at, symbol_or, symbol_at, line_len, field_at, sign_at, front_at}
+use Rattle.fut_lexer.specs.Private.FrontReading.{word_len, name_len, with_suffix, integer_in, integer_at, type_variable, type_variable_at, quote_at, attribute, hash_at, text_at, symbol_or, symbol_at, line_len, field_at, sign_at, front_at}
 use Rattle.fut_lexer.specs.Numbers.{is_float, begins_in, starts_digit}
 use Rattle.fut_lexer.specs.Words.{is_in_text, begins_with}
 use Rattle.fut_lexer.specs.Rules.{close_len}
-use Rattle.fut_lexer.specs.Places.{HasRoom, moved, behind_char}
+use Rattle.fut_lexer.specs.Positions.{HasRoom, moved, behind_char}
 
 -- it takes a character at least
 pub data Moves : Front → Type 0 where

@@ -8,9 +8,10 @@ use Rattle.fut_lexer.specs.declared.lexer.LexErr.TheVariants as errors
 use Rattle.fut_lexer.specs.declared.front.Front.TheVariants as front
 use Rattle.fut_lexer.specs.declared.position.Position.{Position}
 use Rattle.fut_lexer.proofs.Fronts.{same_front, none_at_end}
-use Rattle.fut_lexer.specs.Places.{moved}
-use Rattle.fut_lexer.specs.Tokens.{joins, token_at, Tokens, finish, gap, attribute, token, Refused, bad, float, behind_gap, behind_attribute, behind_token}
-use Rattle.fut_lexer.specs.Lexing.{HasTokens, Refuses, OneReading}
+use Rattle.fut_lexer.proofs.Existence.{some_reading}
+use Rattle.fut_lexer.specs.Positions.{moved}
+use Rattle.fut_lexer.specs.Scanned.{joins, token_at, Tokens, finish, gap, attribute, token, Refused, bad, float, behind_gap, behind_attribute, behind_token}
+use Rattle.fut_lexer.specs.Lexing.{HasTokens, RefusesText, OneReading}
 
 module _ (file : ℕ) where
   gap_is : {n m : ℕ} → front.Gap n ≡ front.Gap m → n ≡ m
@@ -121,8 +122,8 @@ module _ (file : ℕ) where
 true_false : {b : Bool} → b ≡ true → b ≡ false → ⊥
 true_false e g = cc
 
-whole_refusal : (file : ℕ) (text : List ℕ) (a b : LexErr) → Refuses file text a → Refuses file text b → a ≡ b
-unfolding Refuses
+whole_refusal : (file : ℕ) (text : List ℕ) (a b : LexErr) → RefusesText file text a → RefusesText file text b → a ≡ b
+unfolding RefusesText
 whole_refusal file text (errors.NotUtf8 p) (errors.NotUtf8 q) r s = ap (λ (x : Place). errors.NotUtf8 x) (r.1 ∙ sym s.1)
 whole_refusal file text (errors.NotUtf8 p) (errors.BadToken q) r s = absurd (true_false s.0 r.0)
 whole_refusal file text (errors.NotUtf8 p) (errors.Float q) r s = absurd (true_false s.0 r.0)
@@ -140,8 +141,8 @@ whole_refusal file text errors.Memory (errors.BadToken q) r s = one_refusal file
 whole_refusal file text errors.Memory (errors.Float q) r s = one_refusal file r.1 s.1
 whole_refusal file text errors.Memory errors.Memory r s = refl
 
-never_both : (file : ℕ) (text : List ℕ) (ts : List Token) (b : LexErr) → HasTokens file text ts → Refuses file text b → ⊥
-unfolding HasTokens Refuses
+never_both : (file : ℕ) (text : List ℕ) (ts : List Token) (b : LexErr) → HasTokens file text ts → RefusesText file text b → ⊥
+unfolding HasTokens RefusesText
 never_both file text ts (errors.NotUtf8 q) r s = true_false r.0 s.0
 never_both file text ts (errors.BadToken q) r s = not_both file r.1 s.1
 never_both file text ts (errors.Float q) r s = not_both file r.1 s.1
@@ -149,4 +150,4 @@ never_both file text ts errors.Memory r s = not_both file r.1 s.1
 
 pub one_reading : OneReading
 unfolding HasTokens
-one_reading = record { one_list = λ file text a b r s. one_list file r.1 s.1; one_refusal = whole_refusal; not_both = never_both }
+one_reading = record { some = some_reading; one_list = λ file text a b r s. one_list file r.1 s.1; one_refusal = whole_refusal; not_both = never_both }

@@ -25,13 +25,13 @@ use Rattle.fut_lexer.specs.Words.{begins_with, same, first_spelled, keywords, ke
 use Rattle.fut_lexer.specs.Numbers.{value}
 use Rattle.fut_lexer.specs.Rules as rules
 use Rattle.fut_lexer.specs.Rules.{symbol_of, Prefix, Digits, Stands}
-use Rattle.fut_lexer.specs.Places.{moved}
-use Rattle.fut_lexer.specs.Tokens.{Tokens, finish, gap, attribute, token}
-use Rattle.fut_lexer.specs.Spans.{prefix_text, suffix_text, Spells, InOrder}
-use Rattle.fut_lexer.proofs.Sound.{and_left, and_right}
+use Rattle.fut_lexer.specs.Positions.{moved}
+use Rattle.fut_lexer.specs.Scanned.{Tokens, finish, gap, attribute, token}
+use Rattle.fut_lexer.specs.Spans.{prefix_text, suffix_text, SpelledBy, InOrder}
+use Rattle.fut_lexer.proofs.FrontsSound.{and_left, and_right}
 use Rattle.fut_lexer.proofs.Moves as moves
 use Rattle.fut_lexer.proofs.Moves.{Moves, front_moves}
-use Rattle.fut_lexer.proofs.Complete.{stands_is}
+use Rattle.fut_lexer.proofs.FrontsComplete.{stands_is}
 use Rattle.fut_lexer.proofs.Fronts.{none_at_end}
 
 -- ---- words and symbols
@@ -203,19 +203,19 @@ prefix_is b skip (z ∷ x ∷ cs) (rules.binary e) = ap (λ (y : ℕ). y ∷ x �
 prefix_is b skip text (rules.decimal d e f) = refl
 
 abbrev pub Spelled : List ℕ → Front → Type 0
-Spelled text (front.Token k n) = Spells k (encode_utf8_all (take n text))
+Spelled text (front.Token k n) = SpelledBy k (encode_utf8_all (take n text))
 Spelled text f = Unit {0}
 
-digits_spell : (b : Base) (skip n : ℕ) (text : List ℕ) → Digits b skip n text → Spells (kind.Int (value b (take n (drop skip text))) None) (encode_utf8_all (take (skip + n) text))
-unfolding Spells
+digits_spell : (b : Base) (skip n : ℕ) (text : List ℕ) → Digits b skip n text → SpelledBy (kind.Int (value b (take n (drop skip text))) None) (encode_utf8_all (take (skip + n) text))
+unfolding SpelledBy
 digits_spell b skip n text d =
     let digits = take n (drop skip text) in
     let e : take (skip + n) text ≡ prefix_text b ++ (digits ++ []) = take_sum skip n text ∙ ap (λ (us : List ℕ). us ++ digits) (prefix_is b skip text d.prefix) ∙ ap (λ (us : List ℕ). prefix_text b ++ us) (sym (append-nil digits)) in
     (b, digits, record { all = d.run.all; counted = refl }, ap encode_utf8_all e)
 
 suffix_spells : (b : Base) (skip n m : ℕ) (s : IntType) (text : List ℕ) → Digits b skip n text → suffix_of (take m (drop n (drop skip text))) ≡ Some s
-    → Spells (kind.Int (value b (take n (drop skip text))) (Some s)) (encode_utf8_all (take ((skip + n) + m) text))
-unfolding Spells
+    → SpelledBy (kind.Int (value b (take n (drop skip text))) (Some s)) (encode_utf8_all (take ((skip + n) + m) text))
+unfolding SpelledBy
 suffix_spells b skip n m s text d h =
     let digits = take n (drop skip text) in
     let front_is : take (skip + n) text ≡ prefix_text b ++ digits = take_sum skip n text ∙ ap (λ (us : List ℕ). us ++ digits) (prefix_is b skip text d.prefix) in
@@ -226,7 +226,7 @@ suffix_spells b skip n m s text d h =
     (b, digits, record { all = d.run.all; counted = refl }, ap encode_utf8_all e)
 
 pub stands_spelled : (joined : Bool) (text : List ℕ) (f : Front) → Stands joined text f → Spelled text f
-unfolding Spells encode
+unfolding SpelledBy encode
 stands_spelled joined text f (rules.blanks e r) = tt
 stands_spelled joined text f (rules.comment r) = tt
 stands_spelled joined text f (rules.attribute e) = tt

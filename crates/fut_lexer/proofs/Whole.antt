@@ -8,9 +8,9 @@ use Rattle.fut_scalar.specs.declared.place.Place.{Place}
 use Rattle.fut_token.specs.declared.token.Token.{Token}
 use Rattle.fut_lexer.specs.declared.lexer.LexErr.{LexErr}
 use Rattle.fut_lexer.specs.declared.lexer.LexErr.TheVariants as errors
-use Rattle.fut_lexer.specs.Places.{text_start, moved, place_of}
-use Rattle.fut_lexer.specs.Tokens.{IsRead}
-use Rattle.fut_lexer.specs.Lexing.{HasTokens, Refuses, Explains}
+use Rattle.fut_lexer.specs.Positions.{text_start, moved, place_of}
+use Rattle.fut_lexer.specs.Scanned.{IsRead}
+use Rattle.fut_lexer.specs.Lexing.{HasTokens, RefusesText, ExplainsText}
 use Rattle.fut_lexer.specs.Spans.{InOrder}
 use Rattle.fut_lexer.proofs.Spans.{in_order}
 
@@ -20,8 +20,8 @@ module _ (file : ℕ) (bytes cs : List ℕ) (utf8 : IsUtf8 bytes) (same : cs ≡
   read_found (Ok ts) t = (is_utf8-from_IsUtf8 bytes utf8, rw (← same) t)
   read_found (Err e) t = tt
 
-  pub read_refused : (r : Result (List Token) LexErr) → IsRead file cs r → IfErr r (λ err. Explains file bytes err)
-  unfolding Refuses
+  pub read_refused : (r : Result (List Token) LexErr) → IsRead file cs r → IfErr r (λ err. ExplainsText file bytes err)
+  unfolding RefusesText
   read_refused (Ok ts) t = tt
   read_refused (Err errors.Memory) t = tt
   read_refused (Err (errors.NotUtf8 at)) t = absurd t
@@ -34,8 +34,8 @@ read_in_order file bytes cs utf8 same (Ok ts) t =
     subst P (ap encode_utf8_all same ∙ encodes-chars bytes utf8) (in_order file t [] refl)
 read_in_order file bytes cs utf8 same (Err e) t = tt
 
-pub bad_bytes : (file : ℕ) (bytes front : List ℕ) (n : ℕ) (at : Place) → (IsUtf8 bytes → ⊥) → n ≡ utf8_valid_len bytes → front ≡ take n bytes → at ≡ place_of file (moved text_start (chars front)) → Refuses file bytes (errors.NotUtf8 at)
-unfolding Refuses
+pub bad_bytes : (file : ℕ) (bytes front : List ℕ) (n : ℕ) (at : Place) → (IsUtf8 bytes → ⊥) → n ≡ utf8_valid_len bytes → front ≡ take n bytes → at ≡ place_of file (moved text_start (chars front)) → RefusesText file bytes (errors.NotUtf8 at)
+unfolding RefusesText
 bad_bytes file bytes front n at bad e g p = (none (is_utf8 bytes) refl, p ∙ ap (λ (us : List ℕ). place_of file (moved text_start (chars us))) (g ∙ ap (λ (m : ℕ). take m bytes) e))
   where
     none : (b : Bool) → is_utf8 bytes ≡ b → is_utf8 bytes ≡ false

@@ -1,8 +1,8 @@
 pub mod Words
 pub mod Numbers
 pub mod Rules
-pub mod Places
-pub mod Tokens
+pub mod Positions
+pub mod Scanned
 pub mod Lexing
 pub mod Spans
-pub mod Reading
+pub mod Private

@@ -41,17 +41,17 @@ pub record Counts (b : Base) (digits : List ℕ) (v : ℕ) : Type 0 where
   pub counted : value b digits ≡ v
 
 -- The bytes spell a token of this kind.
-unfoldable pub Spells : TokenKind → List ℕ → Type 0
-Spells (kind.Fixed f) bytes = bytes ≡ text_of f
-Spells (kind.Name name) bytes = bytes ≡ name
-Spells (kind.Int v s) bytes = (b : Base) × (digits : List ℕ) × Counts b digits v × (bytes ≡ encode_utf8_all (prefix_text b ++ (digits ++ suffix_text s)))
-Spells (kind.TypeVar l name) bytes = bytes ≡ codes "'" ++ (lift_text l ++ name)
-Spells (kind.Char c) bytes = bytes ≡ encode_utf8_all (39 ∷ c ∷ 39 ∷ [])
-Spells (kind.Text inner) bytes = bytes ≡ codes "\"" ++ (inner ++ codes "\"")
-Spells (kind.Field digits) bytes = bytes ≡ codes "." ++ digits
-Spells (kind.Constructor name) bytes = bytes ≡ codes "#" ++ name
+unfoldable pub SpelledBy : TokenKind → List ℕ → Type 0
+SpelledBy (kind.Fixed f) bytes = bytes ≡ text_of f
+SpelledBy (kind.Name name) bytes = bytes ≡ name
+SpelledBy (kind.Int v s) bytes = (b : Base) × (digits : List ℕ) × Counts b digits v × (bytes ≡ encode_utf8_all (prefix_text b ++ (digits ++ suffix_text s)))
+SpelledBy (kind.TypeVar l name) bytes = bytes ≡ codes "'" ++ (lift_text l ++ name)
+SpelledBy (kind.Char c) bytes = bytes ≡ encode_utf8_all (39 ∷ c ∷ 39 ∷ [])
+SpelledBy (kind.Text inner) bytes = bytes ≡ codes "\"" ++ (inner ++ codes "\"")
+SpelledBy (kind.Field digits) bytes = bytes ≡ codes "." ++ digits
+SpelledBy (kind.Constructor name) bytes = bytes ≡ codes "#" ++ name
 
 -- From the byte `from` of the text on, the tokens stand one behind the other, none is empty, and the bytes between the ends of each spell it.
 unfoldable pub InOrder : (text : List ℕ) → (from : ℕ) → List Token → Type 0
 InOrder text from [] = from ≤ length text
-InOrder text from (t ∷ ts) = (from ≤ t.start) × (t.start < t.end) × Spells t.kind (take (t.end - t.start) (drop t.start text)) × InOrder text t.end ts
+InOrder text from (t ∷ ts) = (from ≤ t.start) × (t.start < t.end) × SpelledBy t.kind (take (t.end - t.start) (drop t.start text)) × InOrder text t.end ts

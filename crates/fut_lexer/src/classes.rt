@@ -4,7 +4,7 @@ ghost use Rattle.unicode_ident.specs.Ident.{is_xid_continue, is_xid_start};
 ghost use Rattle.std.specs.List.{prefix_len};
 ghost use Rattle.fut_lexer.specs.Words.{goes_on_name, is_blank, is_digit, same, starts_name};
 ghost use Rattle.fut_lexer.specs.Words.{begins_with, is_in_text};
-ghost use Rattle.fut_lexer.specs.Reading.{line_len, word_len};
+ghost use Rattle.fut_lexer.specs.Private.FrontReading.{line_len, word_len};
 
 pub fn is_blank(c: char) -> bool
     ensures { result ≡ is_blank c }

@@ -2,9 +2,9 @@
 ghost use Rattle.std.specs.Prelude.{◌≡◌, ◌≤◌, IfOk, IfSome, length, drop};
 ghost use Rattle.std.specs.Str.{encode_utf8_all};
 ghost use Rattle.fut_lexer.specs.Rules.{close_len};
-ghost use Rattle.fut_lexer.specs.Reading.{field_at, front_at, hash_at, integer_at, integer_in, name_len, quote_at, sign_at, symbol_at, text_at, type_variable, type_variable_at, with_suffix, word_kind};
+ghost use Rattle.fut_lexer.specs.Private.FrontReading.{field_at, front_at, hash_at, integer_at, integer_in, name_len, quote_at, sign_at, symbol_at, text_at, type_variable, type_variable_at, with_suffix, word_kind};
 ghost use Rattle.fut_lexer.specs.Words.{keyword};
-ghost use Rattle.fut_lexer.specs.Tokens.{joins};
+ghost use Rattle.fut_lexer.specs.Scanned.{joins};
 
 use crate::classes::{behind, front_part, word_len};
 use crate::number::Base;
@@ -48,7 +48,7 @@ fn word_kind(alloc: Global, letters: &[char]) -> Result<TokenKind, NoMemory>
 }
 
 /// The length of a name that is neither a keyword nor the wildcard, or 0.
-#[tactic(auto, unfolding(crate::specs::Reading::name_len))]
+#[tactic(auto, unfolding(crate::specs::Private::FrontReading::name_len))]
 fn name_len(text: &[char]) -> usize
     ensures value { result ≡ name_len text.now }
     ensures within { result ≤ length text.now }
@@ -81,7 +81,7 @@ fn with_suffix(value: u64, n: usize, word: usize, suffix: Option<IntType>) -> Fr
 }
 
 /// An integer whose digits begin behind `skip` characters.
-#[tactic(auto, unfolding(crate::specs::Reading::integer_in))]
+#[tactic(auto, unfolding(crate::specs::Private::FrontReading::integer_in))]
 fn integer_in(base: Base, skip: usize, text: &[char]) -> Front
     requires { skip ≤ 2 }
     ensures { result ≡ integer_in base skip text.now }
@@ -110,7 +110,7 @@ fn integer_in(base: Base, skip: usize, text: &[char]) -> Front
     }
 }
 
-#[tactic(auto, unfolding(crate::specs::Reading::integer_at))]
+#[tactic(auto, unfolding(crate::specs::Private::FrontReading::integer_at))]
 fn integer(text: &[char]) -> Front
     ensures { result ≡ integer_at text.now }
 {
@@ -135,7 +135,7 @@ fn type_variable(alloc: Global, lift: Lift, before: usize, text: &[char]) -> Res
     Ok(Front::Token(TokenKind::TypeVar { lift, name }, before + n))
 }
 
-#[tactic(auto, unfolding(crate::specs::Reading::type_variable_at))]
+#[tactic(auto, unfolding(crate::specs::Private::FrontReading::type_variable_at))]
 fn type_variable_at(alloc: Global, text: &[char]) -> Result<Front, NoMemory>
     ensures { IfOk result (λ front. front ≡ type_variable_at text.now) }
 {
@@ -154,7 +154,7 @@ fn type_variable_at(alloc: Global, text: &[char]) -> Result<Front, NoMemory>
 }
 
 /// Behind a quote.
-#[tactic(auto, unfolding(crate::specs::Reading::quote_at))]
+#[tactic(auto, unfolding(crate::specs::Private::FrontReading::quote_at))]
 fn quote(alloc: Global, text: &[char]) -> Result<Front, NoMemory>
     ensures { IfOk result (λ front. front ≡ quote_at text.now) }
 {
@@ -193,7 +193,7 @@ fn close_len(text: &[char]) -> Option<usize>
 }
 
 /// Behind a `#`.
-#[tactic(auto, unfolding(crate::specs::Reading::hash_at))]
+#[tactic(auto, unfolding(crate::specs::Private::FrontReading::hash_at))]
 fn hash(alloc: Global, text: &[char]) -> Result<Front, NoMemory>
     ensures { IfOk result (λ front. front ≡ hash_at text.now) }
 {
@@ -217,7 +217,7 @@ fn hash(alloc: Global, text: &[char]) -> Result<Front, NoMemory>
 }
 
 /// Behind a double quote.
-#[tactic(auto, unfolding(crate::specs::Reading::text_at))]
+#[tactic(auto, unfolding(crate::specs::Private::FrontReading::text_at))]
 fn quoted_text(alloc: Global, text: &[char]) -> Result<Front, NoMemory>
     ensures { IfOk result (λ front. front ≡ text_at text.now) }
 {
@@ -237,7 +237,7 @@ fn fixed(fixed: Fixed, n: usize) -> Front
 }
 
 /// The longest symbol.
-#[tactic(auto, unfolding(crate::specs::Reading::symbol_at))]
+#[tactic(auto, unfolding(crate::specs::Private::FrontReading::symbol_at))]
 fn symbol(text: &[char]) -> Front
     ensures { result ≡ symbol_at text.now }
 {
@@ -260,7 +260,7 @@ fn symbol(text: &[char]) -> Front
 }
 
 /// Behind the point of a field.
-#[tactic(auto, unfolding(crate::specs::Reading::field_at))]
+#[tactic(auto, unfolding(crate::specs::Private::FrontReading::field_at))]
 fn field(alloc: Global, text: &[char]) -> Result<Front, NoMemory>
     ensures { IfOk result (λ front. front ≡ field_at text.now) }
 {
@@ -269,7 +269,7 @@ fn field(alloc: Global, text: &[char]) -> Result<Front, NoMemory>
     Ok(Front::Token(TokenKind::Field(digits), 1 + n))
 }
 
-#[tactic(auto, unfolding(crate::specs::Reading::sign_at))]
+#[tactic(auto, unfolding(crate::specs::Private::FrontReading::sign_at))]
 fn sign(alloc: Global, joined: bool, text: &[char]) -> Result<Front, NoMemory>
     ensures { IfOk result (λ front. front ≡ sign_at joined text.now) }
 {
@@ -288,7 +288,7 @@ fn sign(alloc: Global, joined: bool, text: &[char]) -> Result<Front, NoMemory>
 }
 
 /// What stands at the front of a text that is not empty. Where `joined`, a name, a field or a closing bracket stands directly before.
-#[tactic(auto, unfolding(crate::specs::Reading::front_at))]
+#[tactic(auto, unfolding(crate::specs::Private::FrontReading::front_at))]
 pub fn read_front(alloc: Global, joined: bool, text: &[char]) -> Result<Front, NoMemory>
     ensures { IfOk result (λ front. front ≡ front_at joined text.now) }
 {
@@ -318,7 +318,7 @@ pub fn read_front(alloc: Global, joined: bool, text: &[char]) -> Result<Front, N
 }
 
 /// Whether a point and digits directly behind such a token are a field.
-#[tactic(auto, unfolding(crate::specs::Tokens::joins))]
+#[tactic(auto, unfolding(crate::specs::Scanned::joins))]
 pub fn joins(kind: &TokenKind) -> bool
     ensures { result ≡ joins kind.now }
 {

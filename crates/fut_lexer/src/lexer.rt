@@ -2,10 +2,10 @@
 ghost use Rattle.std.specs.Prelude.{◌≤◌, ◌≡◌, IfErr, IfOk, length, take, true, false};
 ghost use Rattle.std.specs.Str.{IsUtf8, chars};
 ghost use Rattle.std.specs.Str.Lossy.{utf8_valid_len};
-ghost use Rattle.fut_lexer.specs.Lexing.{Explains, HasTokens, OneReading};
-ghost use Rattle.fut_lexer.specs.Places.{moved, place_of, text_start};
+ghost use Rattle.fut_lexer.specs.Lexing.{ExplainsText, HasTokens, OneReading};
+ghost use Rattle.fut_lexer.specs.Positions.{moved, place_of, text_start};
 ghost use Rattle.fut_lexer.specs.Spans.{InOrder};
-ghost use Rattle.fut_lexer.specs.Tokens.{IsRead, token_at};
+ghost use Rattle.fut_lexer.specs.Scanned.{IsRead, token_at};
 ghost use Rattle.fut_lexer.specs.declared.lexer.LexErr.TheVariants.{Memory};
 
 use crate::classes::{behind, front_part};
@@ -128,7 +128,7 @@ fn end_of(alloc: Global, file: u32, text: &str) -> Result<Place, LexErr>
 pub fn lex(alloc: Global, file: u32, text: &[u8]) -> Result<List<Token>, LexErr>
     requires { length text.now ≤ 4194304 }
     ensures found { IfOk result (λ tokens. HasTokens file text.now tokens) }
-    ensures refused { IfErr result (λ err. Explains file text.now err) }
+    ensures refused { IfErr result (λ err. ExplainsText file text.now err) }
     // The tokens stand in order in the text, and each is spelled by the bytes between its ends.
     ensures spans { IfOk result (λ tokens. InOrder text.now 0 tokens) }
 {
@@ -146,7 +146,7 @@ pub fn lex(alloc: Global, file: u32, text: &[u8]) -> Result<List<Token>, LexErr>
     }
 }
 
-/// The law that a text has one reading: one list of tokens, or one refusal, and never both.
+/// The law that a text has one reading: a list of tokens or a refusal, one alone, and never both.
 pub fn a_text_has_one_reading()
     ensures { OneReading }
 {}

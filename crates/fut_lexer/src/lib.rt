@@ -1,5 +1,5 @@
 //! The tokens of a source text, equal to their definition: `specs/Lexing.antt` says what `lex` answers, and `specs/Rules.antt`
-//! what stands at a place, rule by rule. `specs/Reading.antt` is how the code reads it.
+//! what stands at a place, rule by rule. `specs/Private/FrontReading.antt` is how the code reads it.
 #![tactic(auto)]
 
 mod classes;

@@ -1,6 +1,6 @@
 // Where the lexer stands in a text.
 ghost use Rattle.std.specs.Prelude.{◌≡◌, length};
-ghost use Rattle.fut_lexer.specs.Places.{HasRoom, behind_char, moved, place_of, text_start};
+ghost use Rattle.fut_lexer.specs.Positions.{HasRoom, behind_char, moved, place_of, text_start};
 
 use fut_scalar::Place;
 

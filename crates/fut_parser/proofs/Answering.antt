@@ -13,21 +13,21 @@ use Rattle.fut_ast.specs.Nesting.{Too_deep}
 use Rattle.fut_ast.specs.LeftOut.{begins_left_out}
 use Rattle.fut_ast.specs.declared.module.Program.{Program}
 use Rattle.fut_ast.specs.declared.node.What.{What}
-use Rattle.fut_phrases.specs.declared.fault.Fault.{Fault}
-use Rattle.fut_phrases.specs.declared.fault.Fault.TheVariants.{Syntax, TooDeep, LeftOut}
+use Rattle.fut_grammar.specs.declared.fault.Fault.{Fault}
+use Rattle.fut_grammar.specs.declared.fault.Fault.TheVariants.{Syntax, TooDeep, LeftOut}
 use Rattle.fut_parser.specs.declared.programs.ParseErr.{ParseErr}
 use Rattle.fut_parser.specs.declared.programs.ParseErr.TheVariants as answer
-use Rattle.fut_phrases.specs.declared.fault.Stop.{Stop}
-use Rattle.fut_phrases.specs.declared.fault.Stop.TheVariants as stop
-use Rattle.fut_phrases.specs.Reading.{Fails, many_at}
-use Rattle.fut_phrases.specs.Phrases.{program_at, nodes, phrases, read_at}
+use Rattle.fut_grammar.specs.declared.fault.Stop.{Stop}
+use Rattle.fut_grammar.specs.declared.fault.Stop.TheVariants as stop
+use Rattle.fut_grammar.specs.Reading.{Fails, many_at}
+use Rattle.fut_grammar.specs.Phrases.{program_at, nodes, phrases, read_at}
 use Rattle.fut_parser.specs.Places.{Ends, place_or_start, place_of}
-use Rattle.fut_parser.specs.Answers.{place_left, answer_of, Explains}
-use Rattle.fut_phrases.proofs.Post.{Post, bad}
-use Rattle.fut_phrases.proofs.FaultPlaces.{At, syntax_at, deep_at, left_out_at, faults}
-use Rattle.fut_phrases.proofs.Rests.{deep_many}
-use Rattle.fut_phrases.proofs.Turns.{many_same}
-use Rattle.fut_phrases.proofs.Theorems.{is_none, is_whole, is_deep, is_high}
+use Rattle.fut_parser.specs.Private.Answers.{place_left, answer_of, ExplainsParse}
+use Rattle.fut_grammar.proofs.Post.{Post, bad}
+use Rattle.fut_grammar.proofs.FaultPlaces.{At, syntax_at, deep_at, left_out_at, faults}
+use Rattle.fut_grammar.proofs.Rests.{deep_many}
+use Rattle.fut_grammar.proofs.Turns.{many_same}
+use Rattle.fut_grammar.proofs.Theorems.{is_none, is_whole, is_deep, is_high}
 
 -- ---- what is left of the tokens
 
@@ -79,13 +79,13 @@ module _ (file : ℕ) (ts : List Token) where
   too_high (TooDeep k) at r e = is_high ts k r
   too_high (LeftOut k w) at r e = absurd cc
 
-  explained : (f : Fault) → program_at ts ≡ Err f → Explains file ts (answer_of file ts f)
+  explained : (f : Fault) → program_at ts ≡ Err f → ExplainsParse file ts (answer_of file ts f)
   explained (Syntax k) r = (Syntax k, r, refl)
   explained (TooDeep k) r = (TooDeep k, r, refl)
   explained (LeftOut k w) r = (LeftOut k w, r, refl)
 
-  pub explains : (f : Fault) → program_at ts ≡ Err f → (a : ParseErr) → a ≡ answer_of file ts f → Explains file ts a
-  explains f r a e = subst (Explains file ts) (sym e) (explained f r)
+  pub explains : (f : Fault) → program_at ts ≡ Err f → (a : ParseErr) → a ≡ answer_of file ts f → ExplainsParse file ts a
+  explains f r a e = subst (ExplainsParse file ts) (sym e) (explained f r)
 
   pub syntax_place : (f : Fault) (at : Place) → program_at ts ≡ Err f → answer_of file ts f ≡ answer.Syntax at → (rest : List Token) × Ends ts rest × (at ≡ place_of file ts rest)
   syntax_place f at r e = go (at_fault f r) e
@@ -121,16 +121,15 @@ pub same_declarations : (d k : ℕ) (ts : List Token) → many_at (phrases (read
 unfolding phrases nodes
 same_declarations d k ts = many_same (phrases (read_at d)) (nodes (read_at d)) Dec_item (λ us. refl) k 0 ts
 
--- ---- what the code answered, of the same tokens
+-- ---- what the code answered
 
 err_is : {A : Type 0} {x y : ParseErr} → ◌≡◌ {A = Result A ParseErr} (Err x) (Err y) → x ≡ y
 err_is e = cc
 
-pub read_from : (f : Fault) {us ts : List Token} {e : Stop} → us ≡ ts → e ≡ stop.Fault f → Fails e (program_at us) → program_at ts ≡ Err f
-read_from f {us = us} s i x =
-    let P : List Token → Type 0 = λ vs. program_at vs ≡ Err f in
-    let Q : Stop → Type 0 = λ z. Fails z (program_at us) in
-    subst P s (subst Q i x)
+pub read_from : (f : Fault) (ts : List Token) {e : Stop} → e ≡ stop.Fault f → Fails e (program_at ts) → program_at ts ≡ Err f
+read_from f ts i x =
+    let Q : Stop → Type 0 = λ z. Fails z (program_at ts) in
+    subst Q i x
 
-pub answered : (file : ℕ) (f : Fault) {us ts : List Token} {r a : ParseErr} → us ≡ ts → r ≡ answer_of file us f → ◌≡◌ {A = Result Program ParseErr} (Err r) (Err a) → answer_of file ts f ≡ a
-answered file f {r = r} s e i = sym (subst (λ (vs : List Token). r ≡ answer_of file vs f) s e) ∙ err_is i
+pub answered : {r a : ParseErr} (b : ParseErr) → r ≡ b → ◌≡◌ {A = Result Program ParseErr} (Err r) (Err a) → b ≡ a
+answered b s i = sym s ∙ err_is i

@@ -6,11 +6,8 @@ mod definitions;
 mod mod_nodes;
 mod mod_tokens;
 mod module_cycle;
-mod module_params;
 mod module_tie;
-mod module_types;
 mod modules;
-mod mtype_nodes;
 mod programs;
 
 pub use programs::{ParseErr, parse};

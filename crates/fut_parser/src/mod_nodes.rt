@@ -1,87 +1,117 @@
-// The nodes of module expressions and declarations.
+// The nodes of module expressions.
 ghost use Rattle.std.specs.Prelude.{◌≡◌, IfOk};
-ghost use Rattle.fut_ast.specs.ModRows.{dec_at, mod_at};
+ghost use Rattle.fut_ast.specs.ModRows.{mod_at};
 ghost use Rattle.fut_ast.specs.declared.module.ModForm.TheVariants.{Apply, Decs, Import, Lambda, Path, Seal};
+ghost use Rattle.fut_tree.specs.ModTypes.{label_of};
+ghost use Rattle.fut_tree.specs.Mods.{decs_of};
+ghost use Rattle.fut_tree.specs.Names.{all, maybe, names};
 
-use fut_ast::{Dec, DecForm, ModExp, ModForm, ModType, Param, Spot};
-use fut_scalar::{Boxed, List, Name, NoMemory};
-use std::alloc::Global;
+use bumpalo::Bump;
+use fut_scalar::{NoMemory, Place};
+use fut_tree::{Dec, Held, ModExp, ModForm, ModType, Param};
 
-pub fn path(at: Spot, names: List<Name>) -> ModExp
-    ensures { result ≡ mod_at at (Path names) }
+/// A module expression that the arena holds.
+fn held<'a>(bump: &'a Bump, made: ModExp<'a>) -> Result<&'a ModExp<'a>, NoMemory>
+    ensures { IfOk result (λ x. x.now ≡ made.entry) }
 {
-    ModExp {
-        place: at.place,
-        form: ModForm::Path(names),
+    match bump.try_alloc(made) {
+        Ok(kept) => Ok(kept),
+        Err(_) => Err(NoMemory),
     }
 }
 
-pub fn decs(at: Spot, decs: List<Dec>) -> ModExp
-    ensures { result ≡ mod_at at (Decs decs) }
+pub fn path<'a>(
+    bump: &'a Bump,
+    place: Place,
+    path: &'a [&'a str],
+) -> Result<&'a ModExp<'a>, NoMemory>
+    ensures { IfOk result (λ m. m.now ≡ mod_at place (Path (names path.now))) }
 {
-    ModExp {
-        place: at.place,
-        form: ModForm::Decs(decs),
-    }
+    held(
+        bump,
+        ModExp {
+            place,
+            form: ModForm::Path(path),
+        },
+    )
 }
 
-pub fn import(at: Spot, file: Name) -> ModExp
-    ensures { result ≡ mod_at at (Import file) }
+pub fn decs<'a>(
+    bump: &'a Bump,
+    place: Place,
+    decs: &'a [Dec<'a>],
+) -> Result<&'a ModExp<'a>, NoMemory>
+    ensures { IfOk result (λ m. m.now ≡ mod_at place (Decs (decs_of decs.now))) }
 {
-    ModExp {
-        place: at.place,
-        form: ModForm::Import(file),
-    }
+    held(
+        bump,
+        ModExp {
+            place,
+            form: ModForm::Decs(decs),
+        },
+    )
 }
 
-pub fn apply(
-    alloc: Global,
-    at: Spot,
-    first: ModExp,
-    arguments: List<ModExp>,
-) -> Result<ModExp, NoMemory>
-    ensures { IfOk result (λ m. m ≡ mod_at at (Apply first arguments)) }
+pub fn import<'a>(bump: &'a Bump, place: Place, file: &'a str) -> Result<&'a ModExp<'a>, NoMemory>
+    ensures { IfOk result (λ m. m.now ≡ mod_at place (Import file.now)) }
 {
-    let first = Boxed::new(alloc, first)?;
-    Ok(ModExp {
-        place: at.place,
-        form: ModForm::Apply(first, arguments),
-    })
+    held(
+        bump,
+        ModExp {
+            place,
+            form: ModForm::Import(file),
+        },
+    )
 }
 
-pub fn lambda(
-    alloc: Global,
-    at: Spot,
-    param: Param,
-    ty: Option<ModType>,
-    body: ModExp,
-) -> Result<ModExp, NoMemory>
-    ensures { IfOk result (λ m. m ≡ mod_at at (Lambda param.label param.bound ty body)) }
+pub fn apply<'a>(
+    bump: &'a Bump,
+    place: Place,
+    first: &'a ModExp<'a>,
+    arguments: &'a [Held<'a, ModExp<'a>>],
+) -> Result<&'a ModExp<'a>, NoMemory>
+    ensures { IfOk result (λ m. m.now ≡ mod_at place (Apply first.now (all arguments.now))) }
 {
-    let Param { label, bound } = param;
-    let body = Boxed::new(alloc, body)?;
-    Ok(ModExp {
-        place: at.place,
-        form: ModForm::Lambda(label, bound, ty, body),
-    })
+    held(
+        bump,
+        ModExp {
+            place,
+            form: ModForm::Apply(first, arguments),
+        },
+    )
 }
 
-pub fn seal(alloc: Global, at: Spot, first: ModExp, ty: ModType) -> Result<ModExp, NoMemory>
-    ensures { IfOk result (λ m. m ≡ mod_at at (Seal first ty)) }
+pub fn lambda<'a>(
+    bump: &'a Bump,
+    place: Place,
+    param: Param<'a>,
+    ty: Option<&'a ModType<'a>>,
+    body: &'a ModExp<'a>,
+) -> Result<&'a ModExp<'a>, NoMemory>
+    ensures { IfOk result (λ m. m.now ≡ mod_at place (Lambda (label_of param.entry.label) param.entry.bound.now (maybe ty.entry) body.now)) }
 {
-    let first = Boxed::new(alloc, first)?;
-    Ok(ModExp {
-        place: at.place,
-        form: ModForm::Seal(first, ty),
-    })
+    held(
+        bump,
+        ModExp {
+            place,
+            form: ModForm::Lambda(param.label, param.bound, ty, body),
+        },
+    )
 }
 
-pub fn dec(at: Spot, local: bool, form: DecForm) -> Dec
-    ensures { result ≡ dec_at at local form }
+pub fn seal<'a>(
+    bump: &'a Bump,
+    place: Place,
+    first: &'a ModExp<'a>,
+    ty: &'a ModType<'a>,
+) -> Result<&'a ModExp<'a>, NoMemory>
+    ensures { IfOk result (λ m. m.now ≡ mod_at place (Seal first.now ty.now)) }
 {
-    Dec {
-        place: at.place,
-        local,
-        form,
-    }
+    held(
+        bump,
+        ModExp {
+            place,
+            form: ModForm::Seal(first, ty),
+        },
+    )
 }

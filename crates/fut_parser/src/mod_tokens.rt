@@ -1,6 +1,6 @@
 // What stands next where a module expression or a declaration does.
 ghost use Rattle.std.specs.Prelude.{◌≡◌};
-ghost use Rattle.fut_ast.specs.Behind.{begins, begins_dec, begins_dec_rest, begins_mod_argument, continues};
+ghost use Rattle.fut_ast.specs.Behind.{begins, begins_dec, begins_dec_rest, begins_mod_argument, behind_mod};
 ghost use Rattle.fut_ast.specs.Sorts.{Whole_mod};
 
 use fut_phrases::tokens::{starts_with, starts_with_word};
@@ -23,11 +23,11 @@ pub fn begins_module(tokens: &[Token]) -> bool
     begins_module_argument(tokens) || starts_with(tokens, Fixed::KeyImport)
 }
 
-/// Whether the next token goes on with a module expression.
-pub fn goes_on_module(tokens: &[Token]) -> bool
-    ensures { result ≡ continues Whole_mod tokens.now }
+/// Whether the next token goes on with a module expression, where it ended with its seal or not.
+pub fn goes_on_module(is_sealed: bool, tokens: &[Token]) -> bool
+    ensures { result ≡ behind_mod is_sealed tokens.now }
 {
-    begins_module_argument(tokens) || starts_with(tokens, Fixed::Colon)
+    !is_sealed && (begins_module_argument(tokens) || starts_with(tokens, Fixed::Colon))
 }
 
 /// Whether a declaration without its `local` begins here.

@@ -1,13 +1,17 @@
 // What reads the modules and declarations in a production is handed over to the function that reads the production.
-ghost use Rattle.std.specs.Prelude.{◌≡◌, ◌≤◌, ℕ, IfOk};
-ghost use Rattle.fut_ast.specs.Sorts.{Atomic_mod, Dec_item, Whole_mod};
-ghost use Rattle.fut_parser.specs.ModTie.{Dec_law, Mod_law};
-ghost use Rattle.fut_phrases.specs.Phrases.{read_at};
-ghost use Rattle.fut_phrases.specs.Reading.{Gives};
+ghost use Rattle.std.specs.Prelude.{◌≤◌, ℕ, IfOk};
+ghost use Rattle.fut_ast.specs.Sorts.{Atomic_mod, Dec_item, Last_mod, Whole_mod};
+ghost use Rattle.fut_grammar.specs.Phrases.{read_at};
+ghost use Rattle.fut_grammar.specs.Reading.{Gives};
+ghost use Rattle.fut_parser.specs.Private.ModFound.{dec_found, ending_found};
+ghost use Rattle.fut_module_types.specs.MtypeTie.{Law};
+ghost use Rattle.fut_parser.specs.Private.ModTie.{Mod_law, Reads_mod};
+ghost use Rattle.fut_phrases.specs.Found.{tree_found};
 
-use fut_ast::{Dec, ModExp};
-use fut_phrases::fault::Stop;
+use fut_grammar::Stop;
+use fut_phrases::found::Found;
 use fut_token::Token;
+use fut_tree::{Dec, ModExp};
 
 /// The sorts of module expressions that stand in productions.
 #[derive(Clone, Copy, Debug, PartialEq, Eq)]
@@ -15,62 +19,105 @@ pub enum ModSort {
     Whole,
     /// An argument of a parametric module.
     Argument,
+    /// The last part of a form: what goes on with it depends on how it ended.
+    Last,
 }
 
-/// A module expression, its height, and the tokens behind it.
-pub type ModAnswer<'t> = Result<(ModExp, u32, &'t [Token]), Stop>;
+/// A module expression, and whether it ended with its seal.
+#[derive(Clone, Copy)]
+pub struct ModEnding<'a> {
+    pub module: &'a ModExp<'a>,
+    pub is_sealed: bool,
+}
 
-/// A declaration, its height, and the tokens behind it.
-pub type DecAnswer<'t> = Result<(Dec, u32, &'t [Token]), Stop>;
+/// What is read as a module expression.
+pub type ModAnswer<'a> = Result<Found<'a, ModEnding<'a>>, Stop>;
+
+/// What is read as a declaration.
+pub type DecAnswer<'a> = Result<Found<'a, Dec<'a>>, Stop>;
 
 /// What reads the module expressions in a production.
-pub trait ReadModule: Copy {
+pub trait ReadModule<'a>: Copy {
     /// It reads them up to a height.
     ghost reads: { Self → ℕ → Type 0 };
 
-    /// Any module expression.
-    fn module(self, inner: u32, tokens: &[Token]) -> ModAnswer<'_>
+    /// A module expression up to the height.
+    fn read(self, inner: u32, sort: ModSort, tokens: &'a [Token]) -> ModAnswer<'a>
         requires law { reads self inner }
-        ensures exact { Gives (λ x. (x.0, x.1, x.2.now)) result (read_at inner Whole_mod tokens.now) }
-        ensures low { IfOk result (λ x. x.1 ≤ inner) };
-
-    /// An argument of a parametric module.
-    fn argument(self, inner: u32, tokens: &[Token]) -> ModAnswer<'_>
-        requires law { reads self inner }
-        ensures exact { Gives (λ x. (x.0, x.1, x.2.now)) result (read_at inner Atomic_mod tokens.now) }
-        ensures low { IfOk result (λ x. x.1 ≤ inner) };
+        ensures exact { Reads_mod sort inner tokens.now result }
+        ensures low { IfOk result (λ x. x.height ≤ inner) };
 }
 
-impl<F: for<'t> Fn(ModSort, &'t [Token]) -> ModAnswer<'t>> ReadModule for &F {
+impl<'a, F: Fn(ModSort, &'a [Token]) -> ModAnswer<'a>> ReadModule<'a> for &F {
     ghost reads = { λ f d. F.IsAlwaysCallable f.now × Mod_law (F.post f.now) d };
 
-    fn module(self, inner: u32, tokens: &[Token]) -> ModAnswer<'_> {
+    fn read(self, inner: u32, sort: ModSort, tokens: &'a [Token]) -> ModAnswer<'a> {
         let _inner = inner;
-        self(ModSort::Whole, tokens)
+        self(sort, tokens)
     }
+}
 
-    fn argument(self, inner: u32, tokens: &[Token]) -> ModAnswer<'_> {
-        let _inner = inner;
-        self(ModSort::Argument, tokens)
-    }
+/// Any module expression.
+pub fn whole_module<'a, M: ReadModule<'a>>(
+    read: M,
+    inner: u32,
+    tokens: &'a [Token],
+) -> Result<Found<'a, &'a ModExp<'a>>, Stop>
+    requires law { M.reads read inner }
+    ensures exact { Gives tree_found result (read_at inner Whole_mod tokens.now) }
+    ensures low { IfOk result (λ x. x.height ≤ inner) }
+{
+    let found = read.read(inner, ModSort::Whole, tokens)?;
+    Ok(Found {
+        tree: found.tree.module,
+        height: found.height,
+        rest: found.rest,
+    })
+}
+
+/// An argument of a parametric module.
+pub fn argument<'a, M: ReadModule<'a>>(
+    read: M,
+    inner: u32,
+    tokens: &'a [Token],
+) -> Result<Found<'a, &'a ModExp<'a>>, Stop>
+    requires law { M.reads read inner }
+    ensures exact { Gives tree_found result (read_at inner Atomic_mod tokens.now) }
+    ensures low { IfOk result (λ x. x.height ≤ inner) }
+{
+    let found = read.read(inner, ModSort::Argument, tokens)?;
+    Ok(Found {
+        tree: found.tree.module,
+        height: found.height,
+        rest: found.rest,
+    })
+}
+
+/// Any module expression as the last part of a form.
+pub fn last_module<'a, M: ReadModule<'a>>(read: M, inner: u32, tokens: &'a [Token]) -> ModAnswer<'a>
+    requires law { M.reads read inner }
+    ensures exact { Gives ending_found result (read_at inner Last_mod tokens.now) }
+    ensures low { IfOk result (λ x. x.height ≤ inner) }
+{
+    read.read(inner, ModSort::Last, tokens)
 }
 
 /// What reads the declarations in a production.
-pub trait ReadDeclaration: Copy {
+pub trait ReadDeclaration<'a>: Copy {
     /// It reads them up to a height.
     ghost reads: { Self → ℕ → Type 0 };
 
     /// A declaration.
-    fn declaration(self, inner: u32, tokens: &[Token]) -> DecAnswer<'_>
+    fn declaration(self, inner: u32, tokens: &'a [Token]) -> DecAnswer<'a>
         requires law { reads self inner }
-        ensures exact { Gives (λ x. (x.0, x.1, x.2.now)) result (read_at inner Dec_item tokens.now) }
-        ensures low { IfOk result (λ x. x.1 ≤ inner) };
+        ensures exact { Gives dec_found result (read_at inner Dec_item tokens.now) }
+        ensures low { IfOk result (λ x. x.height ≤ inner) };
 }
 
-impl<F: for<'t> Fn(&'t [Token]) -> DecAnswer<'t>> ReadDeclaration for &F {
-    ghost reads = { λ f d. F.IsAlwaysCallable f.now × Dec_law (F.post f.now) d };
+impl<'a, F: Fn(&'a [Token]) -> DecAnswer<'a>> ReadDeclaration<'a> for &F {
+    ghost reads = { λ f d. F.IsAlwaysCallable f.now × Law Dec_item dec_found (F.post f.now) d };
 
-    fn declaration(self, inner: u32, tokens: &[Token]) -> DecAnswer<'_> {
+    fn declaration(self, inner: u32, tokens: &'a [Token]) -> DecAnswer<'a> {
         let _inner = inner;
         self(tokens)
     }

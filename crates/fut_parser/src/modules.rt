@@ -1,361 +1,402 @@
 // Module expressions: each production over what reads the modules and declarations in it.
-ghost use Rattle.std.specs.Prelude.{◌≡◌, ◌≤◌, ◌<◌, ◌+◌, suc, length, true, false, [], ◌∷◌, IfOk};
+ghost use Rattle.std.specs.Prelude.{◌≡◌, ◌≤◌, ◌<◌, ◌+◌, suc, false, true, [], ◌∷◌, IfOk};
 ghost use Rattle.fut_ast.specs.Behind.{begins_mod_argument};
 ghost use Rattle.fut_ast.specs.ModRows.{mod_at, mod_decs, mod_function, mod_import, mod_path, round_mod};
 ghost use Rattle.fut_ast.specs.Parts.{Maybe, Sign, Sub};
-ghost use Rattle.fut_ast.specs.Rows.{applied_mod, of_mod, sealed};
-ghost use Rattle.fut_ast.specs.Sorts.{Atomic_mod, Far_mod, Whole_mod, Whole_mtype};
+ghost use Rattle.fut_ast.specs.Rows.{applied_mod, far_mod, of_mod, sealed};
+ghost use Rattle.fut_ast.specs.Sorts.{Atomic_mod, Far_mod, Last_mod, Whole_mtype};
 ghost use Rattle.fut_ast.specs.declared.module.ModForm.TheVariants.{Lambda};
 ghost use Rattle.fut_ast.specs.Tokens.{starts};
-ghost use Rattle.fut_phrases.specs.Phrases.{applied_mod_at, atomic_mod_at, ended, first_mod_at, once_at, phrases, read_at, whole_mod_at};
-ghost use Rattle.fut_phrases.specs.Reading.{Gives, many_at, parts_at, row_at, several_at, suffix_at};
+ghost use Rattle.fut_grammar.specs.Phrases.{applied_mod_at, atomic_mod_at, far_at, first_mod_at, last_mod_at, once_at, phrases, read_at};
+ghost use Rattle.fut_grammar.specs.Reading.{Gives, parts_at, row_at, several_at};
+ghost use Rattle.fut_parser.specs.Private.ModFound.{ending_found};
+ghost use Rattle.fut_phrases.specs.Found.{list_found, tree_found};
+ghost use Rattle.fut_tree.specs.ModTypes.{label_of};
 
 use crate::declarations::declarations;
 use crate::mod_nodes as node;
 use crate::mod_tokens::{begins_module_argument, goes_on_module};
-use crate::module_params::maybe_module_type;
-use crate::module_tie::{ModAnswer, ReadDeclaration, ReadModule};
-use crate::module_types::{module_type, parameter};
-use fut_ast::{Dec, ModExp, ModType, Param, Spot};
-use fut_phrases::behind::{both, ended, low_enough, refused_if};
-use fut_phrases::fault::Stop;
-use fut_phrases::keeping::in_front;
+use crate::module_tie::{
+    ModAnswer, ModEnding, ReadDeclaration, ReadModule, argument, last_module, whole_module,
+};
+use bumpalo::Bump;
+use bumpalo::collections::into_bump_slice;
+use fut_ast::Spot;
+use fut_grammar::{Fault, Stop};
+use fut_module_types::{maybe_module_type, module_parameter, module_type};
+use fut_phrases::found::Found;
 use fut_phrases::tokens::{
     greater, next_spot, refused, rest_of, starts_with, starts_with_word, take, take_path, take_text,
 };
-use fut_scalar::List;
+use fut_scalar::Place;
 use fut_token::{Fixed, Token};
-use std::alloc::Global;
+use fut_tree::{Held, ModExp, Param};
 
-/// Any module expression.
-#[tactic(auto, unfolding(fut_phrases::specs::Phrases::whole_mod_at))]
-pub fn whole_below<M: ReadModule, D: ReadDeclaration>(
-    alloc: Global,
+/// A module expression, its height, and the tokens behind it, where its ending is of no use.
+type Module<'a> = Result<Found<'a, &'a ModExp<'a>>, Stop>;
+
+/// Any module expression as the last part of a form.
+#[tactic(auto, unfolding(fut_grammar::specs::Phrases::last_mod_at))]
+pub fn last_below<'a, M: ReadModule<'a>, D: ReadDeclaration<'a>>(
+    bump: &'a Bump,
     read: M,
     read_dec: D,
     inner: u32,
-    tokens: &[Token],
-) -> ModAnswer<'_>
+    tokens: &'a [Token],
+) -> ModAnswer<'a>
     requires law { M.reads read inner }
     requires law_dec { D.reads read_dec inner }
     requires room { inner < 1000 }
-    ensures exact { Gives (λ x. (x.0, x.1, x.2.now)) result (whole_mod_at (phrases (read_at inner)) (suc inner) tokens.now) }
-    ensures low { IfOk result (λ x. x.1 ≤ inner + 1) }
+    ensures exact { Gives ending_found result (last_mod_at (phrases (read_at inner)) (suc inner) tokens.now) }
+    ensures low { IfOk result (λ x. x.height ≤ inner + 1) }
 {
-    let (first, height, rest) = applied_below(alloc, read, read_dec, inner, tokens)?;
-    seal_behind(alloc, inner, next_spot(tokens), first, height, rest)
+    let first = applied_below(bump, read, read_dec, inner, tokens)?;
+    seal_behind(
+        bump,
+        inner,
+        next_spot(tokens),
+        first.tree,
+        first.height,
+        first.rest,
+    )
 }
 
-#[tactic(auto, unfolding(fut_phrases::specs::Phrases::applied_mod_at))]
-fn applied_below<M: ReadModule, D: ReadDeclaration>(
-    alloc: Global,
+#[tactic(auto, unfolding(fut_grammar::specs::Phrases::applied_mod_at))]
+fn applied_below<'a, M: ReadModule<'a>, D: ReadDeclaration<'a>>(
+    bump: &'a Bump,
     read: M,
     read_dec: D,
     inner: u32,
-    tokens: &[Token],
-) -> ModAnswer<'_>
+    tokens: &'a [Token],
+) -> Module<'a>
     requires law { M.reads read inner }
     requires law_dec { D.reads read_dec inner }
     requires room { inner < 1000 }
-    ensures exact { Gives (λ x. (x.0, x.1, x.2.now)) result (applied_mod_at (phrases (read_at inner)) (suc inner) tokens.now) }
-    ensures low { IfOk result (λ x. x.1 ≤ inner + 1) }
+    ensures exact { Gives tree_found result (applied_mod_at (phrases (read_at inner)) (suc inner) tokens.now) }
+    ensures low { IfOk result (λ x. x.height ≤ inner + 1) }
 {
-    let (first, height, rest) = first_below(alloc, read, read_dec, inner, tokens)?;
-    arguments_behind(alloc, read, inner, next_spot(tokens), first, height, rest)
+    let first = first_below(bump, read, read_dec, inner, tokens)?;
+    arguments_behind(
+        bump,
+        read,
+        inner,
+        next_spot(tokens),
+        first.tree,
+        first.height,
+        first.rest,
+    )
 }
 
-#[tactic(auto, unfolding(fut_phrases::specs::Phrases::first_mod_at))]
-fn first_below<M: ReadModule, D: ReadDeclaration>(
-    alloc: Global,
+#[tactic(auto, unfolding(fut_grammar::specs::Phrases::first_mod_at))]
+fn first_below<'a, M: ReadModule<'a>, D: ReadDeclaration<'a>>(
+    bump: &'a Bump,
     read: M,
     read_dec: D,
     inner: u32,
-    tokens: &[Token],
-) -> ModAnswer<'_>
+    tokens: &'a [Token],
+) -> Module<'a>
     requires law { M.reads read inner }
     requires law_dec { D.reads read_dec inner }
     requires room { inner < 1000 }
-    ensures exact { Gives (λ x. (x.0, x.1, x.2.now)) result (first_mod_at (phrases (read_at inner)) (suc inner) tokens.now) }
-    ensures low { IfOk result (λ x. x.1 ≤ inner + 1) }
+    ensures exact { Gives tree_found result (first_mod_at (phrases (read_at inner)) (suc inner) tokens.now) }
+    ensures low { IfOk result (λ x. x.height ≤ inner + 1) }
 {
     if starts_with(tokens, Fixed::KeyImport) {
-        imported(alloc, inner, tokens)
+        imported(bump, inner, tokens)
     } else {
-        argument_below(alloc, read, read_dec, inner, tokens)
+        argument_below(bump, read, read_dec, inner, tokens)
     }
 }
 
 /// A module expression that may be an argument.
-#[tactic(auto, unfolding(fut_phrases::specs::Phrases::atomic_mod_at))]
-pub fn argument_below<M: ReadModule, D: ReadDeclaration>(
-    alloc: Global,
+#[tactic(auto, unfolding(fut_grammar::specs::Phrases::atomic_mod_at))]
+pub fn argument_below<'a, M: ReadModule<'a>, D: ReadDeclaration<'a>>(
+    bump: &'a Bump,
     read: M,
     read_dec: D,
     inner: u32,
-    tokens: &[Token],
-) -> ModAnswer<'_>
+    tokens: &'a [Token],
+) -> Module<'a>
     requires law { M.reads read inner }
     requires law_dec { D.reads read_dec inner }
     requires room { inner < 1000 }
-    ensures exact { Gives (λ x. (x.0, x.1, x.2.now)) result (atomic_mod_at (phrases (read_at inner)) (suc inner) tokens.now) }
-    ensures low { IfOk result (λ x. x.1 ≤ inner + 1) }
+    ensures exact { Gives tree_found result (atomic_mod_at (phrases (read_at inner)) (suc inner) tokens.now) }
+    ensures low { IfOk result (λ x. x.height ≤ inner + 1) }
 {
     if starts_with_word(tokens) {
-        path(alloc, inner, tokens)
+        path(bump, inner, tokens)
     } else if starts_with(tokens, Fixed::OpenBrace) {
-        in_braces(alloc, read_dec, inner, tokens)
+        in_braces(bump, read_dec, inner, tokens)
     } else if starts_with(tokens, Fixed::OpenParen) {
         round(read, inner, tokens)
     } else {
-        far_function(alloc, read, inner, tokens)
+        far_function(bump, read, inner, tokens)
     }
 }
 
-#[tactic(auto, unfolding(fut_phrases::specs::Phrases::once_at, fut_phrases::specs::Reading::suffix_at, fut_phrases::specs::Reading::parts_at, fut_phrases::specs::Reading::has_at))]
-fn arguments_behind<M: ReadModule>(
-    alloc: Global,
+#[tactic(auto, unfolding(fut_grammar::specs::Phrases::far_at, fut_grammar::specs::Phrases::ended))]
+fn far_function<'a, M: ReadModule<'a>>(
+    bump: &'a Bump,
     read: M,
     inner: u32,
-    at: Spot,
-    first: ModExp,
-    first_height: u32,
-    tokens: &[Token],
-) -> ModAnswer<'_>
-    requires law { M.reads read inner }
-    requires room { (inner < 1000) × (first_height ≤ inner + 1) }
-    ensures exact { Gives (λ x. (x.0, x.1, x.2.now)) result (once_at (phrases (read_at inner)) (suc inner) begins_mod_argument applied_mod at (λ m. m) first first_height tokens.now) }
-    ensures low { IfOk result (λ x. x.1 ≤ inner + 1) }
-{
-    if !begins_module_argument(tokens) {
-        return Ok((first, first_height, tokens));
-    }
-    let first = low_enough(first, first_height, inner, tokens)?;
-    let all = arguments(alloc, read, inner, first_height, tokens);
-    let (first, (all, height, rest)) = both(first, all)?;
-    let tree = node::apply(alloc, at, first, all)?;
-    Ok((tree, height + 1, rest))
-}
-
-#[tactic(auto, unfolding(fut_phrases::specs::Reading::several_at, fut_phrases::specs::Phrases::phrases))]
-fn arguments<M: ReadModule>(
-    alloc: Global,
-    read: M,
-    inner: u32,
-    first_height: u32,
-    tokens: &[Token],
-) -> Result<(List<ModExp>, u32, &[Token]), Stop>
-    requires law { M.reads read inner }
-    requires room { (inner < 1000) × (first_height ≤ inner) }
-    ensures exact { Gives (λ x. (x.0, x.1, x.2.now)) result (several_at (phrases (read_at inner)) Atomic_mod first_height tokens.now) }
-    ensures low { IfOk result (λ x. x.1 ≤ inner) }
-{
-    let (first, height, rest) = read.argument(inner, tokens)?;
-    let height = greater(first_height, height);
-    let others = more_arguments(alloc, read, inner, height, rest);
-    let (first, (others, height, rest)) = both(first, others)?;
-    Ok((in_front(first, others)?, height, rest))
-}
-
-fn more_arguments<M: ReadModule>(
-    alloc: Global,
-    read: M,
-    inner: u32,
-    first_height: u32,
-    tokens: &[Token],
-) -> Result<(List<ModExp>, u32, &[Token]), Stop>
-    requires law { M.reads read inner }
-    requires room { (inner < 1000) × (first_height ≤ inner) }
-    ensures exact { Gives (λ x. (x.0, x.1, x.2.now)) result (many_at (phrases (read_at inner)) (length tokens.now) Atomic_mod first_height tokens.now) }
-    ensures low { IfOk result (λ x. x.1 ≤ inner) }
-{
-    let mut all = List::new(alloc);
-    let mut height = first_height;
-    let mut rest = tokens;
-    'items: for _turn in 0..tokens.len() {
-        if !begins_module_argument(rest) {
-            return Ok((all, height, rest));
-        }
-        let (item, item_height, after) = read.argument(inner, rest)?;
-        all.push(item)?;
-        height = greater(height, item_height);
-        rest = after;
-    }
-    if begins_module_argument(rest) {
-        return Err(Stop::Fault(refused(rest)));
-    }
-    Ok((all, height, rest))
-}
-
-#[tactic(auto, unfolding(fut_phrases::specs::Phrases::ended))]
-fn far_function<M: ReadModule>(
-    alloc: Global,
-    read: M,
-    inner: u32,
-    tokens: &[Token],
-) -> ModAnswer<'_>
+    tokens: &'a [Token],
+) -> Module<'a>
     requires law { M.reads read inner }
     requires room { inner < 1000 }
-    ensures exact { Gives (λ x. (x.0, x.1, x.2.now)) result (ended Whole_mod (row_at (phrases (read_at inner)) (of_mod mod_function) tokens.now)) }
-    ensures low { IfOk result (λ x. x.1 ≤ inner + 1) }
+    ensures exact { Gives tree_found result (far_at far_mod (row_at (phrases (read_at inner)) (of_mod mod_function) tokens.now)) }
+    ensures low { IfOk result (λ x. x.height ≤ inner + 1) }
 {
-    let (tree, height, rest) = function(alloc, read, inner, tokens)?;
-    ended(tree, height, rest, goes_on_module(rest))
+    let found = function(bump, read, inner, tokens)?;
+    if goes_on_module(found.tree.is_sealed, found.rest) {
+        return Err(Stop::Fault(refused(found.rest)));
+    }
+    Ok(Found {
+        tree: found.tree.module,
+        height: found.height,
+        rest: found.rest,
+    })
 }
 
-#[tactic(auto, unfolding(fut_phrases::specs::Reading::row_at, fut_phrases::specs::Reading::parts_at, fut_phrases::specs::Reading::has_at, fut_phrases::specs::Reading::sub_at, fut_phrases::specs::Phrases::phrases))]
-fn function<M: ReadModule>(alloc: Global, read: M, inner: u32, tokens: &[Token]) -> ModAnswer<'_>
+#[tactic(auto, unfolding(fut_grammar::specs::Reading::row_at, fut_grammar::specs::Reading::parts_at, fut_grammar::specs::Reading::has_at, fut_grammar::specs::Reading::sub_at, fut_grammar::specs::Phrases::phrases))]
+fn function<'a, M: ReadModule<'a>>(
+    bump: &'a Bump,
+    read: M,
+    inner: u32,
+    tokens: &'a [Token],
+) -> ModAnswer<'a>
     requires law { M.reads read inner }
     requires room { inner < 1000 }
-    ensures exact { Gives (λ x. (x.0, x.1, x.2.now)) result (row_at (phrases (read_at inner)) (of_mod mod_function) tokens.now) }
-    ensures low { IfOk result (λ x. x.1 ≤ inner + 1) }
+    ensures exact { Gives ending_found result (row_at (phrases (read_at inner)) (of_mod mod_function) tokens.now) }
+    ensures low { IfOk result (λ x. x.height ≤ inner + 1) }
 {
-    let at = next_spot(tokens);
     let rest = take(tokens, Fixed::Backslash)?;
-    let (param, height, rest) = parameter(alloc, inner, rest)?;
-    type_behind(alloc, read, inner, at, param, greater(0, height), rest)
+    let param = module_parameter(bump, inner, rest)?;
+    body_behind(
+        bump,
+        read,
+        inner,
+        next_spot(tokens).place,
+        param.tree,
+        greater(0, param.height),
+        param.rest,
+    )
 }
 
 // Behind the parameter of a function, the type of its body, an arrow and the body.
-#[tactic(auto, unfolding(fut_phrases::specs::Reading::parts_at, fut_phrases::specs::Reading::has_at))]
-fn type_behind<M: ReadModule>(
-    alloc: Global,
+#[tactic(auto, unfolding(fut_grammar::specs::Reading::parts_at, fut_grammar::specs::Reading::has_at, fut_grammar::specs::Reading::sub_at, fut_grammar::specs::Phrases::phrases))]
+fn body_behind<'a, M: ReadModule<'a>>(
+    bump: &'a Bump,
     read: M,
     inner: u32,
-    at: Spot,
-    param: Param,
-    head_height: u32,
-    tokens: &[Token],
-) -> ModAnswer<'_>
+    place: Place,
+    param: Param<'a>,
+    param_height: u32,
+    tokens: &'a [Token],
+) -> ModAnswer<'a>
     requires law { M.reads read inner }
-    requires room { (inner < 1000) × (head_height ≤ inner) }
-    ensures exact { Gives (λ x. (x.0, x.1, x.2.now)) result (parts_at (phrases (read_at inner)) true Far_mod (Maybe Fixed.Colon Whole_mtype ∷ Sign Fixed.Arrow ∷ Sub Whole_mod ∷ []) (λ ty arrow m. mod_at at (Lambda param.label param.bound ty m)) head_height tokens.now) }
-    ensures low { IfOk result (λ x. x.1 ≤ inner + 1) }
+    requires room { (inner < 1000) × (param_height ≤ inner) }
+    ensures exact { Gives ending_found result (parts_at (phrases (read_at inner)) true Far_mod (Maybe Fixed.Colon (Whole_mtype false) ∷ Sign Fixed.Arrow ∷ Sub Last_mod ∷ []) (λ ty arrow m. (mod_at place (Lambda (label_of param.entry.label) param.entry.bound.now ty m.0), m.1)) param_height tokens.now) }
+    ensures low { IfOk result (λ x. x.height ≤ inner + 1) }
 {
-    let ty = maybe_module_type(alloc, inner, head_height, tokens);
-    let (param, (ty, height, rest)) = both(param, ty)?;
-    body_behind(alloc, read, inner, at, param, ty, height, rest)
+    let ty = maybe_module_type(bump, inner, false, param_height, tokens)?;
+    let rest = take(ty.rest, Fixed::Arrow)?;
+    let body = last_module(read, inner, rest)?;
+    Ok(Found {
+        tree: ModEnding {
+            module: node::lambda(bump, place, param, ty.tree, body.tree.module)?,
+            is_sealed: body.tree.is_sealed,
+        },
+        height: greater(ty.height, body.height) + 1,
+        rest: body.rest,
+    })
 }
 
-// Behind the head of a function, its arrow and its body.
-#[tactic(auto, unfolding(fut_phrases::specs::Reading::parts_at, fut_phrases::specs::Reading::has_at, fut_phrases::specs::Reading::sub_at, fut_phrases::specs::Phrases::phrases))]
-fn body_behind<M: ReadModule>(
-    alloc: Global,
-    read: M,
-    inner: u32,
-    at: Spot,
-    param: Param,
-    ty: Option<ModType>,
-    head_height: u32,
-    tokens: &[Token],
-) -> ModAnswer<'_>
-    requires law { M.reads read inner }
-    requires room { (inner < 1000) × (head_height ≤ inner) }
-    ensures exact { Gives (λ x. (x.0, x.1, x.2.now)) result (parts_at (phrases (read_at inner)) true Far_mod (Sign Fixed.Arrow ∷ Sub Whole_mod ∷ []) (λ arrow m. mod_at at (Lambda param.label param.bound ty m)) head_height tokens.now) }
-    ensures low { IfOk result (λ x. x.1 ≤ inner + 1) }
-{
-    let (head, rest) = both((param, ty), take(tokens, Fixed::Arrow))?;
-    let ((param, ty), (body, height, rest)) = both(head, read.module(inner, rest))?;
-    let tree = node::lambda(alloc, at, param, ty, body)?;
-    Ok((tree, greater(head_height, height) + 1, rest))
-}
-
-#[tactic(auto, unfolding(fut_phrases::specs::Reading::row_at, fut_phrases::specs::Reading::parts_at, fut_phrases::specs::Reading::has_at, fut_phrases::specs::Reading::sub_at, fut_phrases::specs::Phrases::phrases))]
-fn round<M: ReadModule>(read: M, inner: u32, tokens: &[Token]) -> ModAnswer<'_>
+#[tactic(auto, unfolding(fut_grammar::specs::Reading::row_at, fut_grammar::specs::Reading::parts_at, fut_grammar::specs::Reading::has_at, fut_grammar::specs::Reading::sub_at, fut_grammar::specs::Phrases::phrases))]
+fn round<'a, M: ReadModule<'a>>(read: M, inner: u32, tokens: &'a [Token]) -> Module<'a>
     requires law { M.reads read inner }
     requires room { inner < 1000 }
-    ensures exact { Gives (λ x. (x.0, x.1, x.2.now)) result (row_at (phrases (read_at inner)) (of_mod round_mod) tokens.now) }
-    ensures low { IfOk result (λ x. x.1 ≤ inner + 1) }
+    ensures exact { Gives tree_found result (row_at (phrases (read_at inner)) (of_mod round_mod) tokens.now) }
+    ensures low { IfOk result (λ x. x.height ≤ inner + 1) }
 {
     let rest = take(tokens, Fixed::OpenParen)?;
-    let (tree, height, rest) = read.module(inner, rest)?;
-    let (tree, rest) = both(tree, take(rest, Fixed::CloseParen))?;
-    Ok((tree, height + 1, rest))
+    let found = whole_module(read, inner, rest)?;
+    Ok(Found {
+        tree: found.tree,
+        height: found.height + 1,
+        rest: take(found.rest, Fixed::CloseParen)?,
+    })
 }
 
-#[tactic(auto, unfolding(fut_phrases::specs::Reading::row_at, fut_phrases::specs::Reading::parts_at, fut_phrases::specs::Reading::has_at, fut_phrases::specs::Reading::sub_at, fut_phrases::specs::Phrases::phrases))]
-fn in_braces<D: ReadDeclaration>(
-    alloc: Global,
+#[tactic(auto, unfolding(fut_grammar::specs::Reading::row_at, fut_grammar::specs::Reading::parts_at, fut_grammar::specs::Reading::has_at, fut_grammar::specs::Reading::sub_at, fut_grammar::specs::Phrases::phrases))]
+fn in_braces<'a, D: ReadDeclaration<'a>>(
+    bump: &'a Bump,
     read_dec: D,
     inner: u32,
-    tokens: &[Token],
-) -> ModAnswer<'_>
+    tokens: &'a [Token],
+) -> Module<'a>
     requires law_dec { D.reads read_dec inner }
     requires room { inner < 1000 }
-    ensures exact { Gives (λ x. (x.0, x.1, x.2.now)) result (row_at (phrases (read_at inner)) (of_mod mod_decs) tokens.now) }
-    ensures low { IfOk result (λ x. x.1 ≤ inner + 1) }
+    ensures exact { Gives tree_found result (row_at (phrases (read_at inner)) (of_mod mod_decs) tokens.now) }
+    ensures low { IfOk result (λ x. x.height ≤ inner + 1) }
 {
-    let at = next_spot(tokens);
     let rest = take(tokens, Fixed::OpenBrace)?;
-    let (all, height, rest) = declarations(alloc, read_dec, inner, rest)?;
-    let (all, rest) = both(all, take(rest, Fixed::CloseBrace))?;
-    Ok((node::decs(at, all), height + 1, rest))
+    let all = declarations(bump, read_dec, inner, rest)?;
+    let rest = take(all.rest, Fixed::CloseBrace)?;
+    Ok(Found {
+        tree: node::decs(bump, next_spot(tokens).place, all.tree)?,
+        height: all.height + 1,
+        rest,
+    })
 }
 
 // ---- what has no modules in it
 
-#[tactic(auto, unfolding(fut_phrases::specs::Reading::row_at, fut_phrases::specs::Reading::parts_at, fut_phrases::specs::Reading::has_at))]
-fn imported(alloc: Global, inner: u32, tokens: &[Token]) -> ModAnswer<'_>
+#[tactic(auto, unfolding(fut_grammar::specs::Reading::row_at, fut_grammar::specs::Reading::parts_at, fut_grammar::specs::Reading::has_at))]
+fn imported<'a>(bump: &'a Bump, inner: u32, tokens: &'a [Token]) -> Module<'a>
     requires { inner < 1000 }
-    ensures exact { Gives (λ x. (x.0, x.1, x.2.now)) result (row_at (phrases (read_at inner)) (of_mod mod_import) tokens.now) }
-    ensures low { IfOk result (λ x. x.1 ≤ inner + 1) }
+    ensures exact { Gives tree_found result (row_at (phrases (read_at inner)) (of_mod mod_import) tokens.now) }
+    ensures low { IfOk result (λ x. x.height ≤ inner + 1) }
 {
     let _inner = inner;
-    let at = next_spot(tokens);
     let rest = take(tokens, Fixed::KeyImport)?;
-    let (text, rest) = take_text(alloc, rest)?;
-    Ok((node::import(at, text), 1, rest))
+    let (file, rest) = take_text(rest)?;
+    Ok(Found {
+        tree: node::import(bump, next_spot(tokens).place, file)?,
+        height: 1,
+        rest,
+    })
 }
 
-#[tactic(auto, unfolding(fut_phrases::specs::Reading::row_at, fut_phrases::specs::Reading::parts_at, fut_phrases::specs::Reading::has_at))]
-fn path(alloc: Global, inner: u32, tokens: &[Token]) -> ModAnswer<'_>
+#[tactic(auto, unfolding(fut_grammar::specs::Reading::row_at, fut_grammar::specs::Reading::parts_at, fut_grammar::specs::Reading::has_at))]
+fn path<'a>(bump: &'a Bump, inner: u32, tokens: &'a [Token]) -> Module<'a>
     requires { inner < 1000 }
-    ensures exact { Gives (λ x. (x.0, x.1, x.2.now)) result (row_at (phrases (read_at inner)) (of_mod mod_path) tokens.now) }
-    ensures low { IfOk result (λ x. x.1 ≤ inner + 1) }
+    ensures exact { Gives tree_found result (row_at (phrases (read_at inner)) (of_mod mod_path) tokens.now) }
+    ensures low { IfOk result (λ x. x.height ≤ inner + 1) }
 {
     let _inner = inner;
-    let at = next_spot(tokens);
-    let (names, rest) = take_path(alloc, tokens)?;
-    Ok((node::path(at, names), 1, rest))
+    let (names, rest) = take_path(bump, tokens)?;
+    Ok(Found {
+        tree: node::path(bump, next_spot(tokens).place, names)?,
+        height: 1,
+        rest,
+    })
 }
 
-#[tactic(auto, unfolding(fut_phrases::specs::Phrases::once_at, fut_phrases::specs::Reading::suffix_at))]
-fn seal_behind(
-    alloc: Global,
+// ---- what stands behind a module
+
+// Arguments, as many as stand there, or nothing.
+#[tactic(auto, unfolding(fut_grammar::specs::Phrases::once_at, fut_grammar::specs::Reading::suffix_at, fut_grammar::specs::Reading::parts_at, fut_grammar::specs::Reading::has_at))]
+fn arguments_behind<'a, M: ReadModule<'a>>(
+    bump: &'a Bump,
+    read: M,
     inner: u32,
     at: Spot,
-    first: ModExp,
+    first: &'a ModExp<'a>,
     first_height: u32,
-    tokens: &[Token],
-) -> ModAnswer<'_>
+    tokens: &'a [Token],
+) -> Module<'a>
+    requires law { M.reads read inner }
+    requires room { (inner < 1000) × (first_height ≤ inner + 1) }
+    ensures exact { Gives tree_found result (once_at (phrases (read_at inner)) (suc inner) begins_mod_argument applied_mod at (λ m. m) first.now first_height tokens.now) }
+    ensures low { IfOk result (λ x. x.height ≤ inner + 1) }
+{
+    if !begins_module_argument(tokens) {
+        return Ok(Found {
+            tree: first,
+            height: first_height,
+            rest: tokens,
+        });
+    }
+    if first_height > inner {
+        return Err(Stop::Fault(Fault::TooDeep(tokens.len())));
+    }
+    let all = arguments(bump, read, inner, first_height, tokens)?;
+    Ok(Found {
+        tree: node::apply(bump, at.place, first, all.tree)?,
+        height: all.height + 1,
+        rest: all.rest,
+    })
+}
+
+// One or more arguments.
+#[tactic(auto, unfolding(fut_grammar::specs::Reading::several_at, fut_grammar::specs::Phrases::phrases))]
+fn arguments<'a, M: ReadModule<'a>>(
+    bump: &'a Bump,
+    read: M,
+    inner: u32,
+    first_height: u32,
+    tokens: &'a [Token],
+) -> Result<Found<'a, &'a [Held<'a, ModExp<'a>>]>, Stop>
+    requires law { M.reads read inner }
+    requires room { (inner < 1000) × (first_height ≤ inner) }
+    ensures exact { Gives list_found result (several_at (phrases (read_at inner)) Atomic_mod first_height tokens.now) }
+    ensures low { IfOk result (λ x. x.height ≤ inner) }
+{
+    let first = argument(read, inner, tokens)?;
+    let mut all = Vec::new(bump);
+    all.push(Held { at: first.tree })?;
+    let mut height = greater(first_height, first.height);
+    let mut rest = first.rest;
+    'items: for _turn in 0..first.rest.len() {
+        if !begins_module_argument(rest) {
+            return Ok(Found {
+                tree: into_bump_slice(all),
+                height,
+                rest,
+            });
+        }
+        let item = argument(read, inner, rest)?;
+        all.push(Held { at: item.tree })?;
+        height = greater(height, item.height);
+        rest = item.rest;
+    }
+    if begins_module_argument(rest) {
+        return Err(Stop::Fault(refused(rest)));
+    }
+    Ok(Found {
+        tree: into_bump_slice(all),
+        height,
+        rest,
+    })
+}
+
+// A colon and a module type, or nothing.
+#[tactic(auto, unfolding(fut_grammar::specs::Phrases::once_at, fut_grammar::specs::Reading::suffix_at, fut_grammar::specs::Reading::parts_at, fut_grammar::specs::Reading::has_at, fut_grammar::specs::Reading::sub_at, fut_grammar::specs::Reading::expect, fut_grammar::specs::Phrases::phrases))]
+fn seal_behind<'a>(
+    bump: &'a Bump,
+    inner: u32,
+    at: Spot,
+    first: &'a ModExp<'a>,
+    first_height: u32,
+    tokens: &'a [Token],
+) -> ModAnswer<'a>
     requires { (inner < 1000) × (first_height ≤ inner + 1) }
-    ensures exact { Gives (λ x. (x.0, x.1, x.2.now)) result (once_at (phrases (read_at inner)) (suc inner) (starts Fixed.Colon) sealed at (λ m. m) first first_height tokens.now) }
-    ensures low { IfOk result (λ x. x.1 ≤ inner + 1) }
+    ensures exact { Gives ending_found result (once_at (phrases (read_at inner)) (suc inner) (starts Fixed.Colon) sealed at (λ m. (m, false)) first.now first_height tokens.now) }
+    ensures low { IfOk result (λ x. x.height ≤ inner + 1) }
 {
     if !starts_with(tokens, Fixed::Colon) {
-        return Ok((first, first_height, tokens));
+        return Ok(Found {
+            tree: ModEnding {
+                module: first,
+                is_sealed: false,
+            },
+            height: first_height,
+            rest: tokens,
+        });
     }
-    let first = refused_if(first, begins_module_argument(tokens), tokens)?;
-    seal(alloc, inner, at, first, first_height, tokens)
-}
-
-// Behind a module that goes no further by itself, a colon and its type.
-#[tactic(auto, unfolding(fut_phrases::specs::Reading::suffix_at, fut_phrases::specs::Reading::parts_at, fut_phrases::specs::Reading::has_at, fut_phrases::specs::Reading::sub_at, fut_phrases::specs::Reading::expect, fut_phrases::specs::Phrases::phrases))]
-fn seal(
-    alloc: Global,
-    inner: u32,
-    at: Spot,
-    first: ModExp,
-    first_height: u32,
-    tokens: &[Token],
-) -> ModAnswer<'_>
-    requires room { (inner < 1000) × (first_height ≤ inner + 1) }
-    requires colon { starts Fixed.Colon tokens.now ≡ true }
-    requires apart { begins_mod_argument tokens.now ≡ false }
-    ensures exact { Gives (λ x. (x.0, x.1, x.2.now)) result (suffix_at (phrases (read_at inner)) sealed (suc inner) at first first_height tokens.now) }
-    ensures low { IfOk result (λ x. x.1 ≤ inner + 1) }
-{
-    let first = low_enough(first, first_height, inner, tokens)?;
-    let (first, (ty, height, rest)) = both(first, module_type(alloc, inner, rest_of(tokens)))?;
-    let tree = node::seal(alloc, at, first, ty)?;
-    Ok((tree, greater(first_height, height) + 1, rest))
+    if begins_module_argument(tokens) {
+        return Err(Stop::Fault(refused(tokens)));
+    }
+    if first_height > inner {
+        return Err(Stop::Fault(Fault::TooDeep(tokens.len())));
+    }
+    let ty = module_type(bump, inner, true, rest_of(tokens))?;
+    Ok(Found {
+        tree: ModEnding {
+            module: node::seal(bump, at.place, first, ty.tree)?,
+            is_sealed: true,
+        },
+        height: greater(first_height, ty.height) + 1,
+        rest: ty.rest,
+    })
 }

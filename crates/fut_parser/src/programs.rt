@@ -4,25 +4,28 @@ ghost use Rattle.fut_ast.specs.Grammar.{Derives};
 ghost use Rattle.fut_ast.specs.LeftOut.{begins_left_out};
 ghost use Rattle.fut_ast.specs.Nesting.{Too_deep};
 ghost use Rattle.fut_ast.specs.Sorts.{Dec_item};
-ghost use Rattle.fut_ast.specs.declared.module.Program.{Program};
+ghost use Rattle.fut_ast.specs.declared.module.Program.{Program as PlainProgram};
 ghost use Rattle.fut_ast.specs.declared.node.What.{What};
-ghost use Rattle.fut_phrases.specs.Phrases.{nodes, phrases, program_at, read_at};
-ghost use Rattle.fut_parser.specs.ModTie.{Dec_law};
-ghost use Rattle.fut_parser.specs.Answers.{Explains, Reads, answer_of, place_left};
+ghost use Rattle.fut_grammar.specs.Phrases.{nodes, phrases, program_at, read_at};
+ghost use Rattle.fut_grammar.specs.Reading.{Gives, many_at};
+ghost use Rattle.fut_parser.specs.Private.Answers.{ExplainsParse, ReadsTokens, answer_of, place_left};
+ghost use Rattle.fut_parser.specs.Private.ModFound.{dec_found, decs_found};
+ghost use Rattle.fut_module_types.specs.MtypeTie.{Law};
 ghost use Rattle.fut_parser.specs.Places.{Ends, place_of};
-ghost use Rattle.fut_phrases.specs.Reading.{Gives, many_at};
 ghost use Rattle.fut_scalar.specs.declared.place.Place.{Place};
 ghost use Rattle.fut_token.specs.declared.token.Token.{Token};
 
 use crate::declarations::declarations;
 use crate::module_cycle::declaration;
 use crate::module_tie::DecAnswer;
-use fut_ast::{Dec, Program, What};
-use fut_phrases::fault::{Fault, Stop};
+use bumpalo::Bump;
+use fut_ast::What;
+use fut_grammar::{Fault, Stop};
+use fut_phrases::found::Found;
 use fut_phrases::tokens::refused;
-use fut_scalar::{List, Place};
+use fut_scalar::Place;
 use fut_token::Token;
-use std::alloc::Global;
+use fut_tree::{Dec, Program};
 
 /// Why a program could not be parsed.
 ///
@@ -38,48 +41,51 @@ pub enum ParseErr {
     Memory,
 }
 
-// The closure's lifetimes are known from this bound alone.
-fn declarations_by<'t, D: for<'a> Fn(&'a [Token]) -> DecAnswer<'a>>(
-    alloc: Global,
-    read: &D,
+// The closure's types are known from this bound alone.
+fn declarations_by<'a, F: Fn(&'a [Token]) -> DecAnswer<'a>>(
+    bump: &'a Bump,
+    read: &F,
     inner: u32,
-    tokens: &'t [Token],
-) -> Result<(List<Dec>, u32, &'t [Token]), Stop>
-    requires callable { D.IsAlwaysCallable read.now }
-    requires law { Dec_law (D.post read.now) inner }
+    tokens: &'a [Token],
+) -> Result<Found<'a, &'a [Dec<'a>]>, Stop>
+    requires callable { F.IsAlwaysCallable read.now }
+    requires law { Law Dec_item dec_found (F.post read.now) inner }
     requires room { inner < 1000 }
-    ensures exact { Gives (λ x. (x.0, x.1, x.2.now)) result (many_at (phrases (read_at inner)) (length tokens.now) Dec_item 0 tokens.now) }
-    ensures low { IfOk result (λ x. x.1 ≤ inner) }
+    ensures exact { Gives decs_found result (many_at (phrases (read_at inner)) (length tokens.now) Dec_item 0 tokens.now) }
+    ensures low { IfOk result (λ x. x.height ≤ inner) }
 {
-    declarations(alloc, read, inner, tokens)
+    declarations(bump, read, inner, tokens)
 }
 
 // The declarations of a file.
-fn all_declarations(alloc: Global, tokens: &[Token]) -> Result<(List<Dec>, u32, &[Token]), Stop>
-    ensures exact { Gives (λ x. (x.0, x.1, x.2.now)) result (many_at (nodes (read_at 201)) (length tokens.now) Dec_item 0 tokens.now) }
-    ensures low { IfOk result (λ x. x.1 ≤ 201) }
+fn all_declarations<'a>(
+    bump: &'a Bump,
+    tokens: &'a [Token],
+) -> Result<Found<'a, &'a [Dec<'a>]>, Stop>
+    ensures exact { Gives decs_found result (many_at (nodes (read_at 201)) (length tokens.now) Dec_item 0 tokens.now) }
+    ensures low { IfOk result (λ x. x.height ≤ 201) }
 {
     declarations_by(
-        alloc,
-        &|behind: &[Token]| -> Result<(Dec, u32, &[Token]), Stop>
-            ensures exact { Gives (λ x. (x.0, x.1, x.2.now)) result (read_at 201 Dec_item behind.now) }
-            ensures low { IfOk result (λ x. x.1 ≤ 201) }
-        { declaration(alloc, 201, behind) },
+        bump,
+        &|behind| -> Result<Found<Dec>, Stop>
+            ensures exact { Gives dec_found result (read_at 201 Dec_item behind.now) }
+            ensures low { IfOk result (λ x. x.height ≤ 201) }
+        { declaration(bump, 201, behind) },
         201,
         tokens,
     )
 }
 
-#[tactic(auto, unfolding(fut_phrases::specs::Phrases::program_at))]
-fn program(alloc: Global, tokens: &[Token]) -> Result<(Program, u32), Stop>
+#[tactic(auto, unfolding(fut_grammar::specs::Phrases::program_at))]
+fn program<'a>(bump: &'a Bump, tokens: &'a [Token]) -> Result<(Program<'a>, u32), Stop>
     ensures exact { Gives (λ x. (x.0, x.1)) result (program_at tokens.now) }
     ensures low { IfOk result (λ x. x.1 ≤ 201) }
 {
-    let (decs, height, rest) = all_declarations(alloc, tokens)?;
-    if rest.len() == 0 {
-        Ok((Program { decs }, height))
+    let found = all_declarations(bump, tokens)?;
+    if found.rest.len() == 0 {
+        Ok((Program { decs: found.tree }, found.height))
     } else {
-        Err(Stop::Fault(refused(rest)))
+        Err(Stop::Fault(refused(found.rest)))
     }
 }
 
@@ -115,23 +121,22 @@ fn answer(file: u32, tokens: &[Token], fault: Fault) -> ParseErr
     }
 }
 
-/// The program that the tokens of a file spell.
+/// The program that the tokens of a file spell. Its names are texts of the tokens.
 ///
 /// It is the only one, and its nodes are nested at most 200 deep.
-pub fn parse(alloc: Global, file: u32, tokens: &List<Token>) -> Result<Program, ParseErr>
+pub fn parse<'a>(bump: &'a Bump, file: u32, tokens: &'a [Token]) -> Result<Program<'a>, ParseErr>
     ensures found { IfOk result (λ p. (h : ℕ) × (h ≤ 201) × Derives tokens.now p h) }
-    ensures only { IfOk result (λ p. (q : Program) (h : ℕ) → Derives tokens.now q h → q ≡ p) }
-    ensures none { (at : Place) → result ≡ Err (ParseErr.Syntax at) → (q : Program) (h : ℕ) → Derives tokens.now q h → ⊥ }
-    ensures none_left_out { (at : Place) (what : What) → result ≡ Err (ParseErr.LeftOut at what) → (q : Program) (h : ℕ) → Derives tokens.now q h → ⊥ }
-    ensures too_high { (at : Place) → result ≡ Err (ParseErr.TooDeep at) → (q : Program) (h : ℕ) → Derives tokens.now q h → 201 < h }
-    ensures reads { IfOk result (Reads tokens.now) }
-    ensures refuses { IfErr result (Explains file tokens.now) }
+    ensures only { IfOk result (λ p. (q : PlainProgram) (h : ℕ) → Derives tokens.now q h → q ≡ p) }
+    ensures none { (at : Place) → result ≡ Err (ParseErr.Syntax at) → (q : PlainProgram) (h : ℕ) → Derives tokens.now q h → ⊥ }
+    ensures none_left_out { (at : Place) (what : What) → result ≡ Err (ParseErr.LeftOut at what) → (q : PlainProgram) (h : ℕ) → Derives tokens.now q h → ⊥ }
+    ensures too_high { (at : Place) → result ≡ Err (ParseErr.TooDeep at) → (q : PlainProgram) (h : ℕ) → Derives tokens.now q h → 201 < h }
+    ensures reads { IfOk result (ReadsTokens tokens.now) }
+    ensures refuses { IfErr result (ExplainsParse file tokens.now) }
     ensures syntax { (at : Place) → result ≡ Err (ParseErr.Syntax at) → (rest : List Token) × Ends tokens.now rest × (at ≡ place_of file tokens.now rest) }
     ensures deep { (at : Place) → result ≡ Err (ParseErr.TooDeep at) → (rest : List Token) × Ends tokens.now rest × (at ≡ place_of file tokens.now rest) × Too_deep tokens.now rest }
     ensures left_out { (at : Place) (what : What) → result ≡ Err (ParseErr.LeftOut at what) → (rest : List Token) × Ends tokens.now rest × (at ≡ place_of file tokens.now rest) × (begins_left_out what rest ≡ true) }
 {
-    let tokens = tokens.as_slice();
-    match program(alloc, tokens) {
+    match program(bump, tokens) {
         Ok((program, _)) => Ok(program),
         Err(Stop::Memory) => Err(ParseErr::Memory),
         Err(Stop::Fault(fault)) => Err(answer(file, tokens, fault)),

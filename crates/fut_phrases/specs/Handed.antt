@@ -3,19 +3,21 @@ use Rattle.std.specs.Prelude.{◌≤◌, ℕ, List, Result, IfOk}
 use Rattle.std.specs.Borrow.{Bor}
 use Rattle.fut_token.specs.declared.token.Token.{Token}
 use Rattle.fut_ast.specs.Sorts.{Sort, Tree, Whole_type, Applied_type, Atomic_type}
-use Rattle.fut_phrases.specs.declared.fault.Stop.{Stop}
+use Rattle.fut_grammar.specs.declared.fault.Stop.{Stop}
+use Rattle.fut_phrases.specs.declared.found.Found.{Found}
 use Rattle.fut_phrases.specs.declared.types.TypeSort.{TypeSort}
 use Rattle.fut_phrases.specs.declared.types.TypeSort.TheVariants as sort
-use Rattle.fut_phrases.specs.Reading.{Gives}
-use Rattle.fut_phrases.specs.Phrases.{read_at}
+use Rattle.fut_phrases.specs.Found.{tree_found}
+use Rattle.fut_grammar.specs.Reading.{Gives}
+use Rattle.fut_grammar.specs.Phrases.{read_at}
 
 -- a tree, its height, and the tokens behind it
 abbrev pub Answer : Sort → Type 0
-Answer n = Result (Tree n × ℕ × Bor (List Token)) Stop
+Answer n = Result (Found (Bor (Tree n))) Stop
 
 -- the answer is what reading gives, up to a height of d
 abbrev pub Reads : (n : Sort) → ℕ → List Token → Answer n → Type 0
-Reads n d ts r = Gives (λ x. (x.0, x.1, x.2.now)) r (read_at d n ts) × IfOk r (λ x. x.1 ≤ d)
+Reads n d ts r = Gives tree_found r (read_at d n ts) × IfOk r (λ x. x.height ≤ d)
 
 -- each answer is what reading gives, where post says what is answered
 abbrev pub Law : (n : Sort) → (Bor (List Token) → Answer n → Type 0) → ℕ → Type 0

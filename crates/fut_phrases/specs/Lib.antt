@@ -1,3 +1,2 @@
-pub mod Reading
-pub mod Phrases
+pub mod Found
 pub mod Handed

@@ -1,104 +1,107 @@
 // The size and type parameters of a definition.
-ghost use Rattle.std.specs.Prelude.{◌≡◌, ◌≤◌, ◌<◌, length, IfOk};
+ghost use Rattle.std.specs.Prelude.{◌≡◌, ◌≤◌, ◌<◌, length, ℕ, IfOk};
 ghost use Rattle.fut_ast.specs.PatRows.{size_head, variable_head};
 ghost use Rattle.fut_ast.specs.Rows.{of_pat};
 ghost use Rattle.fut_ast.specs.Sorts.{Head_item};
-ghost use Rattle.fut_phrases.specs.Phrases.{head_at, items, phrases, read_at};
-ghost use Rattle.fut_phrases.specs.Reading.{Gives, many_at, row_at};
+ghost use Rattle.fut_grammar.specs.Phrases.{head_at, items, phrases, read_at};
+ghost use Rattle.fut_grammar.specs.Reading.{Gives, many_at, row_at};
+ghost use Rattle.fut_phrases.specs.Found.{found_as, heads_found};
+ghost use Rattle.fut_tree.specs.Pats.{head_of};
 
-use crate::fault::Stop;
+use crate::found::Found;
+use crate::lists::{BeginItem, ReadItem, many};
 use crate::tokens::{
     begins_parameter, greater, next_spot, refused, starts_with, take, take_variable, take_word,
 };
-use fut_ast::{Head, HeadForm};
-use fut_scalar::{List, Name};
+use bumpalo::Bump;
+use bumpalo::collections::into_bump_slice;
+use fut_grammar::Stop;
 use fut_token::{Fixed, Token};
-use std::alloc::Global;
+use fut_tree::{Head, HeadForm};
 
 /// Parameters, as many as stand there.
-pub fn heads(
-    alloc: Global,
+pub fn heads<'a>(
+    bump: &'a Bump,
     inner: u32,
-    tokens: &[Token],
-) -> Result<(List<Head<Name>>, u32, &[Token]), Stop>
+    tokens: &'a [Token],
+) -> Result<Found<'a, &'a [Head<'a>]>, Stop>
     requires { inner < 1000 }
-    ensures exact { Gives (λ x. (x.0, x.1, x.2.now)) result (many_at (phrases (read_at inner)) (length tokens.now) Head_item 0 tokens.now) }
-    ensures low { IfOk result (λ x. x.1 ≤ inner) }
+    ensures exact { Gives heads_found result (many_at (phrases (read_at inner)) (length tokens.now) Head_item 0 tokens.now) }
+    ensures low { IfOk result (λ x. x.height ≤ inner) }
 {
-    let mut all = List::new(alloc);
-    let mut height = 0;
-    let mut rest = tokens;
-    'items: for _turn in 0..tokens.len() {
-        if !begins_parameter(rest) {
-            return Ok((all, height, rest));
+    many(bump, HeadItems, inner, 0, tokens)
+}
+
+#[derive(Clone, Copy)]
+struct HeadItems;
+
+impl<'a> ReadItem<'a, Head<'a>> for HeadItems {
+    ghost sort = { Head_item };
+
+    ghost seen = { head_of };
+
+    ghost reads = { λ s d. Unit {0} };
+
+    #[tactic(auto, unfolding(fut_grammar::specs::Phrases::phrases, fut_grammar::specs::Phrases::bounded, fut_grammar::specs::Phrases::ended, fut_grammar::specs::Phrases::flat_at, fut_grammar::specs::Reading::refuse_sort))]
+    fn item(
+        self,
+        bump: &'a Bump,
+        inner: u32,
+        tokens: &'a [Token],
+    ) -> Result<Found<'a, Head<'a>>, Stop> {
+        let _inner = inner;
+        let _bump = bump;
+        if !begins_parameter(tokens) {
+            return Err(Stop::Fault(refused(tokens)));
         }
-        let (item, item_height, after) = head(alloc, inner, rest)?;
-        all.push(item)?;
-        height = greater(height, item_height);
-        rest = after;
+        any_head(tokens)
     }
-    if begins_parameter(rest) {
-        return Err(Stop::Fault(refused(rest)));
-    }
-    Ok((all, height, rest))
 }
 
-#[tactic(auto, unfolding(crate::specs::Phrases::phrases, crate::specs::Phrases::bounded, crate::specs::Phrases::ended, crate::specs::Phrases::flat_at, crate::specs::Reading::refuse_sort))]
-fn head(alloc: Global, inner: u32, tokens: &[Token]) -> Result<(Head<Name>, u32, &[Token]), Stop>
-    requires { inner < 1000 }
-    ensures exact { Gives (λ x. (x.0, x.1, x.2.now)) result (phrases (read_at inner) Head_item tokens.now) }
-    ensures low { IfOk result (λ x. x.1 ≤ inner) }
-{
-    if !begins_parameter(tokens) {
-        return Err(Stop::Fault(refused(tokens)));
+impl<'a> BeginItem<'a, Head<'a>> for HeadItems {
+    fn begins(self, tokens: &'a [Token]) -> bool {
+        begins_parameter(tokens)
     }
-    let (head, height, rest) = any_head(alloc, inner, tokens)?;
-    Ok((head, height, rest))
 }
 
-#[tactic(auto, unfolding(crate::specs::Phrases::head_at))]
-fn any_head(
-    alloc: Global,
-    inner: u32,
-    tokens: &[Token],
-) -> Result<(Head<Name>, u32, &[Token]), Stop>
-    requires { inner < 1000 }
-    ensures exact { Gives (λ x. (x.0, x.1, x.2.now)) result (head_at (items (read_at inner)) tokens.now) }
-    ensures low { IfOk result (λ x. x.1 ≤ inner) }
+#[tactic(auto, unfolding(fut_grammar::specs::Phrases::head_at))]
+fn any_head<'a>(tokens: &'a [Token]) -> Result<Found<'a, Head<'a>>, Stop>
+    ensures exact { (inner : ℕ) → Gives (found_as head_of) result (head_at (items (read_at inner)) tokens.now) }
+    ensures low { IfOk result (λ x. x.height ≡ 0) }
 {
     if starts_with(tokens, Fixed::OpenBracket) {
-        size(alloc, inner, tokens)
+        size(tokens)
     } else {
-        variable(alloc, inner, tokens)
+        variable(tokens)
     }
 }
 
-#[tactic(auto, unfolding(crate::specs::Reading::row_at, crate::specs::Reading::parts_at, crate::specs::Reading::has_at))]
-fn size(alloc: Global, inner: u32, tokens: &[Token]) -> Result<(Head<Name>, u32, &[Token]), Stop>
-    requires { inner < 1000 }
-    ensures exact { Gives (λ x. (x.0, x.1, x.2.now)) result (row_at (items (read_at inner)) (of_pat size_head) tokens.now) }
-    ensures low { IfOk result (λ x. x.1 ≤ inner) }
+#[tactic(auto, unfolding(fut_grammar::specs::Reading::row_at, fut_grammar::specs::Reading::parts_at, fut_grammar::specs::Reading::has_at))]
+fn size<'a>(tokens: &'a [Token]) -> Result<Found<'a, Head<'a>>, Stop>
+    ensures exact { (inner : ℕ) → Gives (found_as head_of) result (row_at (items (read_at inner)) (of_pat size_head) tokens.now) }
+    ensures low { IfOk result (λ x. x.height ≡ 0) }
 {
-    let _inner = inner;
     let place = next_spot(tokens).place;
     let rest = take(tokens, Fixed::OpenBracket)?;
-    let (name, rest) = take_word(alloc, rest)?;
+    let (name, rest) = take_word(rest)?;
     let rest = take(rest, Fixed::CloseBracket)?;
     let form = HeadForm::Size(name);
-    Ok((Head { place, form }, 0, rest))
+    Ok(Found {
+        tree: Head { place, form },
+        height: 0,
+        rest,
+    })
 }
 
-#[tactic(auto, unfolding(crate::specs::Reading::row_at, crate::specs::Reading::parts_at, crate::specs::Reading::has_at))]
-fn variable(
-    alloc: Global,
-    inner: u32,
-    tokens: &[Token],
-) -> Result<(Head<Name>, u32, &[Token]), Stop>
-    requires { inner < 1000 }
-    ensures exact { Gives (λ x. (x.0, x.1, x.2.now)) result (row_at (items (read_at inner)) (of_pat variable_head) tokens.now) }
-    ensures low { IfOk result (λ x. x.1 ≤ inner) }
+#[tactic(auto, unfolding(fut_grammar::specs::Reading::row_at, fut_grammar::specs::Reading::parts_at, fut_grammar::specs::Reading::has_at))]
+fn variable<'a>(tokens: &'a [Token]) -> Result<Found<'a, Head<'a>>, Stop>
+    ensures exact { (inner : ℕ) → Gives (found_as head_of) result (row_at (items (read_at inner)) (of_pat variable_head) tokens.now) }
+    ensures low { IfOk result (λ x. x.height ≡ 0) }
 {
-    let _inner = inner;
-    let (head, rest) = take_variable(alloc, tokens)?;
-    Ok((head, 0, rest))
+    let (head, rest) = take_variable(tokens)?;
+    Ok(Found {
+        tree: head,
+        height: 0,
+        rest,
+    })
 }

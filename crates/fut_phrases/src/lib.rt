@@ -1,14 +1,12 @@
-//! Types, patterns and heads, and the reading of phrases as a definition, proved equal to the grammar of `fut_ast`.
+//! Tokens, types, patterns and heads of definitions, read from left to right.
 //!
-//! The calls here are those that `fut_expressions` and `fut_parser` stand on. `specs/Reading.antt` and
-//! `specs/Phrases.antt` say what is read where; `proofs/SoundPhrases.antt` and `proofs/CompletePhrases.antt`, that it is
-//! just what the grammar derives, for all productions.
+//! The calls here are those that the readers of expressions and declarations stand on. Each gives what the reading of
+//! `fut_grammar` gives there, as a tree in the arena, and the tokens behind it.
 #![tactic(auto)]
 
-pub mod behind;
-pub mod fault;
+pub mod found;
 pub mod heads;
-pub mod keeping;
+pub mod lists;
 pub mod params;
 pub mod pat_nodes;
 pub mod patterns;

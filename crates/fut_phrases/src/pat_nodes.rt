@@ -1,88 +1,82 @@
 // The nodes of patterns.
-ghost use Rattle.std.specs.Prelude.{◌≡◌, IfOk, [], ◌∷◌};
+ghost use Rattle.std.specs.Prelude.{◌≡◌, IfOk};
 ghost use Rattle.fut_ast.specs.Nodes.{bound, pat_at, round_pat_of};
-ghost use Rattle.fut_ast.specs.declared.pat.PatForm.TheVariants.{Ascribe, Record, Tuple};
+ghost use Rattle.fut_ast.specs.declared.pat.PatForm.TheVariants as form;
+ghost use Rattle.fut_ast.specs.declared.pat.PatForm.TheVariants.{Record};
+ghost use Rattle.fut_tree.specs.Names.{all};
+ghost use Rattle.fut_tree.specs.Pats.{pat_fields};
 
-use crate::patterns::SourcePat;
-use crate::types::SourceType;
-use fut_ast::{Pat, PatForm, Spot};
-use fut_scalar::{Boxed, List, Name, NoMemory};
-use std::alloc::Global;
+use bumpalo::Bump;
+use fut_scalar::{NoMemory, Place};
+use fut_tree::{Held, Pat, PatField, PatForm};
 
-pub fn name(at: Spot, name: Name) -> SourcePat
-    ensures { result ≡ bound at name }
+/// A pattern that the arena holds.
+pub fn held<'a>(bump: &'a Bump, pattern: Pat<'a>) -> Result<&'a Pat<'a>, NoMemory>
+    ensures { IfOk result (λ p. p.now ≡ pattern.entry) }
 {
-    Pat {
-        place: at.place,
-        start: at.start,
-        form: PatForm::Var(name),
+    match bump.try_alloc(pattern) {
+        Ok(made) => Ok(made),
+        Err(_) => Err(NoMemory),
     }
 }
 
-pub fn wild(at: Spot) -> SourcePat
-    ensures { result ≡ pat_at at PatForm.Wild }
+pub fn name<'a>(bump: &'a Bump, place: Place, name: &'a str) -> Result<&'a Pat<'a>, NoMemory>
+    ensures { IfOk result (λ p. p.now ≡ bound place name.now) }
 {
-    Pat {
-        place: at.place,
-        start: at.start,
-        form: PatForm::Wild,
-    }
+    held(
+        bump,
+        Pat {
+            place,
+            form: PatForm::Var(name),
+        },
+    )
 }
 
-pub fn unit(at: Spot) -> SourcePat
-    ensures { result ≡ pat_at at PatForm.Unit }
+pub fn unit<'a>(bump: &'a Bump, place: Place) -> Result<&'a Pat<'a>, NoMemory>
+    ensures { IfOk result (λ p. p.now ≡ pat_at place form.Unit) }
 {
-    Pat {
-        place: at.place,
-        start: at.start,
-        form: PatForm::Unit,
-    }
+    held(
+        bump,
+        Pat {
+            place,
+            form: PatForm::Unit,
+        },
+    )
 }
 
-pub fn record_of(at: Spot, fields: List<(Name, SourcePat)>) -> SourcePat
-    ensures { result ≡ pat_at at (Record fields) }
+pub fn record_of<'a>(
+    bump: &'a Bump,
+    place: Place,
+    fields: &'a [PatField<'a>],
+) -> Result<&'a Pat<'a>, NoMemory>
+    ensures { IfOk result (λ p. p.now ≡ pat_at place (Record (pat_fields fields.now))) }
 {
-    Pat {
-        place: at.place,
-        start: at.start,
-        form: PatForm::Record(fields),
-    }
-}
-
-pub fn ascribe(
-    alloc: Global,
-    at: Spot,
-    inner: SourcePat,
-    ty: SourceType,
-) -> Result<SourcePat, NoMemory>
-    ensures { IfOk result (λ p. p ≡ pat_at at (Ascribe inner ty)) }
-{
-    let inner = Boxed::new(alloc, inner)?;
-    Ok(Pat {
-        place: at.place,
-        start: at.start,
-        form: PatForm::Ascribe(inner, ty),
-    })
+    held(
+        bump,
+        Pat {
+            place,
+            form: PatForm::Record(fields),
+        },
+    )
 }
 
 /// Patterns in parentheses: one alone is that pattern.
-pub fn round(at: Spot, patterns: List<SourcePat>) -> SourcePat
-    ensures { result ≡ round_pat_of at patterns }
+pub fn round<'a>(
+    bump: &'a Bump,
+    place: Place,
+    patterns: &'a [Held<'a, Pat<'a>>],
+) -> Result<&'a Pat<'a>, NoMemory>
+    ensures { IfOk result (λ p. p.now ≡ round_pat_of place (all patterns.now)) }
 {
-    let count = patterns.len();
-    if count == 1 {
-        let mut all = patterns.into_vec();
-        match all.pop() {
-            Some(only) => only,
-            None => unit(at),
-        }
-    } else if count == 0 {
-        unit(at)
-    } else {
-        Pat {
-            place: at.place,
-            start: at.start,
-            form: PatForm::Tuple(patterns),
-        }
+    match patterns {
+        [] => unit(bump, place),
+        [only] => Ok(only.at),
+        [_, _, ..] => held(
+            bump,
+            Pat {
+                place,
+                form: PatForm::Tuple(patterns),
+            },
+        ),
     }
 }

@@ -5,44 +5,45 @@ ghost use Rattle.fut_ast.specs.Rows.{of_pat, pat_type};
 ghost use Rattle.fut_ast.specs.Sorts.{Atomic_pat, Pat_field, Whole_pat};
 ghost use Rattle.fut_ast.specs.Tokens.{starts};
 ghost use Rattle.fut_phrases.specs.Handed.{Law};
-ghost use Rattle.fut_phrases.specs.Phrases.{atomic_pat_at, items, once_at, pat_field_at, phrases, read_at, whole_pat_at};
-ghost use Rattle.fut_phrases.specs.Reading.{Gives, commas_at, row_at};
+ghost use Rattle.fut_grammar.specs.Phrases.{atomic_pat_at, items, once_at, pat_field_at, phrases, read_at, whole_pat_at};
+ghost use Rattle.fut_grammar.specs.Reading.{Gives, commas_at, row_at};
+ghost use Rattle.fut_phrases.specs.Found.{found_as, list_found, tree_found};
+ghost use Rattle.fut_tree.specs.Pats.{pat_fields};
 
-use crate::behind::{both, ended, low_enough};
-use crate::fault::{Fault, Stop};
+use crate::found::Found;
+use crate::lists::{ReadItem, commas};
 use crate::pat_nodes as node;
 use crate::tokens::{
     begins_pattern, greater, next_spot, refused, rest_of, starts_with, starts_with_word, take,
     take_word,
 };
 use crate::types::whole_type;
-use fut_ast::{Pat, Spot};
-use fut_scalar::{List, Name};
+use bumpalo::Bump;
+use bumpalo::collections::into_bump_slice;
+use fut_ast::Spot;
+use fut_grammar::{Fault, Stop};
 use fut_token::{Fixed, Token};
-use std::alloc::Global;
-
-/// A pattern of a source text.
-pub type SourcePat = Pat<List<Name>, Name>;
+use fut_tree::{Held, Pat, PatField, PatForm};
 
 /// What is read as a pattern, its height, and the tokens behind it.
-pub type PatAnswer<'t> = Result<(SourcePat, u32, &'t [Token]), Stop>;
+pub type PatAnswer<'a> = Result<Found<'a, &'a Pat<'a>>, Stop>;
 
 /// What reads the patterns in a production.
-pub trait ReadPat: Copy {
+pub trait ReadPat<'a>: Copy {
     /// It reads them up to a height.
     ghost reads: { Self → ℕ → Type 0 };
 
     /// A pattern.
-    fn whole(self, inner: u32, tokens: &[Token]) -> PatAnswer<'_>
+    fn whole(self, inner: u32, tokens: &'a [Token]) -> PatAnswer<'a>
         requires law { reads self inner }
-        ensures exact { Gives (λ x. (x.0, x.1, x.2.now)) result (read_at inner Whole_pat tokens.now) }
-        ensures low { IfOk result (λ x. x.1 ≤ inner) };
+        ensures exact { Gives tree_found result (read_at inner Whole_pat tokens.now) }
+        ensures low { IfOk result (λ x. x.height ≤ inner) };
 }
 
-impl<F: for<'t> Fn(&'t [Token]) -> PatAnswer<'t>> ReadPat for &F {
+impl<'a, F: Fn(&'a [Token]) -> PatAnswer<'a>> ReadPat<'a> for &F {
     ghost reads = { λ f d. F.IsAlwaysCallable f.now × Law Whole_pat (F.post f.now) d };
 
-    fn whole(self, inner: u32, tokens: &[Token]) -> PatAnswer<'_> {
+    fn whole(self, inner: u32, tokens: &'a [Token]) -> PatAnswer<'a> {
         let _inner = inner;
         self(tokens)
     }
@@ -50,59 +51,51 @@ impl<F: for<'t> Fn(&'t [Token]) -> PatAnswer<'t>> ReadPat for &F {
 
 /// A pattern of a height up to the depth.
 #[cycle(patterns)]
-pub fn whole_pattern(
-    alloc: Global,
-    depth: u32,
-    tokens: &[Token],
-) -> Result<(SourcePat, u32, &[Token]), Stop>
+pub fn whole_pattern<'a>(bump: &'a Bump, depth: u32, tokens: &'a [Token]) -> PatAnswer<'a>
     requires { depth ≤ 1000 }
-    ensures exact { Gives (λ x. (x.0, x.1, x.2.now)) result (read_at depth Whole_pat tokens.now) }
-    ensures low { IfOk result (λ x. x.1 ≤ depth) }
+    ensures exact { Gives tree_found result (read_at depth Whole_pat tokens.now) }
+    ensures low { IfOk result (λ x. x.height ≤ depth) }
 {
     if depth == 0 {
         return Err(Stop::Fault(nothing_below(tokens)));
     }
     let inner = depth - 1;
     whole_node(
-        alloc,
-        &|behind: &[Token]| -> Result<(SourcePat, u32, &[Token]), Stop>
+        bump,
+        &|behind: &[Token]| -> PatAnswer<'_>
             requires { inner ≤ 1000 }
-            ensures exact { Gives (λ x. (x.0, x.1, x.2.now)) result (read_at inner Whole_pat behind.now) }
-            ensures low { IfOk result (λ x. x.1 ≤ inner) }
-        { whole_pattern(alloc, inner, behind) },
+            ensures exact { Gives tree_found result (read_at inner Whole_pat behind.now) }
+            ensures low { IfOk result (λ x. x.height ≤ inner) }
+        { whole_pattern(bump, inner, behind) },
         inner,
         tokens,
     )
 }
 
 /// A pattern without a type at its top.
-pub fn atomic_pattern(
-    alloc: Global,
-    depth: u32,
-    tokens: &[Token],
-) -> Result<(SourcePat, u32, &[Token]), Stop>
+pub fn atomic_pattern<'a>(bump: &'a Bump, depth: u32, tokens: &'a [Token]) -> PatAnswer<'a>
     requires { depth ≤ 1000 }
-    ensures exact { Gives (λ x. (x.0, x.1, x.2.now)) result (read_at depth Atomic_pat tokens.now) }
-    ensures low { IfOk result (λ x. x.1 ≤ depth) }
+    ensures exact { Gives tree_found result (read_at depth Atomic_pat tokens.now) }
+    ensures low { IfOk result (λ x. x.height ≤ depth) }
 {
     if depth == 0 {
         return Err(Stop::Fault(nothing_below(tokens)));
     }
     let inner = depth - 1;
     atomic_node(
-        alloc,
-        &|behind: &[Token]| -> Result<(SourcePat, u32, &[Token]), Stop>
+        bump,
+        &|behind: &[Token]| -> PatAnswer<'_>
             requires { inner ≤ 1000 }
-            ensures exact { Gives (λ x. (x.0, x.1, x.2.now)) result (read_at inner Whole_pat behind.now) }
-            ensures low { IfOk result (λ x. x.1 ≤ inner) }
-        { whole_pattern(alloc, inner, behind) },
+            ensures exact { Gives tree_found result (read_at inner Whole_pat behind.now) }
+            ensures low { IfOk result (λ x. x.height ≤ inner) }
+        { whole_pattern(bump, inner, behind) },
         inner,
         tokens,
     )
 }
 
 // Where nothing may stand below, a token that begins a pattern is too deep.
-#[tactic(auto, unfolding(crate::specs::Phrases::read_at, crate::specs::Reading::refuse_sort))]
+#[tactic(auto, unfolding(fut_grammar::specs::Phrases::read_at, fut_grammar::specs::Reading::refuse_sort))]
 fn nothing_below(tokens: &[Token]) -> Fault
     ensures whole { read_at 0 Whole_pat tokens.now ≡ Err result }
     ensures atomic { read_at 0 Atomic_pat tokens.now ≡ Err result }
@@ -114,311 +107,342 @@ fn nothing_below(tokens: &[Token]) -> Fault
     }
 }
 
-#[tactic(auto, unfolding(crate::specs::Phrases::read_at, crate::specs::Phrases::bounded, crate::specs::Phrases::ended, crate::specs::Phrases::step, crate::specs::Reading::refuse_sort))]
-fn whole_node<'t, F: for<'a> Fn(&'a [Token]) -> PatAnswer<'a>>(
-    alloc: Global,
+#[tactic(auto, unfolding(fut_grammar::specs::Phrases::read_at, fut_grammar::specs::Phrases::bounded, fut_grammar::specs::Phrases::ended, fut_grammar::specs::Phrases::step, fut_grammar::specs::Reading::refuse_sort))]
+fn whole_node<'a, F: Fn(&'a [Token]) -> PatAnswer<'a>>(
+    bump: &'a Bump,
     read: &F,
     inner: u32,
-    tokens: &'t [Token],
-) -> PatAnswer<'t>
+    tokens: &'a [Token],
+) -> PatAnswer<'a>
     requires callable { F.IsAlwaysCallable read.now }
     requires law { Law Whole_pat (F.post read.now) inner }
     requires room { inner < 1000 }
-    ensures exact { Gives (λ x. (x.0, x.1, x.2.now)) result (read_at (suc inner) Whole_pat tokens.now) }
-    ensures low { IfOk result (λ x. x.1 ≤ inner + 1) }
+    ensures exact { Gives tree_found result (read_at (suc inner) Whole_pat tokens.now) }
+    ensures low { IfOk result (λ x. x.height ≤ inner + 1) }
 {
     if !begins_pattern(tokens) {
         return Err(Stop::Fault(refused(tokens)));
     }
-    let (tree, height, rest) = whole_below(alloc, read, inner, tokens)?;
-    ended(tree, height, rest, starts_with(rest, Fixed::Colon))
+    let found = whole_below(bump, read, inner, tokens)?;
+    if starts_with(found.rest, Fixed::Colon) {
+        return Err(Stop::Fault(refused(found.rest)));
+    }
+    Ok(found)
 }
 
-#[tactic(auto, unfolding(crate::specs::Phrases::read_at, crate::specs::Phrases::bounded, crate::specs::Phrases::ended, crate::specs::Phrases::step, crate::specs::Reading::refuse_sort))]
-fn atomic_node<'t, F: for<'a> Fn(&'a [Token]) -> PatAnswer<'a>>(
-    alloc: Global,
+#[tactic(auto, unfolding(fut_grammar::specs::Phrases::read_at, fut_grammar::specs::Phrases::bounded, fut_grammar::specs::Phrases::ended, fut_grammar::specs::Phrases::step, fut_grammar::specs::Reading::refuse_sort))]
+fn atomic_node<'a, F: Fn(&'a [Token]) -> PatAnswer<'a>>(
+    bump: &'a Bump,
     read: &F,
     inner: u32,
-    tokens: &'t [Token],
-) -> PatAnswer<'t>
+    tokens: &'a [Token],
+) -> PatAnswer<'a>
     requires callable { F.IsAlwaysCallable read.now }
     requires law { Law Whole_pat (F.post read.now) inner }
     requires room { inner < 1000 }
-    ensures exact { Gives (λ x. (x.0, x.1, x.2.now)) result (read_at (suc inner) Atomic_pat tokens.now) }
-    ensures low { IfOk result (λ x. x.1 ≤ inner + 1) }
+    ensures exact { Gives tree_found result (read_at (suc inner) Atomic_pat tokens.now) }
+    ensures low { IfOk result (λ x. x.height ≤ inner + 1) }
 {
     if !begins_pattern(tokens) {
         return Err(Stop::Fault(refused(tokens)));
     }
-    let (tree, height, rest) = atomic_below(alloc, read, inner, tokens)?;
-    Ok((tree, height, rest))
+    atomic_below(bump, read, inner, tokens)
 }
 
-#[tactic(auto, unfolding(crate::specs::Phrases::whole_pat_at))]
-fn whole_below<R: ReadPat>(
-    alloc: Global,
+#[tactic(auto, unfolding(fut_grammar::specs::Phrases::whole_pat_at))]
+fn whole_below<'a, R: ReadPat<'a>>(
+    bump: &'a Bump,
     read: R,
     inner: u32,
-    tokens: &[Token],
-) -> Result<(SourcePat, u32, &[Token]), Stop>
+    tokens: &'a [Token],
+) -> PatAnswer<'a>
     requires law { R.reads read inner }
     requires room { inner < 1000 }
-    ensures exact { Gives (λ x. (x.0, x.1, x.2.now)) result (whole_pat_at (phrases (read_at inner)) (suc inner) tokens.now) }
-    ensures low { IfOk result (λ x. x.1 ≤ inner + 1) }
+    ensures exact { Gives tree_found result (whole_pat_at (phrases (read_at inner)) (suc inner) tokens.now) }
+    ensures low { IfOk result (λ x. x.height ≤ inner + 1) }
 {
-    let (pattern, height, rest) = atomic_below(alloc, read, inner, tokens)?;
-    type_behind(alloc, inner, next_spot(tokens), pattern, height, rest)
+    let pattern = atomic_below(bump, read, inner, tokens)?;
+    type_behind(bump, inner, next_spot(tokens), pattern)
 }
 
-#[tactic(auto, unfolding(crate::specs::Phrases::atomic_pat_at))]
-fn atomic_below<R: ReadPat>(
-    alloc: Global,
+#[tactic(auto, unfolding(fut_grammar::specs::Phrases::atomic_pat_at))]
+fn atomic_below<'a, R: ReadPat<'a>>(
+    bump: &'a Bump,
     read: R,
     inner: u32,
-    tokens: &[Token],
-) -> Result<(SourcePat, u32, &[Token]), Stop>
+    tokens: &'a [Token],
+) -> PatAnswer<'a>
     requires law { R.reads read inner }
     requires room { inner < 1000 }
-    ensures exact { Gives (λ x. (x.0, x.1, x.2.now)) result (atomic_pat_at (phrases (read_at inner)) (suc inner) tokens.now) }
-    ensures low { IfOk result (λ x. x.1 ≤ inner + 1) }
+    ensures exact { Gives tree_found result (atomic_pat_at (phrases (read_at inner)) (suc inner) tokens.now) }
+    ensures low { IfOk result (λ x. x.height ≤ inner + 1) }
 {
     let inside = rest_of(tokens);
     if starts_with_word(tokens) {
-        name(alloc, tokens)
+        name(bump, tokens)
     } else if starts_with(tokens, Fixed::Wildcard) {
-        wildcard(tokens)
+        wildcard(bump, tokens)
     } else if starts_with(tokens, Fixed::OpenParen) {
         if starts_with(inside, Fixed::CloseParen) {
-            unit(tokens)
+            unit(bump, tokens)
         } else {
-            round(alloc, read, inner, tokens)
+            round(bump, read, inner, tokens)
         }
     } else if starts_with(inside, Fixed::CloseBrace) {
-        no_fields(alloc, tokens)
+        no_fields(bump, tokens)
     } else {
-        fields(alloc, read, inner, tokens)
+        fields(bump, read, inner, tokens)
     }
 }
 
-#[tactic(auto, unfolding(crate::specs::Reading::row_at, crate::specs::Reading::parts_at, crate::specs::Reading::has_at, crate::specs::Reading::sub_at, crate::specs::Phrases::phrases))]
-fn round<R: ReadPat>(
-    alloc: Global,
+#[tactic(auto, unfolding(fut_grammar::specs::Reading::row_at, fut_grammar::specs::Reading::parts_at, fut_grammar::specs::Reading::has_at, fut_grammar::specs::Reading::sub_at, fut_grammar::specs::Phrases::phrases))]
+fn round<'a, R: ReadPat<'a>>(
+    bump: &'a Bump,
     read: R,
     inner: u32,
-    tokens: &[Token],
-) -> Result<(SourcePat, u32, &[Token]), Stop>
+    tokens: &'a [Token],
+) -> PatAnswer<'a>
     requires law { R.reads read inner }
     requires room { inner < 1000 }
-    ensures exact { Gives (λ x. (x.0, x.1, x.2.now)) result (row_at (phrases (read_at inner)) (of_pat round_pat) tokens.now) }
-    ensures low { IfOk result (λ x. x.1 ≤ inner + 1) }
+    ensures exact { Gives tree_found result (row_at (phrases (read_at inner)) (of_pat round_pat) tokens.now) }
+    ensures low { IfOk result (λ x. x.height ≤ inner + 1) }
 {
-    let at = next_spot(tokens);
+    let place = next_spot(tokens).place;
     let rest = take(tokens, Fixed::OpenParen)?;
-    let (all, height, rest) = patterns(alloc, read, inner, rest)?;
-    let (all, rest) = both(all, take(rest, Fixed::CloseParen))?;
-    Ok((node::round(at, all), height + 1, rest))
+    let found = commas(bump, read, inner, rest)?;
+    let rest = take(found.rest, Fixed::CloseParen)?;
+    Ok(Found {
+        tree: node::round(bump, place, found.tree)?,
+        height: found.height + 1,
+        rest,
+    })
 }
 
-#[tactic(auto, unfolding(crate::specs::Reading::row_at, crate::specs::Reading::parts_at, crate::specs::Reading::has_at, crate::specs::Reading::sub_at, crate::specs::Phrases::phrases))]
-fn fields<R: ReadPat>(
-    alloc: Global,
+#[tactic(auto, unfolding(fut_grammar::specs::Reading::row_at, fut_grammar::specs::Reading::parts_at, fut_grammar::specs::Reading::has_at, fut_grammar::specs::Reading::sub_at, fut_grammar::specs::Phrases::phrases))]
+fn fields<'a, R: ReadPat<'a>>(
+    bump: &'a Bump,
     read: R,
     inner: u32,
-    tokens: &[Token],
-) -> Result<(SourcePat, u32, &[Token]), Stop>
+    tokens: &'a [Token],
+) -> PatAnswer<'a>
     requires law { R.reads read inner }
     requires room { inner < 1000 }
-    ensures exact { Gives (λ x. (x.0, x.1, x.2.now)) result (row_at (phrases (read_at inner)) (of_pat fields_pat) tokens.now) }
-    ensures low { IfOk result (λ x. x.1 ≤ inner + 1) }
+    ensures exact { Gives tree_found result (row_at (phrases (read_at inner)) (of_pat fields_pat) tokens.now) }
+    ensures low { IfOk result (λ x. x.height ≤ inner + 1) }
 {
-    let at = next_spot(tokens);
+    let place = next_spot(tokens).place;
     let rest = take(tokens, Fixed::OpenBrace)?;
-    let (all, height, rest) = field_list(alloc, read, inner, rest)?;
-    let (all, rest) = both(all, take(rest, Fixed::CloseBrace))?;
-    Ok((node::record_of(at, all), height + 1, rest))
+    let found = commas(bump, read, inner, rest)?;
+    let rest = take(found.rest, Fixed::CloseBrace)?;
+    Ok(Found {
+        tree: node::record_of(bump, place, found.tree)?,
+        height: found.height + 1,
+        rest,
+    })
 }
 
-fn patterns<R: ReadPat>(
-    alloc: Global,
-    read: R,
-    inner: u32,
-    tokens: &[Token],
-) -> Result<(List<SourcePat>, u32, &[Token]), Stop>
-    requires law { R.reads read inner }
-    requires room { inner < 1000 }
-    ensures exact { Gives (λ x. (x.0, x.1, x.2.now)) result (commas_at (phrases (read_at inner)) (length tokens.now) Whole_pat 0 tokens.now) }
-    ensures low { IfOk result (λ x. x.1 ≤ inner) }
-{
-    let mut all = List::new(alloc);
-    let mut height = 0;
-    let mut rest = tokens;
-    'items: for _turn in 0..tokens.len() {
-        let (item, item_height, after) = read.whole(inner, rest)?;
-        all.push(item)?;
-        height = greater(height, item_height);
-        if !starts_with(after, Fixed::Comma) {
-            return Ok((all, height, after));
+// ---- lists of patterns
+
+// Patterns in parentheses.
+impl<'a, R: ReadPat<'a>> ReadItem<'a, Held<'a, Pat<'a>>> for R {
+    ghost sort = { Whole_pat };
+
+    ghost seen = { λ p. p.at.now };
+
+    ghost reads = { λ s d. R.reads s d };
+
+    #[tactic(auto, unfolding(fut_grammar::specs::Phrases::phrases))]
+    fn item(
+        self,
+        bump: &'a Bump,
+        inner: u32,
+        tokens: &'a [Token],
+    ) -> Result<Found<'a, Held<'a, Pat<'a>>>, Stop> {
+        let _bump = bump;
+        let found = self.whole(inner, tokens)?;
+        Ok(Found {
+            tree: Held { at: found.tree },
+            height: found.height,
+            rest: found.rest,
+        })
+    }
+}
+
+// Fields of a record's pattern.
+impl<'a, R: ReadPat<'a>> ReadItem<'a, PatField<'a>> for R {
+    ghost sort = { Pat_field };
+
+    ghost seen = { λ f. (f.name.now, f.pat.now) };
+
+    ghost reads = { λ s d. R.reads s d × (d < 1000) };
+
+    #[tactic(auto, unfolding(fut_grammar::specs::Phrases::phrases, fut_grammar::specs::Phrases::bounded, fut_grammar::specs::Phrases::ended, fut_grammar::specs::Phrases::flat_at, fut_grammar::specs::Reading::refuse_sort))]
+    fn item(
+        self,
+        bump: &'a Bump,
+        inner: u32,
+        tokens: &'a [Token],
+    ) -> Result<Found<'a, PatField<'a>>, Stop> {
+        if !starts_with_word(tokens) {
+            return Err(Stop::Fault(refused(tokens)));
         }
-        rest = rest_of(after);
-    }
-    Err(Stop::Fault(refused(rest)))
-}
-
-fn field_list<R: ReadPat>(
-    alloc: Global,
-    read: R,
-    inner: u32,
-    tokens: &[Token],
-) -> Result<(List<(Name, SourcePat)>, u32, &[Token]), Stop>
-    requires law { R.reads read inner }
-    requires room { inner < 1000 }
-    ensures exact { Gives (λ x. (x.0, x.1, x.2.now)) result (commas_at (phrases (read_at inner)) (length tokens.now) Pat_field 0 tokens.now) }
-    ensures low { IfOk result (λ x. x.1 ≤ inner) }
-{
-    let mut all = List::new(alloc);
-    let mut height = 0;
-    let mut rest = tokens;
-    'items: for _turn in 0..tokens.len() {
-        let (item, item_height, after) = field(alloc, read, inner, rest)?;
-        all.push(item)?;
-        height = greater(height, item_height);
-        if !starts_with(after, Fixed::Comma) {
-            return Ok((all, height, after));
+        let found = any_field(bump, self, inner, tokens)?;
+        if starts_with(found.rest, Fixed::Equal) {
+            return Err(Stop::Fault(refused(found.rest)));
         }
-        rest = rest_of(after);
+        Ok(found)
     }
-    Err(Stop::Fault(refused(rest)))
 }
 
-#[tactic(auto, unfolding(crate::specs::Phrases::phrases, crate::specs::Phrases::bounded, crate::specs::Phrases::ended, crate::specs::Phrases::flat_at, crate::specs::Reading::refuse_sort))]
-fn field<R: ReadPat>(
-    alloc: Global,
+#[tactic(auto, unfolding(fut_grammar::specs::Phrases::pat_field_at))]
+fn any_field<'a, R: ReadPat<'a>>(
+    bump: &'a Bump,
     read: R,
     inner: u32,
-    tokens: &[Token],
-) -> Result<((Name, SourcePat), u32, &[Token]), Stop>
+    tokens: &'a [Token],
+) -> Result<Found<'a, PatField<'a>>, Stop>
     requires law { R.reads read inner }
     requires room { inner < 1000 }
-    ensures exact { Gives (λ x. (x.0, x.1, x.2.now)) result (phrases (read_at inner) Pat_field tokens.now) }
-    ensures low { IfOk result (λ x. x.1 ≤ inner) }
-{
-    if !starts_with_word(tokens) {
-        return Err(Stop::Fault(refused(tokens)));
-    }
-    let (field, height, rest) = any_field(alloc, read, inner, tokens)?;
-    ended(field, height, rest, starts_with(rest, Fixed::Equal))
-}
-
-#[tactic(auto, unfolding(crate::specs::Phrases::pat_field_at))]
-fn any_field<R: ReadPat>(
-    alloc: Global,
-    read: R,
-    inner: u32,
-    tokens: &[Token],
-) -> Result<((Name, SourcePat), u32, &[Token]), Stop>
-    requires law { R.reads read inner }
-    requires room { inner < 1000 }
-    ensures exact { Gives (λ x. (x.0, x.1, x.2.now)) result (pat_field_at (items (read_at inner)) tokens.now) }
-    ensures low { IfOk result (λ x. x.1 ≤ inner) }
+    ensures exact { Gives (found_as (λ f. (f.name.now, f.pat.now))) result (pat_field_at (items (read_at inner)) tokens.now) }
+    ensures low { IfOk result (λ x. x.height ≤ inner) }
 {
     if starts_with(rest_of(tokens), Fixed::Equal) {
-        set_field(alloc, read, inner, tokens)
+        set_field(read, inner, tokens)
     } else {
-        short_field(alloc, tokens)
+        short_field(bump, tokens)
     }
 }
 
-#[tactic(auto, unfolding(crate::specs::Reading::row_at, crate::specs::Reading::parts_at, crate::specs::Reading::has_at, crate::specs::Reading::sub_at, crate::specs::Phrases::items))]
-fn set_field<R: ReadPat>(
-    alloc: Global,
+#[tactic(auto, unfolding(fut_grammar::specs::Reading::row_at, fut_grammar::specs::Reading::parts_at, fut_grammar::specs::Reading::has_at, fut_grammar::specs::Reading::sub_at, fut_grammar::specs::Phrases::items))]
+fn set_field<'a, R: ReadPat<'a>>(
     read: R,
     inner: u32,
-    tokens: &[Token],
-) -> Result<((Name, SourcePat), u32, &[Token]), Stop>
+    tokens: &'a [Token],
+) -> Result<Found<'a, PatField<'a>>, Stop>
     requires law { R.reads read inner }
     requires room { inner < 1000 }
-    ensures exact { Gives (λ x. (x.0, x.1, x.2.now)) result (row_at (items (read_at inner)) (of_pat set_field) tokens.now) }
-    ensures low { IfOk result (λ x. x.1 ≤ inner) }
+    ensures exact { Gives (found_as (λ f. (f.name.now, f.pat.now))) result (row_at (items (read_at inner)) (of_pat set_field) tokens.now) }
+    ensures low { IfOk result (λ x. x.height ≤ inner) }
 {
-    let (name, rest) = take_word(alloc, tokens)?;
-    let (name, rest) = both(name, take(rest, Fixed::Equal))?;
-    let (name, (pattern, height, rest)) = both(name, read.whole(inner, rest))?;
-    Ok(((name, pattern), height, rest))
+    let (name, rest) = take_word(tokens)?;
+    let rest = take(rest, Fixed::Equal)?;
+    let found = read.whole(inner, rest)?;
+    Ok(Found {
+        tree: PatField {
+            name,
+            pat: found.tree,
+        },
+        height: found.height,
+        rest: found.rest,
+    })
 }
 
 // ---- what has no patterns in it
 
-#[tactic(auto, unfolding(crate::specs::Phrases::once_at, crate::specs::Reading::expect, crate::specs::Reading::suffix_at, crate::specs::Reading::parts_at, crate::specs::Reading::has_at, crate::specs::Reading::sub_at, crate::specs::Phrases::phrases))]
-fn type_behind(
-    alloc: Global,
+#[tactic(auto, unfolding(fut_grammar::specs::Phrases::once_at, fut_grammar::specs::Reading::expect, fut_grammar::specs::Reading::suffix_at, fut_grammar::specs::Reading::parts_at, fut_grammar::specs::Reading::has_at, fut_grammar::specs::Reading::sub_at, fut_grammar::specs::Phrases::phrases))]
+fn type_behind<'a>(
+    bump: &'a Bump,
     inner: u32,
     at: Spot,
-    pattern: SourcePat,
-    pattern_height: u32,
-    tokens: &[Token],
-) -> Result<(SourcePat, u32, &[Token]), Stop>
-    requires { (inner < 1000) × (pattern_height ≤ inner + 1) }
-    ensures exact { Gives (λ x. (x.0, x.1, x.2.now)) result (once_at (phrases (read_at inner)) (suc inner) (starts Fixed.Colon) pat_type at (λ p. p) pattern pattern_height tokens.now) }
-    ensures low { IfOk result (λ x. x.1 ≤ inner + 1) }
+    pattern: Found<'a, &'a Pat<'a>>,
+) -> PatAnswer<'a>
+    requires { (inner < 1000) × (pattern.height ≤ inner + 1) }
+    ensures exact { Gives tree_found result (once_at (phrases (read_at inner)) (suc inner) (starts Fixed.Colon) pat_type at (λ p. p) pattern.entry.tree.now pattern.entry.height pattern.entry.rest.now) }
+    ensures low { IfOk result (λ x. x.height ≤ inner + 1) }
 {
-    if !starts_with(tokens, Fixed::Colon) {
-        return Ok((pattern, pattern_height, tokens));
+    if !starts_with(pattern.rest, Fixed::Colon) {
+        return Ok(pattern);
     }
-    let pattern = low_enough(pattern, pattern_height, inner, tokens)?;
-    let (pattern, (ty, height, rest)) = both(pattern, whole_type(alloc, inner, rest_of(tokens)))?;
-    let tree = node::ascribe(alloc, at, pattern, ty)?;
-    Ok((tree, greater(pattern_height, height) + 1, rest))
+    if pattern.height > inner {
+        return Err(Stop::Fault(Fault::TooDeep(pattern.rest.len())));
+    }
+    let ty = whole_type(bump, inner, rest_of(pattern.rest))?;
+    let form = PatForm::Ascribe(pattern.tree, ty.tree);
+    Ok(Found {
+        tree: node::held(
+            bump,
+            Pat {
+                place: at.place,
+                form,
+            },
+        )?,
+        height: greater(pattern.height, ty.height) + 1,
+        rest: ty.rest,
+    })
 }
 
-#[tactic(auto, unfolding(crate::specs::Reading::row_at, crate::specs::Reading::parts_at, crate::specs::Reading::has_at))]
-fn name(alloc: Global, tokens: &[Token]) -> Result<(SourcePat, u32, &[Token]), Stop>
-    ensures exact { (inner : ℕ) → Gives (λ x. (x.0, x.1, x.2.now)) result (row_at (phrases (read_at inner)) (of_pat pat_name) tokens.now) }
-    ensures low { IfOk result (λ x. x.1 ≡ 1) }
+#[tactic(auto, unfolding(fut_grammar::specs::Reading::row_at, fut_grammar::specs::Reading::parts_at, fut_grammar::specs::Reading::has_at))]
+fn name<'a>(bump: &'a Bump, tokens: &'a [Token]) -> PatAnswer<'a>
+    ensures exact { (inner : ℕ) → Gives tree_found result (row_at (phrases (read_at inner)) (of_pat pat_name) tokens.now) }
+    ensures low { IfOk result (λ x. x.height ≡ 1) }
 {
-    let at = next_spot(tokens);
-    let (name, rest) = take_word(alloc, tokens)?;
-    Ok((node::name(at, name), 1, rest))
+    let place = next_spot(tokens).place;
+    let (name, rest) = take_word(tokens)?;
+    Ok(Found {
+        tree: node::name(bump, place, name)?,
+        height: 1,
+        rest,
+    })
 }
 
-#[tactic(auto, unfolding(crate::specs::Reading::row_at, crate::specs::Reading::parts_at, crate::specs::Reading::has_at))]
-fn wildcard(tokens: &[Token]) -> Result<(SourcePat, u32, &[Token]), Stop>
-    ensures exact { (inner : ℕ) → Gives (λ x. (x.0, x.1, x.2.now)) result (row_at (phrases (read_at inner)) (of_pat wild) tokens.now) }
-    ensures low { IfOk result (λ x. x.1 ≡ 1) }
+#[tactic(auto, unfolding(fut_grammar::specs::Reading::row_at, fut_grammar::specs::Reading::parts_at, fut_grammar::specs::Reading::has_at))]
+fn wildcard<'a>(bump: &'a Bump, tokens: &'a [Token]) -> PatAnswer<'a>
+    ensures exact { (inner : ℕ) → Gives tree_found result (row_at (phrases (read_at inner)) (of_pat wild) tokens.now) }
+    ensures low { IfOk result (λ x. x.height ≡ 1) }
 {
-    let at = next_spot(tokens);
+    let place = next_spot(tokens).place;
     let rest = take(tokens, Fixed::Wildcard)?;
-    Ok((node::wild(at), 1, rest))
+    let form = PatForm::Wild;
+    Ok(Found {
+        tree: node::held(bump, Pat { place, form })?,
+        height: 1,
+        rest,
+    })
 }
 
-#[tactic(auto, unfolding(crate::specs::Reading::row_at, crate::specs::Reading::parts_at, crate::specs::Reading::has_at))]
-fn unit(tokens: &[Token]) -> Result<(SourcePat, u32, &[Token]), Stop>
-    ensures exact { (inner : ℕ) → Gives (λ x. (x.0, x.1, x.2.now)) result (row_at (phrases (read_at inner)) (of_pat unit_pat) tokens.now) }
-    ensures low { IfOk result (λ x. x.1 ≡ 1) }
+#[tactic(auto, unfolding(fut_grammar::specs::Reading::row_at, fut_grammar::specs::Reading::parts_at, fut_grammar::specs::Reading::has_at))]
+fn unit<'a>(bump: &'a Bump, tokens: &'a [Token]) -> PatAnswer<'a>
+    ensures exact { (inner : ℕ) → Gives tree_found result (row_at (phrases (read_at inner)) (of_pat unit_pat) tokens.now) }
+    ensures low { IfOk result (λ x. x.height ≡ 1) }
 {
-    let at = next_spot(tokens);
+    let place = next_spot(tokens).place;
     let rest = take(tokens, Fixed::OpenParen)?;
     let rest = take(rest, Fixed::CloseParen)?;
-    Ok((node::unit(at), 1, rest))
+    Ok(Found {
+        tree: node::unit(bump, place)?,
+        height: 1,
+        rest,
+    })
 }
 
-#[tactic(auto, unfolding(crate::specs::Reading::row_at, crate::specs::Reading::parts_at, crate::specs::Reading::has_at))]
-fn no_fields(alloc: Global, tokens: &[Token]) -> Result<(SourcePat, u32, &[Token]), Stop>
-    ensures exact { (inner : ℕ) → Gives (λ x. (x.0, x.1, x.2.now)) result (row_at (phrases (read_at inner)) (of_pat no_fields_pat) tokens.now) }
-    ensures low { IfOk result (λ x. x.1 ≡ 1) }
+#[tactic(auto, unfolding(fut_grammar::specs::Reading::row_at, fut_grammar::specs::Reading::parts_at, fut_grammar::specs::Reading::has_at))]
+fn no_fields<'a>(bump: &'a Bump, tokens: &'a [Token]) -> PatAnswer<'a>
+    ensures exact { (inner : ℕ) → Gives tree_found result (row_at (phrases (read_at inner)) (of_pat no_fields_pat) tokens.now) }
+    ensures low { IfOk result (λ x. x.height ≡ 1) }
 {
-    let at = next_spot(tokens);
+    let place = next_spot(tokens).place;
     let rest = take(tokens, Fixed::OpenBrace)?;
     let rest = take(rest, Fixed::CloseBrace)?;
-    Ok((node::record_of(at, List::new(alloc)), 1, rest))
+    Ok(Found {
+        tree: node::record_of(bump, place, &[])?,
+        height: 1,
+        rest,
+    })
 }
 
-#[tactic(auto, unfolding(crate::specs::Reading::row_at, crate::specs::Reading::parts_at, crate::specs::Reading::has_at))]
-fn short_field(alloc: Global, tokens: &[Token]) -> Result<((Name, SourcePat), u32, &[Token]), Stop>
-    ensures exact { (inner : ℕ) → Gives (λ x. (x.0, x.1, x.2.now)) result (row_at (items (read_at inner)) (of_pat short_field) tokens.now) }
-    ensures low { IfOk result (λ x. x.1 ≡ 0) }
+#[tactic(auto, unfolding(fut_grammar::specs::Reading::row_at, fut_grammar::specs::Reading::parts_at, fut_grammar::specs::Reading::has_at))]
+fn short_field<'a>(bump: &'a Bump, tokens: &'a [Token]) -> Result<Found<'a, PatField<'a>>, Stop>
+    ensures exact { (inner : ℕ) → Gives (found_as (λ f. (f.name.now, f.pat.now))) result (row_at (items (read_at inner)) (of_pat short_field) tokens.now) }
+    ensures low { IfOk result (λ x. x.height ≡ 0) }
 {
-    let at = next_spot(tokens);
-    let (name, rest) = take_word(alloc, tokens)?;
-    let field = name.copy(alloc)?;
-    Ok(((field, node::name(at, name)), 0, rest))
+    let place = next_spot(tokens).place;
+    let (name, rest) = take_word(tokens)?;
+    Ok(Found {
+        tree: PatField {
+            name,
+            pat: node::name(bump, place, name)?,
+        },
+        height: 0,
+        rest,
+    })
 }

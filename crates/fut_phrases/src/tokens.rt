@@ -17,13 +17,18 @@ ghost use Rattle.fut_ast.specs.Tokens.{
   starts,
   tail,
 };
-ghost use Rattle.fut_phrases.specs.Reading.{Fails, Gives, closed_size, expect, look_at, names_at, number_at, path_at, refuse, refuse_as, refuse_sort, size_at, size_left_out, text_at, variable_at, word_at};
+ghost use Rattle.fut_grammar.specs.Reading.{Fails, Gives, closed_size, expect, look_at, names_at, number_at, path_at, refuse, refuse_as, refuse_sort, size_at, size_left_out, text_at, variable_at, word_at};
+ghost use Rattle.fut_tree.specs.Names.{names};
+ghost use Rattle.fut_tree.specs.Pats.{head_of};
+ghost use Rattle.fut_tree.specs.Types.{maybe_size_of, size_of};
 
-use crate::fault::{Fault, Stop};
-use fut_ast::{Head, HeadForm, SizeExp, SizeForm, Spot, What};
-use fut_scalar::{IntType, List, Name, Place};
+use bumpalo::Bump;
+use bumpalo::collections::into_bump_slice;
+use fut_ast::{Spot, What};
+use fut_grammar::{Fault, Stop};
+use fut_scalar::{IntType, Place};
 use fut_token::{Fixed, Lift, Token, TokenKind};
-use std::alloc::Global;
+use fut_tree::{Head, HeadForm, SizeExp, SizeForm};
 
 fn is_kind(kind: &TokenKind, fixed: Fixed) -> bool
     ensures { result ≡ kind_is_fixed fixed kind.now }
@@ -130,7 +135,7 @@ fn starts_with_sum(tokens: &[Token]) -> bool
 }
 
 // The fault where nothing goes on with the next token: a form that is left out everywhere, else the other fault.
-#[tactic(auto, unfolding(crate::specs::Reading::refuse_as))]
+#[tactic(auto, unfolding(fut_grammar::specs::Reading::refuse_as))]
 fn refused_as(other: Fault, tokens: &[Token]) -> Fault
     ensures { result ≡ refuse_as other tokens.now }
 {
@@ -147,7 +152,7 @@ fn refused_as(other: Fault, tokens: &[Token]) -> Fault
 }
 
 /// The fault where nothing goes on with the next token.
-#[tactic(auto, unfolding(crate::specs::Reading::refuse))]
+#[tactic(auto, unfolding(fut_grammar::specs::Reading::refuse))]
 pub fn refused(tokens: &[Token]) -> Fault
     ensures { result ≡ refuse tokens.now }
 {
@@ -199,7 +204,7 @@ pub fn without_form(what: What, tokens: &[Token]) -> Result<(), Stop>
 }
 
 /// The tokens behind this keyword or symbol.
-#[tactic(auto, unfolding(crate::specs::Reading::expect))]
+#[tactic(auto, unfolding(fut_grammar::specs::Reading::expect))]
 pub fn take(tokens: &[Token], fixed: Fixed) -> Result<&[Token], Stop>
     ensures { Gives (λ x. x.now) result (expect fixed tokens.now) }
 {
@@ -211,13 +216,13 @@ pub fn take(tokens: &[Token], fixed: Fixed) -> Result<&[Token], Stop>
 }
 
 /// A name and the tokens behind it.
-#[tactic(auto, unfolding(crate::specs::Reading::word_at))]
-pub fn take_word(alloc: Global, tokens: &[Token]) -> Result<(Name, &[Token]), Stop>
-    ensures { Gives (λ x. (x.0, x.1.now)) result (word_at tokens.now) }
+#[tactic(auto, unfolding(fut_grammar::specs::Reading::word_at))]
+pub fn take_word<'a>(tokens: &'a [Token]) -> Result<(&'a str, &'a [Token]), Stop>
+    ensures { Gives (λ x. (x.0.now, x.1.now)) result (word_at tokens.now) }
 {
     match tokens {
         [token, rest @ ..] => match &token.kind {
-            TokenKind::Name(name) => Ok((name.copy(alloc)?, rest)),
+            TokenKind::Name(name) => Ok((name.as_str(), rest)),
             _ => Err(Stop::Fault(refused(tokens))),
         },
         [] => Err(Stop::Fault(refused(tokens))),
@@ -232,7 +237,7 @@ pub fn greater(a: u32, b: u32) -> u32
 }
 
 /// The fault where no type begins.
-#[tactic(auto, unfolding(crate::specs::Reading::refuse_sort))]
+#[tactic(auto, unfolding(fut_grammar::specs::Reading::refuse_sort))]
 pub fn refused_type(tokens: &[Token]) -> Fault
     ensures whole { result ≡ refuse_sort Whole_type tokens.now }
     ensures applied { result ≡ refuse_sort Applied_type tokens.now }
@@ -324,16 +329,17 @@ fn is_lifted_of(lift: Lift) -> bool
 }
 
 /// A type variable and the tokens behind it.
-#[tactic(auto, unfolding(crate::specs::Reading::variable_at))]
-pub fn take_variable(alloc: Global, tokens: &[Token]) -> Result<(Head<Name>, &[Token]), Stop>
-    ensures { Gives (λ x. (x.0, x.1.now)) result (variable_at tokens.now) }
+#[tactic(auto, unfolding(fut_grammar::specs::Reading::variable_at))]
+pub fn take_variable<'a>(tokens: &'a [Token]) -> Result<(Head<'a>, &'a [Token]), Stop>
+    ensures { Gives (λ x. (head_of x.0, x.1.now)) result (variable_at tokens.now) }
 {
     match tokens {
         [token, rest @ ..] => match &token.kind {
             TokenKind::TypeVar { lift, name } => {
-                let name = name.copy(alloc)?;
-                let lifted = is_lifted_of(*lift);
-                let form = HeadForm::Var { name, lifted };
+                let form = HeadForm::Var {
+                    name: name.as_str(),
+                    lifted: is_lifted_of(*lift),
+                };
                 Ok((
                     Head {
                         place: token.place,
@@ -363,17 +369,17 @@ pub fn begins_named_parameter(tokens: &[Token]) -> bool
 }
 
 // Names with points between, as many as stand there.
-fn names(alloc: Global, tokens: &[Token]) -> Result<(List<Name>, &[Token]), Stop>
-    ensures { Gives (λ x. (x.0, x.1.now)) result (names_at (length tokens.now) tokens.now) }
+fn names<'a>(bump: &'a Bump, tokens: &'a [Token]) -> Result<(&'a [&'a str], &'a [Token]), Stop>
+    ensures { Gives (λ x. (names x.0.now, x.1.now)) result (names_at (length tokens.now) tokens.now) }
 {
-    let mut all = List::new(alloc);
+    let mut made = Vec::new(bump);
     let mut rest = tokens;
     'names: for _turn in 0..tokens.len() {
-        let (name, after) = take_word(alloc, rest)?;
-        all.push(name)?;
+        let (name, after) = take_word(rest)?;
+        made.push(name)?;
         without_form(What::LocalOpen, after)?;
         if !starts_with(after, Fixed::Dot) {
-            return Ok((all, after));
+            return Ok((into_bump_slice(made), after));
         }
         rest = rest_of(after);
     }
@@ -381,15 +387,18 @@ fn names(alloc: Global, tokens: &[Token]) -> Result<(List<Name>, &[Token]), Stop
 }
 
 /// A path of names and the tokens behind it.
-#[tactic(auto, unfolding(crate::specs::Reading::path_at))]
-pub fn take_path(alloc: Global, tokens: &[Token]) -> Result<(List<Name>, &[Token]), Stop>
-    ensures { Gives (λ x. (x.0, x.1.now)) result (path_at tokens.now) }
+#[tactic(auto, unfolding(fut_grammar::specs::Reading::path_at))]
+pub fn take_path<'a>(
+    bump: &'a Bump,
+    tokens: &'a [Token],
+) -> Result<(&'a [&'a str], &'a [Token]), Stop>
+    ensures { Gives (λ x. (names x.0.now, x.1.now)) result (path_at tokens.now) }
 {
-    names(alloc, tokens)
+    names(bump, tokens)
 }
 
 /// An integer and the tokens behind it.
-#[tactic(auto, unfolding(crate::specs::Reading::number_at))]
+#[tactic(auto, unfolding(fut_grammar::specs::Reading::number_at))]
 pub fn take_number(tokens: &[Token]) -> Result<(u64, Option<IntType>, &[Token]), Stop>
     ensures { Gives (λ x. ((x.0, x.1), x.2.now)) result (number_at tokens.now) }
 {
@@ -403,13 +412,13 @@ pub fn take_number(tokens: &[Token]) -> Result<(u64, Option<IntType>, &[Token]),
 }
 
 /// A text and the tokens behind it.
-#[tactic(auto, unfolding(crate::specs::Reading::text_at))]
-pub fn take_text(alloc: Global, tokens: &[Token]) -> Result<(Name, &[Token]), Stop>
-    ensures { Gives (λ x. (x.0, x.1.now)) result (text_at tokens.now) }
+#[tactic(auto, unfolding(fut_grammar::specs::Reading::text_at))]
+pub fn take_text<'a>(tokens: &'a [Token]) -> Result<(&'a str, &'a [Token]), Stop>
+    ensures { Gives (λ x. (x.0.now, x.1.now)) result (text_at tokens.now) }
 {
     match tokens {
         [token, rest @ ..] => match &token.kind {
-            TokenKind::Text(name) => Ok((name.copy(alloc)?, rest)),
+            TokenKind::Text(text) => Ok((text.as_str(), rest)),
             _ => Err(Stop::Fault(refused(tokens))),
         },
         [] => Err(Stop::Fault(refused(tokens))),
@@ -418,11 +427,11 @@ pub fn take_text(alloc: Global, tokens: &[Token]) -> Result<(Name, &[Token]), St
 
 // A size and its closing bracket, which stays.
 #[tactic(auto)]
-fn closed(
-    size: SizeExp<List<Name>>,
-    tokens: &[Token],
-) -> Result<(Option<SizeExp<List<Name>>>, &[Token]), Stop>
-    ensures { Gives (λ x. (x.0, x.1.now)) result (closed_size size tokens.now) }
+fn closed<'a>(
+    size: SizeExp<'a>,
+    tokens: &'a [Token],
+) -> Result<(Option<SizeExp<'a>>, &'a [Token]), Stop>
+    ensures { Gives (λ x. (maybe_size_of x.0, x.1.now)) result (closed_size (size_of size.entry) tokens.now) }
 {
     if starts_with(tokens, Fixed::CloseBracket) {
         Ok((Some(size), tokens))
@@ -446,18 +455,18 @@ fn left_out_size(tokens: &[Token]) -> Fault
 }
 
 /// A size or none, before its bracket, and the tokens from the bracket on.
-#[tactic(auto, unfolding(crate::specs::Reading::size_at))]
-pub fn take_size(
-    alloc: Global,
-    tokens: &[Token],
-) -> Result<(Option<SizeExp<List<Name>>>, &[Token]), Stop>
-    ensures { Gives (λ x. (x.0, x.1.now)) result (size_at tokens.now) }
+#[tactic(auto, unfolding(fut_grammar::specs::Reading::size_at))]
+pub fn take_size<'a>(
+    bump: &'a Bump,
+    tokens: &'a [Token],
+) -> Result<(Option<SizeExp<'a>>, &'a [Token]), Stop>
+    ensures { Gives (λ x. (maybe_size_of x.0, x.1.now)) result (size_at tokens.now) }
 {
     let place = next_spot(tokens).place;
     if starts_with(tokens, Fixed::CloseBracket) {
         Ok((None, tokens))
     } else if starts_with_word(tokens) {
-        let (path, rest) = take_path(alloc, tokens)?;
+        let (path, rest) = take_path(bump, tokens)?;
         closed(
             SizeExp {
                 place,

@@ -25,7 +25,7 @@ ghost use Rattle.fut_ast.specs.TypeRows.{
   unique,
 };
 ghost use Rattle.fut_phrases.specs.Handed.{ReadsType, TypeLaw};
-ghost use Rattle.fut_phrases.specs.Phrases.{
+ghost use Rattle.fut_grammar.specs.Phrases.{
   applied_type_at,
   atomic_type_at,
   items,
@@ -35,26 +35,27 @@ ghost use Rattle.fut_phrases.specs.Phrases.{
   type_argument_at,
   whole_type_at,
 };
-ghost use Rattle.fut_phrases.specs.Reading.{Gives, commas_at, many_at, row_at};
+ghost use Rattle.fut_grammar.specs.Reading.{Gives, commas_at, many_at, row_at};
+ghost use Rattle.fut_phrases.specs.Found.{found_as, list_found, tree_found};
+ghost use Rattle.fut_tree.specs.Types.{arg_of, args_of, type_fields};
 
-use crate::behind::{both, ended, low_enough};
-use crate::fault::{Fault, Stop};
+use crate::found::Found;
+use crate::lists::{BeginItem, ReadItem, commas, many};
 use crate::tokens::{
     begins_argument_of_type, begins_bracket_type, begins_named_parameter, begins_type, greater,
     next_spot, refused, refused_type, rest_of, starts_with, starts_with_word, take, take_path,
     take_size, take_word, without_form,
 };
 use crate::type_nodes as node;
-use fut_ast::{Spot, TypeArg, TypeExp, What};
-use fut_scalar::{List, Name};
+use bumpalo::Bump;
+use bumpalo::collections::into_bump_slice;
+use fut_ast::{Spot, What};
+use fut_grammar::{Fault, Stop};
 use fut_token::{Fixed, Token};
-use std::alloc::Global;
-
-/// A type of a source text.
-pub type SourceType = TypeExp<List<Name>, Name>;
+use fut_tree::{Held, TypeArg, TypeExp, TypeField, TypeForm};
 
 /// The sorts of types that stand in productions.
-#[derive(Clone, Copy, Debug, PartialEq, Eq)]
+#[derive(Clone, Copy)]
 pub enum TypeSort {
     Whole,
     /// Without an arrow at its top.
@@ -64,85 +65,72 @@ pub enum TypeSort {
 }
 
 /// What is read as a type, its height, and the tokens behind it.
-pub type TypeAnswer<'t> = Result<(SourceType, u32, &'t [Token]), Stop>;
+pub type TypeAnswer<'a> = Result<Found<'a, &'a TypeExp<'a>>, Stop>;
 
 /// What reads the types in a production.
-pub trait ReadType: Copy {
+pub trait ReadType<'a>: Copy {
     /// It reads them up to a height.
     ghost reads: { Self → ℕ → Type 0 };
 
     /// A type.
-    fn whole(self, inner: u32, tokens: &[Token]) -> TypeAnswer<'_>
+    fn whole(self, inner: u32, tokens: &'a [Token]) -> TypeAnswer<'a>
         requires law { reads self inner }
-        ensures exact { Gives (λ x. (x.0, x.1, x.2.now)) result (read_at inner Whole_type tokens.now) }
-        ensures low { IfOk result (λ x. x.1 ≤ inner) };
+        ensures exact { Gives tree_found result (read_at inner Whole_type tokens.now) }
+        ensures low { IfOk result (λ x. x.height ≤ inner) };
 
     /// A type without an arrow at its top.
-    fn applied(self, inner: u32, tokens: &[Token]) -> TypeAnswer<'_>
+    fn applied(self, inner: u32, tokens: &'a [Token]) -> TypeAnswer<'a>
         requires law { reads self inner }
-        ensures exact { Gives (λ x. (x.0, x.1, x.2.now)) result (read_at inner Applied_type tokens.now) }
-        ensures low { IfOk result (λ x. x.1 ≤ inner) };
+        ensures exact { Gives tree_found result (read_at inner Applied_type tokens.now) }
+        ensures low { IfOk result (λ x. x.height ≤ inner) };
 
     /// A type in brackets.
-    fn bracket(self, inner: u32, tokens: &[Token]) -> TypeAnswer<'_>
+    fn bracket(self, inner: u32, tokens: &'a [Token]) -> TypeAnswer<'a>
         requires law { reads self inner }
-        ensures exact { Gives (λ x. (x.0, x.1, x.2.now)) result (read_at inner Atomic_type tokens.now) }
-        ensures low { IfOk result (λ x. x.1 ≤ inner) };
+        ensures exact { Gives tree_found result (read_at inner Atomic_type tokens.now) }
+        ensures low { IfOk result (λ x. x.height ≤ inner) };
 }
 
-impl<F: for<'t> Fn(TypeSort, &'t [Token]) -> TypeAnswer<'t>> ReadType for &F {
+impl<'a, F: Fn(TypeSort, &'a [Token]) -> TypeAnswer<'a>> ReadType<'a> for &F {
     ghost reads = { λ f d. F.IsAlwaysCallable f.now × TypeLaw (F.post f.now) d };
 
-    fn whole(self, inner: u32, tokens: &[Token]) -> TypeAnswer<'_> {
+    fn whole(self, inner: u32, tokens: &'a [Token]) -> TypeAnswer<'a> {
         let _inner = inner;
         self(TypeSort::Whole, tokens)
     }
 
-    fn applied(self, inner: u32, tokens: &[Token]) -> TypeAnswer<'_> {
+    fn applied(self, inner: u32, tokens: &'a [Token]) -> TypeAnswer<'a> {
         let _inner = inner;
         self(TypeSort::Applied, tokens)
     }
 
-    fn bracket(self, inner: u32, tokens: &[Token]) -> TypeAnswer<'_> {
+    fn bracket(self, inner: u32, tokens: &'a [Token]) -> TypeAnswer<'a> {
         let _inner = inner;
         self(TypeSort::Atomic, tokens)
     }
 }
 
 /// A type of a height up to the depth.
-pub fn whole_type(
-    alloc: Global,
-    depth: u32,
-    tokens: &[Token],
-) -> Result<(SourceType, u32, &[Token]), Stop>
+pub fn whole_type<'a>(bump: &'a Bump, depth: u32, tokens: &'a [Token]) -> TypeAnswer<'a>
     requires { depth ≤ 1000 }
-    ensures exact { Gives (λ x. (x.0, x.1, x.2.now)) result (read_at depth Whole_type tokens.now) }
-    ensures low { IfOk result (λ x. x.1 ≤ depth) }
+    ensures exact { Gives tree_found result (read_at depth Whole_type tokens.now) }
+    ensures low { IfOk result (λ x. x.height ≤ depth) }
 {
-    type_of(alloc, depth, TypeSort::Whole, tokens)
+    type_of(bump, depth, TypeSort::Whole, tokens)
 }
 
 /// A type without an arrow at its top.
-pub fn applied_type(
-    alloc: Global,
-    depth: u32,
-    tokens: &[Token],
-) -> Result<(SourceType, u32, &[Token]), Stop>
+pub fn applied_type<'a>(bump: &'a Bump, depth: u32, tokens: &'a [Token]) -> TypeAnswer<'a>
     requires { depth ≤ 1000 }
-    ensures exact { Gives (λ x. (x.0, x.1, x.2.now)) result (read_at depth Applied_type tokens.now) }
-    ensures low { IfOk result (λ x. x.1 ≤ depth) }
+    ensures exact { Gives tree_found result (read_at depth Applied_type tokens.now) }
+    ensures low { IfOk result (λ x. x.height ≤ depth) }
 {
-    type_of(alloc, depth, TypeSort::Applied, tokens)
+    type_of(bump, depth, TypeSort::Applied, tokens)
 }
 
 // A type of the sort, of a height up to the depth.
 #[cycle(types)]
-fn type_of(
-    alloc: Global,
-    depth: u32,
-    sort: TypeSort,
-    tokens: &[Token],
-) -> Result<(SourceType, u32, &[Token]), Stop>
+fn type_of<'a>(bump: &'a Bump, depth: u32, sort: TypeSort, tokens: &'a [Token]) -> TypeAnswer<'a>
     requires { depth ≤ 1000 }
     ensures { ReadsType sort depth tokens.now result }
 {
@@ -151,11 +139,11 @@ fn type_of(
     }
     let inner = depth - 1;
     node(
-        alloc,
-        &|next: TypeSort, behind: &[Token]| -> Result<(SourceType, u32, &[Token]), Stop>
+        bump,
+        &|next: TypeSort, behind: &[Token]| -> TypeAnswer<'_>
             requires { inner ≤ 1000 }
             ensures { ReadsType next inner behind.now result }
-        { type_of(alloc, inner, next, behind) },
+        { type_of(bump, inner, next, behind) },
         inner,
         sort,
         tokens,
@@ -163,7 +151,7 @@ fn type_of(
 }
 
 // Where nothing may stand below, a token that begins a type is too deep.
-#[tactic(auto, unfolding(crate::specs::Phrases::read_at, crate::specs::Reading::refuse_sort))]
+#[tactic(auto, unfolding(fut_grammar::specs::Phrases::read_at, fut_grammar::specs::Reading::refuse_sort))]
 fn nothing_below(sort: TypeSort, tokens: &[Token]) -> Fault
     ensures { ReadsType sort 0 tokens.now (Err (Stop.Fault result)) }
 {
@@ -178,92 +166,89 @@ fn nothing_below(sort: TypeSort, tokens: &[Token]) -> Fault
     }
 }
 
-fn node<'t, F: for<'a> Fn(TypeSort, &'a [Token]) -> TypeAnswer<'a>>(
-    alloc: Global,
+fn node<'a, F: Fn(TypeSort, &'a [Token]) -> TypeAnswer<'a>>(
+    bump: &'a Bump,
     read: &F,
     inner: u32,
     sort: TypeSort,
-    tokens: &'t [Token],
-) -> TypeAnswer<'t>
+    tokens: &'a [Token],
+) -> TypeAnswer<'a>
     requires callable { F.IsAlwaysCallable read.now }
     requires law { TypeLaw (F.post read.now) inner }
     requires room { inner < 1000 }
     ensures { ReadsType sort (suc inner) tokens.now result }
 {
     match sort {
-        TypeSort::Whole => whole_node(alloc, read, inner, tokens),
-        TypeSort::Applied => applied_node(alloc, read, inner, tokens),
-        TypeSort::Atomic => bracket_node(alloc, read, inner, tokens),
+        TypeSort::Whole => whole_node(bump, read, inner, tokens),
+        TypeSort::Applied => applied_node(bump, read, inner, tokens),
+        TypeSort::Atomic => bracket_node(bump, read, inner, tokens),
     }
 }
 
-#[tactic(auto, unfolding(crate::specs::Phrases::read_at, crate::specs::Phrases::bounded, crate::specs::Phrases::ended, crate::specs::Phrases::step, crate::specs::Reading::refuse_sort))]
-fn whole_node<R: ReadType>(
-    alloc: Global,
+#[tactic(auto, unfolding(fut_grammar::specs::Phrases::read_at, fut_grammar::specs::Phrases::bounded, fut_grammar::specs::Phrases::ended, fut_grammar::specs::Phrases::step, fut_grammar::specs::Reading::refuse_sort))]
+fn whole_node<'a, R: ReadType<'a>>(
+    bump: &'a Bump,
     read: R,
     inner: u32,
-    tokens: &[Token],
-) -> Result<(SourceType, u32, &[Token]), Stop>
+    tokens: &'a [Token],
+) -> TypeAnswer<'a>
     requires law { R.reads read inner }
     requires room { inner < 1000 }
-    ensures exact { Gives (λ x. (x.0, x.1, x.2.now)) result (read_at (suc inner) Whole_type tokens.now) }
-    ensures low { IfOk result (λ x. x.1 ≤ inner + 1) }
+    ensures exact { Gives tree_found result (read_at (suc inner) Whole_type tokens.now) }
+    ensures low { IfOk result (λ x. x.height ≤ inner + 1) }
 {
     if !begins_type(tokens) {
         return Err(Stop::Fault(refused_type(tokens)));
     }
-    let (tree, height, rest) = whole_type_below(alloc, read, inner, tokens)?;
-    ended(tree, height, rest, starts_with(rest, Fixed::Arrow))
+    let found = whole_type_below(bump, read, inner, tokens)?;
+    if starts_with(found.rest, Fixed::Arrow) {
+        return Err(Stop::Fault(refused(found.rest)));
+    }
+    Ok(found)
 }
 
-#[tactic(auto, unfolding(crate::specs::Phrases::read_at, crate::specs::Phrases::bounded, crate::specs::Phrases::ended, crate::specs::Phrases::step, crate::specs::Reading::refuse_sort))]
-fn applied_node<R: ReadType>(
-    alloc: Global,
+#[tactic(auto, unfolding(fut_grammar::specs::Phrases::read_at, fut_grammar::specs::Phrases::bounded, fut_grammar::specs::Phrases::ended, fut_grammar::specs::Phrases::step, fut_grammar::specs::Reading::refuse_sort))]
+fn applied_node<'a, R: ReadType<'a>>(
+    bump: &'a Bump,
     read: R,
     inner: u32,
-    tokens: &[Token],
-) -> Result<(SourceType, u32, &[Token]), Stop>
+    tokens: &'a [Token],
+) -> TypeAnswer<'a>
     requires law { R.reads read inner }
     requires room { inner < 1000 }
-    ensures exact { Gives (λ x. (x.0, x.1, x.2.now)) result (read_at (suc inner) Applied_type tokens.now) }
-    ensures low { IfOk result (λ x. x.1 ≤ inner + 1) }
+    ensures exact { Gives tree_found result (read_at (suc inner) Applied_type tokens.now) }
+    ensures low { IfOk result (λ x. x.height ≤ inner + 1) }
 {
     if !begins_type(tokens) {
         return Err(Stop::Fault(refused_type(tokens)));
     }
-    let (tree, height, rest) = applied_type_below(alloc, read, inner, tokens)?;
-    Ok((tree, height, rest))
+    applied_type_below(bump, read, inner, tokens)
 }
 
-#[tactic(auto, unfolding(crate::specs::Phrases::read_at, crate::specs::Phrases::bounded, crate::specs::Phrases::ended, crate::specs::Phrases::step, crate::specs::Reading::refuse_sort))]
-fn bracket_node<R: ReadType>(
-    alloc: Global,
+#[tactic(auto, unfolding(fut_grammar::specs::Phrases::read_at, fut_grammar::specs::Phrases::bounded, fut_grammar::specs::Phrases::ended, fut_grammar::specs::Phrases::step, fut_grammar::specs::Reading::refuse_sort))]
+fn bracket_node<'a, R: ReadType<'a>>(
+    bump: &'a Bump,
     read: R,
     inner: u32,
-    tokens: &[Token],
-) -> Result<(SourceType, u32, &[Token]), Stop>
+    tokens: &'a [Token],
+) -> TypeAnswer<'a>
     requires law { R.reads read inner }
     requires room { inner < 1000 }
-    ensures exact { Gives (λ x. (x.0, x.1, x.2.now)) result (read_at (suc inner) Atomic_type tokens.now) }
-    ensures low { IfOk result (λ x. x.1 ≤ inner + 1) }
+    ensures exact { Gives tree_found result (read_at (suc inner) Atomic_type tokens.now) }
+    ensures low { IfOk result (λ x. x.height ≤ inner + 1) }
 {
     if !begins_bracket_type(tokens) {
         return Err(Stop::Fault(refused_type(tokens)));
     }
-    let (tree, height, rest) = bracket_type_below(alloc, read, inner, tokens)?;
-    Ok((tree, height, rest))
+    bracket_type_below(bump, read, inner, tokens)
 }
 
 // The name of a type, without arguments.
-#[tactic(auto, unfolding(crate::specs::Phrases::read_at, crate::specs::Phrases::bounded, crate::specs::Phrases::ended, crate::specs::Phrases::step, crate::specs::Reading::refuse_sort, crate::specs::Reading::row_at, crate::specs::Reading::parts_at, crate::specs::Reading::has_at))]
-fn type_name(
-    alloc: Global,
-    depth: u32,
-    tokens: &[Token],
-) -> Result<(SourceType, u32, &[Token]), Stop>
+#[tactic(auto, unfolding(fut_grammar::specs::Phrases::read_at, fut_grammar::specs::Phrases::bounded, fut_grammar::specs::Phrases::ended, fut_grammar::specs::Phrases::step, fut_grammar::specs::Reading::refuse_sort, fut_grammar::specs::Reading::row_at, fut_grammar::specs::Reading::parts_at, fut_grammar::specs::Reading::has_at))]
+fn type_name<'a>(bump: &'a Bump, depth: u32, tokens: &'a [Token]) -> TypeAnswer<'a>
     requires { depth ≤ 1000 }
-    ensures exact { Gives (λ x. (x.0, x.1, x.2.now)) result (read_at depth Type_name tokens.now) }
-    ensures low { IfOk result (λ x. x.1 ≤ depth) }
+    ensures exact { Gives tree_found result (read_at depth Type_name tokens.now) }
+    ensures low { IfOk result (λ x. x.height ≤ depth) }
 {
     if !starts_with_word(tokens) {
         return Err(Stop::Fault(refused(tokens)));
@@ -271,429 +256,451 @@ fn type_name(
     if depth == 0 {
         return Err(Stop::Fault(Fault::TooDeep(tokens.len())));
     }
-    let at = next_spot(tokens);
-    let (names, rest) = take_path(alloc, tokens)?;
-    Ok((node::path(at, names, List::new(alloc)), 1, rest))
+    let place = next_spot(tokens).place;
+    let (path, rest) = take_path(bump, tokens)?;
+    Ok(Found {
+        tree: node::path(bump, place, path, &[])?,
+        height: 1,
+        rest,
+    })
 }
 
-#[tactic(auto, unfolding(crate::specs::Phrases::whole_type_at))]
-fn whole_type_below<R: ReadType>(
-    alloc: Global,
+#[tactic(auto, unfolding(fut_grammar::specs::Phrases::whole_type_at))]
+fn whole_type_below<'a, R: ReadType<'a>>(
+    bump: &'a Bump,
     read: R,
     inner: u32,
-    tokens: &[Token],
-) -> Result<(SourceType, u32, &[Token]), Stop>
+    tokens: &'a [Token],
+) -> TypeAnswer<'a>
     requires law { R.reads read inner }
     requires room { inner < 1000 }
-    ensures exact { Gives (λ x. (x.0, x.1, x.2.now)) result (whole_type_at (phrases (read_at inner)) (suc inner) tokens.now) }
-    ensures low { IfOk result (λ x. x.1 ≤ inner + 1) }
+    ensures exact { Gives tree_found result (whole_type_at (phrases (read_at inner)) (suc inner) tokens.now) }
+    ensures low { IfOk result (λ x. x.height ≤ inner + 1) }
 {
     if begins_named_parameter(tokens) {
-        return named_arrow(alloc, read, inner, tokens);
+        return named_arrow(bump, read, inner, tokens);
     }
-    let (from, height, rest) = applied_type_below(alloc, read, inner, tokens)?;
-    arrow_behind(alloc, read, inner, next_spot(tokens), from, height, rest)
+    let from = applied_type_below(bump, read, inner, tokens)?;
+    arrow_behind(bump, read, inner, next_spot(tokens), from)
 }
 
-#[tactic(auto, unfolding(crate::specs::Phrases::once_at, crate::specs::Reading::expect, crate::specs::Reading::suffix_at, crate::specs::Reading::parts_at, crate::specs::Reading::has_at, crate::specs::Reading::sub_at, crate::specs::Phrases::phrases))]
-fn arrow_behind<R: ReadType>(
-    alloc: Global,
+#[tactic(auto, unfolding(fut_grammar::specs::Phrases::once_at, fut_grammar::specs::Reading::expect, fut_grammar::specs::Reading::suffix_at, fut_grammar::specs::Reading::parts_at, fut_grammar::specs::Reading::has_at, fut_grammar::specs::Reading::sub_at, fut_grammar::specs::Phrases::phrases))]
+fn arrow_behind<'a, R: ReadType<'a>>(
+    bump: &'a Bump,
     read: R,
     inner: u32,
     at: Spot,
-    from: SourceType,
-    from_height: u32,
-    tokens: &[Token],
-) -> Result<(SourceType, u32, &[Token]), Stop>
+    from: Found<'a, &'a TypeExp<'a>>,
+) -> TypeAnswer<'a>
     requires law { R.reads read inner }
-    requires room { (inner < 1000) × (from_height ≤ inner + 1) }
-    ensures exact { Gives (λ x. (x.0, x.1, x.2.now)) result (once_at (phrases (read_at inner)) (suc inner) (starts Fixed.Arrow) arrow at (λ t. t) from from_height tokens.now) }
-    ensures low { IfOk result (λ x. x.1 ≤ inner + 1) }
+    requires room { (inner < 1000) × (from.height ≤ inner + 1) }
+    ensures exact { Gives tree_found result (once_at (phrases (read_at inner)) (suc inner) (starts Fixed.Arrow) arrow at (λ t. t) from.entry.tree.now from.entry.height from.entry.rest.now) }
+    ensures low { IfOk result (λ x. x.height ≤ inner + 1) }
 {
-    if !starts_with(tokens, Fixed::Arrow) {
-        return Ok((from, from_height, tokens));
+    if !starts_with(from.rest, Fixed::Arrow) {
+        return Ok(from);
     }
-    let from = low_enough(from, from_height, inner, tokens)?;
-    let (from, (to, height, rest)) = both(from, read.whole(inner, rest_of(tokens)))?;
-    let tree = node::arrow(alloc, at, from, to)?;
-    Ok((tree, greater(from_height, height) + 1, rest))
+    if from.height > inner {
+        return Err(Stop::Fault(Fault::TooDeep(from.rest.len())));
+    }
+    let to = read.whole(inner, rest_of(from.rest))?;
+    let form = TypeForm::Arrow(from.tree, to.tree);
+    Ok(Found {
+        tree: node::held(
+            bump,
+            TypeExp {
+                place: at.place,
+                form,
+            },
+        )?,
+        height: greater(from.height, to.height) + 1,
+        rest: to.rest,
+    })
 }
 
-#[tactic(auto, unfolding(crate::specs::Reading::row_at, crate::specs::Reading::parts_at, crate::specs::Reading::has_at, crate::specs::Reading::sub_at, crate::specs::Phrases::phrases))]
-fn named_arrow<R: ReadType>(
-    alloc: Global,
+#[tactic(auto, unfolding(fut_grammar::specs::Reading::row_at, fut_grammar::specs::Reading::parts_at, fut_grammar::specs::Reading::has_at, fut_grammar::specs::Reading::sub_at, fut_grammar::specs::Phrases::phrases))]
+fn named_arrow<'a, R: ReadType<'a>>(
+    bump: &'a Bump,
     read: R,
     inner: u32,
-    tokens: &[Token],
-) -> Result<(SourceType, u32, &[Token]), Stop>
+    tokens: &'a [Token],
+) -> TypeAnswer<'a>
     requires law { R.reads read inner }
     requires room { inner < 1000 }
-    ensures exact { Gives (λ x. (x.0, x.1, x.2.now)) result (row_at (phrases (read_at inner)) (of_type named_arrow) tokens.now) }
-    ensures low { IfOk result (λ x. x.1 ≤ inner + 1) }
+    ensures exact { Gives tree_found result (row_at (phrases (read_at inner)) (of_type named_arrow) tokens.now) }
+    ensures low { IfOk result (λ x. x.height ≤ inner + 1) }
 {
-    let at = next_spot(tokens);
+    let place = next_spot(tokens).place;
     let rest = take(tokens, Fixed::OpenParen)?;
-    let (name, rest) = take_word(alloc, rest)?;
-    let (name, rest) = both(name, take(rest, Fixed::Colon))?;
-    let (name, (from, from_height, rest)) = both(name, read.whole(inner, rest))?;
-    let (named, rest) = both((name, from), take(rest, Fixed::CloseParen))?;
-    let (named, rest) = both(named, take(rest, Fixed::Arrow))?;
-    let ((name, from), (to, to_height, rest)) = both(named, read.whole(inner, rest))?;
-    let tree = node::named(alloc, at, name, from, to)?;
-    Ok((tree, greater(from_height, to_height) + 1, rest))
+    let (name, rest) = take_word(rest)?;
+    let rest = take(rest, Fixed::Colon)?;
+    let from = read.whole(inner, rest)?;
+    let rest = take(from.rest, Fixed::CloseParen)?;
+    let rest = take(rest, Fixed::Arrow)?;
+    let to = read.whole(inner, rest)?;
+    let form = TypeForm::Named(name, from.tree, to.tree);
+    Ok(Found {
+        tree: node::held(bump, TypeExp { place, form })?,
+        height: greater(from.height, to.height) + 1,
+        rest: to.rest,
+    })
 }
 
-#[tactic(auto, unfolding(crate::specs::Phrases::applied_type_at))]
-fn applied_type_below<R: ReadType>(
-    alloc: Global,
+#[tactic(auto, unfolding(fut_grammar::specs::Phrases::applied_type_at))]
+fn applied_type_below<'a, R: ReadType<'a>>(
+    bump: &'a Bump,
     read: R,
     inner: u32,
-    tokens: &[Token],
-) -> Result<(SourceType, u32, &[Token]), Stop>
+    tokens: &'a [Token],
+) -> TypeAnswer<'a>
     requires law { R.reads read inner }
     requires room { inner < 1000 }
-    ensures exact { Gives (λ x. (x.0, x.1, x.2.now)) result (applied_type_at (phrases (read_at inner)) (suc inner) tokens.now) }
-    ensures low { IfOk result (λ x. x.1 ≤ inner + 1) }
+    ensures exact { Gives tree_found result (applied_type_at (phrases (read_at inner)) (suc inner) tokens.now) }
+    ensures low { IfOk result (λ x. x.height ≤ inner + 1) }
 {
     if starts_with(tokens, Fixed::Star) {
-        unique(alloc, read, inner, tokens)
+        unique(bump, read, inner, tokens)
     } else if starts_with(tokens, Fixed::OpenBracket) {
-        array(alloc, read, inner, tokens)
+        array(bump, read, inner, tokens)
     } else if starts_with_word(tokens) {
-        applied_name(alloc, read, inner, tokens)
+        applied_name(bump, read, inner, tokens)
     } else {
-        bracket_type_below(alloc, read, inner, tokens)
+        bracket_type_below(bump, read, inner, tokens)
     }
 }
 
-#[tactic(auto, unfolding(crate::specs::Reading::row_at, crate::specs::Reading::parts_at, crate::specs::Reading::has_at, crate::specs::Reading::sub_at, crate::specs::Phrases::phrases))]
-fn unique<R: ReadType>(
-    alloc: Global,
+#[tactic(auto, unfolding(fut_grammar::specs::Reading::row_at, fut_grammar::specs::Reading::parts_at, fut_grammar::specs::Reading::has_at, fut_grammar::specs::Reading::sub_at, fut_grammar::specs::Phrases::phrases))]
+fn unique<'a, R: ReadType<'a>>(
+    bump: &'a Bump,
     read: R,
     inner: u32,
-    tokens: &[Token],
-) -> Result<(SourceType, u32, &[Token]), Stop>
+    tokens: &'a [Token],
+) -> TypeAnswer<'a>
     requires law { R.reads read inner }
     requires room { inner < 1000 }
-    ensures exact { Gives (λ x. (x.0, x.1, x.2.now)) result (row_at (phrases (read_at inner)) (of_type unique) tokens.now) }
-    ensures low { IfOk result (λ x. x.1 ≤ inner + 1) }
+    ensures exact { Gives tree_found result (row_at (phrases (read_at inner)) (of_type unique) tokens.now) }
+    ensures low { IfOk result (λ x. x.height ≤ inner + 1) }
 {
-    let at = next_spot(tokens);
+    let place = next_spot(tokens).place;
     let rest = take(tokens, Fixed::Star)?;
-    let (tree, height, rest) = read.applied(inner, rest)?;
-    Ok((node::unique(alloc, at, tree)?, height + 1, rest))
+    let found = read.applied(inner, rest)?;
+    let form = TypeForm::Unique(found.tree);
+    Ok(Found {
+        tree: node::held(bump, TypeExp { place, form })?,
+        height: found.height + 1,
+        rest: found.rest,
+    })
 }
 
-#[tactic(auto, unfolding(crate::specs::Reading::row_at, crate::specs::Reading::parts_at, crate::specs::Reading::has_at, crate::specs::Reading::sub_at, crate::specs::Phrases::phrases))]
-fn array<R: ReadType>(
-    alloc: Global,
+#[tactic(auto, unfolding(fut_grammar::specs::Reading::row_at, fut_grammar::specs::Reading::parts_at, fut_grammar::specs::Reading::has_at, fut_grammar::specs::Reading::sub_at, fut_grammar::specs::Phrases::phrases))]
+fn array<'a, R: ReadType<'a>>(
+    bump: &'a Bump,
     read: R,
     inner: u32,
-    tokens: &[Token],
-) -> Result<(SourceType, u32, &[Token]), Stop>
+    tokens: &'a [Token],
+) -> TypeAnswer<'a>
     requires law { R.reads read inner }
     requires room { inner < 1000 }
-    ensures exact { Gives (λ x. (x.0, x.1, x.2.now)) result (row_at (phrases (read_at inner)) (of_type array_type) tokens.now) }
-    ensures low { IfOk result (λ x. x.1 ≤ inner + 1) }
+    ensures exact { Gives tree_found result (row_at (phrases (read_at inner)) (of_type array_type) tokens.now) }
+    ensures low { IfOk result (λ x. x.height ≤ inner + 1) }
 {
-    let at = next_spot(tokens);
+    let place = next_spot(tokens).place;
     let rest = take(tokens, Fixed::OpenBracket)?;
-    let (size, rest) = take_size(alloc, rest)?;
-    let (size, rest) = both(size, take(rest, Fixed::CloseBracket))?;
-    let (size, (row, height, rest)) = both(size, read.applied(inner, rest))?;
-    Ok((node::array(alloc, at, size, row)?, height + 1, rest))
+    let (size, rest) = take_size(bump, rest)?;
+    let rest = take(rest, Fixed::CloseBracket)?;
+    let row = read.applied(inner, rest)?;
+    let form = TypeForm::Array(size, row.tree);
+    Ok(Found {
+        tree: node::held(bump, TypeExp { place, form })?,
+        height: row.height + 1,
+        rest: row.rest,
+    })
 }
 
-#[tactic(auto, unfolding(crate::specs::Reading::row_at, crate::specs::Reading::parts_at, crate::specs::Reading::has_at, crate::specs::Reading::sub_at, crate::specs::Phrases::phrases))]
-fn applied_name<R: ReadType>(
-    alloc: Global,
+#[tactic(auto, unfolding(fut_grammar::specs::Reading::row_at, fut_grammar::specs::Reading::parts_at, fut_grammar::specs::Reading::has_at, fut_grammar::specs::Reading::sub_at, fut_grammar::specs::Phrases::phrases))]
+fn applied_name<'a, R: ReadType<'a>>(
+    bump: &'a Bump,
     read: R,
     inner: u32,
-    tokens: &[Token],
-) -> Result<(SourceType, u32, &[Token]), Stop>
+    tokens: &'a [Token],
+) -> TypeAnswer<'a>
     requires law { R.reads read inner }
     requires room { inner < 1000 }
-    ensures exact { Gives (λ x. (x.0, x.1, x.2.now)) result (row_at (phrases (read_at inner)) (of_type applied_name) tokens.now) }
-    ensures low { IfOk result (λ x. x.1 ≤ inner + 1) }
+    ensures exact { Gives tree_found result (row_at (phrases (read_at inner)) (of_type applied_name) tokens.now) }
+    ensures low { IfOk result (λ x. x.height ≤ inner + 1) }
 {
-    let at = next_spot(tokens);
-    let (names, rest) = take_path(alloc, tokens)?;
-    let (names, (all, height, rest)) = both(names, arguments(alloc, read, inner, rest))?;
-    let ((names, all), ()) = both((names, all), without_form(What::ExistentialSize, rest))?;
-    Ok((node::path(at, names, all), height + 1, rest))
+    let place = next_spot(tokens).place;
+    let (path, rest) = take_path(bump, tokens)?;
+    let found = many(bump, read, inner, 0, rest)?;
+    without_form(What::ExistentialSize, found.rest)?;
+    Ok(Found {
+        tree: node::path(bump, place, path, found.tree)?,
+        height: found.height + 1,
+        rest: found.rest,
+    })
 }
 
-#[tactic(auto, unfolding(crate::specs::Phrases::atomic_type_at))]
-fn bracket_type_below<R: ReadType>(
-    alloc: Global,
+#[tactic(auto, unfolding(fut_grammar::specs::Phrases::atomic_type_at))]
+fn bracket_type_below<'a, R: ReadType<'a>>(
+    bump: &'a Bump,
     read: R,
     inner: u32,
-    tokens: &[Token],
-) -> Result<(SourceType, u32, &[Token]), Stop>
+    tokens: &'a [Token],
+) -> TypeAnswer<'a>
     requires law { R.reads read inner }
     requires room { inner < 1000 }
-    ensures exact { Gives (λ x. (x.0, x.1, x.2.now)) result (atomic_type_at (phrases (read_at inner)) (suc inner) tokens.now) }
-    ensures low { IfOk result (λ x. x.1 ≤ inner + 1) }
+    ensures exact { Gives tree_found result (atomic_type_at (phrases (read_at inner)) (suc inner) tokens.now) }
+    ensures low { IfOk result (λ x. x.height ≤ inner + 1) }
 {
     let inside = rest_of(tokens);
     if starts_with(tokens, Fixed::OpenParen) {
         if starts_with(inside, Fixed::CloseParen) {
-            unit(tokens)
+            unit(bump, tokens)
         } else {
-            round(alloc, read, inner, tokens)
+            round(bump, read, inner, tokens)
         }
     } else if starts_with(inside, Fixed::CloseBrace) {
-        no_fields(alloc, tokens)
+        no_fields(bump, tokens)
     } else {
-        fields(alloc, read, inner, tokens)
+        fields(bump, read, inner, tokens)
     }
 }
 
-#[tactic(auto, unfolding(crate::specs::Reading::row_at, crate::specs::Reading::parts_at, crate::specs::Reading::has_at, crate::specs::Reading::sub_at, crate::specs::Phrases::phrases))]
-fn round<R: ReadType>(
-    alloc: Global,
+#[tactic(auto, unfolding(fut_grammar::specs::Reading::row_at, fut_grammar::specs::Reading::parts_at, fut_grammar::specs::Reading::has_at, fut_grammar::specs::Reading::sub_at, fut_grammar::specs::Phrases::phrases))]
+fn round<'a, R: ReadType<'a>>(
+    bump: &'a Bump,
     read: R,
     inner: u32,
-    tokens: &[Token],
-) -> Result<(SourceType, u32, &[Token]), Stop>
+    tokens: &'a [Token],
+) -> TypeAnswer<'a>
     requires law { R.reads read inner }
     requires room { inner < 1000 }
-    ensures exact { Gives (λ x. (x.0, x.1, x.2.now)) result (row_at (phrases (read_at inner)) (of_type round_type) tokens.now) }
-    ensures low { IfOk result (λ x. x.1 ≤ inner + 1) }
+    ensures exact { Gives tree_found result (row_at (phrases (read_at inner)) (of_type round_type) tokens.now) }
+    ensures low { IfOk result (λ x. x.height ≤ inner + 1) }
 {
-    let at = next_spot(tokens);
+    let place = next_spot(tokens).place;
     let rest = take(tokens, Fixed::OpenParen)?;
-    let (all, height, rest) = types(alloc, read, inner, rest)?;
-    let (all, rest) = both(all, take(rest, Fixed::CloseParen))?;
-    Ok((node::round(at, all), height + 1, rest))
+    let found = commas(bump, read, inner, rest)?;
+    let rest = take(found.rest, Fixed::CloseParen)?;
+    Ok(Found {
+        tree: node::round(bump, place, found.tree)?,
+        height: found.height + 1,
+        rest,
+    })
 }
 
-#[tactic(auto, unfolding(crate::specs::Reading::row_at, crate::specs::Reading::parts_at, crate::specs::Reading::has_at, crate::specs::Reading::sub_at, crate::specs::Phrases::phrases))]
-fn fields<R: ReadType>(
-    alloc: Global,
+#[tactic(auto, unfolding(fut_grammar::specs::Reading::row_at, fut_grammar::specs::Reading::parts_at, fut_grammar::specs::Reading::has_at, fut_grammar::specs::Reading::sub_at, fut_grammar::specs::Phrases::phrases))]
+fn fields<'a, R: ReadType<'a>>(
+    bump: &'a Bump,
     read: R,
     inner: u32,
-    tokens: &[Token],
-) -> Result<(SourceType, u32, &[Token]), Stop>
+    tokens: &'a [Token],
+) -> TypeAnswer<'a>
     requires law { R.reads read inner }
     requires room { inner < 1000 }
-    ensures exact { Gives (λ x. (x.0, x.1, x.2.now)) result (row_at (phrases (read_at inner)) (of_type fields) tokens.now) }
-    ensures low { IfOk result (λ x. x.1 ≤ inner + 1) }
+    ensures exact { Gives tree_found result (row_at (phrases (read_at inner)) (of_type fields) tokens.now) }
+    ensures low { IfOk result (λ x. x.height ≤ inner + 1) }
 {
-    let at = next_spot(tokens);
+    let place = next_spot(tokens).place;
     let rest = take(tokens, Fixed::OpenBrace)?;
-    let (all, height, rest) = field_list(alloc, read, inner, rest)?;
-    let (all, rest) = both(all, take(rest, Fixed::CloseBrace))?;
-    Ok((node::record_of(at, all), height + 1, rest))
+    let found = commas(bump, read, inner, rest)?;
+    let rest = take(found.rest, Fixed::CloseBrace)?;
+    Ok(Found {
+        tree: node::record_of(bump, place, found.tree)?,
+        height: found.height + 1,
+        rest,
+    })
 }
 
-fn types<R: ReadType>(
-    alloc: Global,
-    read: R,
-    inner: u32,
-    tokens: &[Token],
-) -> Result<(List<SourceType>, u32, &[Token]), Stop>
-    requires law { R.reads read inner }
-    requires room { inner < 1000 }
-    ensures exact { Gives (λ x. (x.0, x.1, x.2.now)) result (commas_at (phrases (read_at inner)) (length tokens.now) Whole_type 0 tokens.now) }
-    ensures low { IfOk result (λ x. x.1 ≤ inner) }
-{
-    let mut all = List::new(alloc);
-    let mut height = 0;
-    let mut rest = tokens;
-    'items: for _turn in 0..tokens.len() {
-        let (item, item_height, after) = read.whole(inner, rest)?;
-        all.push(item)?;
-        height = greater(height, item_height);
-        if !starts_with(after, Fixed::Comma) {
-            return Ok((all, height, after));
+// ---- lists of types
+
+// Types in parentheses.
+impl<'a, R: ReadType<'a>> ReadItem<'a, Held<'a, TypeExp<'a>>> for R {
+    ghost sort = { Whole_type };
+
+    ghost seen = { λ t. t.at.now };
+
+    ghost reads = { λ s d. R.reads s d };
+
+    #[tactic(auto, unfolding(fut_grammar::specs::Phrases::phrases))]
+    fn item(
+        self,
+        bump: &'a Bump,
+        inner: u32,
+        tokens: &'a [Token],
+    ) -> Result<Found<'a, Held<'a, TypeExp<'a>>>, Stop> {
+        let _bump = bump;
+        let found = self.whole(inner, tokens)?;
+        Ok(Found {
+            tree: Held { at: found.tree },
+            height: found.height,
+            rest: found.rest,
+        })
+    }
+}
+
+// Fields of a record's type.
+impl<'a, R: ReadType<'a>> ReadItem<'a, TypeField<'a>> for R {
+    ghost sort = { Type_field };
+
+    ghost seen = { λ f. (f.name.now, f.ty.now) };
+
+    ghost reads = { λ s d. R.reads s d };
+
+    #[tactic(auto, unfolding(fut_grammar::specs::Reading::row_at, fut_grammar::specs::Reading::parts_at, fut_grammar::specs::Reading::has_at, fut_grammar::specs::Reading::sub_at, fut_grammar::specs::Phrases::phrases, fut_grammar::specs::Phrases::bounded, fut_grammar::specs::Phrases::ended, fut_grammar::specs::Phrases::flat_at, fut_grammar::specs::Reading::refuse_sort, fut_grammar::specs::Phrases::items))]
+    fn item(
+        self,
+        bump: &'a Bump,
+        inner: u32,
+        tokens: &'a [Token],
+    ) -> Result<Found<'a, TypeField<'a>>, Stop> {
+        let _bump = bump;
+        if !starts_with_word(tokens) {
+            return Err(Stop::Fault(refused(tokens)));
         }
-        rest = rest_of(after);
+        let (name, rest) = take_word(tokens)?;
+        let rest = take(rest, Fixed::Colon)?;
+        let found = self.whole(inner, rest)?;
+        Ok(Found {
+            tree: TypeField {
+                name,
+                ty: found.tree,
+            },
+            height: found.height,
+            rest: found.rest,
+        })
     }
-    Err(Stop::Fault(refused(rest)))
 }
 
-fn field_list<R: ReadType>(
-    alloc: Global,
-    read: R,
-    inner: u32,
-    tokens: &[Token],
-) -> Result<(List<(Name, SourceType)>, u32, &[Token]), Stop>
-    requires law { R.reads read inner }
-    requires room { inner < 1000 }
-    ensures exact { Gives (λ x. (x.0, x.1, x.2.now)) result (commas_at (phrases (read_at inner)) (length tokens.now) Type_field 0 tokens.now) }
-    ensures low { IfOk result (λ x. x.1 ≤ inner) }
-{
-    let mut all = List::new(alloc);
-    let mut height = 0;
-    let mut rest = tokens;
-    'items: for _turn in 0..tokens.len() {
-        let (item, item_height, after) = field(alloc, read, inner, rest)?;
-        all.push(item)?;
-        height = greater(height, item_height);
-        if !starts_with(after, Fixed::Comma) {
-            return Ok((all, height, after));
+// Arguments of a type.
+impl<'a, R: ReadType<'a>> ReadItem<'a, TypeArg<'a>> for R {
+    ghost sort = { Type_argument };
+
+    ghost seen = { arg_of };
+
+    ghost reads = { λ s d. R.reads s d × (d < 1000) };
+
+    #[tactic(auto, unfolding(fut_grammar::specs::Phrases::phrases, fut_grammar::specs::Phrases::bounded, fut_grammar::specs::Phrases::ended, fut_grammar::specs::Phrases::flat_at, fut_grammar::specs::Reading::refuse_sort))]
+    fn item(
+        self,
+        bump: &'a Bump,
+        inner: u32,
+        tokens: &'a [Token],
+    ) -> Result<Found<'a, TypeArg<'a>>, Stop> {
+        if !begins_argument_of_type(tokens) {
+            return Err(Stop::Fault(refused(tokens)));
         }
-        rest = rest_of(after);
+        any_argument(bump, self, inner, tokens)
     }
-    Err(Stop::Fault(refused(rest)))
 }
 
-fn arguments<R: ReadType>(
-    alloc: Global,
-    read: R,
-    inner: u32,
-    tokens: &[Token],
-) -> Result<(List<TypeArg<List<Name>, Name>>, u32, &[Token]), Stop>
-    requires law { R.reads read inner }
-    requires room { inner < 1000 }
-    ensures exact { Gives (λ x. (x.0, x.1, x.2.now)) result (many_at (phrases (read_at inner)) (length tokens.now) Type_argument 0 tokens.now) }
-    ensures low { IfOk result (λ x. x.1 ≤ inner) }
-{
-    let mut all = List::new(alloc);
-    let mut height = 0;
-    let mut rest = tokens;
-    'items: for _turn in 0..tokens.len() {
-        if !begins_argument_of_type(rest) {
-            return Ok((all, height, rest));
-        }
-        let (item, item_height, after) = argument(alloc, read, inner, rest)?;
-        all.push(item)?;
-        height = greater(height, item_height);
-        rest = after;
+impl<'a, R: ReadType<'a>> BeginItem<'a, TypeArg<'a>> for R {
+    fn begins(self, tokens: &'a [Token]) -> bool {
+        begins_argument_of_type(tokens)
     }
-    if begins_argument_of_type(rest) {
-        return Err(Stop::Fault(refused(rest)));
-    }
-    Ok((all, height, rest))
 }
 
-#[tactic(auto, unfolding(crate::specs::Reading::row_at, crate::specs::Reading::parts_at, crate::specs::Reading::has_at, crate::specs::Reading::sub_at, crate::specs::Phrases::phrases, crate::specs::Phrases::bounded, crate::specs::Phrases::ended, crate::specs::Phrases::flat_at, crate::specs::Reading::refuse_sort, crate::specs::Phrases::items))]
-fn field<R: ReadType>(
-    alloc: Global,
+#[tactic(auto, unfolding(fut_grammar::specs::Phrases::type_argument_at))]
+fn any_argument<'a, R: ReadType<'a>>(
+    bump: &'a Bump,
     read: R,
     inner: u32,
-    tokens: &[Token],
-) -> Result<((Name, SourceType), u32, &[Token]), Stop>
+    tokens: &'a [Token],
+) -> Result<Found<'a, TypeArg<'a>>, Stop>
     requires law { R.reads read inner }
     requires room { inner < 1000 }
-    ensures exact { Gives (λ x. (x.0, x.1, x.2.now)) result (phrases (read_at inner) Type_field tokens.now) }
-    ensures low { IfOk result (λ x. x.1 ≤ inner) }
-{
-    if !starts_with_word(tokens) {
-        return Err(Stop::Fault(refused(tokens)));
-    }
-    let (name, rest) = take_word(alloc, tokens)?;
-    let (name, rest) = both(name, take(rest, Fixed::Colon))?;
-    let (name, (tree, height, rest)) = both(name, read.whole(inner, rest))?;
-    Ok(((name, tree), height, rest))
-}
-
-#[tactic(auto, unfolding(crate::specs::Phrases::phrases, crate::specs::Phrases::bounded, crate::specs::Phrases::ended, crate::specs::Phrases::flat_at, crate::specs::Reading::refuse_sort))]
-fn argument<R: ReadType>(
-    alloc: Global,
-    read: R,
-    inner: u32,
-    tokens: &[Token],
-) -> Result<(TypeArg<List<Name>, Name>, u32, &[Token]), Stop>
-    requires law { R.reads read inner }
-    requires room { inner < 1000 }
-    ensures exact { Gives (λ x. (x.0, x.1, x.2.now)) result (phrases (read_at inner) Type_argument tokens.now) }
-    ensures low { IfOk result (λ x. x.1 ≤ inner) }
-{
-    if !begins_argument_of_type(tokens) {
-        return Err(Stop::Fault(refused(tokens)));
-    }
-    let (argument, height, rest) = any_argument(alloc, read, inner, tokens)?;
-    Ok((argument, height, rest))
-}
-
-#[tactic(auto, unfolding(crate::specs::Phrases::type_argument_at))]
-fn any_argument<R: ReadType>(
-    alloc: Global,
-    read: R,
-    inner: u32,
-    tokens: &[Token],
-) -> Result<(TypeArg<List<Name>, Name>, u32, &[Token]), Stop>
-    requires law { R.reads read inner }
-    requires room { inner < 1000 }
-    ensures exact { Gives (λ x. (x.0, x.1, x.2.now)) result (type_argument_at (items (read_at inner)) tokens.now) }
-    ensures low { IfOk result (λ x. x.1 ≤ inner) }
+    ensures exact { Gives (found_as arg_of) result (type_argument_at (items (read_at inner)) tokens.now) }
+    ensures low { IfOk result (λ x. x.height ≤ inner) }
 {
     if starts_with(tokens, Fixed::OpenBracket) {
-        size_argument(alloc, inner, tokens)
+        size_argument(bump, tokens)
     } else if starts_with_word(tokens) {
-        name_argument(alloc, inner, tokens)
+        name_argument(bump, inner, tokens)
     } else {
         bracket_argument(read, inner, tokens)
     }
 }
 
-#[tactic(auto, unfolding(crate::specs::Reading::row_at, crate::specs::Reading::parts_at, crate::specs::Reading::has_at, crate::specs::Reading::sub_at, crate::specs::Phrases::items))]
-fn bracket_argument<R: ReadType>(
+#[tactic(auto, unfolding(fut_grammar::specs::Reading::row_at, fut_grammar::specs::Reading::parts_at, fut_grammar::specs::Reading::has_at, fut_grammar::specs::Reading::sub_at, fut_grammar::specs::Phrases::items))]
+fn bracket_argument<'a, R: ReadType<'a>>(
     read: R,
     inner: u32,
-    tokens: &[Token],
-) -> Result<(TypeArg<List<Name>, Name>, u32, &[Token]), Stop>
+    tokens: &'a [Token],
+) -> Result<Found<'a, TypeArg<'a>>, Stop>
     requires law { R.reads read inner }
     requires room { inner < 1000 }
-    ensures exact { Gives (λ x. (x.0, x.1, x.2.now)) result (row_at (items (read_at inner)) (of_type type_argument) tokens.now) }
-    ensures low { IfOk result (λ x. x.1 ≤ inner) }
+    ensures exact { Gives (found_as arg_of) result (row_at (items (read_at inner)) (of_type type_argument) tokens.now) }
+    ensures low { IfOk result (λ x. x.height ≤ inner) }
 {
-    let (tree, height, rest) = read.bracket(inner, tokens)?;
-    Ok((TypeArg::Of(tree), height, rest))
+    let found = read.bracket(inner, tokens)?;
+    Ok(Found {
+        tree: TypeArg::Of(found.tree),
+        height: found.height,
+        rest: found.rest,
+    })
 }
 
-#[tactic(auto, unfolding(crate::specs::Reading::row_at, crate::specs::Reading::parts_at, crate::specs::Reading::has_at, crate::specs::Reading::sub_at, crate::specs::Phrases::items))]
-fn name_argument(
-    alloc: Global,
+#[tactic(auto, unfolding(fut_grammar::specs::Reading::row_at, fut_grammar::specs::Reading::parts_at, fut_grammar::specs::Reading::has_at, fut_grammar::specs::Reading::sub_at, fut_grammar::specs::Phrases::items))]
+fn name_argument<'a>(
+    bump: &'a Bump,
     inner: u32,
-    tokens: &[Token],
-) -> Result<(TypeArg<List<Name>, Name>, u32, &[Token]), Stop>
+    tokens: &'a [Token],
+) -> Result<Found<'a, TypeArg<'a>>, Stop>
     requires { inner < 1000 }
-    ensures exact { Gives (λ x. (x.0, x.1, x.2.now)) result (row_at (items (read_at inner)) (of_type name_argument) tokens.now) }
-    ensures low { IfOk result (λ x. x.1 ≤ inner) }
+    ensures exact { Gives (found_as arg_of) result (row_at (items (read_at inner)) (of_type name_argument) tokens.now) }
+    ensures low { IfOk result (λ x. x.height ≤ inner) }
 {
-    let (tree, height, rest) = type_name(alloc, inner, tokens)?;
-    Ok((TypeArg::Of(tree), height, rest))
+    let found = type_name(bump, inner, tokens)?;
+    Ok(Found {
+        tree: TypeArg::Of(found.tree),
+        height: found.height,
+        rest: found.rest,
+    })
 }
 
 // ---- types without types in them
 
-#[tactic(auto, unfolding(crate::specs::Reading::row_at, crate::specs::Reading::parts_at, crate::specs::Reading::has_at))]
-fn unit(tokens: &[Token]) -> Result<(SourceType, u32, &[Token]), Stop>
-    ensures exact { (inner : ℕ) → Gives (λ x. (x.0, x.1, x.2.now)) result (row_at (phrases (read_at inner)) (of_type unit_type) tokens.now) }
-    ensures low { IfOk result (λ x. x.1 ≡ 1) }
+#[tactic(auto, unfolding(fut_grammar::specs::Reading::row_at, fut_grammar::specs::Reading::parts_at, fut_grammar::specs::Reading::has_at))]
+fn unit<'a>(bump: &'a Bump, tokens: &'a [Token]) -> TypeAnswer<'a>
+    ensures exact { (inner : ℕ) → Gives tree_found result (row_at (phrases (read_at inner)) (of_type unit_type) tokens.now) }
+    ensures low { IfOk result (λ x. x.height ≡ 1) }
 {
-    let at = next_spot(tokens);
+    let place = next_spot(tokens).place;
     let rest = take(tokens, Fixed::OpenParen)?;
     let rest = take(rest, Fixed::CloseParen)?;
-    Ok((node::unit(at), 1, rest))
+    Ok(Found {
+        tree: node::unit(bump, place)?,
+        height: 1,
+        rest,
+    })
 }
 
-#[tactic(auto, unfolding(crate::specs::Reading::row_at, crate::specs::Reading::parts_at, crate::specs::Reading::has_at))]
-fn no_fields(alloc: Global, tokens: &[Token]) -> Result<(SourceType, u32, &[Token]), Stop>
-    ensures exact { (inner : ℕ) → Gives (λ x. (x.0, x.1, x.2.now)) result (row_at (phrases (read_at inner)) (of_type no_fields) tokens.now) }
-    ensures low { IfOk result (λ x. x.1 ≡ 1) }
+#[tactic(auto, unfolding(fut_grammar::specs::Reading::row_at, fut_grammar::specs::Reading::parts_at, fut_grammar::specs::Reading::has_at))]
+fn no_fields<'a>(bump: &'a Bump, tokens: &'a [Token]) -> TypeAnswer<'a>
+    ensures exact { (inner : ℕ) → Gives tree_found result (row_at (phrases (read_at inner)) (of_type no_fields) tokens.now) }
+    ensures low { IfOk result (λ x. x.height ≡ 1) }
 {
-    let at = next_spot(tokens);
+    let place = next_spot(tokens).place;
     let rest = take(tokens, Fixed::OpenBrace)?;
     let rest = take(rest, Fixed::CloseBrace)?;
-    Ok((node::record_of(at, List::new(alloc)), 1, rest))
+    Ok(Found {
+        tree: node::record_of(bump, place, &[])?,
+        height: 1,
+        rest,
+    })
 }
 
-#[tactic(auto, unfolding(crate::specs::Reading::row_at, crate::specs::Reading::parts_at, crate::specs::Reading::has_at))]
-fn size_argument(
-    alloc: Global,
-    inner: u32,
-    tokens: &[Token],
-) -> Result<(TypeArg<List<Name>, Name>, u32, &[Token]), Stop>
-    ensures exact { Gives (λ x. (x.0, x.1, x.2.now)) result (row_at (items (read_at inner)) (of_type size_argument) tokens.now) }
-    ensures low { IfOk result (λ x. x.1 ≤ inner) }
+#[tactic(auto, unfolding(fut_grammar::specs::Reading::row_at, fut_grammar::specs::Reading::parts_at, fut_grammar::specs::Reading::has_at))]
+fn size_argument<'a>(bump: &'a Bump, tokens: &'a [Token]) -> Result<Found<'a, TypeArg<'a>>, Stop>
+    ensures exact { (inner : ℕ) → Gives (found_as arg_of) result (row_at (items (read_at inner)) (of_type size_argument) tokens.now) }
+    ensures low { IfOk result (λ x. x.height ≡ 0) }
 {
-    let _inner = inner;
     let rest = take(tokens, Fixed::OpenBracket)?;
-    let (size, rest) = take_size(alloc, rest)?;
-    let (size, rest) = both(size, take(rest, Fixed::CloseBracket))?;
-    Ok((TypeArg::Size(size), 0, rest))
+    let (size, rest) = take_size(bump, rest)?;
+    let rest = take(rest, Fixed::CloseBracket)?;
+    Ok(Found {
+        tree: TypeArg::Size(size),
+        height: 0,
+        rest,
+    })
 }

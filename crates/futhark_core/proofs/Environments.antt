@@ -6,7 +6,7 @@ use Rattle.std.specs.Str.{bytes_eq}
 use Rattle.std.proofs.lemmas.List.{drop_more}
 use Rattle.fut_scalar.specs.declared.scalar.Scalar.{Scalar}
 use Rattle.fut_ast.specs.Sorts.{Text}
-use Rattle.futhark_core.specs.Evaluation.{IsBoundI64}
+use Rattle.futhark_core.specs.Private.Evaluation.{IsBoundI64}
 use Rattle.futhark_core.specs.Meaning.{Environment, first_of, value_in, IsI64}
 
 -- ---- looking through

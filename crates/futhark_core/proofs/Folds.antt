@@ -1,5 +1,5 @@
 -- The equations of one level of the forms, the names and the values of an expression.
-use Rattle.std.proofs.Common.{◌≡◌, List, [], ◌∷◌, refl, sym, ap, ◌∙◌, map, Bool, true, false, ◌&&◌, cond}
+use Rattle.std.proofs.Common.{◌≡◌, List, [], ◌∷◌, refl, ap, ◌∙◌, map, Bool, false, ◌&&◌, cond}
 use Rattle.std.specs.Prelude.{Option, None, is_some}
 use Rattle.std.specs.List.{list_all}
 use Rattle.fut_scalar.specs.declared.place.Place.{Place}
@@ -8,7 +8,6 @@ use Rattle.fut_scalar.specs.declared.scalar.Scalar.TheVariants as scalar
 use Rattle.fut_ast.specs.Sorts.{Text, Path, SourceExp}
 use Rattle.fut_ast.specs.declared.exp.Exp.{fold_out-Exp}
 use Rattle.fut_ast.specs.declared.exp.Form.{Form, Form-F, out-Form, fold-Form, map-Form, fold_out-Form}
-use Rattle.fut_ast.specs.declared.exp.Form.TheVariants as form
 use Rattle.fut_ast.specs.declared.exp.Bind.{Bind, fold-Bind, fold_out-Bind}
 use Rattle.fut_ast.specs.declared.exp.Ix.{Ix, fold-Ix}
 use Rattle.fut_ast.specs.declared.exp.LoopForm.{LoopForm, fold-LoopForm}
@@ -62,17 +61,6 @@ built_at layer = refl
 
 pub built_out : (e : SourceExp) → is_built e ≡ built_layer (out-Form Path Text e.form)
 built_out e = fold_out-Exp Path Text Bool Bool Bool Bool Bool built_form (λ ix. false) (λ over. false) built_bind (λ e. e.form) e ∙ fold_out-Form Path Text Bool Bool Bool Bool Bool built_form (λ ix. false) (λ over. false) built_bind (λ e. e.form) e.form ∙ built_at (out-Form Path Text e.form)
-
-module _ (e : SourceExp) (binds : List (Bind Path Text)) (body : SourceExp) (is : e.form ≡ form.Lets binds body) where
-  lets_layer : is_built e ≡ (list_all is_built_bind binds && is_built body)
-  lets_layer = built_out e ∙ ap (λ f. built_layer (out-Form Path Text f)) is ∙ ap built_layer (form.outs-Lets binds body)
-
-  -- a row of let is built where its lets and its body are
-  pub lets_built : (first : Bool) → first ≡ list_all is_built_bind binds → first ≡ true → is_built body ≡ is_built e
-  lets_built first all holds = sym (lets_layer ∙ ap (λ b. b && is_built body) (sym all ∙ holds))
-
-  pub lets_unbuilt : (first : Bool) → first ≡ list_all is_built_bind binds → first ≡ false → first ≡ is_built e
-  lets_unbuilt first all fails = fails ∙ sym (lets_layer ∙ ap (λ b. b && is_built body) (sym all ∙ fails))
 
 -- ---- names
 
@@ -159,14 +147,3 @@ value_out e env =
     ap (λ comes. comes env) (fold_out-Exp Path Text (Place → Meaning) (Unit {0}) (Unit {0}) (Option Text × Meaning) Meaning value_form (λ ix. tt) (λ over. tt) (λ bind. (typed_name bind.pat, bind.value)) (λ e. e.form e.mark) e)
     ∙ ap (λ comes. comes e.mark env) (fold_out-Form Path Text (Place → Meaning) (Unit {0}) (Unit {0}) (Option Text × Meaning) Meaning value_form (λ ix. tt) (λ over. tt) (λ bind. (typed_name bind.pat, bind.value)) (λ e. e.form e.mark) e.form)
     ∙ value_at (out-Form Path Text e.form) e.mark env
-
--- ---- a row of let
-
-module _ (e : SourceExp) (binds : List (Bind Path Text)) (body : SourceExp) (is : e.form ≡ form.Lets binds body) where
-  pub names_of_lets : (scope : Scope) → unbound_of e scope ≡ unbound_lets (map unbound_bind binds) (unbound_of body) scope
-  names_of_lets scope = unbound_out e scope ∙ ap (λ f. unbound_layer (out-Form Path Text f) e.place scope) is
-      ∙ ap (λ layer. unbound_layer layer e.place scope) (form.outs-Lets binds body)
-
-  pub value_of_lets : (env : Environment) → value_of e env ≡ value_lets (map value_bind binds) (value_of body) env
-  value_of_lets env = value_out e env ∙ ap (λ f. value_layer (out-Form Path Text f) e.mark env) is
-      ∙ ap (λ layer. value_layer layer e.mark env) (form.outs-Lets binds body)

@@ -6,20 +6,18 @@ use Rattle.fut_scalar.specs.declared.report.Report.{Report}
 use Rattle.fut_scalar.specs.declared.scalar.Scalar.{Scalar}
 use Rattle.fut_token.specs.declared.token.Token.{Token}
 use Rattle.fut_io.specs.Outside.{file_at}
-use Rattle.fut_lexer.specs.Lexing.{OneReading, HasTokens, Refuses as RefusesText}
+use Rattle.fut_lexer.specs.Lexing.{OneReading, HasTokens, RefusesText}
 use Rattle.fut_lexer.specs.declared.lexer.LexErr.{LexErr}
 use Rattle.fut_ast.specs.Grammar.{Derives}
 use Rattle.fut_ast.specs.Sorts.{SourcePat, SourceExp}
 use Rattle.fut_ast.specs.declared.module.Program.{Program}
-use Rattle.fut_parser.specs.Answers.{Refuses as RefusesTokens, answer_of}
-use Rattle.fut_parser.specs.declared.programs.ParseErr.{ParseErr}
-use Rattle.futhark_core.specs.Words.{command_of}
+use Rattle.futhark_core.specs.CommandLine.{command_of}
 use Rattle.futhark_core.specs.Forms.{params_of}
-use Rattle.futhark_core.specs.Front.{first_file, IsParsed, IsBuilt, IsUnbuilt, unbound_in}
+use Rattle.futhark_core.specs.Acceptance.{first_file, IsParsed, IsBuilt, IsUnbuilt, unbound_in}
 use Rattle.futhark_core.specs.Meaning.{Means, Outcome, Gives, Fails, output_of, value_of, arguments}
-use Rattle.futhark_core.specs.Arguments.{Reads, Refuses}
+use Rattle.futhark_core.specs.Arguments.{ReadsInput, RefusesInput}
 use Rattle.futhark_core.specs.Row.{status_for}
-use Rattle.futhark_core.specs.Comes.{Stage, Onward, Then, Commanded, Held, Tokenized, Parsed, Built, Bound, Argued, Evaluated}
+use Rattle.futhark_core.specs.Comes.{Stage, Onward, Then, Commanded, FileHeld, Tokenized, ParserRefusal, Parsed, Built, Bound, Argued, Evaluated}
 use Rattle.futhark_core.specs.declared.words.Action.{Action}
 use Rattle.futhark_core.specs.declared.status.TextErr.{TextErr}
 use Rattle.futhark_core.specs.declared.status.ModErr.TheVariants as names
@@ -27,18 +25,34 @@ use Rattle.futhark_core.specs.declared.status.Why.TheVariants as why
 use Rattle.futhark_core.specs.declared.status.LimitKind.TheVariants as limit
 use Rattle.futhark_core.specs.declared.status.Status.{Status}
 use Rattle.futhark_core.specs.declared.status.Status.TheVariants.{Usage, Limit, Input, Failure}
-use Rattle.futhark_core.proofs.Acceptance.{somewhere}
+use Rattle.futhark_core.proofs.BuiltPlaces.{somewhere}
+
+-- of all that the stage comes to this holds
+abbrev pub Holds : {A : Type 0} → Stage A → (Result A Status → Type 0) → Type 0
+Holds {A} stage P = (a : Result A Status) → stage a → P a
 
 -- the stage comes to this and to nothing else
 abbrev pub Settles : {A : Type 0} → Stage A → Result A Status → Type 0
-Settles {A} stage x = (a : Result A Status) → stage a → a ≡ x
+Settles {A} stage x = Holds stage (λ a. a ≡ x)
 
-pub then_ok : {A B : Type 0} (first : Stage A) (next : A → Stage B) (m : A) (end : Result B Status) → Settles first (Ok m) → Settles (next m) end → Settles (Then first next) end
-then_ok {A} {B} first next m end one more x run =
+-- the stage ends the run, with such a status
+abbrev pub EndsAs : {A : Type 0} → (Status → Type 0) → Result A Status → Type 0
+EndsAs {A} Q (Ok a) = ⊥
+EndsAs {A} Q (Err status) = Q status
+
+pub then_ok : {A B : Type 0} (first : Stage A) (next : A → Stage B) (P : Result B Status → Type 0) (m : A) → Settles first (Ok m) → Holds (next m) P → Holds (Then first next) P
+then_ok {A} {B} first next P m one more x run =
     more x (subst (λ (middle : Result A Status). Onward middle next x) (one run.0 run.1) run.2)
 
 pub then_err : {A B : Type 0} (first : Stage A) (next : A → Stage B) (status : Status) → Settles first (Err status) → Settles (Then first next) (Err status)
 then_err {A} {B} first next status one x run = subst (λ (middle : Result A Status). Onward middle next x) (one run.0 run.1) run.2
+
+pub then_ends : {A B : Type 0} (first : Stage A) (next : A → Stage B) (Q : Status → Type 0) → Holds first (EndsAs Q) → Holds (Then first next) (EndsAs Q)
+then_ends {A} {B} first next Q one x run = go run.0 (one run.0 run.1) run.2
+  where
+    go : (middle : Result A Status) → EndsAs Q middle → Onward middle next x → EndsAs Q x
+    go (Ok a) ends on = absurd ends
+    go (Err status) ends on = subst (λ (y : Result B Status). EndsAs Q y) (sym on) ends
 
 -- ---- the words and the file
 
@@ -54,14 +68,14 @@ some_same : {A : Type 0} (x : A) (y : A) → Some x ≡ Some y → x ≡ y
 some_same x y e = cc
 
 pub held_ok : (files : Option (List (List ℕ × List ℕ))) (file text : List ℕ) → IfSome files (λ all. file_at all file ≡ Some text) → length text ≤ 4194304 →
-    Settles (Held files file) (Ok text)
+    Settles (FileHeld files file) (Ok text)
 held_ok None file text is short a p = absurd p
 held_ok (Some all) file text is short (Ok other) p = ap Ok (some_same other text (sym p.0 ∙ is))
 held_ok (Some all) file text is short (Err status) p =
     let e = some_same p.0 text (sym p.1 ∙ is) in let many = p.2 in let l = ap length e in absurd (omega arith)
 
 pub held_err : (files : Option (List (List ℕ × List ℕ))) (file : List ℕ) → IfSome files (λ all. IsSomeAnd (file_at all file) (λ text. 4194304 < length text)) →
-    Settles (Held files file) (Err (Limit limit.FileBytes))
+    Settles (FileHeld files file) (Err (Limit limit.FileBytes))
 held_err None file long a p = absurd p
 held_err (Some all) file long (Err status) p = ap Err p.3
 held_err (Some all) file long (Ok text) p = let is = p.0 in let few = p.1 in let many = rw is at long in absurd (omega arith)
@@ -81,17 +95,11 @@ module _ (one : OneReading) (file text : List ℕ) where
 module _ (file : List ℕ) (tokens : List Token) where
   pub parsed_ok : (program : Program) → IsParsed tokens program → Settles (Parsed file tokens) (Ok program)
   parsed_ok program is (Ok other) p = ap Ok (is.only other p.0 p.2)
-  parsed_ok program is (Err status) p = let reads = is.reads.1 in let refuses = p.1.1 in absurd cc
+  parsed_ok program is (Err status) p = absurd (p.0 program is.height is.flat is.spelled)
 
-  one_refusal : (a b : ParseErr) → RefusesTokens first_file tokens a → RefusesTokens first_file tokens b → a ≡ b
-  one_refusal a b p q =
-      let x = p.1 in let y = q.1 in let same : p.0 ≡ q.0 = cc in
-      sym p.2 ∙ ap (answer_of first_file tokens) same ∙ q.2
-
-  pub parsed_err : (err : ParseErr) → ((program : Program) (h : ℕ) → h ≤ 201 → Derives tokens program h → ⊥) → RefusesTokens first_file tokens err →
-      Settles (Parsed file tokens) (Err (status_for (why.Parse err) file))
-  parsed_err err none is (Ok program) p = absurd (none program p.0 p.1 p.2)
-  parsed_err err none is (Err status) p = ap Err (p.2 ∙ ap (λ (e : ParseErr). status_for (why.Parse e) file) (one_refusal p.0 err p.1 is))
+  pub parsed_none : ((program : Program) (h : ℕ) → h ≤ 201 → Derives tokens program h → ⊥) → Holds (Parsed file tokens) (EndsAs (ParserRefusal file))
+  parsed_none none (Ok program) p = absurd (none program p.0 p.1 p.2)
+  parsed_none none (Err status) p = p.1
 
   module _ (program : Program) where
     pub built_ok : IsBuilt tokens program → Settles (Built file tokens program) (Ok program)
@@ -118,7 +126,7 @@ module _ (file : List ℕ) (tokens : List Token) where
 
 module _ (program : Program) where
   pub argued_ok : (left : Option (List ℕ)) (bytes : List ℕ) (values : List Scalar) → IfSome left (λ left. bytes ≡ left) → length bytes ≤ 67108864 →
-      Reads (params_of program) bytes values → Settles (Argued program left) (Ok values)
+      ReadsInput (params_of program) bytes values → Settles (Argued program left) (Ok values)
   argued_ok None bytes values all short reads a p = absurd p
   argued_ok (Some left) bytes values all short reads (Ok other) p =
       let same = p.1 in let own = rw all at reads in cc
@@ -134,7 +142,7 @@ module _ (program : Program) where
   argued_past (Some left) long (Err status) (inr p) = let few = p.1 in absurd (omega arith)
 
   pub argued_err : (left : Option (List ℕ)) (bytes : List ℕ) (err : TextErr) → IfSome left (λ left. bytes ≡ left) → length bytes ≤ 67108864 →
-      Refuses (params_of program) bytes err → Settles (Argued program left) (Err (Input err))
+      RefusesInput (params_of program) bytes err → Settles (Argued program left) (Err (Input err))
   argued_err None bytes err all short refuses a p = absurd p
   argued_err (Some left) bytes err all short refuses (Ok values) p =
       let own = rw all at refuses in let reads = p.1 in absurd cc

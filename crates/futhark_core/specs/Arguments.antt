@@ -5,7 +5,6 @@ use Rattle.std.specs.Int.{w64, cast_unsigned}
 use Rattle.fut_scalar.specs.declared.scalar.IntType.TheVariants as int
 use Rattle.fut_scalar.specs.declared.scalar.Scalar.{Scalar}
 use Rattle.fut_scalar.specs.declared.scalar.Scalar.TheVariants as scalar
-use Rattle.fut_ast.specs.Sorts.{SourcePat}
 use Rattle.futhark_core.specs.Forms.{is_none}
 use Rattle.futhark_core.specs.declared.integer.Integer.{Integer}
 use Rattle.futhark_core.specs.declared.status.TextErr.{TextErr}
@@ -117,19 +116,19 @@ gap_at bytes = prefix_len is_blank bytes
 
 -- the values of the parameters, of which the first has this number, in the text that begins at this position,
 -- or the first refusal
-abbrev pub values_on : List SourcePat → Reader
+abbrev pub values_on : {A : Type 0} → List A → Reader
 values_on [] param position bytes = nothing_at (position + gap_at bytes) (drop (gap_at bytes) bytes)
 values_on (name ∷ names) param position bytes = value_at (is_none names) (values_on names) param (position + gap_at bytes) (drop (gap_at bytes) bytes)
 
 -- the text reads as these values, one for each parameter
-abbrev pub Reads : List SourcePat → List ℕ → List Scalar → Type 0
-Reads params bytes values = values_on params 1 0 bytes ≡ Ok values
+abbrev pub ReadsInput : {A : Type 0} → List A → List ℕ → List Scalar → Type 0
+ReadsInput params bytes values = values_on params 1 0 bytes ≡ Ok values
 
 -- the text is refused as arguments, first for this reason
-abbrev pub Refuses : List SourcePat → List ℕ → TextErr → Type 0
-Refuses params bytes err = values_on params 1 0 bytes ≡ Err err
+abbrev pub RefusesInput : {A : Type 0} → List A → List ℕ → TextErr → Type 0
+RefusesInput params bytes err = values_on params 1 0 bytes ≡ Err err
 
 -- why no values were given: memory ran out, or the text is refused
-abbrev pub ExplainsText : List SourcePat → List ℕ → TextErr → Type 0
-ExplainsText params bytes text.Memory = Unit {0}
-ExplainsText params bytes err = Refuses params bytes err
+abbrev pub ExplainsInput : {A : Type 0} → List A → List ℕ → TextErr → Type 0
+ExplainsInput params bytes text.Memory = Unit {0}
+ExplainsInput params bytes err = RefusesInput params bytes err

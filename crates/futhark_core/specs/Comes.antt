@@ -8,17 +8,16 @@ use Rattle.fut_scalar.specs.declared.place.Place.{Place}
 use Rattle.fut_token.specs.declared.token.Token.{Token}
 use Rattle.fut_io.specs.Counts.{Rose}
 use Rattle.fut_io.specs.Outside.{file_at}
-use Rattle.fut_lexer.specs.Lexing.{HasTokens, Refuses as RefusesText}
+use Rattle.fut_lexer.specs.Lexing.{HasTokens, RefusesText}
 use Rattle.fut_lexer.specs.declared.lexer.LexErr.{LexErr}
 use Rattle.fut_ast.specs.Grammar.{Derives}
 use Rattle.fut_ast.specs.declared.module.Program.{Program}
-use Rattle.fut_parser.specs.Answers.{Refuses as RefusesTokens}
 use Rattle.fut_parser.specs.declared.programs.ParseErr.{ParseErr}
-use Rattle.futhark_core.specs.Words.{command_of}
+use Rattle.futhark_core.specs.CommandLine.{command_of}
 use Rattle.futhark_core.specs.Forms.{params_of}
-use Rattle.futhark_core.specs.Front.{IsBuilt, first_file, unbound_in, unbuilt_at}
+use Rattle.futhark_core.specs.Acceptance.{IsBuilt, first_file, unbound_in, unbuilt_at}
 use Rattle.futhark_core.specs.Meaning.{Means, Gives, Fails, output_of}
-use Rattle.futhark_core.specs.Arguments.{Reads, Refuses}
+use Rattle.futhark_core.specs.Arguments.{ReadsInput, RefusesInput}
 use Rattle.futhark_core.specs.Row.{Outside, accepted_text, most_input, status_for}
 use Rattle.futhark_core.specs.declared.words.Action.{Action}
 use Rattle.futhark_core.specs.declared.words.Action.TheVariants.{Run, Check}
@@ -48,20 +47,24 @@ Commanded words (Ok command) = command_of words ≡ Ok command
 Commanded words (Err status) = (word : ℕ) × (command_of words ≡ Err word) × (status ≡ Usage word)
 
 -- a told file holds a text, which may be too long
-abbrev pub Held : Option (List (List ℕ × List ℕ)) → List ℕ → Stage (List ℕ)
-Held None file end = ⊥
-Held (Some files) file (Ok text) = (file_at files file ≡ Some text) × (length text ≤ 4194304)
-Held (Some files) file (Err status) = (text : List ℕ) × (file_at files file ≡ Some text) × (4194304 < length text) × (status ≡ Limit limit.FileBytes)
+abbrev pub FileHeld : Option (List (List ℕ × List ℕ)) → List ℕ → Stage (List ℕ)
+FileHeld None file end = ⊥
+FileHeld (Some files) file (Ok text) = (file_at files file ≡ Some text) × (length text ≤ 4194304)
+FileHeld (Some files) file (Err status) = (text : List ℕ) × (file_at files file ≡ Some text) × (4194304 < length text) × (status ≡ Limit limit.FileBytes)
 
 -- the text has tokens, or is refused
 abbrev pub Tokenized : List ℕ → List ℕ → Stage (List Token)
 Tokenized file text (Ok tokens) = HasTokens first_file text tokens
 Tokenized file text (Err status) = (err : LexErr) × RefusesText first_file text err × (status ≡ status_for (why.Lex err) file)
 
--- the tokens spell a program that is nested at most 200 deep, or are refused
+-- the status is the parser's refusal of this file; which one, and at which token, its row says
+abbrev pub ParserRefusal : List ℕ → Status → Type 0
+ParserRefusal file status = (err : ParseErr) × (status ≡ status_for (why.Parse err) file)
+
+-- the tokens spell a program that is nested at most 200 deep, or none
 abbrev pub Parsed : List ℕ → List Token → Stage Program
 Parsed file tokens (Ok program) = (h : ℕ) × (h ≤ 201) × Derives tokens program h
-Parsed file tokens (Err status) = (err : ParseErr) × RefusesTokens first_file tokens err × (status ≡ status_for (why.Parse err) file)
+Parsed file tokens (Err status) = ((program : Program) (h : ℕ) → h ≤ 201 → Derives tokens program h → ⊥) × ParserRefusal file status
 
 -- the program is built, or its tokens leave the part that is built
 abbrev pub Built : List ℕ → List Token → Program → Stage Program
@@ -77,7 +80,7 @@ Bound file program (Err status) = (name : List ℕ) × (place : Place) × (unbou
 -- the file's text is accepted
 abbrev pub Accepted : Option (List (List ℕ × List ℕ)) → List ℕ → Stage Program
 Accepted files file =
-    Then (Held files file) (λ text.
+    Then (FileHeld files file) (λ text.
     Then (Tokenized file text) (λ tokens.
     Then (Parsed file tokens) (λ parsed.
     Then (Built file tokens parsed) (λ built. Bound file built))))
@@ -85,9 +88,9 @@ Accepted files file =
 -- the told input reads as arguments of the program, or is refused, or is too long
 abbrev pub Argued : Program → Option (List ℕ) → Stage (List Scalar)
 Argued program None end = ⊥
-Argued program (Some bytes) (Ok values) = (length bytes ≤ most_input) × Reads (params_of program) bytes values
+Argued program (Some bytes) (Ok values) = (length bytes ≤ most_input) × ReadsInput (params_of program) bytes values
 Argued program (Some bytes) (Err status) = ((most_input < length bytes) × (status ≡ Limit limit.InputBytes))
-    ⊎ ((err : TextErr) × (length bytes ≤ most_input) × Refuses (params_of program) bytes err × (status ≡ Input err))
+    ⊎ ((err : TextErr) × (length bytes ≤ most_input) × RefusesInput (params_of program) bytes err × (status ≡ Input err))
 
 -- the program means a value, whose text is the run's, or a failure
 abbrev pub Evaluated : List ℕ → Program → List Scalar → Stage (List ℕ)
@@ -121,7 +124,11 @@ abbrev pub ends_with : Result (List ℕ) Status → Status
 ends_with (Ok text) = Done
 ends_with (Err status) = status
 
+-- the status is this end, or both are the parser's refusal of one file
+abbrev pub Agrees : Status → Status → Type 0
+Agrees status end = (status ≡ end) ⊎ ((file : List ℕ) × ParserRefusal file status × ParserRefusal file end)
+
 -- Where the run comes to an end by what is told, and no fault rose, that is its status, or memory ran out.
 abbrev pub Complete : Status → List (List ℕ) → Outside → Outside → Type 0
 Complete status words old new = (end : Result (List ℕ) Status) → Comes words old.loader.files old.input.left end → NoFault old new →
-    (status ≡ ends_with end) ⊎ (status ≡ Memory)
+    Agrees status (ends_with end) ⊎ (status ≡ Memory)

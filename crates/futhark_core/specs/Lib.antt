@@ -1,13 +1,12 @@
-pub mod Words
+pub mod CommandLine
 pub mod Forms
 pub mod Built
-pub mod Reading
+pub mod BuiltReading
 pub mod Meaning
-pub mod Evaluation
 pub mod Status
-pub mod Front
+pub mod Acceptance
 pub mod Arguments
-pub mod Values
 pub mod Report
 pub mod Row
 pub mod Comes
+pub mod Private

@@ -1,20 +1,17 @@
 -- What each status of a run says of its words and of the outside before and after it.
-use Rattle.std.specs.Prelude.{◌≡◌, ◌≤◌, ℕ, List, length, Some, Ok, Err, IsSome, codes}
+use Rattle.std.specs.Prelude.{◌≡◌, ◌≤◌, ◌⊎◌, ℕ, List, length, Ok, Err, codes}
 use Rattle.fut_scalar.specs.declared.place.Place.{Place}
 use Rattle.fut_scalar.specs.declared.report.Report.{Report}
 use Rattle.fut_scalar.specs.declared.scalar.Scalar.{Scalar}
 use Rattle.fut_io.specs.Counts.{Rose}
-use Rattle.fut_io.specs.Outside.{LoaderSeen, SourceSeen, SinkSeen, AllRead, ReadPast, Took, TookPart}
-use Rattle.fut_ast.specs.Sorts.{SourcePat, SourceExp}
+use Rattle.fut_io.specs.Outside.{LoaderSeen, SourceSeen, SinkSeen, AllRead, ReadPart, ReadPast, Took, TookPart}
 use Rattle.fut_ast.specs.declared.module.Program.{Program}
 use Rattle.fut_parser.specs.declared.programs.ParseErr.TheVariants as parse
-use Rattle.futhark_core.specs.Words.{command_of}
-use Rattle.futhark_core.specs.Forms.{main_of, params_of}
-use Rattle.futhark_core.specs.Front.{IsAccepted, IsRefused}
-use Rattle.futhark_core.specs.Arguments.{Reads, Refuses}
-use Rattle.futhark_core.specs.Meaning.{Means, Outcome, Gives, Fails, Wrong, output_of, value_of, arguments}
-use Rattle.futhark_core.specs.declared.evaluator.EvalErr.{EvalErr}
-use Rattle.futhark_core.specs.declared.evaluator.EvalErr.TheVariants as err
+use Rattle.futhark_core.specs.CommandLine.{command_of}
+use Rattle.futhark_core.specs.Forms.{params_of}
+use Rattle.futhark_core.specs.Acceptance.{AcceptedFile, UnacceptedFile}
+use Rattle.futhark_core.specs.Arguments.{ReadsInput, RefusesInput}
+use Rattle.futhark_core.specs.Meaning.{Means, Outcome, Gives, Fails, output_of}
 use Rattle.futhark_core.specs.declared.words.Action.{Action}
 use Rattle.futhark_core.specs.declared.words.Action.TheVariants.{Run, Check}
 use Rattle.futhark_core.specs.declared.status.TextErr.{TextErr}
@@ -42,11 +39,11 @@ pub record UsageRow (words : List (List ℕ)) (old new : Outside) (word : ℕ) :
   pub command : command_of words ≡ Err word
   pub quiet : new ≡ old
 
--- the source was refused, before anything else was touched
+-- the source was not accepted, before anything else was touched
 pub record FrontRow (reason : Why) (words : List (List ℕ)) (old new : Outside) (path : List ℕ) : Type 0 where
   pub action : Action
   pub command : command_of words ≡ Ok (action, path)
-  pub refused : IsRefused path old.loader new.loader reason
+  pub unaccepted : UnacceptedFile path old.loader new.loader reason
   pub input : new.input ≡ old.input
   pub out : new.out ≡ old.out
 
@@ -79,7 +76,13 @@ NamesRow reason words old new path = ⊥
 -- the words name a file whose program is accepted, and what is done with it
 pub record Started (words : List (List ℕ)) (old new : Outside) (action : Action) (file : List ℕ) (program : Program) : Type 0 where
   pub command : command_of words ≡ Ok (action, file)
-  pub accepted : IsAccepted file old.loader new.loader program
+  pub accepted : AcceptedFile file old.loader new.loader program
+
+-- the words ask for a run of a file whose program is accepted
+pub record HasStarted (words : List (List ℕ)) (old new : Outside) : Type 0 where
+  pub file : List ℕ
+  pub program : Program
+  pub started : Started words old new Run file program
 
 -- what a program meets outside: its input and out
 pub record Streams : Type 0 where
@@ -92,21 +95,23 @@ pub record InputBytesRow (old new : Streams) : Type 0 where
   pub past : ReadPast old.input new.input most_input
   pub out : new.out ≡ old.out
 
+-- the input has failed, behind some of what was left
 pub record ReadFaultRow (old new : Streams) : Type 0 where
   pub faults : Rose old.input.faults new.input.faults
+  pub read : ReadPart old.input new.input
   pub out : new.out ≡ old.out
 
 -- the whole input was read, and is refused as arguments
-pub record RefusedInput (program : Program) (old new : Streams) (err : TextErr) : Type 0 where
+pub record UnreadInput (program : Program) (old new : Streams) (err : TextErr) : Type 0 where
   pub bytes : List ℕ
   pub read : AllRead old.input new.input bytes
   pub short : length bytes ≤ most_input
-  pub refuses : Refuses (params_of program) bytes err
+  pub refuses : RefusesInput (params_of program) bytes err
   pub out : new.out ≡ old.out
 
 abbrev pub InputRow : Program → Streams → Streams → TextErr → Type 0
 InputRow program old new text.Memory = ⊥
-InputRow program old new err = RefusedInput program old new err
+InputRow program old new err = UnreadInput program old new err
 
 -- the program comes to this outcome for the values that the whole input reads as
 pub record ComesTo (program : Program) (old new : SourceSeen) (outcome : Outcome) : Type 0 where
@@ -114,7 +119,7 @@ pub record ComesTo (program : Program) (old new : SourceSeen) (outcome : Outcome
   pub values : List Scalar
   pub read : AllRead old new bytes
   pub short : length bytes ≤ most_input
-  pub reads : Reads (params_of program) bytes values
+  pub reads : ReadsInput (params_of program) bytes values
   pub means : Means program values outcome
 
 -- out grew by exactly the text of the value that the program means and a newline
@@ -145,12 +150,6 @@ ProgramRow (Failure report path) file program old new = FailureRow file program 
 ProgramRow WriteFault file program old new = WriteFaultRow program old new
 ProgramRow Memory file program old new = new.out ≡ old.out
 ProgramRow status file program old new = ⊥
-
--- the status of a program that has no value; one that is accepted is never wrong
-abbrev pub failed_status : EvalErr → List ℕ → Status
-failed_status (err.Failed report) path = Failure report path
-failed_status err.Wrong path = Memory
-failed_status err.Memory path = Memory
 
 -- ---- a check
 
@@ -186,9 +185,10 @@ pub record ProgramEnded (status : Status) (words : List (List ℕ)) (old new : O
   pub started : Started words old new action file program
   pub ended : ActionRow action status file program (record { input = old.input; out = old.out }) (record { input = new.input; out = new.out })
 
--- memory may run out at any time before anything is written
+-- memory may run out at any time before anything is written; input was read only where a run had started
 pub record MemoryRow (words : List (List ℕ)) (old new : Outside) : Type 0 where
   pub loader : new.loader ≡ old.loader
+  pub input : (new.input ≡ old.input) ⊎ HasStarted words old new
   pub out : new.out ≡ old.out
 
 -- the status that a refusal of the source is answered with
@@ -203,18 +203,12 @@ status_for (why.Names err) path = Names (record { why = why.Names err; path = pa
 status_for why.Memory path = Memory
 
 -- each status comes only where its row holds
-abbrev pub Row : Status → List (List ℕ) → Outside → Outside → Type 0
-Row (Usage word) words old new = UsageRow words old new word
-Row (LoadFault refused) words old new = LoadRow refused.why words old new refused.path
-Row (Text refused) words old new = TextRow refused.why words old new refused.path
-Row (Names refused) words old new = NamesRow refused.why words old new refused.path
-Row (Limit limit.FileBytes) words old new = FileBytesRow words old new
-Row (Limit limit.Nesting) words old new = NestingRow words old new
-Row Memory words old new = MemoryRow words old new
-Row status words old new = ProgramEnded status words old new
-
--- a program that is accepted has its `main`, and comes to a value or a failure for each list of arguments of its length
-pub record IsRunnable (program : Program) : Type 0 where
-  pub main : IsSome (main_of program)
-  pub sure : (params : List SourcePat) (body : SourceExp) (values : List Scalar) → main_of program ≡ Some (params, body) →
-      length values ≡ length params → value_of body (arguments params values) ≡ Wrong → ⊥
+abbrev pub RunRow : Status → List (List ℕ) → Outside → Outside → Type 0
+RunRow (Usage word) words old new = UsageRow words old new word
+RunRow (LoadFault refused) words old new = LoadRow refused.why words old new refused.path
+RunRow (Text refused) words old new = TextRow refused.why words old new refused.path
+RunRow (Names refused) words old new = NamesRow refused.why words old new refused.path
+RunRow (Limit limit.FileBytes) words old new = FileBytesRow words old new
+RunRow (Limit limit.Nesting) words old new = NestingRow words old new
+RunRow Memory words old new = MemoryRow words old new
+RunRow status words old new = ProgramEnded status words old new

@@ -1,32 +1,32 @@
 // Reading the input text as the arguments of a program.
 ghost use Rattle.std.specs.Prelude.{◌≡◌, ◌+◌, ◌<◌, ◌≤◌, ◌^◌, length, drop, MatchResult, Err, IfOk, IfErr};
 ghost use Rattle.std.specs.List.{All};
-ghost use Rattle.futhark_core.specs.Arguments.{ExplainsText, Reader, Reads, value_at, with_front};
+ghost use Rattle.futhark_core.specs.Arguments.{ExplainsInput, Reader, ReadsInput, value_at, with_front};
 ghost use Rattle.futhark_core.specs.Forms.{is_none};
 ghost use Rattle.futhark_core.specs.Meaning.{IsI64};
 
-use crate::forms::SourcePat;
 use crate::integer::{behind, gap, integer_at, value_of};
 use crate::status::TextErr;
 use fut_scalar::{List, Scalar};
+use fut_tree::{Held, Pat};
 use std::alloc::Global;
 
 /// Whether there are no further parameters.
-fn is_none(params: &[SourcePat]) -> bool
+fn is_none<'a>(params: &'a [Held<'a, Pat<'a>>]) -> bool
     ensures { result ≡ is_none params.now }
 {
     params.is_empty()
 }
 
 /// A value and how many bytes it takes.
-#[derive(Clone, Copy, Debug, PartialEq, Eq)]
-struct Found {
+#[derive(Clone, Copy)]
+struct ReadValue {
     value: Scalar,
     length: usize,
 }
 
 /// The value of this parameter at the front of a text, which has no blanks there.
-fn read_value(last: bool, param: u64, position: u64, text: &[u8]) -> Result<Found, TextErr>
+fn read_value(last: bool, param: u64, position: u64, text: &[u8]) -> Result<ReadValue, TextErr>
     requires { position + length text.now < 2 ^ 64 }
     ensures value { MatchResult result
         (λ found. (others : Reader) → value_at last others param position text.now ≡ with_front found.value (others (param + 1) (position + found.length) (drop found.length text.now)))
@@ -46,7 +46,7 @@ fn read_value(last: bool, param: u64, position: u64, text: &[u8]) -> Result<Foun
         }
     };
     match value_of(integer) {
-        Some(value) => Ok(Found {
+        Some(value) => Ok(ReadValue {
             value,
             length: integer.length as usize,
         }),
@@ -55,11 +55,15 @@ fn read_value(last: bool, param: u64, position: u64, text: &[u8]) -> Result<Foun
 }
 
 /// The arguments that a text reads as, one for each parameter.
-pub fn read_args(alloc: Global, params: &[SourcePat], text: &[u8]) -> Result<List<Scalar>, TextErr>
-    ensures reads { IfOk result (Reads params.now text.now) }
+pub fn read_args<'a>(
+    alloc: Global,
+    params: &'a [Held<'a, Pat<'a>>],
+    text: &[u8],
+) -> Result<List<Scalar>, TextErr>
+    ensures reads { IfOk result (ReadsInput params.now text.now) }
     ensures arity { IfOk result (λ values. length values ≡ length params.now) }
     ensures integers { IfOk result (All IsI64) }
-    ensures refused { IfErr result (ExplainsText params.now text.now) }
+    ensures refused { IfErr result (ExplainsInput params.now text.now) }
 {
     let mut values = List::new(alloc);
     let mut rest = text;

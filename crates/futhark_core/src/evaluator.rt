@@ -3,19 +3,22 @@ ghost use Rattle.std.specs.Prelude.{◌≡◌, [], ◌∷◌, ◌++◌, Some, If
 ghost use Rattle.std.specs.List.{All};
 ghost use Rattle.fut_scalar.specs.declared.scalar.IntType.TheVariants as int;
 ghost use Rattle.fut_scalar.specs.declared.scalar.Scalar.TheVariants as scalar;
-ghost use Rattle.futhark_core.specs.Evaluation.{Answers, AnswersBehind, IsBoundI64};
+ghost use Rattle.fut_tree.specs.Exps.{binds_of};
+ghost use Rattle.fut_tree.specs.Names.{all, names};
+ghost use Rattle.futhark_core.specs.Private.Evaluation.{Answers, AnswersBehind, IsBoundI64};
 ghost use Rattle.futhark_core.specs.Forms.{is_i64_suffix, one_name, typed_name};
 ghost use Rattle.futhark_core.specs.Meaning.{arguments, negated, operated, value_bind, value_in, value_lets, value_of, value_use, with_bound, IsI64, Gives, Wrong, Environment, Outcome};
 
-use crate::forms::{SourceBind, SourcePat, is_i64_suffix, one_name, typed_name};
-use fut_ast::{Form, Oper, SourceExp};
+use crate::forms::{is_i64_suffix, one_name, typed_name};
+use fut_ast::Oper;
 use fut_scalar::{
     BinOp, IntType, List, Name, NoMemory, Place, Report, Scalar, UnOp, binop, fail_kind, unop,
 };
+use fut_tree::{Bind, Exp, Form, Held, Pat};
 use std::alloc::Global;
 
 /// Why an expression has no value.
-#[derive(Clone, Copy, Debug, PartialEq, Eq)]
+#[derive(Clone, Copy)]
 pub enum EvalErr {
     Failed(Report),
     /// The expression is none of an accepted program.
@@ -41,21 +44,21 @@ fn later(found: Option<Scalar>, same: bool, value: Scalar) -> Option<Scalar>
 }
 
 /// The value of the last that has this name.
-fn value_in(env: &[(Name, Scalar)], name: &Name) -> Option<Scalar>
+fn value_in(env: &[(Name, Scalar)], name: &str) -> Option<Scalar>
     requires { All IsBoundI64 env.now }
     ensures value { result ≡ value_in env.now name.now }
     ensures integer { IfSome result IsI64 }
 {
     let mut found = None;
     for bound in env {
-        found = later(found, bound.0.is_same(name), bound.1);
+        found = later(found, bound.0.as_str() == name, bound.1);
     }
     found
 }
 
-fn value_use(path: &List<Name>, env: &List<(Name, Scalar)>) -> Result<Scalar, EvalErr>
+fn value_use<'a>(path: &'a [&'a str], env: &List<(Name, Scalar)>) -> Result<Scalar, EvalErr>
     requires { All IsBoundI64 env.now }
-    ensures value { Answers (value_use (one_name path.now) env.now) result }
+    ensures value { Answers (value_use (one_name (names path.now)) env.now) result }
     ensures integer { IfOk result IsI64 }
 {
     match one_name(path) {
@@ -116,33 +119,33 @@ fn negate(op: Oper, value: Scalar) -> Result<Scalar, EvalErr>
 fn bind(
     alloc: Global,
     env: &mut List<(Name, Scalar)>,
-    name: &Name,
+    name: &str,
     value: Scalar,
 ) -> Result<(), NoMemory>
     ensures { OnOk result (env.new ≡ env.old ++ (name.now, value) ∷ []) }
 {
-    let copy = name.copy(alloc)?;
+    let copy = Name::new(alloc, name)?;
     env.push((copy, value))
 }
 
 /// Evaluates the values of a row of let and binds its names.
 #[cycle(evaluation)]
-fn bind_lets(
+fn bind_lets<'a>(
     alloc: Global,
-    binds: &[SourceBind],
+    binds: &'a [Bind<'a>],
     env: &mut List<(Name, Scalar)>,
 ) -> Result<(), EvalErr>
     requires { All IsBoundI64 env.old }
-    ensures ok { OnOk result ((body : Environment → Outcome) → value_lets (map value_bind binds.now) body env.old ≡ body env.new) }
-    ensures refused { IfErr result (λ err. (body : Environment → Outcome) → AnswersBehind (value_lets (map value_bind binds.now) body env.old) err) }
+    ensures ok { OnOk result ((body : Environment → Outcome) → value_lets (map value_bind (binds_of binds.now)) body env.old ≡ body env.new) }
+    ensures refused { IfErr result (λ err. (body : Environment → Outcome) → AnswersBehind (value_lets (map value_bind (binds_of binds.now)) body env.old) err) }
     ensures outside { OnOk result (take (length env.old) env.new ≡ env.old) }
     ensures integers { OnOk result (All IsBoundI64 env.new) }
 {
     for let_one in binds {
-        let Some(name) = typed_name(&let_one.pat) else {
+        let Some(name) = typed_name(let_one.pat) else {
             return Err(EvalErr::Wrong);
         };
-        let value = evaluate(alloc, &let_one.value, env)?;
+        let value = evaluate(alloc, let_one.value, env)?;
         bind(alloc, env, name, value)?;
     }
     Ok(())
@@ -150,10 +153,10 @@ fn bind_lets(
 
 /// What an expression comes to, from left to right. After a value the names are bound as before.
 #[cycle(evaluation)]
-#[tactic(auto, using(crate::proofs::Folds::value_out))]
-fn evaluate(
+#[tactic(auto, using(crate::proofs::Held::value_held))]
+fn evaluate<'a>(
     alloc: Global,
-    exp: &SourceExp,
+    exp: &'a Exp<'a>,
     env: &mut List<(Name, Scalar)>,
 ) -> Result<Scalar, EvalErr>
     requires { All IsBoundI64 env.old }
@@ -161,23 +164,23 @@ fn evaluate(
     ensures integer { IfOk result IsI64 }
     ensures restored { OnOk result (env.new ≡ env.old) }
 {
-    match &exp.form {
+    match exp.form {
         Form::Path(path) => value_use(path, &*env),
-        Form::Int { value, ty } => integer_value(*value, *ty),
+        Form::Int { value, ty } => integer_value(value, ty),
         Form::Binary(op, left, right) => {
-            let left = evaluate(alloc, left.get(), env)?;
-            let right = evaluate(alloc, right.get(), env)?;
-            operate(*op, exp.mark, left, right)
+            let left = evaluate(alloc, left, env)?;
+            let right = evaluate(alloc, right, env)?;
+            operate(op, exp.mark, left, right)
         }
         Form::Unary(op, operand) => {
-            let value = evaluate(alloc, operand.get(), env)?;
-            negate(*op, value)
+            let value = evaluate(alloc, operand, env)?;
+            negate(op, value)
         }
         Form::Lets(binds, body) => {
             let outside = env.len();
-            match bind_lets(alloc, binds.as_slice(), env) {
+            match bind_lets(alloc, binds, env) {
                 Ok(()) => {
-                    let value = evaluate(alloc, body.get(), env);
+                    let value = evaluate(alloc, body, env);
                     env.truncate(outside);
                     value
                 }
@@ -189,10 +192,10 @@ fn evaluate(
 }
 
 /// Binds a parameter to its argument.
-fn bind_param(
+fn bind_param<'a>(
     alloc: Global,
     env: &mut List<(Name, Scalar)>,
-    param: &SourcePat,
+    param: &'a Pat<'a>,
     value: Scalar,
 ) -> Result<(), NoMemory>
     requires integer { IsI64 value }
@@ -207,33 +210,33 @@ fn bind_param(
 }
 
 /// The parameters with their arguments.
-fn arguments(
+fn arguments<'a>(
     alloc: Global,
-    params: &[SourcePat],
+    params: &'a [Held<'a, Pat<'a>>],
     values: &[Scalar],
 ) -> Result<List<(Name, Scalar)>, NoMemory>
     requires arity { length values.now ≡ length params.now }
     requires integers { All IsI64 values.now }
-    ensures value { IfOk result (λ env. env ≡ arguments params.now values.now) }
+    ensures value { IfOk result (λ env. env ≡ arguments (all params.now) values.now) }
     ensures integers { IfOk result (All IsBoundI64) }
 {
     let mut env = List::new(alloc);
     for at in 0..params.len() {
-        bind_param(alloc, &mut env, &params[at], values[at])?;
+        bind_param(alloc, &mut env, params[at].at, values[at])?;
     }
     Ok(env)
 }
 
 /// What a body comes to for the arguments of its parameters.
-pub fn evaluate_main(
+pub fn evaluate_main<'a>(
     alloc: Global,
-    params: &[SourcePat],
-    body: &SourceExp,
+    params: &'a [Held<'a, Pat<'a>>],
+    body: &'a Exp<'a>,
     values: &[Scalar],
 ) -> Result<Scalar, EvalErr>
     requires arity { length values.now ≡ length params.now }
     requires integers { All IsI64 values.now }
-    ensures value { Answers (value_of body.now (arguments params.now values.now)) result }
+    ensures value { Answers (value_of body.now (arguments (all params.now) values.now)) result }
     ensures integer { IfOk result IsI64 }
 {
     let mut env = arguments(alloc, params, values)?;

@@ -2,71 +2,66 @@
 ghost use Rattle.std.specs.Prelude.{◌≡◌, is_some, option_map};
 ghost use Rattle.std.specs.List.{list_all};
 ghost use Rattle.std.specs.Option.{option_copied};
-ghost use Rattle.fut_ast.specs.declared.module.DecForm.{out-DecForm};
-ghost use Rattle.futhark_core.specs.Forms.{is_arithmetic, is_built, is_built_bind, is_built_program, is_i64, is_i64_result, is_i64_suffix, is_minus, is_name, main_dec, main_form, main_of, one_name, typed_name, var_name};
+ghost use Rattle.fut_tree.specs.Exps.{bind_of, binds_of};
+ghost use Rattle.fut_tree.specs.Mods.{dec_of};
+ghost use Rattle.fut_tree.specs.Names.{all, maybe, names};
+ghost use Rattle.futhark_core.specs.Forms.{is_arithmetic, is_built, is_built_bind, is_built_program, is_i64, is_i64_result, is_i64_suffix, is_minus, is_name, main_dec, main_of, one_name, typed_name, var_name};
 
-use fut_ast::{
-    Bind, Dec, DecForm, Form, Oper, Pat, PatForm, Program, SourceExp, TypeExp, TypeForm,
-};
-use fut_scalar::{BinOp, IntType, List, Name};
-
-pub type SourcePat = Pat<List<Name>, Name>;
-
-pub type SourceBind = Bind<List<Name>, Name>;
-
-type SourceType = TypeExp<List<Name>, Name>;
+use fut_ast::Oper;
+use fut_scalar::{BinOp, IntType};
+use fut_tree::{Bind, Dec, DecForm, Exp, Form, Held, Pat, PatForm, Program, TypeExp, TypeForm};
 
 /// The name of a path of one name.
-pub fn one_name(path: &List<Name>) -> Option<&Name>
-    ensures { option_copied result ≡ one_name path.now }
+pub fn one_name<'a>(path: &'a [&'a str]) -> Option<&'a str>
+    ensures { option_copied result ≡ one_name (names path.now) }
 {
-    match path.as_slice() {
-        [name] => Some(name),
+    match path {
+        [name] => Some(*name),
         _ => None,
     }
 }
 
 /// Whether a path is this one name.
-fn is_name(word: &str, path: &List<Name>) -> bool
-    ensures { result ≡ is_name word.now (one_name path.now) }
+fn is_name(word: &str, path: &[&str]) -> bool
+    ensures { result ≡ is_name word.now (one_name (names path.now)) }
 {
-    match one_name(path) {
-        Some(name) => name.as_str() == word,
-        None => false,
+    match path {
+        [name] => *name == word,
+        _ => false,
     }
 }
 
 /// Whether a type is written i64.
-#[tactic(auto, unfolding(crate::specs::Forms::is_i64))]
-fn is_i64(written: &SourceType) -> bool
+#[tactic(auto, using(crate::proofs::Held::i64_held))]
+fn is_i64<'a>(written: &'a TypeExp<'a>) -> bool
     ensures { result ≡ is_i64 written.now }
 {
-    match &written.form {
-        TypeForm::Path(path, args) => args.as_slice().is_empty() && is_name("i64", path),
+    match written.form {
+        TypeForm::Path(path, args) => args.is_empty() && is_name("i64", path),
         _ => false,
     }
 }
 
 /// The name that a pattern is.
-#[tactic(auto, unfolding(crate::specs::Forms::var_name))]
-fn var_name(pat: &SourcePat) -> Option<&Name>
+#[tactic(auto, using(crate::proofs::Held::var_held))]
+fn var_name<'a>(pat: &'a Pat<'a>) -> Option<&'a str>
     ensures { option_copied result ≡ var_name pat.now }
 {
-    match &pat.form {
+    match pat.form {
         PatForm::Var(name) => Some(name),
         _ => None,
     }
 }
 
 /// The name of a pattern that is a name of the type i64.
-#[tactic(auto, unfolding(crate::specs::Forms::typed_name))]
-pub fn typed_name(pat: &SourcePat) -> Option<&Name>
+#[tactic(auto, using(crate::proofs::Held::typed_held))]
+pub fn typed_name<'a>(pat: &'a Pat<'a>) -> Option<&'a str>
     ensures { option_copied result ≡ typed_name pat.now }
 {
-    match &pat.form {
+    match pat.form {
         PatForm::Ascribe(inner, written) => {
             if is_i64(written) {
-                var_name(inner.get())
+                var_name(inner)
             } else {
                 None
             }
@@ -104,18 +99,19 @@ fn is_minus(op: Oper) -> bool
 
 /// Whether a let is of one name, with its type and no sizes, and its value is built.
 #[cycle(forms)]
-fn is_built_bind(bind: &SourceBind) -> bool
-    ensures { result ≡ is_built_bind bind.now }
+#[tactic(auto, using(crate::proofs::Held::bind_held))]
+fn is_built_bind<'a>(bind: &'a Bind<'a>) -> bool
+    ensures { result ≡ is_built_bind (bind_of bind.now) }
 {
-    bind.sizes.as_slice().is_empty()
-        && bind.heads.as_slice().is_empty()
-        && typed_name(&bind.pat).is_some()
-        && is_built(&bind.value)
+    bind.sizes.is_empty()
+        && bind.heads.is_empty()
+        && typed_name(bind.pat).is_some()
+        && is_built(bind.value)
 }
 
 #[cycle(forms)]
-fn are_built(binds: &[SourceBind]) -> bool
-    ensures { result ≡ list_all is_built_bind binds.now }
+fn are_built<'a>(binds: &'a [Bind<'a>]) -> bool
+    ensures { result ≡ list_all is_built_bind (binds_of binds.now) }
 {
     for bind in binds {
         if !is_built_bind(bind) {
@@ -127,18 +123,16 @@ fn are_built(binds: &[SourceBind]) -> bool
 
 /// Whether all forms of an expression are built.
 #[cycle(forms)]
-#[tactic(auto, using(crate::proofs::Folds::built_out))]
-pub fn is_built(exp: &SourceExp) -> bool
+#[tactic(auto, using(crate::proofs::Held::built_held))]
+pub fn is_built<'a>(exp: &'a Exp<'a>) -> bool
     ensures { result ≡ is_built exp.now }
 {
-    match &exp.form {
+    match exp.form {
         Form::Path(path) => one_name(path).is_some(),
-        Form::Int { value: _, ty } => is_i64_suffix(*ty),
-        Form::Binary(op, left, right) => {
-            is_arithmetic(*op) && is_built(left.get()) && is_built(right.get())
-        }
-        Form::Unary(op, operand) => is_minus(*op) && is_built(operand.get()),
-        Form::Lets(binds, body) => are_built(binds.as_slice()) && is_built(body.get()),
+        Form::Int { value: _, ty } => is_i64_suffix(ty),
+        Form::Binary(op, left, right) => is_arithmetic(op) && is_built(left) && is_built(right),
+        Form::Unary(op, operand) => is_minus(op) && is_built(operand),
+        Form::Lets(binds, body) => are_built(binds) && is_built(body),
         _ => false,
     }
 }
@@ -146,12 +140,12 @@ pub fn is_built(exp: &SourceExp) -> bool
 /// The parameters and the body of `main`.
 #[derive(Clone, Copy)]
 pub struct Main<'a> {
-    pub params: &'a [SourcePat],
-    pub body: &'a SourceExp,
+    pub params: &'a [Held<'a, Pat<'a>>],
+    pub body: &'a Exp<'a>,
 }
 
-fn is_i64_result(written: &Option<SourceType>) -> bool
-    ensures { result ≡ is_i64_result written.now }
+fn is_i64_result<'a>(written: Option<&'a TypeExp<'a>>) -> bool
+    ensures { result ≡ is_i64_result (maybe written.entry) }
 {
     match written {
         Some(written) => is_i64(written),
@@ -159,70 +153,57 @@ fn is_i64_result(written: &Option<SourceType>) -> bool
     }
 }
 
-fn are_typed(params: &[SourcePat]) -> bool
-    ensures { result ≡ list_all (λ p. is_some (typed_name p)) params.now }
+fn are_typed<'a>(params: &'a [Held<'a, Pat<'a>>]) -> bool
+    ensures { result ≡ list_all (λ p. is_some (typed_name p)) (all params.now) }
 {
-    params.iter().all(|param| typed_name(param).is_some())
+    for param in params {
+        if typed_name(param.at).is_none() {
+            return false;
+        }
+    }
+    true
 }
 
 /// `main`, where this is its declaration, with names of the type i64 as parameters and a result of that type.
-fn main_form(form: &DecForm) -> Option<Main<'_>>
-    ensures { option_map (λ main. (main.params.now, main.body.now)) result ≡ main_form (out-DecForm form.now) }
+#[tactic(auto, using(crate::proofs::Held::main_held))]
+fn main_dec<'a>(dec: &'a Dec<'a>) -> Option<Main<'a>>
+    ensures { option_map (λ main. (all main.params.now, main.body.now)) result ≡ main_dec (dec_of dec.now) }
 {
-    match form {
+    match dec.form {
         DecForm::Def {
-            entry,
+            entry: false,
             label,
             heads,
             params,
             result,
             value,
-        } => {
-            if !*entry
-                && label.name.as_str() == "main"
-                && heads.as_slice().is_empty()
-                && are_typed(params.as_slice())
-                && is_i64_result(result)
-            {
-                Some(Main {
-                    params: params.as_slice(),
-                    body: value,
-                })
-            } else {
-                None
-            }
+        } if !dec.local
+            && label.name == "main"
+            && heads.is_empty()
+            && are_typed(params)
+            && is_i64_result(result) => {
+            Some(Main {
+                params,
+                body: value,
+            })
         }
-        DecForm::TypeName(_, _, _)
-        | DecForm::Module(_, _, _, _)
-        | DecForm::ModType(_, _)
-        | DecForm::Open(_)
-        | DecForm::Import(_) => None,
-    }
-}
-
-fn main_dec(dec: &Dec) -> Option<Main<'_>>
-    ensures { option_map (λ main. (main.params.now, main.body.now)) result ≡ main_dec dec.now }
-{
-    if dec.local {
-        None
-    } else {
-        main_form(&dec.form)
+        _ => None,
     }
 }
 
 /// `main`, where the program is that alone.
 #[tactic(auto, unfolding(crate::specs::Forms::main_of))]
-pub fn main_of(program: &Program) -> Option<Main<'_>>
-    ensures { option_map (λ main. (main.params.now, main.body.now)) result ≡ main_of program.now }
+pub fn main_of<'a>(program: &Program<'a>) -> Option<Main<'a>>
+    ensures { option_map (λ main. (all main.params.now, main.body.now)) result ≡ main_of program.now }
 {
-    match program.decs.as_slice() {
+    match program.decs {
         [dec] => main_dec(dec),
         _ => None,
     }
 }
 
 /// Whether all forms of a program are built.
-pub fn is_built_program(program: &Program) -> bool
+pub fn is_built_program<'a>(program: &Program<'a>) -> bool
     ensures { result ≡ is_built_program program.now }
 {
     match main_of(program) {

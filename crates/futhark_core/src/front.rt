@@ -1,39 +1,59 @@
-// From a file to its program.
+// From a file to its tokens, and from tokens to their program.
 ghost use Rattle.std.specs.Prelude.{◌≡◌, ◌≤◌, length, IfOk, IfErr, OnOk, None, Ok, Err};
-ghost use Rattle.futhark_core.specs.Front.{ExplainsParse, ExplainsProgram, ExplainsSource, ExplainsTokens, IsAccepted, IsBuilt, IsParsed, IsRefused, IsSource, IsUnbuilt, NamesNothing, unbound_in, unbuilt_at};
+ghost use Rattle.futhark_core.specs.Acceptance.{AcceptedTokens, IsBuilt, IsParsed, unbound_in, unbuilt_at};
+ghost use Rattle.futhark_core.specs.Private.Stages.{ExplainsFile, ExplainsUnspelled, ExplainsProgram, ExplainsTokens, IsLexed, NamesNothing};
 
 use crate::forms::{is_built_program, main_of};
 use crate::reading::stop_of;
 use crate::scope::{check_names, names_of};
 use crate::status::{ModErr, Why};
-use fut_ast::Program;
+use bumpalo::Bump;
 use fut_io::{LoadErr, Loader};
 use fut_lexer::{LexErr, lex};
 use fut_parser::{ParseErr, parse};
 use fut_scalar::{List, Name, NoMemory, Place};
 use fut_token::Token;
+use fut_tree::Program;
 use std::alloc::Global;
 
 /// The number of the named file: the first in load order.
 const FIRST_FILE: u32 = 1;
 
-/// The program that the tokens spell.
-fn parse_tokens(alloc: Global, tokens: &List<Token>) -> Result<Program, ParseErr>
-    ensures found { IfOk result (IsParsed tokens.now) }
-    ensures refused { IfErr result (ExplainsParse tokens.now) }
+/// The tokens of a file, or why it has none.
+pub fn read_file<L: Loader>(alloc: Global, loader: &mut L, file: &Name) -> Result<List<Token>, Why>
+    ensures ok { IfOk result (IsLexed file.now (L.seen loader.old) (L.seen loader.new)) }
+    ensures refused { IfErr result (ExplainsFile file.now (L.seen loader.old) (L.seen loader.new)) }
 {
-    parse(alloc, FIRST_FILE, tokens)
+    let text = match loader.load(alloc, file.as_str()) {
+        Ok(text) => text,
+        Err(LoadErr::Failed) => return Err(Why::Load),
+        Err(LoadErr::TooLong) => return Err(Why::FileBytes),
+        Err(LoadErr::Memory) => return Err(Why::Memory),
+    };
+    match lex(alloc, FIRST_FILE, text.as_slice()) {
+        Ok(tokens) => Ok(tokens),
+        Err(LexErr::Memory) => Err(Why::Memory),
+        Err(err) => Err(Why::Lex(err)),
+    }
+}
+
+/// The program that the tokens spell.
+fn parse_tokens<'a>(bump: &'a Bump, tokens: &'a [Token]) -> Result<Program<'a>, ParseErr>
+    ensures found { IfOk result (IsParsed tokens.now) }
+    ensures refused { IfErr result (ExplainsUnspelled tokens.now) }
+{
+    parse(bump, FIRST_FILE, tokens)
 }
 
 /// Where the tokens leave the part of the language that is built.
-fn unbuilt_at(
+fn unbuilt_at<'a>(
     alloc: Global,
-    tokens: &List<Token>,
-    program: &Program,
+    tokens: &'a [Token],
+    program: &Program<'a>,
 ) -> Result<Option<Place>, NoMemory>
     ensures { IfOk result (λ place. place ≡ unbuilt_at tokens.now program.now) }
 {
-    match stop_of(alloc, FIRST_FILE, tokens.as_slice())? {
+    match stop_of(alloc, FIRST_FILE, tokens)? {
         Some(place) => Ok(Some(place)),
         None => {
             if is_built_program(program) {
@@ -50,7 +70,7 @@ fn unbuilt_at(
 }
 
 /// Refuses what is not built.
-fn check_built(alloc: Global, tokens: &List<Token>, program: &Program) -> Result<(), Why>
+fn check_built<'a>(alloc: Global, tokens: &'a [Token], program: &Program<'a>) -> Result<(), Why>
     ensures ok { OnOk result (IsBuilt tokens.now program.now) }
     ensures refused { IfErr result (ExplainsProgram tokens.now program.now) }
 {
@@ -62,7 +82,7 @@ fn check_built(alloc: Global, tokens: &List<Token>, program: &Program) -> Result
 }
 
 /// Refuses the first name that is not bound.
-fn check_main(alloc: Global, program: &Program) -> Result<(), ModErr>
+fn check_main<'a>(alloc: Global, program: &Program<'a>) -> Result<(), ModErr>
     ensures ok { OnOk result (unbound_in program.now ≡ None) }
     ensures refused { IfErr result (NamesNothing (unbound_in program.now)) }
 {
@@ -76,7 +96,7 @@ fn check_main(alloc: Global, program: &Program) -> Result<(), ModErr>
 }
 
 /// Refuses a program that is not built or has a name that is not bound.
-fn check_program(alloc: Global, tokens: &List<Token>, program: &Program) -> Result<(), Why>
+fn check_program<'a>(alloc: Global, tokens: &'a [Token], program: &Program<'a>) -> Result<(), Why>
     ensures built { OnOk result (IsBuilt tokens.now program.now) }
     ensures bound { OnOk result (unbound_in program.now ≡ None) }
     ensures refused { IfErr result (ExplainsProgram tokens.now program.now) }
@@ -89,55 +109,18 @@ fn check_program(alloc: Global, tokens: &List<Token>, program: &Program) -> Resu
     }
 }
 
-/// The value, unless it is refused.
-fn keep<T: Drop>(value: T, checked: Result<(), Why>) -> Result<T, Why>
-    ensures ok { IfOk result (λ kept. (kept ≡ value) × (checked ≡ Ok tt)) }
-    ensures refused { IfErr result (λ why. checked ≡ Err why) }
-{
-    match checked {
-        Ok(()) => Ok(value),
-        Err(why) => Err(why),
-    }
-}
-
-/// The program that tokens spell, or why it is refused.
-fn read_tokens(alloc: Global, tokens: &List<Token>) -> Result<Program, Why>
-    ensures parsed { IfOk result (IsParsed tokens.now) }
-    ensures built { IfOk result (IsBuilt tokens.now) }
-    ensures bound { IfOk result (λ program. unbound_in program ≡ None) }
+/// The program that tokens spell, or why it is not accepted.
+pub fn accept<'a>(alloc: Global, bump: &'a Bump, tokens: &'a [Token]) -> Result<Program<'a>, Why>
+    ensures accepted { IfOk result (AcceptedTokens tokens.now) }
     ensures refused { IfErr result (ExplainsTokens tokens.now) }
 {
-    let program = match parse_tokens(alloc, tokens) {
+    let program = match parse_tokens(bump, tokens) {
         Ok(program) => program,
         Err(ParseErr::Memory) => return Err(Why::Memory),
         Err(err) => return Err(Why::Parse(err)),
     };
-    let checked = check_program(alloc, tokens, &program);
-    keep(program, checked)
-}
-
-/// The program that a text spells, or why the text is refused.
-fn read_source(alloc: Global, text: &[u8]) -> Result<Program, Why>
-    requires { length text.now ≤ 4194304 }
-    ensures ok { IfOk result (IsSource text.now) }
-    ensures refused { IfErr result (ExplainsSource text.now) }
-{
-    match lex(alloc, FIRST_FILE, text) {
-        Ok(tokens) => read_tokens(alloc, &tokens),
-        Err(LexErr::Memory) => Err(Why::Memory),
-        Err(err) => Err(Why::Lex(err)),
-    }
-}
-
-/// The program of a file, or why it is refused.
-pub fn accept<L: Loader>(alloc: Global, loader: &mut L, file: &Name) -> Result<Program, Why>
-    ensures ok { IfOk result (IsAccepted file.now (L.seen loader.old) (L.seen loader.new)) }
-    ensures refused { IfErr result (IsRefused file.now (L.seen loader.old) (L.seen loader.new)) }
-{
-    match loader.load(alloc, file.as_str()) {
-        Ok(text) => read_source(alloc, text.as_slice()),
-        Err(LoadErr::Failed) => Err(Why::Load),
-        Err(LoadErr::TooLong) => Err(Why::FileBytes),
-        Err(LoadErr::Memory) => Err(Why::Memory),
+    match check_program(alloc, tokens, &program) {
+        Ok(()) => Ok(program),
+        Err(why) => Err(why),
     }
 }

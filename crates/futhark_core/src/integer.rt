@@ -6,7 +6,7 @@ ghost use Rattle.futhark_core.specs.Arguments.{common, ends, gap_at, goes_on_nam
 use fut_scalar::{IntType, Scalar};
 
 /// An integer as it is spelled, and how many bytes it takes.
-#[derive(Clone, Copy, Debug, PartialEq, Eq)]
+#[derive(Clone, Copy)]
 pub struct Integer {
     pub negative: bool,
     pub magnitude: u64,

@@ -4,7 +4,7 @@ ghost use Rattle.std.specs.List.{list_any};
 ghost use Rattle.std.specs.Str.{bytes_eq};
 ghost use Rattle.fut_token.specs.declared.token.TokenKind.TheVariants as token;
 ghost use Rattle.futhark_core.specs.Built.{is_plain};
-ghost use Rattle.futhark_core.specs.Reading.{behind_head, behind_operand, behind_operation, behind_sign, closed, is_end, is_name, is_word, name_sign, reading, same_open, sign_of, start, step, stop_of, wanted_if};
+ghost use Rattle.futhark_core.specs.BuiltReading.{behind_head, behind_operand, behind_operation, behind_sign, closed, is_end, is_name, is_word, name_sign, reading, same_open, sign_of, start, step, stop_of, wanted_if};
 
 use crate::stack::Stack;
 use fut_scalar::{IntType, NoMemory, Place};
@@ -59,7 +59,7 @@ pub const PRELUDE_NAMES: [&str; 43] = [
 ];
 
 /// What may come next.
-#[derive(Clone, Copy, Debug, PartialEq, Eq)]
+#[derive(Clone, Copy)]
 pub enum Wanted {
     Def,
     Main,
@@ -82,7 +82,7 @@ pub enum Wanted {
 }
 
 /// What a token is to the part of the language that is built.
-#[derive(Clone, Copy, Debug, PartialEq, Eq)]
+#[derive(Clone, Copy)]
 pub enum Sign {
     Def,
     Let,
@@ -101,7 +101,7 @@ pub enum Sign {
 }
 
 /// What is open and has to end.
-#[derive(Clone, Copy, Debug, PartialEq, Eq)]
+#[derive(Clone, Copy)]
 pub enum Open {
     Paren,
     /// A let before its `in`.
@@ -311,7 +311,7 @@ impl Reading {
     }
 
     /// What is read once this token is, or nothing where it can't follow.
-    #[tactic(auto, unfolding(crate::specs::Reading::step))]
+    #[tactic(auto, unfolding(crate::specs::BuiltReading::step))]
     fn with_token(self, alloc: Global, token: &Token) -> Result<Option<Reading>, NoMemory>
         ensures { IfOk result (λ next. next ≡ step self token.now) }
     {

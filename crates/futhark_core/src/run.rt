@@ -1,24 +1,28 @@
 // The run, from its words to its status.
 ghost use Rattle.std.specs.Prelude.{◌≡◌, IsSome, Some};
+ghost use Rattle.fut_tree.specs.Names.{all};
 ghost use Rattle.futhark_core.specs.Comes.{Complete};
 ghost use Rattle.futhark_core.specs.Forms.{main_of, params_of};
+ghost use Rattle.futhark_core.specs.Private.Stages.{failed_status, input_status, IsRunnable, TokensRow};
 ghost use Rattle.futhark_core.specs.Report.{Reported};
 ghost use Rattle.futhark_core.specs.declared.evaluator.EvalErr.TheVariants.{Wrong};
-ghost use Rattle.futhark_core.specs.Row.{failed_status, status_for, ActionRow, CheckRow, IsRunnable, ProgramRow, Row};
+ghost use Rattle.futhark_core.specs.Row.{status_for, ActionRow, CheckRow, ProgramRow, RunRow};
 
 use crate::arguments::read_args;
 use crate::evaluator::{EvalErr, evaluate_main};
 use crate::forms::{Main, main_of};
-use crate::front::accept;
+use crate::front::{accept, read_file};
 use crate::line::report;
 use crate::output::print_value;
 use crate::status::{LimitKind, Refused, Status, TextErr, Why};
 use crate::words::{Action, read_words};
-use fut_ast::Program;
+use bumpalo::Bump;
 use fut_io::{Loader, ReadErr, Sink, Source, read_all, write_all};
 use fut_lexer::a_text_has_one_reading;
 use fut_parser::ParseErr;
 use fut_scalar::{List, Name};
+use fut_token::Token;
+use fut_tree::Program;
 use std::alloc::Global;
 
 /// The most bytes of the input.
@@ -56,11 +60,21 @@ fn failed_status(err: EvalErr, path: Name) -> Status
     }
 }
 
+/// The status of an input that gives no arguments.
+fn input_status(err: TextErr) -> Status
+    ensures { result ≡ input_status err }
+{
+    match err {
+        TextErr::Memory => Status::Memory,
+        err => Status::Input(err),
+    }
+}
+
 /// `main` of an accepted program.
-fn main_part(program: &Program) -> Main<'_>
+fn main_part<'a>(program: &Program<'a>) -> Main<'a>
     requires { IsSome (main_of program.now) }
-    ensures main { main_of program.now ≡ Some (result.params.now, result.body.now) }
-    ensures params { params_of program.now ≡ result.params.now }
+    ensures main { main_of program.now ≡ Some (all result.params.now, result.body.now) }
+    ensures params { params_of program.now ≡ all result.params.now }
 {
     match main_of(program) {
         Some(main) => main,
@@ -69,9 +83,9 @@ fn main_part(program: &Program) -> Main<'_>
 }
 
 /// The run of an accepted program.
-fn run_program<S: Source, K: Sink>(
+fn run_program<'a, S: Source, K: Sink>(
     alloc: Global,
-    program: &Program,
+    program: &Program<'a>,
     path: Name,
     input: &mut S,
     out: &mut K,
@@ -92,8 +106,7 @@ fn run_program<S: Source, K: Sink>(
     let main = main_part(program);
     let values = match read_args(alloc, main.params, bytes.as_slice()) {
         Ok(values) => values,
-        Err(TextErr::Memory) => return Status::Memory,
-        Err(err) => return Status::Input(err),
+        Err(err) => return input_status(err),
     };
     let value = match evaluate_main(alloc, main.params, main.body, values.as_slice()) {
         Ok(value) => value,
@@ -122,10 +135,10 @@ fn tell_accepted<S: Source, K: Sink>(input: &S, out: &mut K) -> Status
 }
 
 /// What is done with an accepted program.
-fn act<S: Source, K: Sink>(
+fn act<'a, S: Source, K: Sink>(
     alloc: Global,
     action: Action,
-    program: &Program,
+    program: &Program<'a>,
     path: Name,
     input: &mut S,
     out: &mut K,
@@ -141,6 +154,26 @@ fn act<S: Source, K: Sink>(
     }
 }
 
+/// What is done with the program that tokens spell. Its tree stands in memory until then.
+fn run_tokens<S: Source, K: Sink>(
+    alloc: Global,
+    action: Action,
+    path: Name,
+    tokens: &[Token],
+    input: &mut S,
+    out: &mut K,
+) -> Status
+    ensures { TokensRow action result path tokens.now
+        (record { input = S.seen input.old; out = K.seen out.old })
+        (record { input = S.seen input.new; out = K.seen out.new }) }
+{
+    let bump = Bump::new(alloc);
+    match accept(alloc, &bump, tokens) {
+        Ok(program) => act(alloc, action, &program, path, input, out),
+        Err(why) => status_of(why, path),
+    }
+}
+
 /// The stages of a run, from its words on.
 fn run_stages<L: Loader, S: Source, K: Sink>(
     alloc: Global,
@@ -149,7 +182,7 @@ fn run_stages<L: Loader, S: Source, K: Sink>(
     input: &mut S,
     out: &mut K,
 ) -> Status
-    ensures { Row result words.now
+    ensures { RunRow result words.now
         (record { loader = L.seen loader.old; input = S.seen input.old; out = K.seen out.old })
         (record { loader = L.seen loader.new; input = S.seen input.new; out = K.seen out.new }) }
 {
@@ -160,8 +193,8 @@ fn run_stages<L: Loader, S: Source, K: Sink>(
     let Ok(path) = command.file.copy(alloc) else {
         return Status::Memory;
     };
-    match accept(alloc, loader, command.file) {
-        Ok(program) => act(alloc, command.action, &program, path, input, out),
+    match read_file(alloc, loader, command.file) {
+        Ok(tokens) => run_tokens(alloc, command.action, path, tokens.as_slice(), input, out),
         Err(why) => status_of(why, path),
     }
 }
@@ -174,7 +207,7 @@ fn run_command<L: Loader, S: Source, K: Sink>(
     input: &mut S,
     out: &mut K,
 ) -> Status
-    ensures row { Row result words.now
+    ensures row { RunRow result words.now
         (record { loader = L.seen loader.old; input = S.seen input.old; out = K.seen out.old })
         (record { loader = L.seen loader.new; input = S.seen input.new; out = K.seen out.new }) }
     ensures complete { Complete result words.now
@@ -199,7 +232,7 @@ pub fn run_futhark<L: Loader, S: Source, K: Sink, E: Sink>(
     err: &mut E,
 ) -> Status
     // Each status comes only where its row holds.
-    ensures row { Row result words.now
+    ensures row { RunRow result words.now
         (record { loader = L.seen loader.old; input = S.seen input.old; out = K.seen out.old })
         (record { loader = L.seen loader.new; input = S.seen input.new; out = K.seen out.new }) }
     // What the words, the told files and the told input call for comes, faults and want of memory aside.

@@ -1,11 +1,11 @@
 // The words of the command line.
 ghost use Rattle.std.specs.Prelude.{◌≡◌, MatchResult, None, Ok, Err, true};
-ghost use Rattle.futhark_core.specs.Words.{action_of, command_of, file_of, is_option};
+ghost use Rattle.futhark_core.specs.CommandLine.{action_of, command_of, file_of, is_option};
 
 use fut_scalar::{List, Name};
 
 /// What a command does with its file.
-#[derive(Clone, Copy, Debug, PartialEq, Eq)]
+#[derive(Clone, Copy)]
 pub enum Action {
     Run,
     Check,

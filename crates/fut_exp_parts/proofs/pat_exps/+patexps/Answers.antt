@@ -1,7 +1,10 @@
-use Rattle.std.proofs.Common.{sym}
-use Rattle.fut_exp_parts.proofs.PatLaws.{exp_record}
+-- A list of parts is smaller than the pattern.
+use Rattle.std.proofs.Common.{arith}
+use Rattle.fut_tree.proofs.PatSizes.{record_parts, tuple_parts}
 use Rattle.fut_exp_parts.proofs.pat_exps.+patexps.Goals as goal
 
-pub exp_of_pattern-returns-in_ok-all-in-Record : goal.exp_of_pattern-returns-in_ok-all-in-Record
-exp_of_pattern-returns-in_ok-all-in-Record t c =
-    rw (exp_record c.args.pattern.now _ c.in-Record.is, sym c.as_slice-in-Record.ensures, sym c.in_ok-all-in-Record.ensures) c.at_slot-in-Record.ensures
+pub exp_of_pattern-exps_of-requires : goal.exp_of_pattern-exps_of-requires
+exp_of_pattern-exps_of-requires t c = (omega (arith, tuple_parts c.pattern.inside _ c.pattern.view_is c.in-Tuple.parts c.in-Tuple.is), tt)
+
+pub exp_of_pattern-fields_of-requires : goal.exp_of_pattern-fields_of-requires
+exp_of_pattern-fields_of-requires t c = (omega (arith, record_parts c.pattern.inside _ c.pattern.view_is c.in-Record.fields c.in-Record.is), tt)

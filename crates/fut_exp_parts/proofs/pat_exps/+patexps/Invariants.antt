@@ -1,10 +1,13 @@
 -- What is made are the expressions of the patterns so far.
 use Rattle.std.proofs.Common.{◌≡◌, map, take}
 use Rattle.fut_ast.specs.Nodes.{exp_of_pat}
+use Rattle.fut_tree.specs.Exps.{exp_fields}
+use Rattle.fut_tree.specs.Names.{all}
+use Rattle.fut_tree.specs.Pats.{pat_fields}
 use Rattle.fut_exp_parts.proofs.pat_exps.+patexps.Given as goal
 
-abbrev pub invariant-exps_of-all : goal.invariant-exps_of-all
-invariant-exps_of-all l = l.made ≡ map exp_of_pat (take l.pattern-index l.all)
+abbrev pub invariant-exps_of-parts : goal.invariant-exps_of-parts
+invariant-exps_of-parts l = all l.made.items ≡ map exp_of_pat (all (take l.part-index l.parts))
 
-abbrev pub invariant-fields_of-all : goal.invariant-fields_of-all
-invariant-fields_of-all l = l.made ≡ map (λ f. (f.0, exp_of_pat f.1)) (take l.name-index l.all)
+abbrev pub invariant-fields_of-fields : goal.invariant-fields_of-fields
+invariant-fields_of-fields l = exp_fields l.made.items ≡ map (λ f. (f.0, exp_of_pat f.1)) (pat_fields (take l.field-index l.fields))

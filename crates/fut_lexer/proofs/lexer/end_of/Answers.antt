@@ -2,7 +2,7 @@ use Rattle.std.proofs.Common.{◌≡◌, ap, ◌∙◌, rules}
 use Rattle.std.specs.Str.{chars}
 use Rattle.std.proofs.lemmas.Str.{chars_from_encodes}
 use Rattle.fut_lexer.specs.declared.position.Position.{Position}
-use Rattle.fut_lexer.specs.Places.{moved, place_of}
+use Rattle.fut_lexer.specs.Positions.{moved, place_of}
 use Rattle.fut_lexer.proofs.lexer.end_of.Goals as goal
 
 pub returns-clause-ok : goal.returns-clause-ok

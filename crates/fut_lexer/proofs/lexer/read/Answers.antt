@@ -1,11 +1,11 @@
 use Rattle.std.proofs.Common.{◌≡◌, ◌<◌, ◌++◌, [], ◌∷◌, length, take, refl, sym, ap, ◌∙◌, arith, rules}
 use Rattle.fut_lexer.specs.declared.front.Front.TheVariants as front
-use Rattle.fut_lexer.specs.Reading.{front_at}
-use Rattle.fut_lexer.specs.Places.{moved, text_start}
-use Rattle.fut_lexer.specs.Tokens.{token_at, bad, float, behind_gap, behind_attribute, behind_token}
+use Rattle.fut_lexer.specs.Private.FrontReading.{front_at}
+use Rattle.fut_lexer.specs.Positions.{moved, text_start}
+use Rattle.fut_lexer.specs.Scanned.{token_at, bad, float, behind_gap, behind_attribute, behind_token}
 use Rattle.fut_lexer.proofs.Fronts.{a_gap, an_attribute, a_token, a_float, no_rule}
 use Rattle.fut_lexer.proofs.Moves.{room_over}
-use Rattle.fut_lexer.proofs.Turns.{goes_gap, goes_attribute, goes_token, cut_gap, cut_attribute, cut_token, ended}
+use Rattle.fut_lexer.proofs.LexerTurns.{goes_gap, goes_attribute, goes_token, cut_gap, cut_attribute, cut_token, ended}
 use Rattle.fut_lexer.proofs.lexer.read.Goals as goal
 
 pub returns-then-is_empty : goal.returns-then-is_empty

@@ -1,8 +1,8 @@
 use Rattle.std.proofs.Common.{◌+◌, ◌≤◌, ◌++◌, length, true, false, List}
 use Rattle.fut_token.specs.declared.token.Token.{Token}
 use Rattle.fut_lexer.specs.declared.lexer.LexErr.{LexErr}
-use Rattle.fut_lexer.specs.Places.{HasRoom, text_start}
-use Rattle.fut_lexer.specs.Tokens.{Tokens, Refused}
+use Rattle.fut_lexer.specs.Positions.{HasRoom, text_start}
+use Rattle.fut_lexer.specs.Scanned.{Tokens, Refused}
 use Rattle.fut_lexer.proofs.lexer.read.Given as goal
 
 -- what the rest is read into, the text is read into behind the tokens so far

@@ -1,5 +1,5 @@
 use Rattle.std.proofs.Common.{◌≡◌, ◌-◌, drop, length}
-use Rattle.fut_lexer.specs.Places.{HasRoom, moved}
+use Rattle.fut_lexer.specs.Positions.{HasRoom, moved}
 use Rattle.fut_lexer.proofs.position.moved.Given as goal
 
 abbrev pub invariant-loop-c : goal.invariant-loop-c

@@ -1,9 +1,10 @@
 -- Declarations are nodes, so that both readers read the same.
-use Rattle.std.proofs.Common.{◌≡◌, ℕ, List, length, subst}
+use Rattle.std.proofs.Common.{List, length, subst}
 use Rattle.fut_ast.specs.Sorts.{Tree, Dec_item}
-use Rattle.fut_phrases.specs.Reading.{Read, Gives}
+use Rattle.fut_grammar.specs.Reading.{Read, Gives}
+use Rattle.fut_parser.specs.Private.ModFound.{decs_found}
 use Rattle.fut_parser.proofs.Answering.{same_declarations}
 use Rattle.fut_parser.proofs.programs.all_declarations.Goals as goal
 
 pub returns-clause-exact : goal.returns-clause-exact
-returns-clause-exact c = subst (λ (r : Read (List (Tree Dec_item))). Gives (λ x. (x.0, x.1, x.2.now)) c.declarations_by.result r) (same_declarations 201 (length c.args.tokens.now) c.args.tokens.now) c.declarations_by.ensures.exact
+returns-clause-exact c = subst (λ (r : Read (List (Tree Dec_item))). Gives decs_found c.declarations_by.result r) (same_declarations 201 (length c.args.tokens.now) c.args.tokens.now) c.declarations_by.ensures.exact

@@ -1,9 +1,9 @@
 -- Both readers of phrases read these alike.
 use Rattle.std.proofs.Common.{length}
 use Rattle.fut_ast.specs.Sorts.{Atomic_pat}
-use Rattle.fut_phrases.specs.Phrases.{items, phrases, read_at}
-use Rattle.fut_phrases.proofs.Same.{same_pat}
-use Rattle.fut_phrases.proofs.Turns.{many_same}
+use Rattle.fut_grammar.specs.Phrases.{items, phrases, read_at}
+use Rattle.fut_grammar.proofs.Same.{same_pat}
+use Rattle.fut_grammar.proofs.Turns.{many_same}
 use Rattle.fut_phrases.proofs.params.patterns_inside.Goals as goal
 
 pub returns-clause-exact : goal.returns-clause-exact

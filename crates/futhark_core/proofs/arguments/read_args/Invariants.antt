@@ -2,7 +2,7 @@ use Rattle.std.proofs.Common.{◌≡◌, ◌+◌, drop, length}
 use Rattle.std.specs.List.{All}
 use Rattle.futhark_core.specs.Arguments.{values_on}
 use Rattle.futhark_core.specs.Meaning.{IsI64}
-use Rattle.futhark_core.specs.Values.{behind_front}
+use Rattle.futhark_core.proofs.Values.{behind_front}
 use Rattle.futhark_core.proofs.arguments.read_args.Given as goal
 
 abbrev pub invariant-loop-param : goal.invariant-loop-param

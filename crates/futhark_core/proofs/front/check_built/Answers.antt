@@ -1,5 +1,5 @@
 use Rattle.std.proofs.Common.{sym}
-use Rattle.futhark_core.proofs.Acceptance.{nowhere, at_a_place}
+use Rattle.futhark_core.proofs.BuiltPlaces.{nowhere, at_a_place}
 use Rattle.futhark_core.proofs.front.check_built.Goals as goal
 
 pub returns-in-Ok-None-clause-ok : goal.returns-in-Ok-None-clause-ok

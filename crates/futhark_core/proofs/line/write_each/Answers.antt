@@ -1,5 +1,5 @@
 use Rattle.futhark_core.specs.Report.{piece_bytes}
-use Rattle.futhark_core.proofs.Pieces.{part_at}
+use Rattle.futhark_core.proofs.LinePieces.{part_at}
 use Rattle.futhark_core.proofs.line.write_each.Goals as goal
 
 pub returns-in-Err : goal.returns-in-Err

@@ -1,5 +1,5 @@
 use Rattle.std.proofs.Common.{◌≡◌, drop}
-use Rattle.futhark_core.specs.Reading.{stop_on, stop_of}
+use Rattle.futhark_core.specs.BuiltReading.{stop_on, stop_of}
 use Rattle.futhark_core.proofs.reading.stop_of.Given as goal
 
 abbrev pub invariant-loop-token : goal.invariant-loop-token

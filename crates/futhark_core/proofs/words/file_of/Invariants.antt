@@ -1,6 +1,6 @@
 use Rattle.std.proofs.Common.{◌≡◌, ◌+◌, drop}
 use Rattle.std.specs.Option.{option_copied}
-use Rattle.futhark_core.specs.Words.{file_of}
+use Rattle.futhark_core.specs.CommandLine.{file_of}
 use Rattle.futhark_core.proofs.words.file_of.Given as goal
 
 abbrev pub invariant-loop-word : goal.invariant-loop-word

@@ -1,0 +1,5 @@
+pub mod Heights
+pub mod Pushed
+pub mod Reversals
+pub mod Same
+pub mod Steps

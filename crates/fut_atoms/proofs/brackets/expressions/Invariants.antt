@@ -1,0 +1,11 @@
+-- What is left to read gives the rest of the phrases.
+use Rattle.std.proofs.Common.{◌≡◌, ◌-◌, ◌≤◌, length}
+use Rattle.fut_ast.specs.Sorts.{Whole}
+use Rattle.fut_tree.specs.Names.{all}
+use Rattle.fut_grammar.specs.Reading.{commas_at}
+use Rattle.fut_grammar.specs.Phrases.{phrases, read_at}
+use Rattle.fut_grammar.proofs.Loops.{with_front}
+use Rattle.fut_atoms.proofs.brackets.expressions.Given as goal
+
+abbrev pub invariant-items : goal.invariant-items
+invariant-items g l = (with_front (all l.made.items) (commas_at (phrases (read_at l.inner)) (length l.tokens - l._turn) Whole l.height l.rest) ≡ commas_at (phrases (read_at l.inner)) (length l.tokens) Whole l.first_height l.tokens) × (l.height ≤ l.inner)

@@ -1,0 +1,162 @@
+// Atoms: expressions of one token or in brackets, with indices and fields behind them.
+ghost use Rattle.std.specs.Prelude.{◌≡◌, ◌≤◌, ◌<◌, ◌+◌, suc, IfOk};
+ghost use Rattle.fut_ast.specs.Behind.{behind_atom};
+ghost use Rattle.fut_ast.specs.Rows.{field_digits, field_name, indexed};
+ghost use Rattle.fut_grammar.specs.Phrases.{again_at, atom_at, atom_suffix, phrases, read_at};
+ghost use Rattle.fut_grammar.specs.Reading.{Gives, suffix_at};
+ghost use Rattle.fut_phrases.specs.Found.{tree_found};
+
+use crate::brackets::base_below;
+use crate::indices::index_list;
+use crate::tie::ReadExp;
+use bumpalo::Bump;
+use fut_ast::{Spot, What};
+use fut_exp_parts::exp_nodes::{field, index};
+use fut_exp_parts::exp_tokens::{goes_on_atom, starts_with_tight, take_digits};
+use fut_grammar::{Fault, Stop};
+use fut_phrases::found::Found;
+use fut_phrases::tokens::{
+    next_spot, refused, rest_of, starts_with, take, take_word, without_form,
+};
+use fut_token::{Fixed, Token};
+use fut_tree::Exp;
+
+/// An atom.
+#[tactic(auto, unfolding(fut_grammar::specs::Phrases::atom_at))]
+pub fn atom_below<'a, R: ReadExp<'a>>(
+    bump: &'a Bump,
+    read: R,
+    inner: u32,
+    tokens: &'a [Token],
+) -> Result<Found<'a, &'a Exp<'a>>, Stop>
+    requires law { R.reads read inner }
+    requires room { inner < 1000 }
+    ensures exact { Gives tree_found result (atom_at (phrases (read_at inner)) (suc inner) tokens.now) }
+    ensures low { IfOk result (λ x. x.height ≤ inner + 1) }
+{
+    let base = base_below(bump, read, inner, tokens)?;
+    suffixes_behind(bump, read, inner, next_spot(tokens), base)
+}
+
+fn suffixes_behind<'a, R: ReadExp<'a>>(
+    bump: &'a Bump,
+    read: R,
+    inner: u32,
+    at: Spot,
+    base: Found<'a, &'a Exp<'a>>,
+) -> Result<Found<'a, &'a Exp<'a>>, Stop>
+    requires law { R.reads read inner }
+    requires room { (inner < 1000) × (base.height ≤ inner + 1) }
+    ensures exact { Gives tree_found result (again_at (phrases (read_at inner)) (suc inner) behind_atom atom_suffix at (suc inner) base.entry.tree.now base.entry.height base.entry.rest.now) }
+    ensures low { IfOk result (λ x. x.height ≤ inner + 1) }
+{
+    let mut found = base;
+    let mut turns = inner + 1;
+    'behind: while goes_on_atom(found.rest) {
+        if turns == 0 {
+            return Err(Stop::Fault(Fault::TooDeep(found.rest.len())));
+        }
+        turns -= 1;
+        found = suffix_behind(bump, read, inner, at, found)?;
+    }
+    Ok(found)
+}
+
+fn suffix_behind<'a, R: ReadExp<'a>>(
+    bump: &'a Bump,
+    read: R,
+    inner: u32,
+    at: Spot,
+    first: Found<'a, &'a Exp<'a>>,
+) -> Result<Found<'a, &'a Exp<'a>>, Stop>
+    requires law { R.reads read inner }
+    requires room { (inner < 1000) × (first.height ≤ inner + 1) }
+    ensures exact { Gives tree_found result (suffix_at (phrases (read_at inner)) (atom_suffix first.entry.rest.now) (suc inner) at first.entry.tree.now first.entry.height first.entry.rest.now) }
+    ensures low { IfOk result (λ x. x.height ≤ inner + 1) }
+{
+    if starts_with(first.rest, Fixed::OpenBracket) {
+        index_behind(bump, read, inner, at, first)
+    } else if starts_with(first.rest, Fixed::Dot) {
+        field_behind(bump, inner, at, first)
+    } else {
+        digits_behind(bump, inner, at, first)
+    }
+}
+
+#[tactic(auto, unfolding(fut_grammar::specs::Reading::suffix_at, fut_grammar::specs::Reading::parts_at, fut_grammar::specs::Reading::has_at))]
+fn index_behind<'a, R: ReadExp<'a>>(
+    bump: &'a Bump,
+    read: R,
+    inner: u32,
+    at: Spot,
+    first: Found<'a, &'a Exp<'a>>,
+) -> Result<Found<'a, &'a Exp<'a>>, Stop>
+    requires law { R.reads read inner }
+    requires room { (inner < 1000) × (first.height ≤ inner + 1) }
+    ensures exact { Gives tree_found result (suffix_at (phrases (read_at inner)) indexed (suc inner) at first.entry.tree.now first.entry.height first.entry.rest.now) }
+    ensures low { IfOk result (λ x. x.height ≤ inner + 1) }
+{
+    if first.height > inner {
+        return Err(Stop::Fault(Fault::TooDeep(first.rest.len())));
+    }
+    if !starts_with_tight(first.rest) {
+        return Err(Stop::Fault(refused(first.rest)));
+    }
+    let bracket = next_spot(first.rest).place;
+    let parts = index_list(bump, read, inner, first.height, rest_of(first.rest))?;
+    let rest = take(parts.rest, Fixed::CloseBracket)?;
+    let tree = index(bump, at.place, bracket, first.tree, parts.tree)?;
+    Ok(Found {
+        tree,
+        height: parts.height + 1,
+        rest,
+    })
+}
+
+#[tactic(auto, unfolding(fut_grammar::specs::Reading::suffix_at, fut_grammar::specs::Reading::parts_at, fut_grammar::specs::Reading::has_at))]
+fn field_behind<'a>(
+    bump: &'a Bump,
+    inner: u32,
+    at: Spot,
+    first: Found<'a, &'a Exp<'a>>,
+) -> Result<Found<'a, &'a Exp<'a>>, Stop>
+    requires { (inner < 1000) × (first.height ≤ inner + 1) }
+    ensures exact { Gives tree_found result (suffix_at (phrases (read_at inner)) field_name (suc inner) at first.entry.tree.now first.entry.height first.entry.rest.now) }
+    ensures low { IfOk result (λ x. x.height ≤ inner + 1) }
+{
+    if first.height > inner {
+        return Err(Stop::Fault(Fault::TooDeep(first.rest.len())));
+    }
+    without_form(What::LocalOpen, first.rest)?;
+    let rest = take(first.rest, Fixed::Dot)?;
+    let (name, rest) = take_word(rest)?;
+    let tree = field(bump, at.place, first.tree, name)?;
+    Ok(Found {
+        tree,
+        height: first.height + 1,
+        rest,
+    })
+}
+
+#[tactic(auto, unfolding(fut_grammar::specs::Reading::suffix_at, fut_grammar::specs::Reading::parts_at, fut_grammar::specs::Reading::has_at))]
+fn digits_behind<'a>(
+    bump: &'a Bump,
+    inner: u32,
+    at: Spot,
+    first: Found<'a, &'a Exp<'a>>,
+) -> Result<Found<'a, &'a Exp<'a>>, Stop>
+    requires { (inner < 1000) × (first.height ≤ inner + 1) }
+    ensures exact { Gives tree_found result (suffix_at (phrases (read_at inner)) field_digits (suc inner) at first.entry.tree.now first.entry.height first.entry.rest.now) }
+    ensures low { IfOk result (λ x. x.height ≤ inner + 1) }
+{
+    if first.height > inner {
+        return Err(Stop::Fault(Fault::TooDeep(first.rest.len())));
+    }
+    let (name, rest) = take_digits(first.rest)?;
+    let tree = field(bump, at.place, first.tree, name)?;
+    Ok(Found {
+        tree,
+        height: first.height + 1,
+        rest,
+    })
+}

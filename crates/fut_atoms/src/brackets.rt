@@ -1,0 +1,157 @@
+// Expressions of one token or in brackets.
+ghost use Rattle.std.specs.Prelude.{◌≡◌, ◌≤◌, ◌<◌, ◌+◌, suc, length, IfOk};
+ghost use Rattle.fut_ast.specs.ExpRows.{elements, record_of};
+ghost use Rattle.fut_ast.specs.Rows.{of_exp};
+ghost use Rattle.fut_ast.specs.Sorts.{Whole};
+ghost use Rattle.fut_grammar.specs.Phrases.{base_at, bracket_at, phrases, read_at};
+ghost use Rattle.fut_grammar.specs.Reading.{Gives, commas_at, row_at};
+ghost use Rattle.fut_phrases.specs.Found.{list_found, tree_found};
+
+use crate::fields::field_list;
+use crate::leaves::{no, no_elements, no_fields, number, path, yes};
+use crate::parens::paren_below;
+use crate::tie::{ReadExp, whole};
+use bumpalo::Bump;
+use bumpalo::collections::into_bump_slice;
+use fut_exp_parts::exp_nodes::{array, record};
+use fut_grammar::Stop;
+use fut_phrases::found::Found;
+use fut_phrases::tokens::{
+    greater, next_spot, refused, rest_of, starts_with, starts_with_int, starts_with_word, take,
+};
+use fut_token::{Fixed, Token};
+use fut_tree::{Exp, Held};
+
+/// An expression of one token or in brackets.
+#[tactic(auto, unfolding(fut_grammar::specs::Phrases::base_at))]
+pub fn base_below<'a, R: ReadExp<'a>>(
+    bump: &'a Bump,
+    read: R,
+    inner: u32,
+    tokens: &'a [Token],
+) -> Result<Found<'a, &'a Exp<'a>>, Stop>
+    requires law { R.reads read inner }
+    requires room { inner < 1000 }
+    ensures exact { Gives tree_found result (base_at (phrases (read_at inner)) (suc inner) tokens.now) }
+    ensures low { IfOk result (λ x. x.height ≤ inner + 1) }
+{
+    if starts_with_word(tokens) {
+        path(bump, tokens)
+    } else if starts_with_int(tokens) {
+        number(bump, tokens)
+    } else if starts_with(tokens, Fixed::KeyTrue) {
+        yes(bump, tokens)
+    } else if starts_with(tokens, Fixed::KeyFalse) {
+        no(bump, tokens)
+    } else if starts_with(tokens, Fixed::OpenParen) {
+        paren_below(bump, read, inner, tokens)
+    } else {
+        bracket_below(bump, read, inner, tokens)
+    }
+}
+
+#[tactic(auto, unfolding(fut_grammar::specs::Phrases::bracket_at))]
+fn bracket_below<'a, R: ReadExp<'a>>(
+    bump: &'a Bump,
+    read: R,
+    inner: u32,
+    tokens: &'a [Token],
+) -> Result<Found<'a, &'a Exp<'a>>, Stop>
+    requires law { R.reads read inner }
+    requires room { inner < 1000 }
+    ensures exact { Gives tree_found result (bracket_at (phrases (read_at inner)) (suc inner) tokens.now) }
+    ensures low { IfOk result (λ x. x.height ≤ inner + 1) }
+{
+    let inside = rest_of(tokens);
+    if starts_with(tokens, Fixed::OpenBracket) {
+        if starts_with(inside, Fixed::CloseBracket) {
+            no_elements(bump, tokens)
+        } else {
+            elements(bump, read, inner, tokens)
+        }
+    } else if starts_with(inside, Fixed::CloseBrace) {
+        no_fields(bump, tokens)
+    } else {
+        fields(bump, read, inner, tokens)
+    }
+}
+
+#[tactic(auto, unfolding(fut_grammar::specs::Reading::row_at, fut_grammar::specs::Reading::parts_at, fut_grammar::specs::Reading::has_at))]
+fn elements<'a, R: ReadExp<'a>>(
+    bump: &'a Bump,
+    read: R,
+    inner: u32,
+    tokens: &'a [Token],
+) -> Result<Found<'a, &'a Exp<'a>>, Stop>
+    requires law { R.reads read inner }
+    requires room { inner < 1000 }
+    ensures exact { Gives tree_found result (row_at (phrases (read_at inner)) (of_exp elements) tokens.now) }
+    ensures low { IfOk result (λ x. x.height ≤ inner + 1) }
+{
+    let place = next_spot(tokens).place;
+    let rest = take(tokens, Fixed::OpenBracket)?;
+    let all = expressions(bump, read, inner, 0, rest)?;
+    let rest = take(all.rest, Fixed::CloseBracket)?;
+    let tree = array(bump, place, all.tree)?;
+    Ok(Found {
+        tree,
+        height: all.height + 1,
+        rest,
+    })
+}
+
+#[tactic(auto, unfolding(fut_grammar::specs::Reading::row_at, fut_grammar::specs::Reading::parts_at, fut_grammar::specs::Reading::has_at))]
+fn fields<'a, R: ReadExp<'a>>(
+    bump: &'a Bump,
+    read: R,
+    inner: u32,
+    tokens: &'a [Token],
+) -> Result<Found<'a, &'a Exp<'a>>, Stop>
+    requires law { R.reads read inner }
+    requires room { inner < 1000 }
+    ensures exact { Gives tree_found result (row_at (phrases (read_at inner)) (of_exp record_of) tokens.now) }
+    ensures low { IfOk result (λ x. x.height ≤ inner + 1) }
+{
+    let place = next_spot(tokens).place;
+    let rest = take(tokens, Fixed::OpenBrace)?;
+    let all = field_list(bump, read, inner, rest)?;
+    let rest = take(all.rest, Fixed::CloseBrace)?;
+    let tree = record(bump, place, all.tree)?;
+    Ok(Found {
+        tree,
+        height: all.height + 1,
+        rest,
+    })
+}
+
+/// Expressions with commas between.
+pub fn expressions<'a, R: ReadExp<'a>>(
+    bump: &'a Bump,
+    read: R,
+    inner: u32,
+    first_height: u32,
+    tokens: &'a [Token],
+) -> Result<Found<'a, &'a [Held<'a, Exp<'a>>]>, Stop>
+    requires law { R.reads read inner }
+    requires room { (inner < 1000) × (first_height ≤ inner) }
+    ensures exact { Gives list_found result (commas_at (phrases (read_at inner)) (length tokens.now) Whole first_height tokens.now) }
+    ensures low { IfOk result (λ x. x.height ≤ inner) }
+{
+    let mut made = Vec::new(bump);
+    let mut height = first_height;
+    let mut rest = tokens;
+    'items: for _turn in 0..tokens.len() {
+        let item = whole(read, inner, rest)?;
+        made.push(Held { at: item.tree })?;
+        height = greater(height, item.height);
+        if !starts_with(item.rest, Fixed::Comma) {
+            return Ok(Found {
+                tree: into_bump_slice(made),
+                height,
+                rest: item.rest,
+            });
+        }
+        rest = rest_of(item.rest);
+    }
+    Err(Stop::Fault(refused(rest)))
+}

@@ -1,0 +1,285 @@
+// Expressions in parentheses, and sections.
+ghost use Rattle.std.specs.Prelude.{◌≡◌, ◌≤◌, ◌<◌, ◌+◌, suc, ℕ, IfOk};
+ghost use Rattle.fut_ast.specs.ExpRows.{bare_fields, bare_index, bare_operator, operator_first};
+ghost use Rattle.fut_ast.specs.Operators.{any_operator};
+ghost use Rattle.fut_ast.specs.Rows.{of_exp};
+ghost use Rattle.fut_ast.specs.Tokens.{tail};
+ghost use Rattle.fut_grammar.specs.Phrases.{operator_section_at, paren_at, phrases, plain_at, read_at, round_end, section_end, section_or_plain};
+ghost use Rattle.fut_grammar.specs.Reading.{Gives, row_at};
+ghost use Rattle.fut_phrases.specs.Found.{tree_found};
+
+use crate::brackets::expressions;
+use crate::indices::named_list;
+use crate::leaves::unit;
+use crate::tie::{ReadExp, inside as first_inside, operands};
+use bumpalo::Bump;
+use fut_ast::{Spot, What};
+use fut_exp_parts::exp_nodes::round as round_of;
+use fut_exp_parts::exp_tokens::{
+    level_of, makes_section, next_any_operator, past_operator, take_operator,
+};
+use fut_exp_parts::index_nodes::section_of_index;
+use fut_exp_parts::sections::{
+    operator_alone, section_of_fields, section_of_left, section_of_right,
+};
+use fut_grammar::Stop;
+use fut_phrases::found::Found;
+use fut_phrases::lists::in_front;
+use fut_phrases::tokens::{
+    next_spot, refused, rest_of, starts_with, take, take_path, without_form,
+};
+use fut_token::{Fixed, Token};
+use fut_tree::Exp;
+
+/// What stands in parentheses.
+#[tactic(auto, unfolding(fut_grammar::specs::Phrases::paren_at))]
+pub fn paren_below<'a, R: ReadExp<'a>>(
+    bump: &'a Bump,
+    read: R,
+    inner: u32,
+    tokens: &'a [Token],
+) -> Result<Found<'a, &'a Exp<'a>>, Stop>
+    requires law { R.reads read inner }
+    requires room { inner < 1000 }
+    ensures exact { Gives tree_found result (paren_at (phrases (read_at inner)) (suc inner) tokens.now) }
+    ensures low { IfOk result (λ x. x.height ≤ inner + 1) }
+{
+    let inside = rest_of(tokens);
+    if starts_with(inside, Fixed::CloseParen) {
+        unit(bump, tokens)
+    } else if starts_with(inside, Fixed::Dot) {
+        if starts_with(rest_of(inside), Fixed::OpenBracket) {
+            index_alone(bump, read, inner, tokens)
+        } else {
+            fields_alone(bump, tokens)
+        }
+    } else {
+        section_or_round(bump, read, inner, tokens)
+    }
+}
+
+fn section_or_round<'a, R: ReadExp<'a>>(
+    bump: &'a Bump,
+    read: R,
+    inner: u32,
+    tokens: &'a [Token],
+) -> Result<Found<'a, &'a Exp<'a>>, Stop>
+    requires law { R.reads read inner }
+    requires room { inner < 1000 }
+    ensures exact { Gives tree_found result (section_or_plain (phrases (read_at inner)) (suc inner) (any_operator (tail tokens.now)) tokens.now) }
+    ensures low { IfOk result (λ x. x.height ≤ inner + 1) }
+{
+    let inside = rest_of(tokens);
+    match next_any_operator(inside) {
+        None => plain(bump, read, inner, tokens),
+        Some(fixed) => {
+            if makes_section(fixed, rest_of(inside)) {
+                operator_section(bump, read, inner, fixed, tokens)
+            } else {
+                plain(bump, read, inner, tokens)
+            }
+        }
+    }
+}
+
+#[tactic(auto, unfolding(fut_grammar::specs::Phrases::operator_section_at))]
+fn operator_section<'a, R: ReadExp<'a>>(
+    bump: &'a Bump,
+    read: R,
+    inner: u32,
+    fixed: Fixed,
+    tokens: &'a [Token],
+) -> Result<Found<'a, &'a Exp<'a>>, Stop>
+    requires law { R.reads read inner }
+    requires room { inner < 1000 }
+    ensures exact { Gives tree_found result (operator_section_at (phrases (read_at inner)) (suc inner) fixed tokens.now) }
+    ensures low { IfOk result (λ x. x.height ≤ inner + 1) }
+{
+    let behind = past_operator(fixed, rest_of(rest_of(tokens)));
+    if starts_with(behind, Fixed::CloseParen) {
+        operator_in_parens(bump, fixed, tokens)
+    } else {
+        operator_and_operand(bump, read, inner, fixed, tokens)
+    }
+}
+
+#[tactic(auto, using(crate::proofs::Heights::first_height), unfolding(fut_grammar::specs::Reading::row_at, fut_grammar::specs::Reading::parts_at, fut_grammar::specs::Reading::has_at, fut_grammar::specs::Reading::sub_at, fut_grammar::specs::Phrases::phrases))]
+fn operator_and_operand<'a, R: ReadExp<'a>>(
+    bump: &'a Bump,
+    read: R,
+    inner: u32,
+    fixed: Fixed,
+    tokens: &'a [Token],
+) -> Result<Found<'a, &'a Exp<'a>>, Stop>
+    requires law { R.reads read inner }
+    requires room { inner < 1000 }
+    ensures exact { Gives tree_found result (row_at (phrases (read_at inner)) (of_exp (operator_first fixed)) tokens.now) }
+    ensures low { IfOk result (λ x. x.height ≤ inner + 1) }
+{
+    let paren = next_spot(tokens).place;
+    let rest = take(tokens, Fixed::OpenParen)?;
+    if starts_with(rest, Fixed::Minus) {
+        return Err(Stop::Fault(refused(rest)));
+    }
+    let ((at, name), rest) = take_operator(fixed, rest)?;
+    let operand = operands(read, inner, level_of(fixed) + 1, rest)?;
+    let rest = take(operand.rest, Fixed::CloseParen)?;
+    let tree = section_of_right(bump, fixed, paren, at.place, name, operand.tree)?;
+    Ok(Found {
+        tree,
+        height: operand.height + 1,
+        rest,
+    })
+}
+
+#[tactic(auto, unfolding(fut_grammar::specs::Phrases::plain_at, fut_grammar::specs::Phrases::phrases))]
+fn plain<'a, R: ReadExp<'a>>(
+    bump: &'a Bump,
+    read: R,
+    inner: u32,
+    tokens: &'a [Token],
+) -> Result<Found<'a, &'a Exp<'a>>, Stop>
+    requires law { R.reads read inner }
+    requires room { inner < 1000 }
+    ensures exact { Gives tree_found result (plain_at (phrases (read_at inner)) (suc inner) tokens.now) }
+    ensures low { IfOk result (λ x. x.height ≤ inner + 1) }
+{
+    let at = next_spot(tokens);
+    let Found {
+        tree: first,
+        height,
+        rest,
+    } = first_inside(read, inner, rest_of(tokens))?;
+    match first.section {
+        None => round(bump, read, inner, at, first.exp, height, rest),
+        Some(fixed) => operand_and_operator(bump, fixed, at, first.exp, height, rest),
+    }
+}
+
+#[tactic(auto, unfolding(fut_grammar::specs::Phrases::round_end))]
+fn round<'a, R: ReadExp<'a>>(
+    bump: &'a Bump,
+    read: R,
+    inner: u32,
+    at: Spot,
+    first: &'a Exp<'a>,
+    first_height: u32,
+    tokens: &'a [Token],
+) -> Result<Found<'a, &'a Exp<'a>>, Stop>
+    requires law { R.reads read inner }
+    requires room { (inner < 1000) × (first_height ≤ inner) }
+    ensures exact { Gives tree_found result (round_end (phrases (read_at inner)) (suc inner) at first.now first_height tokens.now) }
+    ensures low { IfOk result (λ x. x.height ≤ inner + 1) }
+{
+    if !starts_with(tokens, Fixed::Comma) {
+        let rest = take(tokens, Fixed::CloseParen)?;
+        return Ok(Found {
+            tree: first,
+            height: first_height + 1,
+            rest,
+        });
+    }
+    let others = expressions(bump, read, inner, first_height, rest_of(tokens))?;
+    let rest = take(others.rest, Fixed::CloseParen)?;
+    let all = in_front(bump, first, others.tree)?;
+    let tree = round_of(bump, at.place, all)?;
+    Ok(Found {
+        tree,
+        height: others.height + 1,
+        rest,
+    })
+}
+
+#[tactic(auto, unfolding(fut_grammar::specs::Reading::row_at, fut_grammar::specs::Reading::parts_at, fut_grammar::specs::Reading::has_at))]
+fn index_alone<'a, R: ReadExp<'a>>(
+    bump: &'a Bump,
+    read: R,
+    inner: u32,
+    tokens: &'a [Token],
+) -> Result<Found<'a, &'a Exp<'a>>, Stop>
+    requires law { R.reads read inner }
+    requires room { inner < 1000 }
+    ensures exact { Gives tree_found result (row_at (phrases (read_at inner)) (of_exp bare_index) tokens.now) }
+    ensures low { IfOk result (λ x. x.height ≤ inner + 1) }
+{
+    let paren = next_spot(tokens).place;
+    let rest = take(tokens, Fixed::OpenParen)?;
+    let rest = take(rest, Fixed::Dot)?;
+    let bracket = next_spot(rest).place;
+    let rest = take(rest, Fixed::OpenBracket)?;
+    let parts = named_list(bump, read, inner, rest)?;
+    let rest = take(parts.rest, Fixed::CloseBracket)?;
+    let rest = take(rest, Fixed::CloseParen)?;
+    let tree = section_of_index(bump, paren, bracket, parts.tree)?;
+    Ok(Found {
+        tree,
+        height: parts.height + 1,
+        rest,
+    })
+}
+
+// ---- what has no expressions in it, or has them read before
+
+#[tactic(auto, unfolding(fut_grammar::specs::Phrases::section_end))]
+fn operand_and_operator<'a>(
+    bump: &'a Bump,
+    fixed: Fixed,
+    at: Spot,
+    first: &'a Exp<'a>,
+    first_height: u32,
+    tokens: &'a [Token],
+) -> Result<Found<'a, &'a Exp<'a>>, Stop>
+    requires { first_height < 1000 }
+    ensures exact { (inner : ℕ) → Gives tree_found result (section_end (phrases (read_at inner)) (suc inner) fixed at first.now first_height tokens.now) }
+    ensures low { IfOk result (λ x. x.height ≡ first_height + 1) }
+{
+    let ((key, name), rest) = take_operator(fixed, tokens)?;
+    let rest = take(rest, Fixed::CloseParen)?;
+    let tree = section_of_left(bump, fixed, at.place, first, key.place, name)?;
+    Ok(Found {
+        tree,
+        height: first_height + 1,
+        rest,
+    })
+}
+
+#[tactic(auto, unfolding(fut_grammar::specs::Reading::row_at, fut_grammar::specs::Reading::parts_at, fut_grammar::specs::Reading::has_at))]
+fn operator_in_parens<'a>(
+    bump: &'a Bump,
+    fixed: Fixed,
+    tokens: &'a [Token],
+) -> Result<Found<'a, &'a Exp<'a>>, Stop>
+    ensures exact { (inner : ℕ) → Gives tree_found result (row_at (phrases (read_at inner)) (of_exp (bare_operator fixed)) tokens.now) }
+    ensures low { IfOk result (λ x. x.height ≡ 1) }
+{
+    let paren = next_spot(tokens).place;
+    let rest = take(tokens, Fixed::OpenParen)?;
+    let ((at, name), rest) = take_operator(fixed, rest)?;
+    let rest = take(rest, Fixed::CloseParen)?;
+    let tree = operator_alone(bump, fixed, paren, at.place, name)?;
+    Ok(Found {
+        tree,
+        height: 1,
+        rest,
+    })
+}
+
+#[tactic(auto, unfolding(fut_grammar::specs::Reading::row_at, fut_grammar::specs::Reading::parts_at, fut_grammar::specs::Reading::has_at))]
+fn fields_alone<'a>(bump: &'a Bump, tokens: &'a [Token]) -> Result<Found<'a, &'a Exp<'a>>, Stop>
+    ensures exact { (inner : ℕ) → Gives tree_found result (row_at (phrases (read_at inner)) (of_exp bare_fields) tokens.now) }
+    ensures low { IfOk result (λ x. x.height ≡ 1) }
+{
+    let paren = next_spot(tokens).place;
+    let rest = take(tokens, Fixed::OpenParen)?;
+    without_form(What::LocalOpen, rest)?;
+    let dot = next_spot(rest).place;
+    let rest = take(rest, Fixed::Dot)?;
+    let (fields, rest) = take_path(bump, rest)?;
+    let rest = take(rest, Fixed::CloseParen)?;
+    let tree = section_of_fields(bump, paren, dot, fields)?;
+    Ok(Found {
+        tree,
+        height: 1,
+        rest,
+    })
+}

@@ -1,0 +1,263 @@
+// What reads the expressions in a production is handed over to the function that reads the production.
+ghost use Rattle.std.specs.Prelude.{◌≡◌, ◌≤◌, ℕ, IfOk};
+ghost use Rattle.fut_ast.specs.Sorts.{Atom, Inside, Last, Operand, Operands, Replacing, Right, Unary, Whole};
+ghost use Rattle.fut_grammar.specs.Phrases.{read_at};
+ghost use Rattle.fut_grammar.specs.Reading.{Gives};
+ghost use Rattle.fut_phrases.specs.Found.{tree_found};
+ghost use Rattle.fut_atoms.specs.Tie.{Law, Reads, ending_found, inside_found, replacing_found};
+
+use fut_ast::Ended;
+use fut_grammar::Stop;
+use fut_phrases::found::Found;
+use fut_token::{Fixed, Token};
+use fut_tree::Exp;
+
+/// The sorts of expressions that stand in productions.
+#[derive(Clone, Copy, Debug, PartialEq, Eq)]
+pub enum ExpSort {
+    Atom,
+    Unary,
+    /// Operators of a level or tighter.
+    Operands(u8),
+    /// The right operand of an operator, whose operators are of a level or tighter.
+    Operand(u8),
+    /// The new value of an update.
+    Right,
+    Whole,
+    /// Any expression, as the last part of a form.
+    Last,
+    /// What stands first in parentheses.
+    Inside,
+    /// The names of a field inside, and its new value.
+    Replacing,
+}
+
+/// An expression and how it ended.
+#[derive(Clone, Copy)]
+pub struct Ending<'a> {
+    pub exp: &'a Exp<'a>,
+    pub ended: Ended,
+}
+
+/// What stands first in parentheses, and the operator behind it where that makes it the operand of a section.
+#[derive(Clone, Copy)]
+pub struct FirstInside<'a> {
+    pub exp: &'a Exp<'a>,
+    pub section: Option<Fixed>,
+}
+
+/// The names of a field inside, and its new value.
+#[derive(Clone, Copy)]
+pub struct Replacement<'a> {
+    pub path: &'a [&'a str],
+    pub exp: &'a Exp<'a>,
+}
+
+/// What is read of any sort: an expression, and what belongs to it in its sort.
+#[derive(Clone, Copy)]
+pub struct AnyExp<'a> {
+    pub exp: &'a Exp<'a>,
+    /// How it ended, if it is the last part of a form.
+    pub ended: Ended,
+    /// The operator behind it, if it stands first in parentheses and is the operand of a section.
+    pub section: Option<Fixed>,
+    /// The names before it, if it is what a field inside is replaced by.
+    pub path: &'a [&'a str],
+}
+
+/// What reading any sort answers.
+pub type ExpAnswer<'a> = Result<Found<'a, AnyExp<'a>>, Stop>;
+
+/// What reads the expressions in a production.
+pub trait ReadExp<'a>: Copy {
+    /// It reads expressions up to a height.
+    ghost reads: { Self → ℕ → Type 0 };
+
+    /// An expression up to the height.
+    fn read(self, inner: u32, sort: ExpSort, tokens: &'a [Token]) -> ExpAnswer<'a>
+        requires law { reads self inner }
+        ensures exact { Reads sort inner tokens.now result }
+        ensures low { IfOk result (λ x. x.height ≤ inner) };
+}
+
+impl<'a, F: Fn(ExpSort, &'a [Token]) -> ExpAnswer<'a>> ReadExp<'a> for &F {
+    ghost reads = { λ f d. F.IsAlwaysCallable f.now × Law (F.post f.now) d };
+
+    fn read(self, inner: u32, sort: ExpSort, tokens: &'a [Token]) -> ExpAnswer<'a> {
+        let _inner = inner;
+        self(sort, tokens)
+    }
+}
+
+/// An atom.
+pub fn atom<'a, R: ReadExp<'a>>(
+    read: R,
+    inner: u32,
+    tokens: &'a [Token],
+) -> Result<Found<'a, &'a Exp<'a>>, Stop>
+    requires law { R.reads read inner }
+    ensures exact { Gives tree_found result (read_at inner Atom tokens.now) }
+    ensures low { IfOk result (λ x. x.height ≤ inner) }
+{
+    let found = read.read(inner, ExpSort::Atom, tokens)?;
+    Ok(Found {
+        tree: found.tree.exp,
+        height: found.height,
+        rest: found.rest,
+    })
+}
+
+/// An operand of an operator.
+pub fn unary<'a, R: ReadExp<'a>>(
+    read: R,
+    inner: u32,
+    tokens: &'a [Token],
+) -> Result<Found<'a, &'a Exp<'a>>, Stop>
+    requires law { R.reads read inner }
+    ensures exact { Gives tree_found result (read_at inner Unary tokens.now) }
+    ensures low { IfOk result (λ x. x.height ≤ inner) }
+{
+    let found = read.read(inner, ExpSort::Unary, tokens)?;
+    Ok(Found {
+        tree: found.tree.exp,
+        height: found.height,
+        rest: found.rest,
+    })
+}
+
+/// Operands, and operators of a level or tighter.
+pub fn operands<'a, R: ReadExp<'a>>(
+    read: R,
+    inner: u32,
+    level: u8,
+    tokens: &'a [Token],
+) -> Result<Found<'a, &'a Exp<'a>>, Stop>
+    requires law { R.reads read inner }
+    ensures exact { Gives tree_found result (read_at inner (Operands level) tokens.now) }
+    ensures low { IfOk result (λ x. x.height ≤ inner) }
+{
+    let found = read.read(inner, ExpSort::Operands(level), tokens)?;
+    Ok(Found {
+        tree: found.tree.exp,
+        height: found.height,
+        rest: found.rest,
+    })
+}
+
+/// The right operand of an operator.
+pub fn operand<'a, R: ReadExp<'a>>(
+    read: R,
+    inner: u32,
+    level: u8,
+    tokens: &'a [Token],
+) -> Result<Found<'a, &'a Exp<'a>>, Stop>
+    requires law { R.reads read inner }
+    ensures exact { Gives tree_found result (read_at inner (Operand level) tokens.now) }
+    ensures low { IfOk result (λ x. x.height ≤ inner) }
+{
+    let found = read.read(inner, ExpSort::Operand(level), tokens)?;
+    Ok(Found {
+        tree: found.tree.exp,
+        height: found.height,
+        rest: found.rest,
+    })
+}
+
+/// The new value of an update.
+pub fn right<'a, R: ReadExp<'a>>(
+    read: R,
+    inner: u32,
+    tokens: &'a [Token],
+) -> Result<Found<'a, &'a Exp<'a>>, Stop>
+    requires law { R.reads read inner }
+    ensures exact { Gives tree_found result (read_at inner Right tokens.now) }
+    ensures low { IfOk result (λ x. x.height ≤ inner) }
+{
+    let found = read.read(inner, ExpSort::Right, tokens)?;
+    Ok(Found {
+        tree: found.tree.exp,
+        height: found.height,
+        rest: found.rest,
+    })
+}
+
+/// Any expression.
+pub fn whole<'a, R: ReadExp<'a>>(
+    read: R,
+    inner: u32,
+    tokens: &'a [Token],
+) -> Result<Found<'a, &'a Exp<'a>>, Stop>
+    requires law { R.reads read inner }
+    ensures exact { Gives tree_found result (read_at inner Whole tokens.now) }
+    ensures low { IfOk result (λ x. x.height ≤ inner) }
+{
+    let found = read.read(inner, ExpSort::Whole, tokens)?;
+    Ok(Found {
+        tree: found.tree.exp,
+        height: found.height,
+        rest: found.rest,
+    })
+}
+
+/// Any expression, and how it ended.
+pub fn last<'a, R: ReadExp<'a>>(
+    read: R,
+    inner: u32,
+    tokens: &'a [Token],
+) -> Result<Found<'a, Ending<'a>>, Stop>
+    requires law { R.reads read inner }
+    ensures exact { Gives ending_found result (read_at inner Last tokens.now) }
+    ensures low { IfOk result (λ x. x.height ≤ inner) }
+{
+    let found = read.read(inner, ExpSort::Last, tokens)?;
+    Ok(Found {
+        tree: Ending {
+            exp: found.tree.exp,
+            ended: found.tree.ended,
+        },
+        height: found.height,
+        rest: found.rest,
+    })
+}
+
+/// What stands first in parentheses, and the operator behind it where that makes it the operand of a section.
+pub fn inside<'a, R: ReadExp<'a>>(
+    read: R,
+    inner: u32,
+    tokens: &'a [Token],
+) -> Result<Found<'a, FirstInside<'a>>, Stop>
+    requires law { R.reads read inner }
+    ensures exact { Gives inside_found result (read_at inner Inside tokens.now) }
+    ensures low { IfOk result (λ x. x.height ≤ inner) }
+{
+    let found = read.read(inner, ExpSort::Inside, tokens)?;
+    Ok(Found {
+        tree: FirstInside {
+            exp: found.tree.exp,
+            section: found.tree.section,
+        },
+        height: found.height,
+        rest: found.rest,
+    })
+}
+
+/// The names of a field inside, and its new value.
+pub fn replacing<'a, R: ReadExp<'a>>(
+    read: R,
+    inner: u32,
+    tokens: &'a [Token],
+) -> Result<Found<'a, Replacement<'a>>, Stop>
+    requires law { R.reads read inner }
+    ensures exact { Gives replacing_found result (read_at inner Replacing tokens.now) }
+    ensures low { IfOk result (λ x. x.height ≤ inner) }
+{
+    let found = read.read(inner, ExpSort::Replacing, tokens)?;
+    Ok(Found {
+        tree: Replacement {
+            path: found.tree.path,
+            exp: found.tree.exp,
+        },
+        height: found.height,
+        rest: found.rest,
+    })
+}

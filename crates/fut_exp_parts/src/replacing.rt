@@ -1,0 +1,74 @@
+// Fields replaced: a record with another value of a field inside.
+ghost use Rattle.std.specs.Prelude.{◌≡◌, IfOk, [], ◌∷◌};
+ghost use Rattle.fut_ast.specs.Nodes.{bound, exp_at, held_name, let_one, replaced, use_of};
+ghost use Rattle.fut_ast.specs.declared.exp.Form.TheVariants as form;
+ghost use Rattle.fut_tree.specs.Names.{names};
+
+use crate::exp_nodes::{let_before, name_let, name_used, path, replace};
+use crate::new_names::name_of_held;
+use bumpalo::Bump;
+use fut_scalar::{NoMemory, Place};
+use fut_tree::Exp;
+
+/// A record with another value of a field inside, where a path leads to it.
+#[cycle(replacing)]
+pub fn with_field_replaced<'a>(
+    bump: &'a Bump,
+    from: Place,
+    holder: &'a Exp<'a>,
+    fields: &'a [&'a str],
+    e: &'a Exp<'a>,
+) -> Result<&'a Exp<'a>, NoMemory>
+    ensures { IfOk result (λ s. s.now ≡ replaced from holder.now (names fields.now) e.now) }
+{
+    match fields {
+        [] => Ok(e),
+        [field, rest @ ..] => field_replaced(bump, from, holder, field, rest, e),
+    }
+}
+
+// The same, of a path that goes on behind a field.
+#[cycle(replacing)]
+#[tactic(auto, using(crate::proofs::FieldLaws::replaced_inside))]
+fn field_replaced<'a>(
+    bump: &'a Bump,
+    from: Place,
+    holder: &'a Exp<'a>,
+    field: &'a str,
+    fields: &'a [&'a str],
+    e: &'a Exp<'a>,
+) -> Result<&'a Exp<'a>, NoMemory>
+    ensures { IfOk result (λ s. s.now ≡ replaced from holder.now (field.now ∷ names fields.now) e.now) }
+{
+    match fields {
+        [] => replace(bump, from, holder, field, e),
+        [_, ..] => {
+            let inner = field_used(bump, from, field)?;
+            let value = with_field_replaced(bump, from, inner, fields, e)?;
+            inside_replaced(bump, from, holder, field, value)
+        }
+    }
+}
+
+fn field_used<'a>(bump: &'a Bump, from: Place, field: &'a str) -> Result<&'a Exp<'a>, NoMemory>
+    ensures { IfOk result (λ e. e.now ≡ exp_at from (form.Path (held_name ∷ field.now ∷ []))) }
+{
+    let names = bump.try_alloc_slice_copy(&[name_of_held(), field])?;
+    path(bump, from, names)
+}
+
+// The record has a name, since its field is used in its new value.
+fn inside_replaced<'a>(
+    bump: &'a Bump,
+    from: Place,
+    holder: &'a Exp<'a>,
+    field: &'a str,
+    value: &'a Exp<'a>,
+) -> Result<&'a Exp<'a>, NoMemory>
+    ensures { IfOk result (λ s. s.now ≡ exp_at from (form.Lets (let_one (bound from held_name) holder.now ∷ []) (exp_at from (form.Replace (use_of from held_name) field.now value.now)))) }
+{
+    let record = name_used(bump, from, name_of_held())?;
+    let body = replace(bump, from, record, field, value)?;
+    let bind = name_let(bump, from, name_of_held(), holder)?;
+    let_before(bump, from, from, bind, body)
+}

@@ -1,0 +1,204 @@
+// Any expression, and the choice of a form by its first token.
+ghost use Rattle.std.specs.Prelude.{◌≡◌, ◌≤◌, ◌<◌, ◌+◌, suc, if◌then◌else◌, Err, IfOk, List, Ok, ℕ};
+ghost use Rattle.fut_ast.specs.Sorts.{SourceExp};
+ghost use Rattle.fut_token.specs.declared.token.Token.{Token};
+ghost use Rattle.fut_atoms.specs.Tie.{ending_found};
+ghost use Rattle.fut_phrases.specs.Found.{tree_found};
+ghost use Rattle.fut_grammar.specs.Phrases.{big_at, body_at, last_at, lets_at, operand_at, operands_at, phrases, read_at, right_at, whole_at};
+ghost use Rattle.fut_grammar.specs.Reading.{Gives, refuse};
+
+use crate::operators::chain_below;
+use crate::ranges::range_below;
+use crate::typed::typed_below;
+use bumpalo::Bump;
+use fut_atoms::tie::{Ending, ReadExp};
+use fut_exp_parts::exp_nodes::lets as lets_node;
+use fut_exp_parts::exp_tokens::{begins_exp_operand, goes_on_chain, goes_on_range, goes_on_typed};
+use fut_forms::forms::form_below;
+use fut_forms::lets::lets;
+use fut_grammar::Stop;
+use fut_phrases::found::Found;
+use fut_phrases::tokens::{greater, next_spot, refused, starts_with};
+use fut_token::{Fixed, Token};
+use fut_tree::Exp;
+
+/// Any expression, and how it ended.
+#[tactic(auto, unfolding(fut_grammar::specs::Phrases::last_at))]
+pub fn last_below<'a, R: ReadExp<'a>>(
+    bump: &'a Bump,
+    read: R,
+    inner: u32,
+    tokens: &'a [Token],
+) -> Result<Found<'a, Ending<'a>>, Stop>
+    requires law { R.reads read inner }
+    requires room { inner < 1000 }
+    ensures exact { Gives ending_found result (last_at (phrases (read_at inner)) (suc inner) tokens.now) }
+    ensures low { IfOk result (λ x. x.height ≤ inner + 1) }
+{
+    if begins_exp_operand(tokens) {
+        typed_below(bump, read, inner, tokens)
+    } else {
+        big_below(bump, read, inner, tokens)
+    }
+}
+
+#[tactic(auto, unfolding(fut_grammar::specs::Phrases::big_at))]
+pub fn big_below<'a, R: ReadExp<'a>>(
+    bump: &'a Bump,
+    read: R,
+    inner: u32,
+    tokens: &'a [Token],
+) -> Result<Found<'a, Ending<'a>>, Stop>
+    requires law { R.reads read inner }
+    requires room { inner < 1000 }
+    ensures exact { Gives ending_found result (big_at (phrases (read_at inner)) (suc inner) tokens.now) }
+    ensures low { IfOk result (λ x. x.height ≤ inner + 1) }
+{
+    if starts_with(tokens, Fixed::KeyLet) {
+        lets_below(bump, read, inner, tokens)
+    } else {
+        form_below(bump, read, inner, tokens)
+    }
+}
+
+#[tactic(auto, unfolding(fut_grammar::specs::Phrases::body_at))]
+fn body_below<'a, R: ReadExp<'a>>(
+    bump: &'a Bump,
+    read: R,
+    inner: u32,
+    tokens: &'a [Token],
+) -> Result<Found<'a, Ending<'a>>, Stop>
+    requires law { R.reads read inner }
+    requires room { inner < 1000 }
+    ensures exact { Gives ending_found result (body_at (phrases (read_at inner)) (suc inner) tokens.now) }
+    ensures low { IfOk result (λ x. x.height ≤ inner + 1) }
+{
+    if begins_exp_operand(tokens) {
+        typed_below(bump, read, inner, tokens)
+    } else {
+        form_below(bump, read, inner, tokens)
+    }
+}
+
+#[tactic(auto, unfolding(fut_grammar::specs::Phrases::lets_at))]
+fn lets_below<'a, R: ReadExp<'a>>(
+    bump: &'a Bump,
+    read: R,
+    inner: u32,
+    tokens: &'a [Token],
+) -> Result<Found<'a, Ending<'a>>, Stop>
+    requires law { R.reads read inner }
+    requires room { inner < 1000 }
+    ensures exact { Gives ending_found result (lets_at (phrases (read_at inner)) (suc inner) tokens.now) }
+    ensures low { IfOk result (λ x. x.height ≤ inner + 1) }
+{
+    let place = next_spot(tokens).place;
+    let row = lets(bump, read, inner, tokens)?;
+    let body = body_below(bump, read, inner, row.rest)?;
+    let exp = lets_node(bump, place, place, row.tree, body.tree.exp)?;
+    Ok(Found {
+        tree: Ending {
+            exp,
+            ended: body.tree.ended,
+        },
+        height: greater(row.height + 1, body.height),
+        rest: body.rest,
+    })
+}
+
+// ---- expressions that nothing goes on with
+
+/// Any expression.
+#[tactic(auto, unfolding(fut_grammar::specs::Phrases::whole_at, fut_grammar::specs::Phrases::far_at, fut_grammar::specs::Phrases::ended))]
+pub fn whole_below<'a, R: ReadExp<'a>>(
+    bump: &'a Bump,
+    read: R,
+    inner: u32,
+    tokens: &'a [Token],
+) -> Result<Found<'a, &'a Exp<'a>>, Stop>
+    requires law { R.reads read inner }
+    requires room { inner < 1000 }
+    ensures exact { Gives tree_found result (whole_at (phrases (read_at inner)) (suc inner) tokens.now) }
+    ensures low { IfOk result (λ x. x.height ≤ inner + 1) }
+{
+    let found = last_below(bump, read, inner, tokens)?;
+    closed(found, goes_on_typed(found.tree.ended, found.rest))
+}
+
+/// Operands and operators of a level or tighter.
+#[tactic(auto, unfolding(fut_grammar::specs::Phrases::operands_at, fut_grammar::specs::Phrases::far_at, fut_grammar::specs::Phrases::ended))]
+pub fn operands_below<'a, R: ReadExp<'a>>(
+    bump: &'a Bump,
+    read: R,
+    inner: u32,
+    least: u8,
+    tokens: &'a [Token],
+) -> Result<Found<'a, &'a Exp<'a>>, Stop>
+    requires law { R.reads read inner }
+    requires room { inner < 1000 }
+    ensures exact { Gives tree_found result (operands_at (phrases (read_at inner)) (suc inner) least tokens.now) }
+    ensures low { IfOk result (λ x. x.height ≤ inner + 1) }
+{
+    let found = chain_below(bump, read, inner, least, tokens)?;
+    closed(found, goes_on_chain(least, found.tree.ended, found.rest))
+}
+
+/// The right operand of an operator.
+#[tactic(auto, unfolding(fut_grammar::specs::Phrases::operand_at, fut_grammar::specs::Phrases::far_at, fut_grammar::specs::Phrases::ended))]
+pub fn operand_below<'a, R: ReadExp<'a>>(
+    bump: &'a Bump,
+    read: R,
+    inner: u32,
+    least: u8,
+    tokens: &'a [Token],
+) -> Result<Found<'a, &'a Exp<'a>>, Stop>
+    requires law { R.reads read inner }
+    requires room { inner < 1000 }
+    ensures exact { Gives tree_found result (operand_at (phrases (read_at inner)) (suc inner) least tokens.now) }
+    ensures low { IfOk result (λ x. x.height ≤ inner + 1) }
+{
+    if begins_exp_operand(tokens) {
+        let found = chain_below(bump, read, inner, least, tokens)?;
+        closed(found, goes_on_chain(least, found.tree.ended, found.rest))
+    } else {
+        let found = big_below(bump, read, inner, tokens)?;
+        closed(found, goes_on_typed(found.tree.ended, found.rest))
+    }
+}
+
+/// The new value of an update.
+#[tactic(auto, unfolding(fut_grammar::specs::Phrases::right_at, fut_grammar::specs::Phrases::far_at, fut_grammar::specs::Phrases::ended))]
+pub fn right_below<'a, R: ReadExp<'a>>(
+    bump: &'a Bump,
+    read: R,
+    inner: u32,
+    tokens: &'a [Token],
+) -> Result<Found<'a, &'a Exp<'a>>, Stop>
+    requires law { R.reads read inner }
+    requires room { inner < 1000 }
+    ensures exact { Gives tree_found result (right_at (phrases (read_at inner)) (suc inner) tokens.now) }
+    ensures low { IfOk result (λ x. x.height ≤ inner + 1) }
+{
+    if begins_exp_operand(tokens) {
+        let found = range_below(bump, read, inner, tokens)?;
+        closed(found, goes_on_range(found.tree.ended, found.rest))
+    } else {
+        let found = big_below(bump, read, inner, tokens)?;
+        closed(found, goes_on_typed(found.tree.ended, found.rest))
+    }
+}
+
+// What was read, where nothing goes on with it.
+fn closed<'a>(found: Found<'a, Ending<'a>>, goes_on: bool) -> Result<Found<'a, &'a Exp<'a>>, Stop>
+    ensures exact { Gives {Y = SourceExp × ℕ × List Token} tree_found result (if goes_on then Err (refuse found.entry.rest.now) else Ok (found.entry.tree.exp.now, found.entry.height, found.entry.rest.now)) }
+    ensures same { IfOk result (λ x. x.height ≡ found.entry.height) }
+{
+    if goes_on {
+        return Err(Stop::Fault(refused(found.rest)));
+    }
+    Ok(Found {
+        tree: found.tree.exp,
+        height: found.height,
+        rest: found.rest,
+    })
+}

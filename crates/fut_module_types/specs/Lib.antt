@@ -1,0 +1,2 @@
+pub mod MtypeFound
+pub mod MtypeTie

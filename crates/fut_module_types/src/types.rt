@@ -1,0 +1,372 @@
+// Module types: each production over what reads the module types and members in it.
+ghost use Rattle.std.specs.Prelude.{◌≡◌, ◌≤◌, ◌<◌, ◌+◌, suc, length, IfOk};
+ghost use Rattle.fut_ast.specs.ModRows.{mod_param, mtype_arrow, mtype_path, mtype_specs, round_mtype, with_item};
+ghost use Rattle.fut_ast.specs.Rows.{far_mtype, of_mod, with_types};
+ghost use Rattle.fut_ast.specs.Sorts.{Mod_param, With_item};
+ghost use Rattle.fut_ast.specs.Tokens.{starts};
+ghost use Rattle.fut_grammar.specs.Phrases.{atomic_mtype_at, far_at, items, once_at, phrases, read_at, whole_mtype_at};
+ghost use Rattle.fut_grammar.specs.Reading.{Gives, row_at, several_at, suffix_at};
+ghost use Rattle.fut_module_types.specs.MtypeFound.{param_found, with_found, withs_found};
+ghost use Rattle.fut_phrases.specs.Found.{tree_found};
+ghost use Rattle.fut_tree.specs.ModTypes.{with_of};
+ghost use Rattle.fut_tree.specs.Names.{names};
+
+use crate::members::members;
+use crate::nodes as node;
+use crate::tie::{ModTypeAnswer, ReadMember, ReadModType};
+use bumpalo::Bump;
+use bumpalo::collections::into_bump_slice;
+use fut_ast::Spot;
+use fut_grammar::{Fault, Stop};
+use fut_phrases::found::Found;
+use fut_phrases::tokens::{
+    begins_name_and_colon, greater, next_spot, refused, rest_of, starts_with, starts_with_word,
+    take, take_path, take_word,
+};
+use fut_phrases::types::{applied_type, whole_type};
+use fut_scalar::Place;
+use fut_token::{Fixed, Token};
+use fut_tree::{Label, ModType, Param, TypeExp, With};
+
+/// Any module type.
+#[tactic(auto, unfolding(fut_grammar::specs::Phrases::whole_mtype_at))]
+pub fn whole_below<'a, R: ReadModType<'a>, S: ReadMember<'a>>(
+    bump: &'a Bump,
+    read: R,
+    read_member: S,
+    inner: u32,
+    arrows: bool,
+    tokens: &'a [Token],
+) -> ModTypeAnswer<'a>
+    requires law { R.reads read inner }
+    requires member_law { S.reads read_member inner }
+    requires room { inner < 1000 }
+    ensures exact { Gives tree_found result (whole_mtype_at (phrases (read_at inner)) (suc inner) arrows tokens.now) }
+    ensures low { IfOk result (λ x. x.height ≤ inner + 1) }
+{
+    let first = atomic_below(bump, read, read_member, inner, arrows, tokens)?;
+    withs_behind(
+        bump,
+        inner,
+        arrows,
+        next_spot(tokens),
+        first.tree,
+        first.height,
+        first.rest,
+    )
+}
+
+#[tactic(auto, unfolding(fut_grammar::specs::Phrases::atomic_mtype_at))]
+fn atomic_below<'a, R: ReadModType<'a>, S: ReadMember<'a>>(
+    bump: &'a Bump,
+    read: R,
+    read_member: S,
+    inner: u32,
+    arrows: bool,
+    tokens: &'a [Token],
+) -> ModTypeAnswer<'a>
+    requires law { R.reads read inner }
+    requires member_law { S.reads read_member inner }
+    requires room { inner < 1000 }
+    ensures exact { Gives tree_found result (atomic_mtype_at (phrases (read_at inner)) (suc inner) arrows tokens.now) }
+    ensures low { IfOk result (λ x. x.height ≤ inner + 1) }
+{
+    if starts_with_word(tokens) {
+        path(bump, inner, arrows, tokens)
+    } else if starts_with(tokens, Fixed::OpenBrace) {
+        members_in_braces(bump, read_member, inner, arrows, tokens)
+    } else if begins_name_and_colon(rest_of(tokens)) {
+        far_arrow(bump, read, inner, arrows, tokens)
+    } else {
+        round(read, inner, arrows, tokens)
+    }
+}
+
+#[tactic(auto, unfolding(fut_grammar::specs::Phrases::far_at, fut_grammar::specs::Phrases::ended))]
+fn far_arrow<'a, R: ReadModType<'a>>(
+    bump: &'a Bump,
+    read: R,
+    inner: u32,
+    arrows: bool,
+    tokens: &'a [Token],
+) -> ModTypeAnswer<'a>
+    requires law { R.reads read inner }
+    requires room { inner < 1000 }
+    ensures exact { Gives tree_found result (far_at (far_mtype arrows) (row_at (phrases (read_at inner)) (of_mod (mtype_arrow arrows)) tokens.now)) }
+    ensures low { IfOk result (λ x. x.height ≤ inner + 1) }
+{
+    let found = arrow(bump, read, inner, arrows, tokens)?;
+    if starts_with(found.rest, Fixed::KeyWith) {
+        return Err(Stop::Fault(refused(found.rest)));
+    }
+    Ok(found)
+}
+
+#[tactic(auto, unfolding(fut_grammar::specs::Reading::row_at, fut_grammar::specs::Reading::parts_at, fut_grammar::specs::Reading::has_at, fut_grammar::specs::Reading::sub_at, fut_grammar::specs::Phrases::phrases))]
+fn arrow<'a, R: ReadModType<'a>>(
+    bump: &'a Bump,
+    read: R,
+    inner: u32,
+    arrows: bool,
+    tokens: &'a [Token],
+) -> ModTypeAnswer<'a>
+    requires law { R.reads read inner }
+    requires room { inner < 1000 }
+    ensures exact { Gives tree_found result (row_at (phrases (read_at inner)) (of_mod (mtype_arrow arrows)) tokens.now) }
+    ensures low { IfOk result (λ x. x.height ≤ inner + 1) }
+{
+    let param = parameter(read, inner, tokens)?;
+    let rest = take(param.rest, Fixed::Arrow)?;
+    let to = read.whole(inner, arrows, rest)?;
+    Ok(Found {
+        tree: node::arrow(bump, next_spot(tokens).place, param.tree, to.tree)?,
+        height: greater(param.height, to.height) + 1,
+        rest: to.rest,
+    })
+}
+
+/// A parameter of a module.
+#[tactic(auto, unfolding(fut_grammar::specs::Phrases::phrases, fut_grammar::specs::Phrases::bounded, fut_grammar::specs::Phrases::ended, fut_grammar::specs::Phrases::flat_at, fut_grammar::specs::Reading::refuse_sort))]
+pub fn parameter<'a, R: ReadModType<'a>>(
+    read: R,
+    inner: u32,
+    tokens: &'a [Token],
+) -> Result<Found<'a, Param<'a>>, Stop>
+    requires law { R.reads read inner }
+    requires room { inner < 1000 }
+    ensures exact { Gives param_found result (phrases (read_at inner) Mod_param tokens.now) }
+    ensures low { IfOk result (λ x. x.height ≤ inner) }
+{
+    if !starts_with(tokens, Fixed::OpenParen) {
+        return Err(Stop::Fault(refused(tokens)));
+    }
+    any_parameter(read, inner, tokens)
+}
+
+#[tactic(auto, unfolding(fut_grammar::specs::Reading::row_at, fut_grammar::specs::Reading::parts_at, fut_grammar::specs::Reading::has_at, fut_grammar::specs::Reading::sub_at, fut_grammar::specs::Phrases::items))]
+fn any_parameter<'a, R: ReadModType<'a>>(
+    read: R,
+    inner: u32,
+    tokens: &'a [Token],
+) -> Result<Found<'a, Param<'a>>, Stop>
+    requires law { R.reads read inner }
+    requires room { inner < 1000 }
+    ensures exact { Gives param_found result (row_at (items (read_at inner)) (of_mod mod_param) tokens.now) }
+    ensures low { IfOk result (λ x. x.height ≤ inner) }
+{
+    let rest = take(tokens, Fixed::OpenParen)?;
+    let place = next_spot(rest).place;
+    let (name, rest) = take_word(rest)?;
+    let rest = take(rest, Fixed::Colon)?;
+    let bound = read.whole(inner, true, rest)?;
+    let rest = take(bound.rest, Fixed::CloseParen)?;
+    Ok(Found {
+        tree: Param {
+            label: Label { name, place },
+            bound: bound.tree,
+        },
+        height: bound.height,
+        rest,
+    })
+}
+
+#[tactic(auto, unfolding(fut_grammar::specs::Reading::row_at, fut_grammar::specs::Reading::parts_at, fut_grammar::specs::Reading::has_at, fut_grammar::specs::Reading::sub_at, fut_grammar::specs::Phrases::phrases))]
+fn round<'a, R: ReadModType<'a>>(
+    read: R,
+    inner: u32,
+    arrows: bool,
+    tokens: &'a [Token],
+) -> ModTypeAnswer<'a>
+    requires law { R.reads read inner }
+    requires room { inner < 1000 }
+    ensures exact { Gives tree_found result (row_at (phrases (read_at inner)) (of_mod (round_mtype arrows)) tokens.now) }
+    ensures low { IfOk result (λ x. x.height ≤ inner + 1) }
+{
+    let _arrows = arrows;
+    let rest = take(tokens, Fixed::OpenParen)?;
+    if begins_name_and_colon(rest) {
+        return Err(Stop::Fault(refused(rest)));
+    }
+    let found = read.whole(inner, true, rest)?;
+    Ok(Found {
+        tree: found.tree,
+        height: found.height + 1,
+        rest: take(found.rest, Fixed::CloseParen)?,
+    })
+}
+
+#[tactic(auto, unfolding(fut_grammar::specs::Reading::row_at, fut_grammar::specs::Reading::parts_at, fut_grammar::specs::Reading::has_at, fut_grammar::specs::Reading::sub_at, fut_grammar::specs::Phrases::phrases))]
+fn members_in_braces<'a, S: ReadMember<'a>>(
+    bump: &'a Bump,
+    read_member: S,
+    inner: u32,
+    arrows: bool,
+    tokens: &'a [Token],
+) -> ModTypeAnswer<'a>
+    requires law { S.reads read_member inner }
+    requires room { inner < 1000 }
+    ensures exact { Gives tree_found result (row_at (phrases (read_at inner)) (of_mod (mtype_specs arrows)) tokens.now) }
+    ensures low { IfOk result (λ x. x.height ≤ inner + 1) }
+{
+    let _arrows = arrows;
+    let rest = take(tokens, Fixed::OpenBrace)?;
+    let all = members(bump, read_member, inner, rest)?;
+    let rest = take(all.rest, Fixed::CloseBrace)?;
+    Ok(Found {
+        tree: node::specs(bump, next_spot(tokens).place, all.tree)?,
+        height: all.height + 1,
+        rest,
+    })
+}
+
+// ---- what has no module types in it
+
+#[tactic(auto, unfolding(fut_grammar::specs::Reading::row_at, fut_grammar::specs::Reading::parts_at, fut_grammar::specs::Reading::has_at))]
+fn path<'a>(bump: &'a Bump, inner: u32, arrows: bool, tokens: &'a [Token]) -> ModTypeAnswer<'a>
+    requires { inner < 1000 }
+    ensures exact { Gives tree_found result (row_at (phrases (read_at inner)) (of_mod (mtype_path arrows)) tokens.now) }
+    ensures low { IfOk result (λ x. x.height ≤ inner + 1) }
+{
+    let _inner = inner;
+    let _arrows = arrows;
+    let (names, rest) = take_path(bump, tokens)?;
+    Ok(Found {
+        tree: node::path(bump, next_spot(tokens).place, names)?,
+        height: 1,
+        rest,
+    })
+}
+
+// ---- what stands behind a module type
+
+// `with .. = ..`, as many as stand there, or nothing.
+#[tactic(auto, unfolding(fut_grammar::specs::Phrases::once_at, fut_grammar::specs::Reading::suffix_at, fut_grammar::specs::Reading::parts_at, fut_grammar::specs::Reading::has_at))]
+fn withs_behind<'a>(
+    bump: &'a Bump,
+    inner: u32,
+    arrows: bool,
+    at: Spot,
+    first: &'a ModType<'a>,
+    first_height: u32,
+    tokens: &'a [Token],
+) -> ModTypeAnswer<'a>
+    requires { (inner < 1000) × (first_height ≤ inner + 1) }
+    ensures exact { Gives tree_found result (once_at (phrases (read_at inner)) (suc inner) (starts Fixed.KeyWith) (with_types arrows) at (λ t. t) first.now first_height tokens.now) }
+    ensures low { IfOk result (λ x. x.height ≤ inner + 1) }
+{
+    if !starts_with(tokens, Fixed::KeyWith) {
+        return Ok(Found {
+            tree: first,
+            height: first_height,
+            rest: tokens,
+        });
+    }
+    if first_height > inner {
+        return Err(Stop::Fault(Fault::TooDeep(tokens.len())));
+    }
+    let withs = withs(bump, inner, arrows, first_height, tokens)?;
+    Ok(Found {
+        tree: node::with_types(bump, at.place, first, withs.tree)?,
+        height: withs.height + 1,
+        rest: withs.rest,
+    })
+}
+
+#[tactic(auto, unfolding(fut_grammar::specs::Reading::several_at))]
+fn withs<'a>(
+    bump: &'a Bump,
+    inner: u32,
+    arrows: bool,
+    first_height: u32,
+    tokens: &'a [Token],
+) -> Result<Found<'a, &'a [With<'a>]>, Stop>
+    requires { (inner < 1000) × (first_height ≤ inner) }
+    ensures exact { Gives withs_found result (several_at (phrases (read_at inner)) (With_item arrows) first_height tokens.now) }
+    ensures low { IfOk result (λ x. x.height ≤ inner) }
+{
+    let first = with(bump, inner, arrows, tokens)?;
+    let mut all = Vec::new(bump);
+    all.push(first.tree)?;
+    let mut height = greater(first_height, first.height);
+    let mut rest = first.rest;
+    'items: for _turn in 0..first.rest.len() {
+        if !starts_with(rest, Fixed::KeyWith) {
+            return Ok(Found {
+                tree: into_bump_slice(all),
+                height,
+                rest,
+            });
+        }
+        let item = with(bump, inner, arrows, rest)?;
+        all.push(item.tree)?;
+        height = greater(height, item.height);
+        rest = item.rest;
+    }
+    if starts_with(rest, Fixed::KeyWith) {
+        return Err(Stop::Fault(refused(rest)));
+    }
+    Ok(Found {
+        tree: into_bump_slice(all),
+        height,
+        rest,
+    })
+}
+
+#[tactic(auto, unfolding(fut_grammar::specs::Phrases::phrases, fut_grammar::specs::Phrases::bounded, fut_grammar::specs::Phrases::ended, fut_grammar::specs::Phrases::flat_at, fut_grammar::specs::Reading::refuse_sort))]
+fn with<'a>(
+    bump: &'a Bump,
+    inner: u32,
+    arrows: bool,
+    tokens: &'a [Token],
+) -> Result<Found<'a, With<'a>>, Stop>
+    requires { inner < 1000 }
+    ensures exact { Gives with_found result (phrases (read_at inner) (With_item arrows) tokens.now) }
+    ensures low { IfOk result (λ x. x.height ≤ inner) }
+{
+    if !starts_with(tokens, Fixed::KeyWith) {
+        return Err(Stop::Fault(refused(tokens)));
+    }
+    any_with(bump, inner, arrows, tokens)
+}
+
+#[tactic(auto, unfolding(fut_grammar::specs::Reading::row_at, fut_grammar::specs::Reading::parts_at, fut_grammar::specs::Reading::has_at, fut_grammar::specs::Reading::sub_at, fut_grammar::specs::Phrases::items))]
+fn any_with<'a>(
+    bump: &'a Bump,
+    inner: u32,
+    arrows: bool,
+    tokens: &'a [Token],
+) -> Result<Found<'a, With<'a>>, Stop>
+    requires { inner < 1000 }
+    ensures exact { Gives with_found result (row_at (items (read_at inner)) (of_mod (with_item arrows)) tokens.now) }
+    ensures low { IfOk result (λ x. x.height ≤ inner) }
+{
+    let rest = take(tokens, Fixed::KeyWith)?;
+    let place = next_spot(rest).place;
+    let (path, rest) = take_path(bump, rest)?;
+    let rest = take(rest, Fixed::Equal)?;
+    if arrows {
+        Ok(typed(place, path, whole_type(bump, inner, rest)?))
+    } else {
+        Ok(typed(place, path, applied_type(bump, inner, rest)?))
+    }
+}
+
+fn typed<'a>(
+    place: Place,
+    path: &'a [&'a str],
+    ty: Found<'a, &'a TypeExp<'a>>,
+) -> Found<'a, With<'a>>
+    ensures tree { with_of result.tree ≡ record { place = place; path = names path.now; ty = ty.entry.tree.now } }
+    ensures height { result.height ≡ ty.entry.height }
+    ensures rest { result.rest.now ≡ ty.entry.rest.now }
+{
+    Found {
+        tree: With {
+            place,
+            path,
+            ty: ty.tree,
+        },
+        height: ty.height,
+        rest: ty.rest,
+    }
+}

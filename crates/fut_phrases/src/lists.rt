@@ -1,0 +1,129 @@
+// Lists of phrases: with commas between, or as many as stand there.
+ghost use Rattle.std.specs.Prelude.{◌≡◌, ◌∷◌, ◌≤◌, ◌<◌, length, map, ℕ, IfOk};
+ghost use Rattle.fut_ast.specs.Behind.{begins};
+ghost use Rattle.fut_ast.specs.Sorts.{Sort, Tree};
+ghost use Rattle.fut_grammar.specs.Phrases.{phrases, read_at};
+ghost use Rattle.fut_grammar.specs.Reading.{Gives, commas_at, many_at};
+ghost use Rattle.fut_phrases.specs.Found.{found_as};
+ghost use Rattle.fut_tree.specs.Names.{all};
+
+use crate::found::Found;
+use crate::tokens::{greater, refused, rest_of, starts_with};
+use bumpalo::Bump;
+use bumpalo::collections::into_bump_slice;
+use fut_grammar::Stop;
+use fut_token::{Fixed, Token};
+use fut_tree::Held;
+use std::alloc::AllocError;
+
+/// What reads the items of a list, each a phrase of one sort.
+pub trait ReadItem<'a, T>: Copy {
+    /// The sort of the items.
+    ghost sort: { Sort };
+
+    /// The tree that an item stands for.
+    ghost seen: { T → Tree sort };
+
+    /// It reads items up to a height.
+    ghost reads: { Self → ℕ → Type 0 };
+
+    /// An item, which the arena holds.
+    fn item(self, bump: &'a Bump, inner: u32, tokens: &'a [Token]) -> Result<Found<'a, T>, Stop>
+        requires law { reads self inner }
+        ensures exact { Gives (found_as seen) result (phrases (read_at inner) sort tokens.now) }
+        ensures low { IfOk result (λ x. x.height ≤ inner) };
+}
+
+/// What tells whether another item stands next.
+pub trait BeginItem<'a, T>: ReadItem<'a, T> {
+    /// Whether an item begins here.
+    fn begins(self, tokens: &'a [Token]) -> bool
+        ensures { result ≡ begins Self.sort tokens.now };
+}
+
+/// One or more items with commas between.
+pub fn commas<'a, T: Copy, R: ReadItem<'a, T>>(
+    bump: &'a Bump,
+    read: R,
+    inner: u32,
+    tokens: &'a [Token],
+) -> Result<Found<'a, &'a [T]>, Stop>
+    requires law { R.reads read inner }
+    requires room { inner < 1000 }
+    ensures exact { Gives (found_as (λ t. map R.seen t.now)) result (commas_at (phrases (read_at inner)) (length tokens.now) R.sort 0 tokens.now) }
+    ensures low { IfOk result (λ x. x.height ≤ inner) }
+{
+    let mut made = Vec::new(bump);
+    let mut height = 0;
+    let mut rest = tokens;
+    'items: for _turn in 0..tokens.len() {
+        let item = read.item(bump, inner, rest)?;
+        made.push(item.tree)?;
+        height = greater(height, item.height);
+        if !starts_with(item.rest, Fixed::Comma) {
+            return Ok(Found {
+                tree: into_bump_slice(made),
+                height,
+                rest: item.rest,
+            });
+        }
+        rest = rest_of(item.rest);
+    }
+    Err(Stop::Fault(refused(rest)))
+}
+
+/// Items, as many as stand there, in a tree that is as high as given without them.
+pub fn many<'a, T: Copy, R: BeginItem<'a, T>>(
+    bump: &'a Bump,
+    read: R,
+    inner: u32,
+    first_height: u32,
+    tokens: &'a [Token],
+) -> Result<Found<'a, &'a [T]>, Stop>
+    requires law { R.reads read inner }
+    requires room { (inner < 1000) × (first_height ≤ inner) }
+    ensures exact { Gives (found_as (λ t. map R.seen t.now)) result (many_at (phrases (read_at inner)) (length tokens.now) R.sort first_height tokens.now) }
+    ensures low { IfOk result (λ x. x.height ≤ inner) }
+{
+    let mut made = Vec::new(bump);
+    let mut height = first_height;
+    let mut rest = tokens;
+    'items: for _turn in 0..tokens.len() {
+        if !read.begins(rest) {
+            return Ok(Found {
+                tree: into_bump_slice(made),
+                height,
+                rest,
+            });
+        }
+        let item = read.item(bump, inner, rest)?;
+        made.push(item.tree)?;
+        height = greater(height, item.height);
+        rest = item.rest;
+    }
+    if read.begins(rest) {
+        return Err(Stop::Fault(refused(rest)));
+    }
+    Ok(Found {
+        tree: into_bump_slice(made),
+        height,
+        rest,
+    })
+}
+
+/// A list with one more in front.
+pub fn in_front<'a, T>(
+    bump: &'a Bump,
+    first: &'a T,
+    others: &'a [Held<'a, T>],
+) -> Result<&'a [Held<'a, T>], AllocError>
+    ensures { IfOk result (λ list. all list.now ≡ first.now ∷ all others.now) }
+{
+    let mut made = Vec::new(bump);
+    match made.push(Held { at: first }) {
+        Ok(()) => (),
+        Err(_) => return Err(AllocError),
+    }
+    made.extend_from_slice(others)?;
+    Ok(into_bump_slice(made))
+}

@@ -1,0 +1,12 @@
+pub mod Names
+pub mod Types
+pub mod TypesFall
+pub mod Pats
+pub mod PatsFall
+pub mod Exps
+pub mod ExpsFall
+pub mod ModTypes
+pub mod ModTypesFall
+pub mod Mods
+pub mod ModsFall
+pub mod Programs

@@ -1,0 +1,57 @@
+// What the program tells of itself.
+ghost use Rattle.std.specs.Prelude.{◌≡◌, option_map};
+ghost use Rattle.futhark_command.specs.Call.{text_asked};
+
+use fut_scalar::{List, Name};
+
+/// What `--help` writes.
+pub const HELP: &str = "\
+usage: futhark run FILE
+       futhark check FILE
+       futhark --help
+       futhark --version
+
+`run` reads the arguments of the function `main` of FILE from standard input,
+and writes its result on standard output.
+`check` writes `accepted` on standard output where FILE could be run, and reads
+no input.
+
+With `def main (x: i64) (y: i64): i64 = x * x + y * y` in the file t.fut,
+    echo '3 4' | futhark run t.fut
+writes 25i64.
+
+The exit status, and for each but 0 a line on standard error:
+   0  done
+   1  the words are none of the above
+   2  FILE can't be loaded
+   3  FILE is no program, or one of a part of Futhark that is not built yet
+   4  a name of the program is not bound
+   9  FILE has over 4194304 bytes or nests over 200 deep, or the input has over
+      67108864 bytes
+  10  standard input failed
+  11  the input is not the arguments of the program
+  12  the program failed, as at a division by zero
+  14  standard output failed
+  15  out of memory
+";
+
+/// What `--version` writes.
+pub const VERSION: &str = "melonclamp 0.1.0, Futhark in integers and truth values\n";
+
+/// The text that is asked for where the only word is `--help` or `--version`.
+pub fn text_asked(words: &List<Name>) -> Option<&'static str>
+    ensures { option_map (λ text. text.now) result ≡ text_asked words.now }
+{
+    match words.as_slice() {
+        [word] => {
+            if word.as_str() == "--help" {
+                Some(HELP)
+            } else if word.as_str() == "--version" {
+                Some(VERSION)
+            } else {
+                None
+            }
+        }
+        _ => None,
+    }
+}

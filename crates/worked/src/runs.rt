@@ -1,0 +1,90 @@
+// Runs of whole programs over files, input and output in memory.
+mod given;
+pub mod row;
+
+use crate::fault::Wrong;
+use crate::parts::{Parts, count};
+use crate::runs::given::{err_of, loader_of, out_of, source_of, words_of};
+use crate::runs::row::Row;
+use crate::shown::Shown;
+use crate::stage::Stage;
+use crate::tally::Tally;
+use std::alloc::Global;
+
+/// How many bytes the lines before the first blank one have, with their ends.
+fn row_length(text: &[u8]) -> usize {
+    let mut length = 0usize;
+    for line in Parts::new(text, b'\n') {
+        if line.is_empty() {
+            return length;
+        }
+        length = length.saturating_add(line.len()).saturating_add(1);
+    }
+    length
+}
+
+/// Goes through the rows of a text, which stand between blank lines. The text begins in line 2 of its file.
+pub fn check_runs(alloc: Global, text: &[u8], tally: &mut Tally) {
+    let mut shown = Shown::new(alloc);
+    let mut first = 2u64;
+    let mut rest = text;
+    for _ in 0..text.len() {
+        let (text, behind) = rest
+            .split_at_checked(row_length(rest))
+            .unwrap_or((rest, b""));
+        let row = Row { first, text };
+        if !row.is_empty() {
+            check_row(alloc, row, &mut shown, tally);
+        }
+        first = first.saturating_add(count(text, b'\n')).saturating_add(1);
+        let [_, rows @ ..] = behind else {
+            return;
+        };
+        rest = rows;
+    }
+}
+
+/// What a row gives to a call.
+pub fn stage_of(alloc: Global, row: Row<'_>, tally: &mut Tally) -> Option<Stage> {
+    let (Ok(out), Ok(err)) = (out_of(alloc, row, tally), err_of(alloc, row, tally)) else {
+        return None;
+    };
+    Some(Stage {
+        words: words_of(alloc, row, tally),
+        loader: loader_of(alloc, row, tally),
+        input: source_of(alloc, row, tally),
+        out,
+        err,
+    })
+}
+
+/// Plays a row, and compares what comes with what is wanted.
+fn check_row(alloc: Global, row: Row<'_>, shown: &mut Shown, tally: &mut Tally) {
+    row.refuse_strangers(tally);
+    let Some(mut stage) = stage_of(alloc, row, tally) else {
+        return tally.spend();
+    };
+    let status = stage.play(alloc);
+    stage.show(status, shown);
+    let wanted = wanted_status(row, tally);
+    let holds = wanted == u64::from(status)
+        && is_text(alloc, row, b"out", stage.out.held(), tally)
+        && is_text(alloc, row, b"err", stage.err.held(), tally);
+    tally.add(row.first, holds, shown.text.as_str());
+}
+
+/// The status that a row wants.
+fn wanted_status(row: Row<'_>, tally: &mut Tally) -> u64 {
+    match row.number(b"status", tally) {
+        Some(number) => number,
+        None => {
+            tally.refuse(row.first, Wrong::NoAnswer);
+            0
+        }
+    }
+}
+
+/// Whether bytes are the text behind a heading.
+fn is_text(alloc: Global, row: Row<'_>, heading: &[u8], bytes: &[u8], tally: &mut Tally) -> bool {
+    row.text(alloc, heading, tally).as_slice() == bytes
+}

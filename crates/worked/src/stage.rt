@@ -1,0 +1,42 @@
+// A call of the program over objects in memory.
+use crate::shown::Shown;
+use fut_io::{MemLoader, MemSink, MemSource, MemWords};
+use futhark_command::run_command_line;
+use futhark_core::code;
+use std::alloc::Global;
+
+/// What a call is given, and what it writes on.
+#[derive(Drop)]
+pub struct Stage {
+    pub words: MemWords,
+    pub loader: MemLoader,
+    pub input: MemSource,
+    pub out: MemSink,
+    pub err: MemSink,
+}
+
+impl Stage {
+    /// Calls the program, and gives the number of its status.
+    pub fn play(&mut self, alloc: Global) -> u8 {
+        let status = run_command_line(
+            alloc,
+            &self.words,
+            &mut self.loader,
+            &mut self.input,
+            &mut self.out,
+            &mut self.err,
+        );
+        code(&status)
+    }
+
+    /// Shows a status and what came on out and on err.
+    pub fn show(&self, status: u8, shown: &mut Shown) {
+        shown.begin(false);
+        shown.push("status ");
+        shown.number(u64::from(status));
+        shown.push("; out: ");
+        shown.bytes(self.out.held());
+        shown.push("; err: ");
+        shown.bytes(self.err.held());
+    }
+}
