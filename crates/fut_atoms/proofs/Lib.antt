@@ -1,5 +1,3 @@
 pub mod Heights
-pub mod Pushed
-pub mod Reversals
-pub mod Same
-pub mod Steps
+pub mod ItemLaws
+pub mod PartLaws

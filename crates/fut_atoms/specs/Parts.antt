@@ -1,22 +1,27 @@
--- The parts of atoms, as they were found.
-use Rattle.std.specs.Prelude.{ℕ, List, Option, Result}
+-- The parts of atoms, as they are read and found.
+use Rattle.std.specs.Prelude.{ℕ, List, ◌&&◌, ◌||◌, Option, Some, None, Result, Ok, Err, max, if◌then◌else◌}
 use Rattle.std.specs.Borrow.{Bor}
 use Rattle.fut_token.specs.declared.token.Fixed.TheVariants as fixed
 use Rattle.fut_token.specs.declared.token.Token.{Token}
-use Rattle.fut_ast.specs.Parts.{going_back}
-use Rattle.fut_ast.specs.Sorts.{Text, Path, SourceExp}
+use Rattle.fut_ast.specs.Behind.{begins_operand}
+use Rattle.fut_ast.specs.Nodes.{use_of}
+use Rattle.fut_ast.specs.Parts.{going_back, without}
+use Rattle.fut_ast.specs.Sorts.{Sort, Tree, Text, Path, SourceExp, Operands, Whole}
+use Rattle.fut_ast.specs.Tokens.{spot_of, starts, tail}
 use Rattle.fut_ast.specs.declared.exp.Bind.{Bind}
 use Rattle.fut_ast.specs.declared.exp.Ix.{Ix as PlainIx}
 use Rattle.fut_ast.specs.declared.node.Spot.{Spot}
+use Rattle.fut_ast.specs.declared.node.What.TheVariants as what
 use Rattle.fut_tree.specs.declared.exp.ExpField.{ExpField}
 use Rattle.fut_tree.specs.declared.exp.Ix.{Ix}
 use Rattle.fut_tree.specs.Exps.{exp_fields, ix_of, ixs_of}
 use Rattle.fut_tree.specs.Names.{maybe}
 use Rattle.fut_exp_parts.specs.declared.index_nodes.NamedPart.{NamedPart}
 use Rattle.fut_exp_parts.specs.declared.index_nodes.Upto.{Upto}
-use Rattle.fut_exp_parts.specs.Parts.{named_all, named_of, upto_of}
+use Rattle.fut_exp_parts.specs.declared.index_nodes.WrittenPart.{WrittenPart}
+use Rattle.fut_exp_parts.specs.Parts.{Written, named_all, named_of, upto_of, written_of}
 use Rattle.fut_grammar.specs.declared.fault.Fault.{Fault}
-use Rattle.fut_grammar.specs.Reading.{◌>>=◌, expect, look_at, one_at}
+use Rattle.fut_grammar.specs.Reading.{◌>>=◌, Read, expect, look_at, one_at, optional_at, refuse, upto_at, word_at}
 use Rattle.fut_phrases.specs.declared.found.Found.{Found}
 use Rattle.fut_phrases.specs.Found.{found_as}
 
@@ -34,23 +39,49 @@ index_found = found_as ix_of
 abbrev pub indices_found : Found (Bor (List Ix)) → List (PlainIx Path Text) × ℕ × List Token
 indices_found = found_as (λ is. ixs_of is.now)
 
--- "-1" and "::-1", and the tokens behind
-unfoldable pub minus_one_at : List Token → Result (List Token) Fault
-minus_one_at ts = expect fixed.Minus ts >>= λ us. one_at us
-
-unfoldable pub reversal_at : List Token → Result (List Token) Fault
-reversal_at ts = expect fixed.Colon ts >>= λ us. look_at going_back us >>= λ u. expect fixed.Colon us >>= λ vs. minus_one_at vs
-
--- parts of an index in a section, with the names of their expressions
+-- the same in a section, with the names of their expressions
 abbrev pub named_found : Found NamedPart → (List (Bind Path Text) × PlainIx Path Text) × ℕ × List Token
 named_found = found_as named_of
 
 abbrev pub nameds_found : Found (Bor (List NamedPart)) → List (List (Bind Path Text) × PlainIx Path Text) × ℕ × List Token
 nameds_found = found_as (λ ps. named_all ps.now)
 
--- what stands behind the first expression of a part
+-- a part of an index as it is written, and what stands behind its first expression
+abbrev pub written_found : Found WrittenPart → Written × ℕ × List Token
+written_found = found_as written_of
+
 abbrev pub upto_found : Found (Option Upto) → Option (Spot × Option SourceExp) × ℕ × List Token
 upto_found = found_as upto_of
 
 abbrev pub maybe_found : Found (Option (Bor SourceExp)) → Option SourceExp × ℕ × List Token
 maybe_found = found_as maybe
+
+-- ---- reading a field, a part of an index and such a part of what is written, each in one way for all its productions
+
+-- "::-1", and the tokens behind
+unfoldable pub reversal_at : List Token → Result (List Token) Fault
+reversal_at ts = expect fixed.Colon ts >>= λ us. look_at going_back us >>= λ u. expect fixed.Colon us >>= λ vs. expect fixed.Minus vs >>= λ ws. one_at ws
+
+module _ (sub : (n : Sort) → List Token → Read (Tree n)) where
+  -- a name, and "=" and an expression or nothing
+  unfoldable pub field_at : List Token → Read (Text × SourceExp)
+  field_at ts =
+      word_at ts >>= λ x. if starts fixed.Equal x.1 then (sub Whole (tail x.1) >>= λ e. if starts fixed.Equal e.2 then Err (refuse e.2) else Ok ((x.0, e.0), e.1, e.2))
+      else Ok ((x.0, use_of (spot_of ts).place x.0), 0, x.1)
+
+  -- a part of an index, as it is written
+  unfoldable pub any_part_at : List Token → Read Written
+  any_part_at ts =
+      if starts fixed.Colon ts && starts fixed.Colon (tail ts) then (reversal_at ts >>= λ us. Ok ((spot_of ts, None, None), 0, us))
+      else (optional_at sub (Operands 1) 0 ts >>= λ e. upto_at sub e.1 e.2 >>= λ u. look_at (without what.Stride) u.2 >>= λ l. Ok ((spot_of ts, e.0, u.0), u.1, u.2))
+
+  unfoldable pub part_at : List Token → Read Written
+  part_at ts =
+      if begins_operand ts || starts fixed.Colon ts then (any_part_at ts >>= λ y. if starts fixed.Colon y.2 || begins_operand y.2 then Err (refuse y.2) else Ok y)
+      else Err (refuse ts)
+
+  -- a part of the index of what is written: operands, since a slice in an update is left out
+  unfoldable pub target_at : List Token → Read SourceExp
+  target_at ts =
+      if begins_operand ts then (sub (Operands 1) ts >>= λ e. look_at (without what.SliceUpdate) e.2 >>= λ l. Ok e)
+      else (look_at (without what.SliceUpdate) ts >>= λ l. Err (refuse ts))

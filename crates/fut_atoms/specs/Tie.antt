@@ -4,7 +4,7 @@ use Rattle.std.specs.Borrow.{Bor}
 use Rattle.fut_token.specs.declared.token.Fixed.{Fixed}
 use Rattle.fut_token.specs.declared.token.Token.{Token}
 use Rattle.fut_ast.specs.declared.node.Ended.{Ended}
-use Rattle.fut_ast.specs.Sorts.{Path, SourceExp, Atom, Unary, Operands, Operand, Right, Whole, Last, Inside, Replacing}
+use Rattle.fut_ast.specs.Sorts.{Sort, Tree, Path, SourceExp, Atom, Unary, Operands, Operand, Right, Whole, Last, Inside, Replacing}
 use Rattle.fut_tree.specs.Names.{names}
 use Rattle.fut_grammar.specs.declared.fault.Stop.{Stop}
 use Rattle.fut_grammar.specs.Reading.{Gives}
@@ -34,17 +34,32 @@ replacing_found = found_as (λ t. (names t.path.now, t.exp.now))
 abbrev pub Answer : Type 0
 Answer = Result (Found AnyExp) Stop
 
--- the answer is what reading gives, up to a height of d
+-- the sort of the grammar, and what is read of it
+abbrev pub sort_of : ExpSort → Sort
+sort_of sort.Atom = Atom
+sort_of sort.Unary = Unary
+sort_of (sort.Operands k) = Operands k
+sort_of (sort.Operand k) = Operand k
+sort_of sort.Right = Right
+sort_of sort.Whole = Whole
+sort_of sort.Last = Last
+sort_of sort.Inside = Inside
+sort_of sort.Replacing = Replacing
+
+abbrev pub seen : (s : ExpSort) → AnyExp → Tree (sort_of s)
+seen sort.Atom t = t.exp.now
+seen sort.Unary t = t.exp.now
+seen (sort.Operands k) t = t.exp.now
+seen (sort.Operand k) t = t.exp.now
+seen sort.Right t = t.exp.now
+seen sort.Whole t = t.exp.now
+seen sort.Last t = (t.exp.now, t.ended)
+seen sort.Inside t = (t.exp.now, t.section)
+seen sort.Replacing t = (names t.path.now, t.exp.now)
+
+-- the answer is what reading gives
 abbrev pub Reads : ExpSort → ℕ → List Token → Answer → Type 0
-Reads sort.Atom d ts r = Gives (found_as (λ t. t.exp.now)) r (read_at d Atom ts)
-Reads sort.Unary d ts r = Gives (found_as (λ t. t.exp.now)) r (read_at d Unary ts)
-Reads (sort.Operands k) d ts r = Gives (found_as (λ t. t.exp.now)) r (read_at d (Operands k) ts)
-Reads (sort.Operand k) d ts r = Gives (found_as (λ t. t.exp.now)) r (read_at d (Operand k) ts)
-Reads sort.Right d ts r = Gives (found_as (λ t. t.exp.now)) r (read_at d Right ts)
-Reads sort.Whole d ts r = Gives (found_as (λ t. t.exp.now)) r (read_at d Whole ts)
-Reads sort.Last d ts r = Gives (found_as (λ t. (t.exp.now, t.ended))) r (read_at d Last ts)
-Reads sort.Inside d ts r = Gives (found_as (λ t. (t.exp.now, t.section))) r (read_at d Inside ts)
-Reads sort.Replacing d ts r = Gives (found_as (λ t. (names t.path.now, t.exp.now))) r (read_at d Replacing ts)
+Reads s d ts r = Gives (found_as (seen s)) r (read_at d (sort_of s) ts)
 
 -- each answer is what reading gives, where post says what is answered
 abbrev pub Law : (ExpSort → Bor (List Token) → Answer → Type 0) → ℕ → Type 0

@@ -10,14 +10,15 @@ ghost use Rattle.fut_phrases.specs.Found.{list_found, tree_found};
 use crate::fields::field_list;
 use crate::leaves::{no, no_elements, no_fields, number, path, yes};
 use crate::parens::paren_below;
-use crate::tie::{ReadExp, whole};
+use crate::tie::{ExpSort, ReadExp};
 use bumpalo::Bump;
-use bumpalo::collections::into_bump_slice;
 use fut_exp_parts::exp_nodes::{array, record};
+use fut_exp_parts::lists::commas_from;
 use fut_grammar::Stop;
 use fut_phrases::found::Found;
+use fut_phrases::lists::ReadItem;
 use fut_phrases::tokens::{
-    greater, next_spot, refused, rest_of, starts_with, starts_with_int, starts_with_word, take,
+    next_spot, rest_of, starts_with, starts_with_int, starts_with_word, take,
 };
 use fut_token::{Fixed, Token};
 use fut_tree::{Exp, Held};
@@ -137,21 +138,34 @@ pub fn expressions<'a, R: ReadExp<'a>>(
     ensures exact { Gives list_found result (commas_at (phrases (read_at inner)) (length tokens.now) Whole first_height tokens.now) }
     ensures low { IfOk result (λ x. x.height ≤ inner) }
 {
-    let mut made = Vec::new(bump);
-    let mut height = first_height;
-    let mut rest = tokens;
-    'items: for _turn in 0..tokens.len() {
-        let item = whole(read, inner, rest)?;
-        made.push(Held { at: item.tree })?;
-        height = greater(height, item.height);
-        if !starts_with(item.rest, Fixed::Comma) {
-            return Ok(Found {
-                tree: into_bump_slice(made),
-                height,
-                rest: item.rest,
-            });
-        }
-        rest = rest_of(item.rest);
+    commas_from(bump, ExpItems { read }, inner, first_height, tokens)
+}
+
+#[derive(Clone, Copy)]
+struct ExpItems<R> {
+    read: R,
+}
+
+impl<'a, R: ReadExp<'a>> ReadItem<'a, Held<'a, Exp<'a>>> for ExpItems<R> {
+    ghost sort = { Whole };
+
+    ghost seen = { λ e. e.at.now };
+
+    ghost reads = { λ s d. R.reads s.read d };
+
+    #[tactic(auto, unfolding(fut_grammar::specs::Phrases::phrases))]
+    fn item(
+        self,
+        bump: &'a Bump,
+        inner: u32,
+        tokens: &'a [Token],
+    ) -> Result<Found<'a, Held<'a, Exp<'a>>>, Stop> {
+        let _bump = bump;
+        let item = self.read.read(inner, ExpSort::Whole, tokens)?;
+        Ok(Found {
+            tree: Held { at: item.tree.exp },
+            height: item.height,
+            rest: item.rest,
+        })
     }
-    Err(Stop::Fault(refused(rest)))
 }

@@ -1,12 +1,16 @@
-//! Atoms: expressions of one token or in brackets, with indices and fields behind them; and the tie, through which a
-//! production reaches the expressions in it.
+//! Atoms, and the forms that begin with a keyword or a backslash and reach far: if, functions, loops and rows of lets.
+//!
+//! Each call reads one of them as `fut_grammar` says, over what reads the expressions inside: the tie, through which a
+//! production reaches them.
 #![tactic(auto)]
 
 pub mod atoms;
 mod brackets;
 mod fields;
+pub mod forms;
 mod indices;
 mod leaves;
+pub mod lets;
 mod parens;
 pub mod tie;
 pub mod written;

@@ -11,7 +11,7 @@ ghost use Rattle.fut_phrases.specs.Found.{tree_found};
 use crate::brackets::expressions;
 use crate::indices::named_list;
 use crate::leaves::unit;
-use crate::tie::{ReadExp, inside as first_inside, operands};
+use crate::tie::{ExpSort, ReadExp};
 use bumpalo::Bump;
 use fut_ast::{Spot, What};
 use fut_exp_parts::exp_nodes::round as round_of;
@@ -122,9 +122,9 @@ fn operator_and_operand<'a, R: ReadExp<'a>>(
         return Err(Stop::Fault(refused(rest)));
     }
     let ((at, name), rest) = take_operator(fixed, rest)?;
-    let operand = operands(read, inner, level_of(fixed) + 1, rest)?;
+    let operand = read.read(inner, ExpSort::Operands(level_of(fixed) + 1), rest)?;
     let rest = take(operand.rest, Fixed::CloseParen)?;
-    let tree = section_of_right(bump, fixed, paren, at.place, name, operand.tree)?;
+    let tree = section_of_right(bump, fixed, paren, at.place, name, operand.tree.exp)?;
     Ok(Found {
         tree,
         height: operand.height + 1,
@@ -149,7 +149,7 @@ fn plain<'a, R: ReadExp<'a>>(
         tree: first,
         height,
         rest,
-    } = first_inside(read, inner, rest_of(tokens))?;
+    } = read.read(inner, ExpSort::Inside, rest_of(tokens))?;
     match first.section {
         None => round(bump, read, inner, at, first.exp, height, rest),
         Some(fixed) => operand_and_operator(bump, fixed, at, first.exp, height, rest),

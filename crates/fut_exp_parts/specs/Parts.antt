@@ -1,18 +1,52 @@
 -- The parts of an index, as they are held.
-use Rattle.std.specs.Prelude.{List, Option, Some, None, map}
+use Rattle.std.specs.Prelude.{List, [], Option, Some, None, map}
 use Rattle.fut_ast.specs.declared.exp.Bind.{Bind}
 use Rattle.fut_ast.specs.declared.exp.Ix.{Ix}
+use Rattle.fut_ast.specs.declared.exp.Ix.TheVariants as ix
 use Rattle.fut_ast.specs.declared.node.Spot.{Spot}
+use Rattle.fut_ast.specs.Nodes.{index_of, named_index_of, named_slice_of}
 use Rattle.fut_ast.specs.Sorts.{Text, Path, SourceExp}
 use Rattle.fut_tree.specs.Names.{maybe}
 use Rattle.fut_tree.specs.Exps.{binds_of, ix_of}
 use Rattle.fut_exp_parts.specs.declared.index_nodes.NamedPart.{NamedPart}
 use Rattle.fut_exp_parts.specs.declared.index_nodes.Upto.{Upto}
+use Rattle.fut_exp_parts.specs.declared.index_nodes.WrittenPart.{WrittenPart}
 
 -- what stands behind the first expression of a part
 abbrev pub upto_of : Option Upto → Option (Spot × Option SourceExp)
 upto_of None = None
 upto_of (Some u) = Some (u.colon, maybe u.end)
+
+-- a part as it is written: where it stands, its first expression, and what stands behind that; "::-1" has neither
+abbrev pub Written : Type 0
+Written = Spot × Option SourceExp × Option (Spot × Option SourceExp)
+
+abbrev pub written_of : WrittenPart → Written
+written_of p = (p.at, maybe p.first, upto_of p.upto)
+
+-- the part that is written so
+abbrev pub plain_end_of : Option (Spot × Option SourceExp) → Ix Path Text
+plain_end_of None = ix.Backwards
+plain_end_of (Some upto) = ix.Slice None upto.1
+
+abbrev pub plain_from : Option SourceExp → Option (Spot × Option SourceExp) → Ix Path Text
+plain_from None upto = plain_end_of upto
+plain_from (Some e) upto = index_of e upto
+
+abbrev pub plain_part : Written → Ix Path Text
+plain_part w = plain_from w.1 w.2
+
+-- the same in a section, with the names of its expressions
+abbrev pub section_end_of : Option (Spot × Option SourceExp) → List (Bind Path Text) × Ix Path Text
+section_end_of None = ([], ix.Backwards)
+section_end_of (Some upto) = named_slice_of upto.0 upto.1
+
+abbrev pub section_from : Spot → Option SourceExp → Option (Spot × Option SourceExp) → List (Bind Path Text) × Ix Path Text
+section_from at None upto = section_end_of upto
+section_from at (Some e) upto = named_index_of at e upto
+
+abbrev pub section_part : Written → List (Bind Path Text) × Ix Path Text
+section_part w = section_from w.0 w.1 w.2
 
 -- the names of a part's expressions, and the part
 abbrev pub named_of : NamedPart → List (Bind Path Text) × Ix Path Text

@@ -1,5 +1,5 @@
 // What lets bind: functions and updates of arrays; and paths of names.
-ghost use Rattle.std.specs.Prelude.{◌≡◌, [], ◌∷◌, IfOk};
+ghost use Rattle.std.specs.Prelude.{◌≡◌, [], ◌∷◌, IfOk, true};
 ghost use Rattle.fut_ast.specs.Nodes.{bound, exp_at, let_one, node, use_of};
 ghost use Rattle.fut_ast.specs.Sorts.{Path, Text};
 ghost use Rattle.fut_ast.specs.declared.exp.Bind.{roll-Bind};
@@ -25,13 +25,14 @@ pub fn function_bound<'a>(
     ty: Option<&'a TypeExp<'a>>,
     body: &'a Exp<'a>,
 ) -> Result<Bind<'a>, NoMemory>
-    ensures { IfOk result (λ b. bind_of b ≡ roll-Bind Path Text (record { sizes = []; pat = bound place name.now; heads = heads_of heads.now; value = exp_at place (form.Lambda (all params.now) (maybe ty.entry) body.now) })) }
+    ensures { IfOk result (λ b. bind_of b ≡ roll-Bind Path Text (record { sizes = []; pat = bound place name.now; is_function = true; heads = heads_of heads.now; value = exp_at place (form.Lambda (all params.now) (maybe ty.entry) body.now) })) }
 {
     let value = function(bump, place, params, ty, body)?;
     let pat = pat_nodes::name(bump, place, name)?;
     Ok(Bind {
         sizes: &[],
         pat,
+        is_function: true,
         heads,
         value,
     })

@@ -167,6 +167,7 @@ pub fn one_let<'a>(pat: &'a Pat<'a>, value: &'a Exp<'a>) -> Bind<'a>
     Bind {
         sizes: &[],
         pat,
+        is_function: false,
         heads: &[],
         value,
     }

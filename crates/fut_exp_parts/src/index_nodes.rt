@@ -1,26 +1,22 @@
 // The parts of an index, also in a section, where each expression gets a name.
-ghost use Rattle.std.specs.Prelude.{◌≡◌, ◌+◌, ◌%◌, [], ◌∷◌, None, IfOk, map};
+ghost use Rattle.std.specs.Prelude.{◌≡◌, ◌+◌, ◌%◌, ◌∷◌, [], None, IfOk, map};
 ghost use Rattle.fut_ast.specs.Nodes.{
   behind_lets,
   bound,
   exp_at,
   flat,
   held_name,
-  index_of,
   index_section,
   let_named,
   name_of_position,
   named_index_of,
-  named_slice_of,
   node,
   use_named,
   use_of,
 };
 ghost use Rattle.fut_ast.specs.declared.exp.Form.TheVariants as form;
-ghost use Rattle.fut_ast.specs.declared.exp.Ix.TheVariants as ix;
-ghost use Rattle.fut_exp_parts.specs.Parts.{named_all, named_of, upto_of};
+ghost use Rattle.fut_exp_parts.specs.Parts.{named_all, named_of, plain_part, section_end_of, section_part, upto_of, written_of};
 ghost use Rattle.fut_tree.specs.Exps.{bind_of, binds_of, ix_of, ixs_of};
-ghost use Rattle.fut_tree.specs.Names.{maybe};
 
 use crate::exp_nodes::{index, lambda, lets, name_let, name_used};
 use crate::new_names::name_of_held;
@@ -38,6 +34,14 @@ pub struct Upto<'a> {
     pub end: Option<&'a Exp<'a>>,
 }
 
+/// A part of an index as it is written, and where it stands. `::-1` has neither an expression nor a colon before one.
+#[derive(Clone, Copy)]
+pub struct WrittenPart<'a> {
+    pub at: Spot,
+    pub first: Option<&'a Exp<'a>>,
+    pub upto: Option<Upto<'a>>,
+}
+
 /// The names of a part's expressions, and the part with the names in their places.
 #[derive(Clone, Copy)]
 pub struct NamedPart<'a> {
@@ -45,21 +49,20 @@ pub struct NamedPart<'a> {
     pub part: Ix<'a>,
 }
 
-/// A part of an index, of its first expression and what stands behind it.
-pub fn index_part<'a>(e: &'a Exp<'a>, upto: Option<Upto<'a>>) -> Ix<'a>
-    ensures { ix_of result ≡ index_of e.now (upto_of upto.entry) }
+/// A part of an index.
+pub fn index_part<'a>(part: WrittenPart<'a>) -> Ix<'a>
+    ensures { ix_of result ≡ plain_part (written_of part.entry) }
 {
-    match upto {
-        None => Ix::At(e),
-        Some(upto) => Ix::Slice(Some(e), upto.end),
+    match part.first {
+        None => match part.upto {
+            None => Ix::Backwards,
+            Some(upto) => Ix::Slice(None, upto.end),
+        },
+        Some(e) => match part.upto {
+            None => Ix::At(e),
+            Some(upto) => Ix::Slice(Some(e), upto.end),
+        },
     }
-}
-
-/// A part of an index without a first expression.
-pub fn index_up_to<'a>(end: Option<&'a Exp<'a>>) -> Ix<'a>
-    ensures { ix_of result ≡ ix.Slice None (maybe end.entry) }
-{
-    Ix::Slice(None, end)
 }
 
 // ---- the names of expressions in an index
@@ -108,30 +111,35 @@ fn named<'a>(bump: &'a Bump, at: Spot, e: &'a Exp<'a>) -> Result<NamedExp<'a>, N
 
 // ---- parts in a section
 
-/// `::-1` in a section.
-pub fn named_reversed<'a>() -> NamedPart<'a>
-    ensures { named_of result ≡ ([], ix.Backwards) }
+/// A part of an index in a section.
+pub fn named_part<'a>(bump: &'a Bump, part: WrittenPart<'a>) -> Result<NamedPart<'a>, NoMemory>
+    ensures { IfOk result (λ p. named_of p ≡ section_part (written_of part.entry)) }
 {
-    NamedPart {
-        binds: &[],
-        part: Ix::Backwards,
+    match part.first {
+        None => named_end(bump, part.upto),
+        Some(e) => named_from(bump, part.at, e, part.upto),
     }
 }
 
-/// A part of an index without a first expression.
-pub fn named_up_to<'a>(
-    bump: &'a Bump,
-    colon: Spot,
-    end: Option<&'a Exp<'a>>,
-) -> Result<NamedPart<'a>, NoMemory>
-    ensures { IfOk result (λ p. named_of p ≡ named_slice_of colon (maybe end.entry)) }
+// A part without a first expression.
+fn named_end<'a>(bump: &'a Bump, upto: Option<Upto<'a>>) -> Result<NamedPart<'a>, NoMemory>
+    ensures { IfOk result (λ p. named_of p ≡ section_end_of (upto_of upto.entry)) }
 {
-    match end {
+    match upto {
         None => Ok(NamedPart {
+            binds: &[],
+            part: Ix::Backwards,
+        }),
+        Some(Upto { end: None, .. }) => Ok(NamedPart {
             binds: &[],
             part: Ix::Slice(None, None),
         }),
-        Some(end) => {
+        Some(
+            Upto {
+                colon,
+                end: Some(end),
+            },
+        ) => {
             let last = named(bump, colon, end)?;
             Ok(NamedPart {
                 binds: bump.try_alloc_slice_copy(&[last.bind])?,
@@ -141,8 +149,8 @@ pub fn named_up_to<'a>(
     }
 }
 
-/// A part of an index, of its first expression and what stands behind it.
-pub fn named_part<'a>(
+// A part, of its first expression and what stands behind it.
+fn named_from<'a>(
     bump: &'a Bump,
     at: Spot,
     e: &'a Exp<'a>,

@@ -9,6 +9,7 @@ pub mod exp_nodes;
 pub mod exp_tokens;
 pub mod index_nodes;
 pub mod joins;
+pub mod lists;
 pub mod loops;
 mod new_names;
 pub mod pat_exps;

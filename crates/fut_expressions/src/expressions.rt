@@ -1,7 +1,9 @@
 // Expressions: the one function that reads what stands in productions.
 ghost use Rattle.std.specs.Prelude.{◌≡◌, ◌≤◌, ◌<◌, ◌+◌, suc, Err, IfOk};
-ghost use Rattle.fut_ast.specs.Sorts.{Atom, Inside, Last, Operand, Operands, Replacing, Right, Unary, Whole};
-ghost use Rattle.fut_atoms.specs.Tie.{Law, Reads, ending_found, inside_found, replacing_found};
+ghost use Rattle.fut_ast.specs.Behind.{begins, continues};
+ghost use Rattle.fut_ast.specs.Sorts.{Whole};
+ghost use Rattle.fut_atoms.specs.Tie.{Law, Reads, seen, sort_of};
+ghost use Rattle.fut_expressions.specs.Steps.{Steps};
 ghost use Rattle.fut_grammar.specs.Phrases.{read_at};
 ghost use Rattle.fut_grammar.specs.Reading.{Gives};
 ghost use Rattle.fut_phrases.specs.Found.{tree_found};
@@ -23,195 +25,42 @@ use fut_phrases::tokens::{refused, starts_with_word};
 use fut_token::Token;
 use fut_tree::Exp;
 
-#[tactic(auto, unfolding(fut_grammar::specs::Phrases::read_at, fut_grammar::specs::Phrases::bounded, fut_grammar::specs::Phrases::ended, fut_grammar::specs::Phrases::step, fut_grammar::specs::Reading::refuse_sort))]
-fn atom_node<'a, R: ReadExp<'a>>(
-    bump: &'a Bump,
-    read: R,
-    inner: u32,
-    tokens: &'a [Token],
-) -> Result<Found<'a, &'a Exp<'a>>, Stop>
-    requires law { R.reads read inner }
-    requires room { inner < 1000 }
-    ensures exact { Gives tree_found result (read_at (suc inner) Atom tokens.now) }
-    ensures low { IfOk result (λ x. x.height ≤ inner + 1) }
+// Whether an expression of the sort begins here.
+fn begins_sort(sort: ExpSort, tokens: &[Token]) -> bool
+    ensures { result ≡ begins (sort_of sort) tokens.now }
 {
-    if !begins_exp_atom(tokens) {
-        return Err(Stop::Fault(refused(tokens)));
-    }
-    let found = atom_below(bump, read, inner, tokens)?;
-    if goes_on_atom(found.rest) {
-        return Err(Stop::Fault(refused(found.rest)));
-    }
-    Ok(found)
-}
-
-#[tactic(auto, unfolding(fut_grammar::specs::Phrases::read_at, fut_grammar::specs::Phrases::bounded, fut_grammar::specs::Phrases::ended, fut_grammar::specs::Phrases::step, fut_grammar::specs::Reading::refuse_sort))]
-fn unary_node<'a, R: ReadExp<'a>>(
-    bump: &'a Bump,
-    read: R,
-    inner: u32,
-    tokens: &'a [Token],
-) -> Result<Found<'a, &'a Exp<'a>>, Stop>
-    requires law { R.reads read inner }
-    requires room { inner < 1000 }
-    ensures exact { Gives tree_found result (read_at (suc inner) Unary tokens.now) }
-    ensures low { IfOk result (λ x. x.height ≤ inner + 1) }
-{
-    if !begins_exp_operand(tokens) {
-        return Err(Stop::Fault(refused(tokens)));
-    }
-    let found = unary_below(bump, read, inner, tokens)?;
-    if goes_on_app(found.rest) {
-        return Err(Stop::Fault(refused(found.rest)));
-    }
-    Ok(found)
-}
-
-#[tactic(auto, unfolding(fut_grammar::specs::Phrases::read_at, fut_grammar::specs::Phrases::bounded, fut_grammar::specs::Phrases::ended, fut_grammar::specs::Phrases::step, fut_grammar::specs::Reading::refuse_sort))]
-fn operands_node<'a, R: ReadExp<'a>>(
-    bump: &'a Bump,
-    read: R,
-    inner: u32,
-    least: u8,
-    tokens: &'a [Token],
-) -> Result<Found<'a, &'a Exp<'a>>, Stop>
-    requires law { R.reads read inner }
-    requires room { inner < 1000 }
-    ensures exact { Gives tree_found result (read_at (suc inner) (Operands least) tokens.now) }
-    ensures low { IfOk result (λ x. x.height ≤ inner + 1) }
-{
-    if !begins_exp_operand(tokens) {
-        return Err(Stop::Fault(refused(tokens)));
-    }
-    operands_below(bump, read, inner, least, tokens)
-}
-
-#[tactic(auto, unfolding(fut_grammar::specs::Phrases::read_at, fut_grammar::specs::Phrases::bounded, fut_grammar::specs::Phrases::ended, fut_grammar::specs::Phrases::step, fut_grammar::specs::Reading::refuse_sort))]
-fn operand_node<'a, R: ReadExp<'a>>(
-    bump: &'a Bump,
-    read: R,
-    inner: u32,
-    least: u8,
-    tokens: &'a [Token],
-) -> Result<Found<'a, &'a Exp<'a>>, Stop>
-    requires law { R.reads read inner }
-    requires room { inner < 1000 }
-    ensures exact { Gives tree_found result (read_at (suc inner) (Operand least) tokens.now) }
-    ensures low { IfOk result (λ x. x.height ≤ inner + 1) }
-{
-    if !begins_exp_operand(tokens) && !begins_exp_big(tokens) {
-        return Err(Stop::Fault(refused(tokens)));
-    }
-    operand_below(bump, read, inner, least, tokens)
-}
-
-#[tactic(auto, unfolding(fut_grammar::specs::Phrases::read_at, fut_grammar::specs::Phrases::bounded, fut_grammar::specs::Phrases::ended, fut_grammar::specs::Phrases::step, fut_grammar::specs::Reading::refuse_sort))]
-fn right_node<'a, R: ReadExp<'a>>(
-    bump: &'a Bump,
-    read: R,
-    inner: u32,
-    tokens: &'a [Token],
-) -> Result<Found<'a, &'a Exp<'a>>, Stop>
-    requires law { R.reads read inner }
-    requires room { inner < 1000 }
-    ensures exact { Gives tree_found result (read_at (suc inner) Right tokens.now) }
-    ensures low { IfOk result (λ x. x.height ≤ inner + 1) }
-{
-    if !begins_exp_operand(tokens) && !begins_exp_big(tokens) {
-        return Err(Stop::Fault(refused(tokens)));
-    }
-    right_below(bump, read, inner, tokens)
-}
-
-#[tactic(auto, unfolding(fut_grammar::specs::Phrases::read_at, fut_grammar::specs::Phrases::bounded, fut_grammar::specs::Phrases::ended, fut_grammar::specs::Phrases::step, fut_grammar::specs::Reading::refuse_sort))]
-fn whole_node<'a, R: ReadExp<'a>>(
-    bump: &'a Bump,
-    read: R,
-    inner: u32,
-    tokens: &'a [Token],
-) -> Result<Found<'a, &'a Exp<'a>>, Stop>
-    requires law { R.reads read inner }
-    requires room { inner < 1000 }
-    ensures exact { Gives tree_found result (read_at (suc inner) Whole tokens.now) }
-    ensures low { IfOk result (λ x. x.height ≤ inner + 1) }
-{
-    if !begins_exp_operand(tokens) && !begins_exp_big(tokens) {
-        return Err(Stop::Fault(refused(tokens)));
-    }
-    whole_below(bump, read, inner, tokens)
-}
-
-#[tactic(auto, unfolding(fut_grammar::specs::Phrases::read_at, fut_grammar::specs::Phrases::bounded, fut_grammar::specs::Phrases::ended, fut_grammar::specs::Phrases::step, fut_grammar::specs::Reading::refuse_sort))]
-fn last_node<'a, R: ReadExp<'a>>(
-    bump: &'a Bump,
-    read: R,
-    inner: u32,
-    tokens: &'a [Token],
-) -> Result<Found<'a, Ending<'a>>, Stop>
-    requires law { R.reads read inner }
-    requires room { inner < 1000 }
-    ensures exact { Gives ending_found result (read_at (suc inner) Last tokens.now) }
-    ensures low { IfOk result (λ x. x.height ≤ inner + 1) }
-{
-    if !begins_exp_operand(tokens) && !begins_exp_big(tokens) {
-        return Err(Stop::Fault(refused(tokens)));
-    }
-    let found = last_below(bump, read, inner, tokens)?;
-    if goes_on_typed(found.tree.ended, found.rest) {
-        return Err(Stop::Fault(refused(found.rest)));
-    }
-    Ok(found)
-}
-
-#[tactic(auto, unfolding(fut_grammar::specs::Phrases::read_at, fut_grammar::specs::Phrases::bounded, fut_grammar::specs::Phrases::ended, fut_grammar::specs::Phrases::step, fut_grammar::specs::Reading::refuse_sort))]
-fn inside_node<'a, R: ReadExp<'a>>(
-    bump: &'a Bump,
-    read: R,
-    inner: u32,
-    tokens: &'a [Token],
-) -> Result<Found<'a, FirstInside<'a>>, Stop>
-    requires law { R.reads read inner }
-    requires room { inner < 1000 }
-    ensures exact { Gives inside_found result (read_at (suc inner) Inside tokens.now) }
-    ensures low { IfOk result (λ x. x.height ≤ inner + 1) }
-{
-    if !begins_exp_operand(tokens) && !begins_exp_big(tokens) {
-        return Err(Stop::Fault(refused(tokens)));
-    }
-    inside_below(bump, read, inner, tokens)
-}
-
-#[tactic(auto, unfolding(fut_grammar::specs::Phrases::read_at, fut_grammar::specs::Phrases::bounded, fut_grammar::specs::Phrases::ended, fut_grammar::specs::Phrases::step, fut_grammar::specs::Reading::refuse_sort))]
-fn replacing_node<'a, R: ReadExp<'a>>(
-    bump: &'a Bump,
-    read: R,
-    inner: u32,
-    tokens: &'a [Token],
-) -> Result<Found<'a, Replacement<'a>>, Stop>
-    requires law { R.reads read inner }
-    requires room { inner < 1000 }
-    ensures exact { Gives replacing_found result (read_at (suc inner) Replacing tokens.now) }
-    ensures low { IfOk result (λ x. x.height ≤ inner + 1) }
-{
-    if !starts_with_word(tokens) {
-        return Err(Stop::Fault(refused(tokens)));
-    }
-    replacing_below(bump, read, inner, tokens)
-}
-
-// Where nothing may stand below, a token that begins an expression is too deep.
-#[tactic(auto, unfolding(fut_grammar::specs::Phrases::read_at, fut_grammar::specs::Reading::refuse_sort))]
-fn nothing_below(sort: ExpSort, tokens: &[Token]) -> Fault
-    ensures { Reads sort 0 tokens.now (Err (Stop.Fault result)) }
-{
-    let begins = match sort {
+    match sort {
         ExpSort::Atom => begins_exp_atom(tokens),
         ExpSort::Unary | ExpSort::Operands(_) => begins_exp_operand(tokens),
         ExpSort::Operand(_) | ExpSort::Right | ExpSort::Whole | ExpSort::Last | ExpSort::Inside =>
             begins_exp_operand(tokens) || begins_exp_big(tokens),
         ExpSort::Replacing => starts_with_word(tokens),
-    };
-    if begins {
+    }
+}
+
+// Whether the next tokens go on with what was read of the sort.
+fn goes_on_sort<'a>(sort: ExpSort, found: Found<'a, AnyExp<'a>>) -> bool
+    ensures { result ≡ continues (sort_of sort) (seen sort found.entry.tree) found.entry.rest.now }
+{
+    match sort {
+        ExpSort::Atom => goes_on_atom(found.rest),
+        ExpSort::Unary => goes_on_app(found.rest),
+        ExpSort::Last => goes_on_typed(found.tree.ended, found.rest),
+        ExpSort::Operands(_)
+        | ExpSort::Operand(_)
+        | ExpSort::Right
+        | ExpSort::Whole
+        | ExpSort::Inside
+        | ExpSort::Replacing => false,
+    }
+}
+
+// Where nothing may stand below, a token that begins an expression is too deep.
+#[tactic(auto, using(crate::proofs::NodeLaws::nothing_below))]
+fn nothing_below(sort: ExpSort, tokens: &[Token]) -> Fault
+    ensures { Reads sort 0 tokens.now (Err (Stop.Fault result)) }
+{
+    if begins_sort(sort, tokens) {
         Fault::TooDeep(tokens.len())
     } else {
         refused(tokens)
@@ -290,6 +139,33 @@ fn with_path<'a>(found: Found<'a, Replacement<'a>>) -> Found<'a, AnyExp<'a>>
     }
 }
 
+// What is read of the sort, whatever goes on with it.
+#[tactic(auto, unfolding(fut_grammar::specs::Phrases::step))]
+fn below<'a, R: ReadExp<'a>>(
+    bump: &'a Bump,
+    read: R,
+    inner: u32,
+    sort: ExpSort,
+    tokens: &'a [Token],
+) -> ExpAnswer<'a>
+    requires law { R.reads read inner }
+    requires room { inner < 1000 }
+    ensures exact { Steps sort inner tokens.now result }
+    ensures low { IfOk result (λ x. x.height ≤ inner + 1) }
+{
+    match sort {
+        ExpSort::Atom => Ok(alone(atom_below(bump, read, inner, tokens)?)),
+        ExpSort::Unary => Ok(alone(unary_below(bump, read, inner, tokens)?)),
+        ExpSort::Operands(least) => Ok(alone(operands_below(bump, read, inner, least, tokens)?)),
+        ExpSort::Operand(least) => Ok(alone(operand_below(bump, read, inner, least, tokens)?)),
+        ExpSort::Right => Ok(alone(right_below(bump, read, inner, tokens)?)),
+        ExpSort::Whole => Ok(alone(whole_below(bump, read, inner, tokens)?)),
+        ExpSort::Last => Ok(with_ending(last_below(bump, read, inner, tokens)?)),
+        ExpSort::Inside => Ok(with_section(inside_below(bump, read, inner, tokens)?)),
+        ExpSort::Replacing => Ok(with_path(replacing_below(bump, read, inner, tokens)?)),
+    }
+}
+
 fn node<'a, R: ReadExp<'a>>(
     bump: &'a Bump,
     read: R,
@@ -302,17 +178,14 @@ fn node<'a, R: ReadExp<'a>>(
     ensures exact { Reads sort (suc inner) tokens.now result }
     ensures low { IfOk result (λ x. x.height ≤ inner + 1) }
 {
-    match sort {
-        ExpSort::Atom => Ok(alone(atom_node(bump, read, inner, tokens)?)),
-        ExpSort::Unary => Ok(alone(unary_node(bump, read, inner, tokens)?)),
-        ExpSort::Operands(least) => Ok(alone(operands_node(bump, read, inner, least, tokens)?)),
-        ExpSort::Operand(least) => Ok(alone(operand_node(bump, read, inner, least, tokens)?)),
-        ExpSort::Right => Ok(alone(right_node(bump, read, inner, tokens)?)),
-        ExpSort::Whole => Ok(alone(whole_node(bump, read, inner, tokens)?)),
-        ExpSort::Last => Ok(with_ending(last_node(bump, read, inner, tokens)?)),
-        ExpSort::Inside => Ok(with_section(inside_node(bump, read, inner, tokens)?)),
-        ExpSort::Replacing => Ok(with_path(replacing_node(bump, read, inner, tokens)?)),
+    if !begins_sort(sort, tokens) {
+        return Err(Stop::Fault(refused(tokens)));
     }
+    let found = below(bump, read, inner, sort, tokens)?;
+    if goes_on_sort(sort, found) {
+        return Err(Stop::Fault(refused(found.rest)));
+    }
+    Ok(found)
 }
 
 // The closure's lifetimes are known from this bound alone.

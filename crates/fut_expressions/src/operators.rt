@@ -15,7 +15,7 @@ use crate::behind::too_high;
 use bumpalo::Bump;
 use fut_ast::{Ended, Oper, Spot};
 use fut_atoms::atoms::atom_below;
-use fut_atoms::tie::{Ending, ReadExp, atom, operand, unary};
+use fut_atoms::tie::{Ending, ExpSort, ReadExp};
 use fut_exp_parts::exp_nodes::{assertion, call, unary as unary_node};
 use fut_exp_parts::exp_tokens::{
     begins_exp_argument, begins_exp_atom, begins_exp_big, begins_exp_operand, goes_on_app,
@@ -65,9 +65,9 @@ fn negated<'a, R: ReadExp<'a>>(
     ensures low { IfOk result (λ x. x.height ≤ inner + 1) }
 {
     let place = next_spot(tokens).place;
-    let found = unary(read, inner, take(tokens, Fixed::Minus)?)?;
+    let found = read.read(inner, ExpSort::Unary, take(tokens, Fixed::Minus)?)?;
     Ok(Found {
-        tree: unary_node(bump, place, Oper::Neg, found.tree)?,
+        tree: unary_node(bump, place, Oper::Neg, found.tree.exp)?,
         height: found.height + 1,
         rest: found.rest,
     })
@@ -86,9 +86,9 @@ fn complemented<'a, R: ReadExp<'a>>(
     ensures low { IfOk result (λ x. x.height ≤ inner + 1) }
 {
     let place = next_spot(tokens).place;
-    let found = unary(read, inner, take(tokens, Fixed::Bang)?)?;
+    let found = read.read(inner, ExpSort::Unary, take(tokens, Fixed::Bang)?)?;
     Ok(Found {
-        tree: unary_node(bump, place, Oper::Not, found.tree)?,
+        tree: unary_node(bump, place, Oper::Not, found.tree.exp)?,
         height: found.height + 1,
         rest: found.rest,
     })
@@ -107,13 +107,13 @@ fn asserted<'a, R: ReadExp<'a>>(
     ensures low { IfOk result (λ x. x.height ≤ inner + 1) }
 {
     let place = next_spot(tokens).place;
-    let test = atom(read, inner, take(tokens, Fixed::KeyAssert)?)?;
+    let test = read.read(inner, ExpSort::Atom, take(tokens, Fixed::KeyAssert)?)?;
     if !begins_exp_argument(test.rest) {
         return Err(Stop::Fault(refused(test.rest)));
     }
-    let value = atom(read, inner, test.rest)?;
+    let value = read.read(inner, ExpSort::Atom, test.rest)?;
     Ok(Found {
-        tree: assertion(bump, place, test.tree, value.tree)?,
+        tree: assertion(bump, place, test.tree.exp, value.tree.exp)?,
         height: greater(test.height, value.height) + 1,
         rest: value.rest,
     })
@@ -183,9 +183,9 @@ fn argument_behind<'a, R: ReadExp<'a>>(
     if !begins_exp_argument(tokens) {
         return Err(Stop::Fault(refused(tokens)));
     }
-    let value = atom(read, inner, tokens)?;
+    let value = read.read(inner, ExpSort::Atom, tokens)?;
     Ok(Found {
-        tree: call(bump, at.place, at.place, first.tree, value.tree)?,
+        tree: call(bump, at.place, at.place, first.tree, value.tree.exp)?,
         height: greater(first.height, value.height) + 1,
         rest: value.rest,
     })
@@ -326,7 +326,7 @@ fn operation<'a, R: ReadExp<'a>>(
         return Err(operand_too_deep(fixed, tokens));
     }
     let ((operator, name), rest) = take_operator(fixed, tokens)?;
-    let second = operand(read, inner, right_level_of(fixed), rest)?;
+    let second = read.read(inner, ExpSort::Operand(right_level_of(fixed)), rest)?;
     let exp = join(
         bump,
         fixed,
@@ -334,7 +334,7 @@ fn operation<'a, R: ReadExp<'a>>(
         operator.place,
         name,
         first.tree.exp,
-        second.tree,
+        second.tree.exp,
     )?;
     Ok(Found {
         tree: Ending {

@@ -11,7 +11,7 @@ ghost use Rattle.fut_grammar.specs.Reading.{Gives, parts_at, suffix_at};
 use crate::operators::chain_below;
 use bumpalo::Bump;
 use fut_ast::{Ended, Spot};
-use fut_atoms::tie::{Ending, ReadExp, operands};
+use fut_atoms::tie::{Ending, ExpSort, ReadExp};
 use fut_exp_parts::exp_nodes::range;
 use fut_exp_parts::exp_tokens::{goes_on_chain, goes_on_to_range, take_end};
 use fut_grammar::{Fault, Stop};
@@ -99,8 +99,16 @@ fn end_to<'a, R: ReadExp<'a>>(
     }
     let mark = next_spot(tokens).place;
     let (end, rest) = take_end(tokens)?;
-    let last = operands(read, inner, 1, rest)?;
-    let exp = range(bump, at.place, mark, first.tree.exp, None, end, last.tree)?;
+    let last = read.read(inner, ExpSort::Operands(1), rest)?;
+    let exp = range(
+        bump,
+        at.place,
+        mark,
+        first.tree.exp,
+        None,
+        end,
+        last.tree.exp,
+    )?;
     Ok(Found {
         tree: Ending {
             exp,
@@ -148,17 +156,21 @@ fn end_by_steps<'a, R: ReadExp<'a>>(
     ensures low { IfOk result (λ x. x.height ≤ inner + 1) }
 {
     let mark = next_spot(first.rest).place;
-    let next = operands(read, inner, 1, take(first.rest, Fixed::DotDot)?)?;
+    let next = read.read(
+        inner,
+        ExpSort::Operands(1),
+        take(first.rest, Fixed::DotDot)?,
+    )?;
     let (end, rest) = take_end(next.rest)?;
-    let last = operands(read, inner, 1, rest)?;
+    let last = read.read(inner, ExpSort::Operands(1), rest)?;
     let exp = range(
         bump,
         at.place,
         mark,
         first.tree.exp,
-        Some(next.tree),
+        Some(next.tree.exp),
         end,
-        last.tree,
+        last.tree.exp,
     )?;
     let height = greater(greater(first.height, next.height), last.height);
     Ok(Found {

@@ -4,13 +4,13 @@ ghost use Rattle.fut_ast.specs.Rows.{ascribed, coerced, suffix_parts, suffix_tre
 ghost use Rattle.fut_ast.specs.Sorts.{Typed};
 ghost use Rattle.fut_ast.specs.Tokens.{spot_of};
 ghost use Rattle.fut_atoms.specs.Tie.{ending_found};
-ghost use Rattle.fut_grammar.specs.Phrases.{again_at, goes_typed, phrases, read_at, typed_at, typed_behind, typed_suffix, types_behind};
+ghost use Rattle.fut_grammar.specs.Phrases.{again_at, goes_typed, phrases, read_at, typed_at, typed_behind, typed_suffix};
 ghost use Rattle.fut_grammar.specs.Reading.{Gives, parts_at, refuse, suffix_at};
 
 use crate::behind::too_high;
 use crate::operators::chain_below;
 use crate::ranges::end_behind;
-use crate::updates::updates_of;
+use crate::updates::updates_again;
 use bumpalo::Bump;
 use fut_ast::{Ended, Spot};
 use fut_atoms::tie::{Ending, ReadExp};
@@ -40,7 +40,7 @@ pub fn typed_below<'a, R: ReadExp<'a>>(
 }
 
 /// What may stand behind operands.
-#[tactic(auto, unfolding(fut_grammar::specs::Phrases::typed_behind))]
+#[tactic(auto, unfolding(fut_grammar::specs::Phrases::typed_behind, fut_grammar::specs::Phrases::updates_behind, fut_grammar::specs::Phrases::types_behind))]
 pub fn all_behind<'a, R: ReadExp<'a>>(
     bump: &'a Bump,
     read: R,
@@ -54,22 +54,8 @@ pub fn all_behind<'a, R: ReadExp<'a>>(
     ensures low { IfOk result (λ x. x.height ≤ inner + 1) }
 {
     let range = end_behind(bump, read, inner, at, first)?;
-    let updated = updates_of(bump, read, inner, at, range)?;
-    types_of(bump, inner, at, updated)
-}
-
-#[tactic(auto, unfolding(fut_grammar::specs::Phrases::types_behind))]
-fn types_of<'a>(
-    bump: &'a Bump,
-    inner: u32,
-    at: Spot,
-    first: Found<'a, Ending<'a>>,
-) -> Result<Found<'a, Ending<'a>>, Stop>
-    requires { (inner < 1000) × (first.height ≤ inner + 1) }
-    ensures exact { Gives ending_found result (types_behind (phrases (read_at inner)) (suc inner) at (first.entry.tree.exp.now, first.entry.tree.ended) first.entry.height first.entry.rest.now) }
-    ensures low { IfOk result (λ x. x.height ≤ inner + 1) }
-{
-    types_again(bump, inner, at, first)
+    let updated = updates_again(bump, read, inner, at, range)?;
+    types_again(bump, inner, at, updated)
 }
 
 fn types_again<'a>(

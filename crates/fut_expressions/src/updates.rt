@@ -5,13 +5,13 @@ ghost use Rattle.fut_ast.specs.Rows.{of_exp, suffix_parts, suffix_tree, with_fie
 ghost use Rattle.fut_ast.specs.Sorts.{Updated};
 ghost use Rattle.fut_ast.specs.Tokens.{spot_of, starts};
 ghost use Rattle.fut_atoms.specs.Tie.{ending_found, replacing_found};
-ghost use Rattle.fut_grammar.specs.Phrases.{again_at, phrases, read_at, replacing_at, updates_behind, with_suffix};
+ghost use Rattle.fut_grammar.specs.Phrases.{again_at, phrases, read_at, replacing_at, with_suffix};
 ghost use Rattle.fut_grammar.specs.Reading.{Gives, parts_at, refuse, row_at, suffix_at};
 
 use crate::behind::too_high;
 use bumpalo::Bump;
 use fut_ast::{Ended, Spot, What};
-use fut_atoms::tie::{Ending, ReadExp, Replacement, replacing, right};
+use fut_atoms::tie::{Ending, ExpSort, ReadExp, Replacement};
 use fut_atoms::written::written_list;
 use fut_exp_parts::binds::path_behind;
 use fut_exp_parts::exp_nodes::updated;
@@ -25,23 +25,7 @@ use fut_phrases::tokens::{
 use fut_token::{Fixed, Token};
 
 /// Updates, as many as stand there.
-#[tactic(auto, unfolding(fut_grammar::specs::Phrases::updates_behind))]
-pub fn updates_of<'a, R: ReadExp<'a>>(
-    bump: &'a Bump,
-    read: R,
-    inner: u32,
-    at: Spot,
-    first: Found<'a, Ending<'a>>,
-) -> Result<Found<'a, Ending<'a>>, Stop>
-    requires law { R.reads read inner }
-    requires room { (inner < 1000) × (first.height ≤ inner + 1) }
-    ensures exact { Gives ending_found result (updates_behind (phrases (read_at inner)) (suc inner) at (first.entry.tree.exp.now, first.entry.tree.ended) first.entry.height first.entry.rest.now) }
-    ensures low { IfOk result (λ x. x.height ≤ inner + 1) }
-{
-    updates_again(bump, read, inner, at, first)
-}
-
-fn updates_again<'a, R: ReadExp<'a>>(
+pub fn updates_again<'a, R: ReadExp<'a>>(
     bump: &'a Bump,
     read: R,
     inner: u32,
@@ -116,14 +100,14 @@ fn index_replaced<'a, R: ReadExp<'a>>(
     let rest = take(rest, Fixed::OpenBracket)?;
     let indices = written_list(bump, read, inner, first.height, rest)?;
     let rest = take(indices.rest, Fixed::CloseBracket)?;
-    let value = right(read, inner, take(rest, Fixed::Equal)?)?;
+    let value = read.read(inner, ExpSort::Right, take(rest, Fixed::Equal)?)?;
     let exp = updated(
         bump,
         at.place,
         mark,
         first.tree.exp,
         indices.tree,
-        value.tree,
+        value.tree.exp,
     )?;
     Ok(Found {
         tree: Ending {
@@ -149,9 +133,9 @@ fn field_replaced<'a, R: ReadExp<'a>>(
     ensures low { IfOk result (λ x. x.height ≤ inner + 1) }
 {
     let (name, rest) = take_word(take(first.rest, Fixed::KeyWith)?)?;
-    let value = right(read, inner, take(rest, Fixed::Equal)?)?;
+    let value = read.read(inner, ExpSort::Right, take(rest, Fixed::Equal)?)?;
     let path = path_behind(bump, name, &[])?;
-    let exp = with_field_replaced(bump, at.place, first.tree.exp, path, value.tree)?;
+    let exp = with_field_replaced(bump, at.place, first.tree.exp, path, value.tree.exp)?;
     Ok(Found {
         tree: Ending {
             exp,
@@ -177,7 +161,7 @@ fn path_replaced<'a, R: ReadExp<'a>>(
 {
     let (name, rest) = take_word(take(first.rest, Fixed::KeyWith)?)?;
     without_form(What::LocalOpen, rest)?;
-    let found = replacing(read, inner, take(rest, Fixed::Dot)?)?;
+    let found = read.read(inner, ExpSort::Replacing, take(rest, Fixed::Dot)?)?;
     let path = path_behind(bump, name, found.tree.path)?;
     let exp = with_field_replaced(bump, at.place, first.tree.exp, path, found.tree.exp)?;
     Ok(Found {
@@ -223,11 +207,11 @@ fn replaced_here<'a, R: ReadExp<'a>>(
     ensures low { IfOk result (λ x. x.height ≤ inner + 1) }
 {
     let (name, rest) = take_word(tokens)?;
-    let value = right(read, inner, take(rest, Fixed::Equal)?)?;
+    let value = read.read(inner, ExpSort::Right, take(rest, Fixed::Equal)?)?;
     Ok(Found {
         tree: Replacement {
             path: path_behind(bump, name, &[])?,
-            exp: value.tree,
+            exp: value.tree.exp,
         },
         height: value.height + 1,
         rest: value.rest,
@@ -248,7 +232,7 @@ fn replaced_inside<'a, R: ReadExp<'a>>(
 {
     let (name, rest) = take_word(tokens)?;
     without_form(What::LocalOpen, rest)?;
-    let found = replacing(read, inner, take(rest, Fixed::Dot)?)?;
+    let found = read.read(inner, ExpSort::Replacing, take(rest, Fixed::Dot)?)?;
     Ok(Found {
         tree: Replacement {
             path: path_behind(bump, name, found.tree.path)?,

@@ -324,8 +324,8 @@ module _ (x : Text) where
   pat_closes variable_head at = λ head g. tt
   pat_closes size_name at = λ a g name h b i. tt
 
-  let_closed : (sizes : List Text) (p : SourcePat) (heads : List (Tree Head_item)) (e : SourceExp) → Not_free e → Good Let_item (roll-Bind Path Text (record { sizes = sizes; pat = p; heads = heads; value = e }))
-  let_closed sizes p heads e g = ap (λ (b : Bool × Bool). b.0) (free_any_let x sizes p heads e) ∙ rw g (and_false_right _ false refl)
+  let_closed : (sizes : List Text) (p : SourcePat) (is_function : Bool) (heads : List (Tree Head_item)) (e : SourceExp) → Not_free e → Good Let_item (roll-Bind Path Text (record { sizes = sizes; pat = p; is_function = is_function; heads = heads; value = e }))
+  let_closed sizes p is_function heads e g = ap (λ (b : Bool × Bool). b.0) (free_any_let x sizes p is_function heads e) ∙ rw g (and_false_right _ false refl)
 
   exp_closes : {n : Sort} (r : ExpRow n) (at : Spot) → Closes n (exp_parts r) (exp_tree r at)
   exp_closes path at = λ names g. free_node x at.place at.place (form.Path names.1) (Form-F.Path names.1) (form.outs-Path _) ∙ g
@@ -363,9 +363,9 @@ module _ (x : Text) where
   exp_closes count at = λ a g name h b i e j. free_for x name.1 e ∙ j
   exp_closes each at = λ a g l h p i b j e k. free_for_in x p e ∙ k
   exp_closes while at = λ a g e h. free_while x e ∙ h
-  exp_closes let_pattern at = λ l g sizes h p i a j e k. let_closed sizes p [] e k
-  exp_closes let_function at = λ l g name h heads i ps j t k a m e o. let_closed [] (bound at.place name.1) heads (exp_at at.place (form.Lambda ps t e)) (lambda_closed at.place ps t e o)
-  exp_closes let_update at = λ l g name h bracket i indices j a k b m e o. let_closed [] (bound at.place name.1) [] (node at.place bracket.place (form.Update (use_of at.place name.1) indices e)) (update_closed at.place bracket.place (use_of at.place name.1) e indices (free_use x at.place name.1 ∙ h) j o)
+  exp_closes let_pattern at = λ l g sizes h p i a j e k. let_closed sizes p false [] e k
+  exp_closes let_function at = λ l g name h heads i ps j t k a m e o. let_closed [] (bound at.place name.1) true heads (exp_at at.place (form.Lambda ps t e)) (lambda_closed at.place ps t e o)
+  exp_closes let_update at = λ l g name h bracket i indices j a k b m e o. let_closed [] (bound at.place name.1) false [] (node at.place bracket.place (form.Update (use_of at.place name.1) indices e)) (update_closed at.place bracket.place (use_of at.place name.1) e indices (free_use x at.place name.1 ∙ h) j o)
 
   row_closes : {n : Sort} (r : Row n) (at : Spot) → Closes n (parts r) (tree r at)
   row_closes {n} (of_type r) at = any_closes n (type_good r) (parts (of_type r)) (tree (of_type r) at)

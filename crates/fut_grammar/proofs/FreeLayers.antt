@@ -86,9 +86,9 @@ module _ (x : Text) where
       ∙ levels (out-Form Path Text f)
       ∙ ap layer_free o
 
-  pub free_any_let : (sizes : List Text) (p : SourcePat) (heads : List (Head Text)) (e : SourceExp) → let_free x (roll-Bind Path Text (record { sizes = sizes; pat = p; heads = heads; value = e })) ≡ (not (any (map (head_binds x) heads)) && free x e, any (map (is_name x) sizes) || binds x p)
+  pub free_any_let : (sizes : List Text) (p : SourcePat) (is_function : Bool) (heads : List (Head Text)) (e : SourceExp) → let_free x (roll-Bind Path Text (record { sizes = sizes; pat = p; is_function = is_function; heads = heads; value = e })) ≡ (not (any (map (head_binds x) heads)) && free x e, any (map (is_name x) sizes) || binds x p)
   unfolding let_free free
-  free_any_let sizes p heads e = fold-roll-Bind Path Text Bool Bool (Bool × Bool) (Bool × Bool) Bool (free_in_form x) free_in_index (free_in_loop x) (free_in_let x) (λ e. e.form) (record { sizes = sizes; pat = p; heads = heads; value = e })
+  free_any_let sizes p is_function heads e = fold-roll-Bind Path Text Bool Bool (Bool × Bool) (Bool × Bool) Bool (free_in_form x) free_in_index (free_in_loop x) (free_in_let x) (λ e. e.form) (record { sizes = sizes; pat = p; is_function = is_function; heads = heads; value = e })
 
   pub free_index_at : (e : SourceExp) → index_free x (ix.At e) ≡ free x e
   unfolding index_free free
@@ -123,7 +123,7 @@ module _ (x : Text) where
 
   pub free_let : (p : SourcePat) (e : SourceExp) → let_free x (let_one p e) ≡ (free x e, binds x p)
   unfolding let_free free
-  free_let p e = fold-roll-Bind Path Text Bool Bool (Bool × Bool) (Bool × Bool) Bool (free_in_form x) free_in_index (free_in_loop x) (free_in_let x) (λ e. e.form) (record { sizes = []; pat = p; heads = []; value = e })
+  free_let p e = fold-roll-Bind Path Text Bool Bool (Bool × Bool) (Bool × Bool) Bool (free_in_form x) free_in_index (free_in_loop x) (free_in_let x) (λ e. e.form) (record { sizes = []; pat = p; is_function = false; heads = []; value = e })
 
   pub binds_bound : (place : Place) (y : Text) → binds x (bound place y) ≡ is_name x y
   binds_bound place y =

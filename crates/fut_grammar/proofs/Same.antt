@@ -1,7 +1,7 @@
 -- Phrases that are read alike under both readers of phrases: no phrase but a node is in them.
 use Rattle.std.proofs.Common.{◌≡◌, List, refl}
 use Rattle.fut_token.specs.declared.token.Token.{Token}
-use Rattle.fut_ast.specs.Sorts.{Sort, Tree, Size_item, Head_item, Atomic_pat, Written_item}
+use Rattle.fut_ast.specs.Sorts.{Sort, Tree, Size_item, Head_item, Atomic_pat, Written_item, Mod_param}
 use Rattle.fut_grammar.specs.Reading.{Read, row_at, parts_at, has_at, sub_at}
 use Rattle.fut_grammar.specs.Phrases.{nodes, items, phrases, flat_at, head_at}
 
@@ -21,3 +21,7 @@ module _ (inner : (n : Sort) → List Token → Read (Tree n)) (ts : List Token)
   pub same_written : items inner Written_item ts ≡ phrases inner Written_item ts
   unfolding phrases items nodes flat_at row_at parts_at has_at sub_at
   same_written = refl
+
+  pub same_param : items inner Mod_param ts ≡ phrases inner Mod_param ts
+  unfolding phrases items nodes flat_at row_at parts_at has_at sub_at
+  same_param = refl

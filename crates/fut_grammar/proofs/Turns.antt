@@ -11,7 +11,7 @@ use Rattle.fut_ast.specs.Behind.{begins, goes_on, behind_app, behind_range, behi
 use Rattle.fut_grammar.specs.declared.fault.Fault.TheVariants.{TooDeep}
 use Rattle.fut_grammar.specs.declared.fault.Stop.{Stop}
 use Rattle.fut_grammar.specs.declared.fault.Stop.TheVariants as stop
-use Rattle.fut_grammar.specs.Reading.{◌>>=◌, Read, Fails, refuse, expect, many_at, commas_at}
+use Rattle.fut_grammar.specs.Reading.{◌>>=◌, Read, Fails, refuse, expect, many_at, several_at, commas_at}
 use Rattle.fut_grammar.proofs.Loops.{with_front, regroup}
 use Rattle.fut_grammar.specs.Phrases.{again_at, operators_at, operation_at, operand_too_deep, row_of_lets, operator_between, atom_suffix, with_suffix, typed_suffix}
 
@@ -58,6 +58,14 @@ module _ (read other : (n : Sort) → List Token → Read (Tree n)) (n : Sort) (
       go false r again = refl
       go true (Err e) again = refl
       go true (Ok p) again = rw (again (max g p.1) p.2) refl
+
+  pub several_same : (g : ℕ) (ts : List Token) → several_at read n g ts ≡ several_at other n g ts
+  unfolding several_at
+  several_same g ts = rw (same ts) (go (other n ts))
+    where
+      go : (r : Read (Tree n)) → ◌>>=◌ {B = List (Tree n) × ℕ × List Token} r (λ p. many_at read (length p.2) n (max g p.1) p.2 >>= λ ps. Ok (p.0 ∷ ps.0, ps.1, ps.2)) ≡ ◌>>=◌ {B = List (Tree n) × ℕ × List Token} r (λ p. many_at other (length p.2) n (max g p.1) p.2 >>= λ ps. Ok (p.0 ∷ ps.0, ps.1, ps.2))
+      go (Err e) = refl
+      go (Ok p) = rw (many_same (length p.2) (max g p.1) p.2) refl
 
   pub commas_same : (k g : ℕ) (ts : List Token) → commas_at read k n g ts ≡ commas_at other k n g ts
   unfolding commas_at

@@ -3,7 +3,6 @@
 
 mod cycle;
 mod members;
-mod nodes;
 mod params;
 mod tie;
 mod types;

@@ -1,64 +1,54 @@
 // Members of module types: each production over what reads the module types in it.
-ghost use Rattle.std.specs.Prelude.{◌≡◌, ◌≤◌, ◌<◌, ◌+◌, suc, length, IfOk};
+ghost use Rattle.std.specs.Prelude.{◌≡◌, ◌≤◌, ◌<◌, ◌+◌, suc, true, IfOk};
 ghost use Rattle.fut_ast.specs.ModRows.{spec_include, spec_module, spec_type, spec_value};
 ghost use Rattle.fut_ast.specs.Rows.{of_mod};
 ghost use Rattle.fut_ast.specs.Sorts.{Spec_item, Whole_type};
+ghost use Rattle.fut_ast.specs.Tokens.{starts};
 ghost use Rattle.fut_grammar.specs.Phrases.{phrases, read_at, spec_at};
-ghost use Rattle.fut_grammar.specs.Reading.{Gives, many_at, maybe_at, row_at};
-ghost use Rattle.fut_module_types.specs.MtypeFound.{spec_found, specs_found};
+ghost use Rattle.fut_grammar.specs.Reading.{Gives, maybe_at, row_at};
+ghost use Rattle.fut_module_types.specs.MtypeFound.{spec_found};
 ghost use Rattle.fut_phrases.specs.Found.{found_as};
+ghost use Rattle.fut_tree.specs.ModTypes.{spec_of};
 ghost use Rattle.fut_tree.specs.Names.{maybe};
 
 use crate::tie::{MemberAnswer, ReadMember, ReadModType};
 use bumpalo::Bump;
-use bumpalo::collections::into_bump_slice;
 use fut_ast::What;
 use fut_grammar::Stop;
 use fut_phrases::found::Found;
 use fut_phrases::heads::heads;
+use fut_phrases::lists::{BeginItem, ReadItem};
 use fut_phrases::tokens::{
-    begins_member, greater, next_spot, refused, rest_of, starts_with, take, take_word, without_form,
+    begins_member, greater, next_spot, rest_of, starts_with, take, take_word, without_form,
 };
 use fut_phrases::types::whole_type;
 use fut_token::{Fixed, Token};
 use fut_tree::{Label, Spec, SpecForm, TypeExp};
 
-/// Members, as many as stand there.
-pub fn members<'a, S: ReadMember<'a>>(
-    bump: &'a Bump,
-    read_member: S,
-    inner: u32,
-    tokens: &'a [Token],
-) -> Result<Found<'a, &'a [Spec<'a>]>, Stop>
-    requires law { S.reads read_member inner }
-    requires room { inner < 1000 }
-    ensures exact { Gives specs_found result (many_at (phrases (read_at inner)) (length tokens.now) Spec_item 0 tokens.now) }
-    ensures low { IfOk result (λ x. x.height ≤ inner) }
-{
-    let mut all = Vec::new(bump);
-    let mut height = 0;
-    let mut rest = tokens;
-    'items: for _turn in 0..tokens.len() {
-        if !begins_member(rest) {
-            return Ok(Found {
-                tree: into_bump_slice(all),
-                height,
-                rest,
-            });
-        }
-        let item = read_member.member(inner, rest)?;
-        all.push(item.tree)?;
-        height = greater(height, item.height);
-        rest = item.rest;
+/// Members of a module type, each read by what reads one.
+#[derive(Clone, Copy)]
+pub struct Members<S> {
+    pub read: S,
+}
+
+impl<'a, S: ReadMember<'a>> ReadItem<'a, Spec<'a>> for Members<S> {
+    ghost sort = { Spec_item };
+
+    ghost seen = { spec_of };
+
+    ghost reads = { λ s d. S.reads s.read d };
+
+    #[tactic(auto, unfolding(fut_grammar::specs::Phrases::phrases))]
+    fn item(self, bump: &'a Bump, inner: u32, tokens: &'a [Token]) -> MemberAnswer<'a> {
+        let _bump = bump;
+        self.read.member(inner, tokens)
     }
-    if begins_member(rest) {
-        return Err(Stop::Fault(refused(rest)));
+}
+
+impl<'a, S: ReadMember<'a>> BeginItem<'a, Spec<'a>> for Members<S> {
+    fn begins(self, tokens: &'a [Token]) -> bool {
+        begins_member(tokens)
     }
-    Ok(Found {
-        tree: into_bump_slice(all),
-        height,
-        rest,
-    })
 }
 
 /// A member.
@@ -85,14 +75,15 @@ pub fn member_below<'a, R: ReadModType<'a>>(
     }
 }
 
-#[tactic(auto, unfolding(fut_grammar::specs::Reading::row_at, fut_grammar::specs::Reading::parts_at, fut_grammar::specs::Reading::has_at, fut_grammar::specs::Reading::sub_at, fut_grammar::specs::Phrases::phrases))]
+#[tactic(auto, unfolding(fut_grammar::specs::Reading::row_at, fut_grammar::specs::Reading::parts_at, fut_grammar::specs::Reading::has_at, fut_grammar::specs::Reading::expect, fut_grammar::specs::Reading::sub_at, fut_grammar::specs::Phrases::phrases))]
 fn module<'a, R: ReadModType<'a>>(read: R, inner: u32, tokens: &'a [Token]) -> MemberAnswer<'a>
     requires law { R.reads read inner }
+    requires first { starts Fixed.KeyModule tokens.now ≡ true }
     requires room { inner < 1000 }
     ensures exact { Gives spec_found result (row_at (phrases (read_at inner)) (of_mod spec_module) tokens.now) }
     ensures low { IfOk result (λ x. x.height ≤ inner + 1) }
 {
-    let rest = take(tokens, Fixed::KeyModule)?;
+    let rest = rest_of(tokens);
     let place = next_spot(rest).place;
     let (name, rest) = take_word(rest)?;
     let rest = take(rest, Fixed::Colon)?;
@@ -128,13 +119,14 @@ fn include<'a, R: ReadModType<'a>>(read: R, inner: u32, tokens: &'a [Token]) -> 
 
 // ---- what has no module types in it
 
-#[tactic(auto, unfolding(fut_grammar::specs::Reading::row_at, fut_grammar::specs::Reading::parts_at, fut_grammar::specs::Reading::has_at, fut_grammar::specs::Reading::sub_at, fut_grammar::specs::Phrases::phrases))]
+#[tactic(auto, unfolding(fut_grammar::specs::Reading::row_at, fut_grammar::specs::Reading::parts_at, fut_grammar::specs::Reading::has_at, fut_grammar::specs::Reading::expect, fut_grammar::specs::Reading::sub_at, fut_grammar::specs::Phrases::phrases))]
 fn value<'a>(bump: &'a Bump, inner: u32, tokens: &'a [Token]) -> MemberAnswer<'a>
-    requires { inner < 1000 }
+    requires room { inner < 1000 }
+    requires first { starts Fixed.KeyVal tokens.now ≡ true }
     ensures exact { Gives spec_found result (row_at (phrases (read_at inner)) (of_mod spec_value) tokens.now) }
     ensures low { IfOk result (λ x. x.height ≤ inner + 1) }
 {
-    let rest = take(tokens, Fixed::KeyVal)?;
+    let rest = rest_of(tokens);
     without_form(What::OperatorDefinition, rest)?;
     let place = next_spot(rest).place;
     let (name, rest) = take_word(rest)?;
@@ -151,13 +143,14 @@ fn value<'a>(bump: &'a Bump, inner: u32, tokens: &'a [Token]) -> MemberAnswer<'a
     })
 }
 
-#[tactic(auto, unfolding(fut_grammar::specs::Reading::row_at, fut_grammar::specs::Reading::parts_at, fut_grammar::specs::Reading::has_at, fut_grammar::specs::Reading::sub_at, fut_grammar::specs::Phrases::phrases))]
+#[tactic(auto, unfolding(fut_grammar::specs::Reading::row_at, fut_grammar::specs::Reading::parts_at, fut_grammar::specs::Reading::has_at, fut_grammar::specs::Reading::expect, fut_grammar::specs::Reading::sub_at, fut_grammar::specs::Phrases::phrases))]
 fn type_name<'a>(bump: &'a Bump, inner: u32, tokens: &'a [Token]) -> MemberAnswer<'a>
-    requires { inner < 1000 }
+    requires room { inner < 1000 }
+    requires first { starts Fixed.KeyType tokens.now ≡ true }
     ensures exact { Gives spec_found result (row_at (phrases (read_at inner)) (of_mod spec_type) tokens.now) }
     ensures low { IfOk result (λ x. x.height ≤ inner + 1) }
 {
-    let rest = take(tokens, Fixed::KeyType)?;
+    let rest = rest_of(tokens);
     without_form(What::LiftedType, rest)?;
     let place = next_spot(rest).place;
     let (name, rest) = take_word(rest)?;

@@ -3,16 +3,17 @@ ghost use Rattle.std.specs.Prelude.{◌≡◌, ◌≤◌, ◌<◌, length, IfOk}
 ghost use Rattle.fut_ast.specs.Sorts.{Mod_param, Whole_mtype};
 ghost use Rattle.fut_grammar.specs.Phrases.{items, phrases, read_at};
 ghost use Rattle.fut_grammar.specs.Reading.{Gives, many_at, maybe_at};
-ghost use Rattle.fut_module_types.specs.MtypeFound.{param_found, params_found};
+ghost use Rattle.fut_module_types.specs.MtypeFound.{params_found};
 ghost use Rattle.fut_phrases.specs.Found.{found_as};
+ghost use Rattle.fut_tree.specs.ModTypes.{param_of};
 ghost use Rattle.fut_tree.specs.Names.{maybe};
 
 use crate::cycle::{module_parameter, module_type};
 use bumpalo::Bump;
-use bumpalo::collections::into_bump_slice;
 use fut_grammar::Stop;
 use fut_phrases::found::Found;
-use fut_phrases::tokens::{greater, refused, rest_of, starts_with};
+use fut_phrases::lists::{BeginItem, ReadItem, many};
+use fut_phrases::tokens::{greater, rest_of, starts_with};
 use fut_token::{Fixed, Token};
 use fut_tree::{ModType, Param};
 
@@ -26,43 +27,33 @@ pub fn module_params<'a>(
     ensures exact { Gives params_found result (many_at (items (read_at inner)) (length tokens.now) Mod_param 0 tokens.now) }
     ensures low { IfOk result (λ x. x.height ≤ inner) }
 {
-    let mut all = Vec::new(bump);
-    let mut height = 0;
-    let mut rest = tokens;
-    'items: for _turn in 0..tokens.len() {
-        if !starts_with(rest, Fixed::OpenParen) {
-            return Ok(Found {
-                tree: into_bump_slice(all),
-                height,
-                rest,
-            });
-        }
-        let item = parameter_inside(bump, inner, rest)?;
-        all.push(item.tree)?;
-        height = greater(height, item.height);
-        rest = item.rest;
-    }
-    if starts_with(rest, Fixed::OpenParen) {
-        return Err(Stop::Fault(refused(rest)));
-    }
-    Ok(Found {
-        tree: into_bump_slice(all),
-        height,
-        rest,
-    })
+    many(bump, Params, inner, 0, tokens)
 }
 
-#[tactic(auto, unfolding(fut_grammar::specs::Phrases::phrases, fut_grammar::specs::Phrases::items, fut_grammar::specs::Phrases::nodes, fut_grammar::specs::Phrases::flat_at, fut_grammar::specs::Reading::row_at, fut_grammar::specs::Reading::parts_at, fut_grammar::specs::Reading::has_at, fut_grammar::specs::Reading::sub_at))]
-fn parameter_inside<'a>(
-    bump: &'a Bump,
-    inner: u32,
-    tokens: &'a [Token],
-) -> Result<Found<'a, Param<'a>>, Stop>
-    requires { inner < 1000 }
-    ensures exact { Gives param_found result (items (read_at inner) Mod_param tokens.now) }
-    ensures low { IfOk result (λ x. x.height ≤ inner) }
-{
-    module_parameter(bump, inner, tokens)
+#[derive(Clone, Copy)]
+struct Params;
+
+impl<'a> ReadItem<'a, Param<'a>> for Params {
+    ghost sort = { Mod_param };
+
+    ghost seen = { param_of };
+
+    ghost reads = { λ s d. d < 1000 };
+
+    fn item(
+        self,
+        bump: &'a Bump,
+        inner: u32,
+        tokens: &'a [Token],
+    ) -> Result<Found<'a, Param<'a>>, Stop> {
+        module_parameter(bump, inner, tokens)
+    }
+}
+
+impl<'a> BeginItem<'a, Param<'a>> for Params {
+    fn begins(self, tokens: &'a [Token]) -> bool {
+        starts_with(tokens, Fixed::OpenParen)
+    }
 }
 
 /// A colon and a module type, or nothing.

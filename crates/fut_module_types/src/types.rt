@@ -1,5 +1,5 @@
 // Module types: each production over what reads the module types and members in it.
-ghost use Rattle.std.specs.Prelude.{◌≡◌, ◌≤◌, ◌<◌, ◌+◌, suc, length, IfOk};
+ghost use Rattle.std.specs.Prelude.{◌≡◌, ◌≤◌, ◌<◌, ◌+◌, suc, length, true, IfOk, Ok};
 ghost use Rattle.fut_ast.specs.ModRows.{mod_param, mtype_arrow, mtype_path, mtype_specs, round_mtype, with_item};
 ghost use Rattle.fut_ast.specs.Rows.{far_mtype, of_mod, with_types};
 ghost use Rattle.fut_ast.specs.Sorts.{Mod_param, With_item};
@@ -11,14 +11,14 @@ ghost use Rattle.fut_phrases.specs.Found.{tree_found};
 ghost use Rattle.fut_tree.specs.ModTypes.{with_of};
 ghost use Rattle.fut_tree.specs.Names.{names};
 
-use crate::members::members;
-use crate::nodes as node;
+use crate::members::Members;
 use crate::tie::{ModTypeAnswer, ReadMember, ReadModType};
 use bumpalo::Bump;
 use bumpalo::collections::into_bump_slice;
 use fut_ast::Spot;
 use fut_grammar::{Fault, Stop};
 use fut_phrases::found::Found;
+use fut_phrases::lists::many;
 use fut_phrases::tokens::{
     begins_name_and_colon, greater, next_spot, refused, rest_of, starts_with, starts_with_word,
     take, take_path, take_word,
@@ -26,7 +26,7 @@ use fut_phrases::tokens::{
 use fut_phrases::types::{applied_type, whole_type};
 use fut_scalar::Place;
 use fut_token::{Fixed, Token};
-use fut_tree::{Label, ModType, Param, TypeExp, With};
+use fut_tree::{Label, ModType, ModTypeForm, Param, TypeExp, With};
 
 /// Any module type.
 #[tactic(auto, unfolding(fut_grammar::specs::Phrases::whole_mtype_at))]
@@ -115,14 +115,17 @@ fn arrow<'a, R: ReadModType<'a>>(
     ensures exact { Gives tree_found result (row_at (phrases (read_at inner)) (of_mod (mtype_arrow arrows)) tokens.now) }
     ensures low { IfOk result (λ x. x.height ≤ inner + 1) }
 {
+    let place = next_spot(tokens).place;
     let param = parameter(read, inner, tokens)?;
     let rest = take(param.rest, Fixed::Arrow)?;
     let to = read.whole(inner, arrows, rest)?;
-    Ok(Found {
-        tree: node::arrow(bump, next_spot(tokens).place, param.tree, to.tree)?,
-        height: greater(param.height, to.height) + 1,
-        rest: to.rest,
-    })
+    let form = ModTypeForm::Arrow(param.tree.label, param.tree.bound, to.tree);
+    made(
+        bump,
+        ModType { place, form },
+        greater(param.height, to.height) + 1,
+        to.rest,
+    )
 }
 
 /// A parameter of a module.
@@ -143,18 +146,19 @@ pub fn parameter<'a, R: ReadModType<'a>>(
     any_parameter(read, inner, tokens)
 }
 
-#[tactic(auto, unfolding(fut_grammar::specs::Reading::row_at, fut_grammar::specs::Reading::parts_at, fut_grammar::specs::Reading::has_at, fut_grammar::specs::Reading::sub_at, fut_grammar::specs::Phrases::items))]
+#[tactic(auto, unfolding(fut_grammar::specs::Reading::row_at, fut_grammar::specs::Reading::parts_at, fut_grammar::specs::Reading::has_at, fut_grammar::specs::Reading::expect, fut_grammar::specs::Reading::sub_at, fut_grammar::specs::Phrases::items))]
 fn any_parameter<'a, R: ReadModType<'a>>(
     read: R,
     inner: u32,
     tokens: &'a [Token],
 ) -> Result<Found<'a, Param<'a>>, Stop>
     requires law { R.reads read inner }
+    requires first { starts Fixed.OpenParen tokens.now ≡ true }
     requires room { inner < 1000 }
     ensures exact { Gives param_found result (row_at (items (read_at inner)) (of_mod mod_param) tokens.now) }
     ensures low { IfOk result (λ x. x.height ≤ inner) }
 {
-    let rest = take(tokens, Fixed::OpenParen)?;
+    let rest = rest_of(tokens);
     let place = next_spot(rest).place;
     let (name, rest) = take_word(rest)?;
     let rest = take(rest, Fixed::Colon)?;
@@ -209,14 +213,12 @@ fn members_in_braces<'a, S: ReadMember<'a>>(
     ensures low { IfOk result (λ x. x.height ≤ inner + 1) }
 {
     let _arrows = arrows;
+    let place = next_spot(tokens).place;
     let rest = take(tokens, Fixed::OpenBrace)?;
-    let all = members(bump, read_member, inner, rest)?;
+    let all = many(bump, Members { read: read_member }, inner, 0, rest)?;
     let rest = take(all.rest, Fixed::CloseBrace)?;
-    Ok(Found {
-        tree: node::specs(bump, next_spot(tokens).place, all.tree)?,
-        height: all.height + 1,
-        rest,
-    })
+    let form = ModTypeForm::Specs(all.tree);
+    made(bump, ModType { place, form }, all.height + 1, rest)
 }
 
 // ---- what has no module types in it
@@ -229,12 +231,10 @@ fn path<'a>(bump: &'a Bump, inner: u32, arrows: bool, tokens: &'a [Token]) -> Mo
 {
     let _inner = inner;
     let _arrows = arrows;
+    let place = next_spot(tokens).place;
     let (names, rest) = take_path(bump, tokens)?;
-    Ok(Found {
-        tree: node::path(bump, next_spot(tokens).place, names)?,
-        height: 1,
-        rest,
-    })
+    let form = ModTypeForm::Path(names);
+    made(bump, ModType { place, form }, 1, rest)
 }
 
 // ---- what stands behind a module type
@@ -265,11 +265,9 @@ fn withs_behind<'a>(
         return Err(Stop::Fault(Fault::TooDeep(tokens.len())));
     }
     let withs = withs(bump, inner, arrows, first_height, tokens)?;
-    Ok(Found {
-        tree: node::with_types(bump, at.place, first, withs.tree)?,
-        height: withs.height + 1,
-        rest: withs.rest,
-    })
+    let place = at.place;
+    let form = ModTypeForm::With(first, withs.tree);
+    made(bump, ModType { place, form }, withs.height + 1, withs.rest)
 }
 
 #[tactic(auto, unfolding(fut_grammar::specs::Reading::several_at))]
@@ -368,5 +366,15 @@ fn typed<'a>(
         },
         height: ty.height,
         rest: ty.rest,
+    }
+}
+
+// This module type was read, and the arena holds it.
+fn made<'a>(bump: &'a Bump, ty: ModType<'a>, height: u32, rest: &'a [Token]) -> ModTypeAnswer<'a>
+    ensures { Gives tree_found result (Ok (ty.entry, height, rest.now)) }
+{
+    match bump.try_alloc(ty) {
+        Ok(tree) => Ok(Found { tree, height, rest }),
+        Err(_) => Err(Stop::Memory),
     }
 }

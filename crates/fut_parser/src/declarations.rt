@@ -1,62 +1,50 @@
 // Declarations: each production over what reads the modules and declarations in it.
-ghost use Rattle.std.specs.Prelude.{◌≡◌, ◌≤◌, ◌<◌, ◌+◌, suc, length, IfOk};
+ghost use Rattle.std.specs.Prelude.{◌≡◌, ◌≤◌, ◌<◌, ◌+◌, suc, true, IfOk};
 ghost use Rattle.fut_ast.specs.ModRows.{dec_module, dec_open, local_dec, plain_dec};
 ghost use Rattle.fut_ast.specs.Rows.{of_mod};
 ghost use Rattle.fut_ast.specs.Sorts.{Dec_item, Dec_rest};
+ghost use Rattle.fut_ast.specs.Tokens.{starts};
 ghost use Rattle.fut_grammar.specs.Phrases.{dec_at, dec_rest_at, items, module_at, other_dec_at, phrases, read_at};
-ghost use Rattle.fut_grammar.specs.Reading.{Gives, many_at, row_at};
-ghost use Rattle.fut_parser.specs.Private.ModFound.{dec_form_found, dec_found, decs_found};
+ghost use Rattle.fut_grammar.specs.Reading.{Gives, row_at};
+ghost use Rattle.fut_parser.specs.Private.ModFound.{dec_form_found, dec_found};
+ghost use Rattle.fut_tree.specs.Mods.{dec_of};
 
-use crate::definitions::{
-    DecFormAnswer, entry_def, imported, let_def, module_type_name, plain_def, type_name,
-};
+use crate::definitions::{DecFormAnswer, definition, imported, module_type_name, type_name};
 use crate::mod_tokens::{begins_declaration, begins_declared};
 use crate::module_tie::{DecAnswer, ReadDeclaration, ReadModule, whole_module};
 use bumpalo::Bump;
-use bumpalo::collections::into_bump_slice;
 use fut_grammar::Stop;
 use fut_module_types::{maybe_module_type, module_params};
 use fut_phrases::found::Found;
+use fut_phrases::lists::{BeginItem, ReadItem};
 use fut_phrases::tokens::{greater, next_spot, refused, rest_of, starts_with, take, take_word};
 use fut_token::{Fixed, Token};
 use fut_tree::{Dec, DecForm, Label};
 
-/// Declarations, as many as stand there.
-pub fn declarations<'a, D: ReadDeclaration<'a>>(
-    bump: &'a Bump,
-    read_dec: D,
-    inner: u32,
-    tokens: &'a [Token],
-) -> Result<Found<'a, &'a [Dec<'a>]>, Stop>
-    requires law_dec { D.reads read_dec inner }
-    requires room { inner < 1000 }
-    ensures exact { Gives decs_found result (many_at (phrases (read_at inner)) (length tokens.now) Dec_item 0 tokens.now) }
-    ensures low { IfOk result (λ x. x.height ≤ inner) }
-{
-    let mut all = Vec::new(bump);
-    let mut height = 0;
-    let mut rest = tokens;
-    'items: for _turn in 0..tokens.len() {
-        if !begins_declaration(rest) {
-            return Ok(Found {
-                tree: into_bump_slice(all),
-                height,
-                rest,
-            });
-        }
-        let item = read_dec.declaration(inner, rest)?;
-        all.push(item.tree)?;
-        height = greater(height, item.height);
-        rest = item.rest;
+/// Declarations, each read by what reads one.
+#[derive(Clone, Copy)]
+pub struct Declarations<D> {
+    pub read: D,
+}
+
+impl<'a, D: ReadDeclaration<'a>> ReadItem<'a, Dec<'a>> for Declarations<D> {
+    ghost sort = { Dec_item };
+
+    ghost seen = { dec_of };
+
+    ghost reads = { λ s d. D.reads s.read d };
+
+    #[tactic(auto, unfolding(fut_grammar::specs::Phrases::phrases))]
+    fn item(self, bump: &'a Bump, inner: u32, tokens: &'a [Token]) -> DecAnswer<'a> {
+        let _bump = bump;
+        self.read.declaration(inner, tokens)
     }
-    if begins_declaration(rest) {
-        return Err(Stop::Fault(refused(rest)));
+}
+
+impl<'a, D: ReadDeclaration<'a>> BeginItem<'a, Dec<'a>> for Declarations<D> {
+    fn begins(self, tokens: &'a [Token]) -> bool {
+        begins_declaration(tokens)
     }
-    Ok(Found {
-        tree: into_bump_slice(all),
-        height,
-        rest,
-    })
 }
 
 /// A declaration.
@@ -79,7 +67,7 @@ pub fn declaration_below<'a, M: ReadModule<'a>>(
     }
 }
 
-#[tactic(auto, unfolding(fut_grammar::specs::Reading::row_at, fut_grammar::specs::Reading::parts_at, fut_grammar::specs::Reading::has_at, fut_grammar::specs::Reading::sub_at, fut_grammar::specs::Phrases::phrases))]
+#[tactic(auto, unfolding(fut_grammar::specs::Reading::row_at, fut_grammar::specs::Reading::parts_at, fut_grammar::specs::Reading::has_at, fut_grammar::specs::Reading::expect, fut_grammar::specs::Reading::sub_at, fut_grammar::specs::Phrases::phrases))]
 fn hidden<'a, M: ReadModule<'a>>(
     bump: &'a Bump,
     read: M,
@@ -87,12 +75,12 @@ fn hidden<'a, M: ReadModule<'a>>(
     tokens: &'a [Token],
 ) -> DecAnswer<'a>
     requires law { M.reads read inner }
+    requires first { starts Fixed.KeyLocal tokens.now ≡ true }
     requires room { inner < 1000 }
     ensures exact { Gives dec_found result (row_at (phrases (read_at inner)) (of_mod local_dec) tokens.now) }
     ensures low { IfOk result (λ x. x.height ≤ inner + 1) }
 {
-    let rest = take(tokens, Fixed::KeyLocal)?;
-    let found = declared(bump, read, inner, rest)?;
+    let found = declared(bump, read, inner, rest_of(tokens))?;
     Ok(Found {
         tree: Dec {
             place: next_spot(tokens).place,
@@ -146,7 +134,7 @@ fn declared<'a, M: ReadModule<'a>>(
     any_declared(bump, read, inner, tokens)
 }
 
-#[tactic(auto, unfolding(fut_grammar::specs::Phrases::dec_rest_at))]
+#[tactic(auto, unfolding(fut_grammar::specs::Phrases::dec_rest_at, fut_grammar::specs::Reading::row_at))]
 fn any_declared<'a, M: ReadModule<'a>>(
     bump: &'a Bump,
     read: M,
@@ -159,11 +147,11 @@ fn any_declared<'a, M: ReadModule<'a>>(
     ensures low { IfOk result (λ x. x.height ≤ inner) }
 {
     if starts_with(tokens, Fixed::KeyDef) {
-        plain_def(bump, inner, tokens)
+        definition(bump, inner, Fixed::KeyDef, false, tokens)
     } else if starts_with(tokens, Fixed::KeyLet) {
-        let_def(bump, inner, tokens)
+        definition(bump, inner, Fixed::KeyLet, false, tokens)
     } else if starts_with(tokens, Fixed::KeyEntry) {
-        entry_def(bump, inner, tokens)
+        definition(bump, inner, Fixed::KeyEntry, true, tokens)
     } else {
         other_declared(bump, read, inner, tokens)
     }
@@ -200,6 +188,7 @@ fn module_or_type<'a, M: ReadModule<'a>>(
     tokens: &'a [Token],
 ) -> DecFormAnswer<'a>
     requires law { M.reads read inner }
+    requires first { starts Fixed.KeyModule tokens.now ≡ true }
     requires room { inner < 1000 }
     ensures exact { Gives dec_form_found result (module_at (items (read_at inner)) tokens.now) }
     ensures low { IfOk result (λ x. x.height ≤ inner) }
@@ -211,7 +200,7 @@ fn module_or_type<'a, M: ReadModule<'a>>(
     }
 }
 
-#[tactic(auto, unfolding(fut_grammar::specs::Reading::row_at, fut_grammar::specs::Reading::parts_at, fut_grammar::specs::Reading::has_at, fut_grammar::specs::Reading::sub_at, fut_grammar::specs::Phrases::items))]
+#[tactic(auto, unfolding(fut_grammar::specs::Reading::row_at, fut_grammar::specs::Reading::parts_at, fut_grammar::specs::Reading::has_at, fut_grammar::specs::Reading::expect, fut_grammar::specs::Reading::sub_at, fut_grammar::specs::Phrases::items))]
 fn module_name<'a, M: ReadModule<'a>>(
     bump: &'a Bump,
     read: M,
@@ -219,11 +208,12 @@ fn module_name<'a, M: ReadModule<'a>>(
     tokens: &'a [Token],
 ) -> DecFormAnswer<'a>
     requires law { M.reads read inner }
+    requires first { starts Fixed.KeyModule tokens.now ≡ true }
     requires room { inner < 1000 }
     ensures exact { Gives dec_form_found result (row_at (items (read_at inner)) (of_mod dec_module) tokens.now) }
     ensures low { IfOk result (λ x. x.height ≤ inner) }
 {
-    let rest = take(tokens, Fixed::KeyModule)?;
+    let rest = rest_of(tokens);
     let place = next_spot(rest).place;
     let (name, rest) = take_word(rest)?;
     let params = module_params(bump, inner, rest)?;
@@ -237,15 +227,15 @@ fn module_name<'a, M: ReadModule<'a>>(
     })
 }
 
-#[tactic(auto, unfolding(fut_grammar::specs::Reading::row_at, fut_grammar::specs::Reading::parts_at, fut_grammar::specs::Reading::has_at, fut_grammar::specs::Reading::sub_at, fut_grammar::specs::Phrases::items))]
+#[tactic(auto, unfolding(fut_grammar::specs::Reading::row_at, fut_grammar::specs::Reading::parts_at, fut_grammar::specs::Reading::has_at, fut_grammar::specs::Reading::expect, fut_grammar::specs::Reading::sub_at, fut_grammar::specs::Phrases::items))]
 fn opened<'a, M: ReadModule<'a>>(read: M, inner: u32, tokens: &'a [Token]) -> DecFormAnswer<'a>
     requires law { M.reads read inner }
+    requires first { starts Fixed.KeyOpen tokens.now ≡ true }
     requires room { inner < 1000 }
     ensures exact { Gives dec_form_found result (row_at (items (read_at inner)) (of_mod dec_open) tokens.now) }
     ensures low { IfOk result (λ x. x.height ≤ inner) }
 {
-    let rest = take(tokens, Fixed::KeyOpen)?;
-    let found = whole_module(read, inner, rest)?;
+    let found = whole_module(read, inner, rest_of(tokens))?;
     Ok(Found {
         tree: DecForm::Open(found.tree),
         height: found.height,

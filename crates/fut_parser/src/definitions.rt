@@ -1,8 +1,10 @@
 // Declarations with no modules in them.
-ghost use Rattle.std.specs.Prelude.{◌≡◌, ◌≤◌, ◌<◌, false, IfOk};
-ghost use Rattle.fut_ast.specs.ModRows.{dec_def, dec_entry, dec_import, dec_let, dec_mtype, dec_type, definition, definition_parts};
+ghost use Rattle.std.specs.Prelude.{◌≡◌, ◌≤◌, ◌<◌, ◌∷◌, false, true, IfOk};
+ghost use Rattle.fut_ast.specs.ModRows.{dec_import, dec_mtype, dec_type, definition, definition_parts};
+ghost use Rattle.fut_ast.specs.Parts.{Sign};
 ghost use Rattle.fut_ast.specs.Rows.{of_mod};
 ghost use Rattle.fut_ast.specs.Sorts.{Dec_rest};
+ghost use Rattle.fut_ast.specs.Tokens.{starts, tail};
 ghost use Rattle.fut_grammar.specs.Phrases.{items, read_at};
 ghost use Rattle.fut_grammar.specs.Reading.{Gives, parts_at, row_at};
 ghost use Rattle.fut_parser.specs.Private.ModFound.{dec_form_found};
@@ -14,7 +16,7 @@ use fut_grammar::Stop;
 use fut_module_types::module_type;
 use fut_phrases::found::Found;
 use fut_phrases::params::{heads_inside, maybe_type_inside, patterns_inside};
-use fut_phrases::tokens::{greater, next_spot, take, take_text, take_word, without_form};
+use fut_phrases::tokens::{greater, next_spot, rest_of, take, take_text, take_word, without_form};
 use fut_phrases::types::whole_type;
 use fut_token::{Fixed, Token};
 use fut_tree::{DecForm, Label};
@@ -56,47 +58,33 @@ fn definition_behind<'a>(
     })
 }
 
-/// `def` and a definition.
-#[tactic(auto, unfolding(fut_grammar::specs::Reading::row_at, fut_grammar::specs::Reading::parts_at, fut_grammar::specs::Reading::has_at))]
-pub fn plain_def<'a>(bump: &'a Bump, inner: u32, tokens: &'a [Token]) -> DecFormAnswer<'a>
-    requires { inner < 1000 }
-    ensures exact { Gives dec_form_found result (row_at (items (read_at inner)) (of_mod dec_def) tokens.now) }
+/// `def`, `let` or `entry`, and a definition.
+#[tactic(auto, unfolding(fut_grammar::specs::Reading::parts_at, fut_grammar::specs::Reading::has_at, fut_grammar::specs::Reading::expect))]
+pub fn definition<'a>(
+    bump: &'a Bump,
+    inner: u32,
+    word: Fixed,
+    entry: bool,
+    tokens: &'a [Token],
+) -> DecFormAnswer<'a>
+    requires room { inner < 1000 }
+    requires first { starts word tokens.now ≡ true }
+    ensures exact { Gives dec_form_found result (parts_at (items (read_at inner)) false Dec_rest (Sign word ∷ definition_parts) (λ at. definition entry) 0 tokens.now) }
     ensures low { IfOk result (λ x. x.height ≤ inner) }
 {
-    let rest = take(tokens, Fixed::KeyDef)?;
-    definition_behind(bump, inner, false, rest)
-}
-
-/// `let` and a definition.
-#[tactic(auto, unfolding(fut_grammar::specs::Reading::row_at, fut_grammar::specs::Reading::parts_at, fut_grammar::specs::Reading::has_at))]
-pub fn let_def<'a>(bump: &'a Bump, inner: u32, tokens: &'a [Token]) -> DecFormAnswer<'a>
-    requires { inner < 1000 }
-    ensures exact { Gives dec_form_found result (row_at (items (read_at inner)) (of_mod dec_let) tokens.now) }
-    ensures low { IfOk result (λ x. x.height ≤ inner) }
-{
-    let rest = take(tokens, Fixed::KeyLet)?;
-    definition_behind(bump, inner, false, rest)
-}
-
-/// `entry` and a definition.
-#[tactic(auto, unfolding(fut_grammar::specs::Reading::row_at, fut_grammar::specs::Reading::parts_at, fut_grammar::specs::Reading::has_at))]
-pub fn entry_def<'a>(bump: &'a Bump, inner: u32, tokens: &'a [Token]) -> DecFormAnswer<'a>
-    requires { inner < 1000 }
-    ensures exact { Gives dec_form_found result (row_at (items (read_at inner)) (of_mod dec_entry) tokens.now) }
-    ensures low { IfOk result (λ x. x.height ≤ inner) }
-{
-    let rest = take(tokens, Fixed::KeyEntry)?;
-    definition_behind(bump, inner, true, rest)
+    let _word = word;
+    definition_behind(bump, inner, entry, rest_of(tokens))
 }
 
 /// `type`, a name, its parameters and a type.
-#[tactic(auto, unfolding(fut_grammar::specs::Reading::row_at, fut_grammar::specs::Reading::parts_at, fut_grammar::specs::Reading::has_at, fut_grammar::specs::Reading::sub_at, fut_grammar::specs::Phrases::items))]
+#[tactic(auto, unfolding(fut_grammar::specs::Reading::row_at, fut_grammar::specs::Reading::parts_at, fut_grammar::specs::Reading::has_at, fut_grammar::specs::Reading::expect, fut_grammar::specs::Reading::sub_at, fut_grammar::specs::Phrases::items))]
 pub fn type_name<'a>(bump: &'a Bump, inner: u32, tokens: &'a [Token]) -> DecFormAnswer<'a>
-    requires { inner < 1000 }
+    requires room { inner < 1000 }
+    requires first { starts Fixed.KeyType tokens.now ≡ true }
     ensures exact { Gives dec_form_found result (row_at (items (read_at inner)) (of_mod dec_type) tokens.now) }
     ensures low { IfOk result (λ x. x.height ≤ inner) }
 {
-    let rest = take(tokens, Fixed::KeyType)?;
+    let rest = rest_of(tokens);
     without_form(What::LiftedType, rest)?;
     let place = next_spot(rest).place;
     let (name, rest) = take_word(rest)?;
@@ -111,14 +99,15 @@ pub fn type_name<'a>(bump: &'a Bump, inner: u32, tokens: &'a [Token]) -> DecForm
 }
 
 /// `module type`, a name and a module type.
-#[tactic(auto, unfolding(fut_grammar::specs::Reading::row_at, fut_grammar::specs::Reading::parts_at, fut_grammar::specs::Reading::has_at, fut_grammar::specs::Reading::sub_at, fut_grammar::specs::Phrases::items))]
+#[tactic(auto, unfolding(fut_grammar::specs::Reading::row_at, fut_grammar::specs::Reading::parts_at, fut_grammar::specs::Reading::has_at, fut_grammar::specs::Reading::expect, fut_grammar::specs::Reading::sub_at, fut_grammar::specs::Phrases::items))]
 pub fn module_type_name<'a>(bump: &'a Bump, inner: u32, tokens: &'a [Token]) -> DecFormAnswer<'a>
-    requires { inner < 1000 }
+    requires room { inner < 1000 }
+    requires first { starts Fixed.KeyModule tokens.now ≡ true }
+    requires second { starts Fixed.KeyType (tail tokens.now) ≡ true }
     ensures exact { Gives dec_form_found result (row_at (items (read_at inner)) (of_mod dec_mtype) tokens.now) }
     ensures low { IfOk result (λ x. x.height ≤ inner) }
 {
-    let rest = take(tokens, Fixed::KeyModule)?;
-    let rest = take(rest, Fixed::KeyType)?;
+    let rest = rest_of(rest_of(tokens));
     without_form(What::LiftedType, rest)?;
     let place = next_spot(rest).place;
     let (name, rest) = take_word(rest)?;

@@ -8,29 +8,29 @@ ghost use Rattle.fut_ast.specs.Sorts.{Atomic_mod, Far_mod, Last_mod, Whole_mtype
 ghost use Rattle.fut_ast.specs.declared.module.ModForm.TheVariants.{Lambda};
 ghost use Rattle.fut_ast.specs.Tokens.{starts};
 ghost use Rattle.fut_grammar.specs.Phrases.{applied_mod_at, atomic_mod_at, far_at, first_mod_at, last_mod_at, once_at, phrases, read_at};
-ghost use Rattle.fut_grammar.specs.Reading.{Gives, parts_at, row_at, several_at};
+ghost use Rattle.fut_grammar.specs.Reading.{Gives, parts_at, row_at};
 ghost use Rattle.fut_parser.specs.Private.ModFound.{ending_found};
-ghost use Rattle.fut_phrases.specs.Found.{list_found, tree_found};
+ghost use Rattle.fut_phrases.specs.Found.{tree_found};
 ghost use Rattle.fut_tree.specs.ModTypes.{label_of};
 
-use crate::declarations::declarations;
+use crate::declarations::Declarations;
 use crate::mod_nodes as node;
 use crate::mod_tokens::{begins_module_argument, goes_on_module};
 use crate::module_tie::{
     ModAnswer, ModEnding, ReadDeclaration, ReadModule, argument, last_module, whole_module,
 };
 use bumpalo::Bump;
-use bumpalo::collections::into_bump_slice;
 use fut_ast::Spot;
 use fut_grammar::{Fault, Stop};
 use fut_module_types::{maybe_module_type, module_parameter, module_type};
 use fut_phrases::found::Found;
+use fut_phrases::lists::{BeginItem, ReadItem, many, several};
 use fut_phrases::tokens::{
     greater, next_spot, refused, rest_of, starts_with, starts_with_word, take, take_path, take_text,
 };
 use fut_scalar::Place;
 use fut_token::{Fixed, Token};
-use fut_tree::{Held, ModExp, Param};
+use fut_tree::{Held, ModExp, ModForm, Param};
 
 /// A module expression, its height, and the tokens behind it, where its ending is of no use.
 type Module<'a> = Result<Found<'a, &'a ModExp<'a>>, Stop>;
@@ -201,14 +201,14 @@ fn body_behind<'a, M: ReadModule<'a>>(
     let ty = maybe_module_type(bump, inner, false, param_height, tokens)?;
     let rest = take(ty.rest, Fixed::Arrow)?;
     let body = last_module(read, inner, rest)?;
-    Ok(Found {
-        tree: ModEnding {
-            module: node::lambda(bump, place, param, ty.tree, body.tree.module)?,
-            is_sealed: body.tree.is_sealed,
-        },
-        height: greater(ty.height, body.height) + 1,
-        rest: body.rest,
-    })
+    let form = ModForm::Lambda(param.label, param.bound, ty.tree, body.tree.module);
+    node::ended(
+        bump,
+        ModExp { place, form },
+        body.tree.is_sealed,
+        greater(ty.height, body.height) + 1,
+        body.rest,
+    )
 }
 
 #[tactic(auto, unfolding(fut_grammar::specs::Reading::row_at, fut_grammar::specs::Reading::parts_at, fut_grammar::specs::Reading::has_at, fut_grammar::specs::Reading::sub_at, fut_grammar::specs::Phrases::phrases))]
@@ -239,32 +239,28 @@ fn in_braces<'a, D: ReadDeclaration<'a>>(
     ensures exact { Gives tree_found result (row_at (phrases (read_at inner)) (of_mod mod_decs) tokens.now) }
     ensures low { IfOk result (λ x. x.height ≤ inner + 1) }
 {
+    let place = next_spot(tokens).place;
     let rest = take(tokens, Fixed::OpenBrace)?;
-    let all = declarations(bump, read_dec, inner, rest)?;
+    let all = many(bump, Declarations { read: read_dec }, inner, 0, rest)?;
     let rest = take(all.rest, Fixed::CloseBrace)?;
-    Ok(Found {
-        tree: node::decs(bump, next_spot(tokens).place, all.tree)?,
-        height: all.height + 1,
-        rest,
-    })
+    let form = ModForm::Decs(all.tree);
+    node::made(bump, ModExp { place, form }, all.height + 1, rest)
 }
 
 // ---- what has no modules in it
 
-#[tactic(auto, unfolding(fut_grammar::specs::Reading::row_at, fut_grammar::specs::Reading::parts_at, fut_grammar::specs::Reading::has_at))]
+#[tactic(auto, unfolding(fut_grammar::specs::Reading::row_at, fut_grammar::specs::Reading::parts_at, fut_grammar::specs::Reading::has_at, fut_grammar::specs::Reading::expect))]
 fn imported<'a>(bump: &'a Bump, inner: u32, tokens: &'a [Token]) -> Module<'a>
-    requires { inner < 1000 }
+    requires room { inner < 1000 }
+    requires first { starts Fixed.KeyImport tokens.now ≡ true }
     ensures exact { Gives tree_found result (row_at (phrases (read_at inner)) (of_mod mod_import) tokens.now) }
     ensures low { IfOk result (λ x. x.height ≤ inner + 1) }
 {
     let _inner = inner;
-    let rest = take(tokens, Fixed::KeyImport)?;
-    let (file, rest) = take_text(rest)?;
-    Ok(Found {
-        tree: node::import(bump, next_spot(tokens).place, file)?,
-        height: 1,
-        rest,
-    })
+    let place = next_spot(tokens).place;
+    let (file, rest) = take_text(rest_of(tokens))?;
+    let form = ModForm::Import(file);
+    node::made(bump, ModExp { place, form }, 1, rest)
 }
 
 #[tactic(auto, unfolding(fut_grammar::specs::Reading::row_at, fut_grammar::specs::Reading::parts_at, fut_grammar::specs::Reading::has_at))]
@@ -274,12 +270,10 @@ fn path<'a>(bump: &'a Bump, inner: u32, tokens: &'a [Token]) -> Module<'a>
     ensures low { IfOk result (λ x. x.height ≤ inner + 1) }
 {
     let _inner = inner;
+    let place = next_spot(tokens).place;
     let (names, rest) = take_path(bump, tokens)?;
-    Ok(Found {
-        tree: node::path(bump, next_spot(tokens).place, names)?,
-        height: 1,
-        rest,
-    })
+    let form = ModForm::Path(names);
+    node::made(bump, ModExp { place, form }, 1, rest)
 }
 
 // ---- what stands behind a module
@@ -310,54 +304,46 @@ fn arguments_behind<'a, M: ReadModule<'a>>(
     if first_height > inner {
         return Err(Stop::Fault(Fault::TooDeep(tokens.len())));
     }
-    let all = arguments(bump, read, inner, first_height, tokens)?;
-    Ok(Found {
-        tree: node::apply(bump, at.place, first, all.tree)?,
-        height: all.height + 1,
-        rest: all.rest,
-    })
+    let all = several(bump, Arguments { read }, inner, first_height, tokens)?;
+    let place = at.place;
+    let form = ModForm::Apply(first, all.tree);
+    node::made(bump, ModExp { place, form }, all.height + 1, all.rest)
 }
 
-// One or more arguments.
-#[tactic(auto, unfolding(fut_grammar::specs::Reading::several_at, fut_grammar::specs::Phrases::phrases))]
-fn arguments<'a, M: ReadModule<'a>>(
-    bump: &'a Bump,
+/// Arguments of a parametric module, each read by what reads one.
+#[derive(Clone, Copy)]
+struct Arguments<M> {
     read: M,
-    inner: u32,
-    first_height: u32,
-    tokens: &'a [Token],
-) -> Result<Found<'a, &'a [Held<'a, ModExp<'a>>]>, Stop>
-    requires law { M.reads read inner }
-    requires room { (inner < 1000) × (first_height ≤ inner) }
-    ensures exact { Gives list_found result (several_at (phrases (read_at inner)) Atomic_mod first_height tokens.now) }
-    ensures low { IfOk result (λ x. x.height ≤ inner) }
-{
-    let first = argument(read, inner, tokens)?;
-    let mut all = Vec::new(bump);
-    all.push(Held { at: first.tree })?;
-    let mut height = greater(first_height, first.height);
-    let mut rest = first.rest;
-    'items: for _turn in 0..first.rest.len() {
-        if !begins_module_argument(rest) {
-            return Ok(Found {
-                tree: into_bump_slice(all),
-                height,
-                rest,
-            });
-        }
-        let item = argument(read, inner, rest)?;
-        all.push(Held { at: item.tree })?;
-        height = greater(height, item.height);
-        rest = item.rest;
+}
+
+impl<'a, M: ReadModule<'a>> ReadItem<'a, Held<'a, ModExp<'a>>> for Arguments<M> {
+    ghost sort = { Atomic_mod };
+
+    ghost seen = { λ m. m.at.now };
+
+    ghost reads = { λ s d. M.reads s.read d };
+
+    #[tactic(auto, unfolding(fut_grammar::specs::Phrases::phrases))]
+    fn item(
+        self,
+        bump: &'a Bump,
+        inner: u32,
+        tokens: &'a [Token],
+    ) -> Result<Found<'a, Held<'a, ModExp<'a>>>, Stop> {
+        let _bump = bump;
+        let found = argument(self.read, inner, tokens)?;
+        Ok(Found {
+            tree: Held { at: found.tree },
+            height: found.height,
+            rest: found.rest,
+        })
     }
-    if begins_module_argument(rest) {
-        return Err(Stop::Fault(refused(rest)));
+}
+
+impl<'a, M: ReadModule<'a>> BeginItem<'a, Held<'a, ModExp<'a>>> for Arguments<M> {
+    fn begins(self, tokens: &'a [Token]) -> bool {
+        begins_module_argument(tokens)
     }
-    Ok(Found {
-        tree: into_bump_slice(all),
-        height,
-        rest,
-    })
 }
 
 // A colon and a module type, or nothing.
@@ -391,12 +377,13 @@ fn seal_behind<'a>(
         return Err(Stop::Fault(Fault::TooDeep(tokens.len())));
     }
     let ty = module_type(bump, inner, true, rest_of(tokens))?;
-    Ok(Found {
-        tree: ModEnding {
-            module: node::seal(bump, at.place, first, ty.tree)?,
-            is_sealed: true,
-        },
-        height: greater(first_height, ty.height) + 1,
-        rest: ty.rest,
-    })
+    let place = at.place;
+    let form = ModForm::Seal(first, ty.tree);
+    node::ended(
+        bump,
+        ModExp { place, form },
+        true,
+        greater(first_height, ty.height) + 1,
+        ty.rest,
+    )
 }

@@ -15,13 +15,14 @@ ghost use Rattle.fut_parser.specs.Places.{Ends, place_of};
 ghost use Rattle.fut_scalar.specs.declared.place.Place.{Place};
 ghost use Rattle.fut_token.specs.declared.token.Token.{Token};
 
-use crate::declarations::declarations;
+use crate::declarations::Declarations;
 use crate::module_cycle::declaration;
 use crate::module_tie::DecAnswer;
 use bumpalo::Bump;
 use fut_ast::What;
 use fut_grammar::{Fault, Stop};
 use fut_phrases::found::Found;
+use fut_phrases::lists::many;
 use fut_phrases::tokens::refused;
 use fut_scalar::Place;
 use fut_token::Token;
@@ -54,7 +55,7 @@ fn declarations_by<'a, F: Fn(&'a [Token]) -> DecAnswer<'a>>(
     ensures exact { Gives decs_found result (many_at (phrases (read_at inner)) (length tokens.now) Dec_item 0 tokens.now) }
     ensures low { IfOk result (λ x. x.height ≤ inner) }
 {
-    declarations(bump, read, inner, tokens)
+    many(bump, Declarations { read }, inner, 0, tokens)
 }
 
 // The declarations of a file.

@@ -1,8 +1,9 @@
 // The size and type parameters of a definition.
-ghost use Rattle.std.specs.Prelude.{◌≡◌, ◌≤◌, ◌<◌, length, ℕ, IfOk};
+ghost use Rattle.std.specs.Prelude.{◌≡◌, ◌≤◌, ◌<◌, length, true, ℕ, IfOk};
 ghost use Rattle.fut_ast.specs.PatRows.{size_head, variable_head};
 ghost use Rattle.fut_ast.specs.Rows.{of_pat};
 ghost use Rattle.fut_ast.specs.Sorts.{Head_item};
+ghost use Rattle.fut_ast.specs.Tokens.{starts};
 ghost use Rattle.fut_grammar.specs.Phrases.{head_at, items, phrases, read_at};
 ghost use Rattle.fut_grammar.specs.Reading.{Gives, many_at, row_at};
 ghost use Rattle.fut_phrases.specs.Found.{found_as, heads_found};
@@ -11,7 +12,8 @@ ghost use Rattle.fut_tree.specs.Pats.{head_of};
 use crate::found::Found;
 use crate::lists::{BeginItem, ReadItem, many};
 use crate::tokens::{
-    begins_parameter, greater, next_spot, refused, starts_with, take, take_variable, take_word,
+    begins_parameter, greater, next_spot, refused, rest_of, starts_with, take, take_variable,
+    take_word,
 };
 use bumpalo::Bump;
 use bumpalo::collections::into_bump_slice;
@@ -76,14 +78,14 @@ fn any_head<'a>(tokens: &'a [Token]) -> Result<Found<'a, Head<'a>>, Stop>
     }
 }
 
-#[tactic(auto, unfolding(fut_grammar::specs::Reading::row_at, fut_grammar::specs::Reading::parts_at, fut_grammar::specs::Reading::has_at))]
+#[tactic(auto, unfolding(fut_grammar::specs::Reading::row_at, fut_grammar::specs::Reading::parts_at, fut_grammar::specs::Reading::has_at, fut_grammar::specs::Reading::expect))]
 fn size<'a>(tokens: &'a [Token]) -> Result<Found<'a, Head<'a>>, Stop>
+    requires { starts Fixed.OpenBracket tokens.now ≡ true }
     ensures exact { (inner : ℕ) → Gives (found_as head_of) result (row_at (items (read_at inner)) (of_pat size_head) tokens.now) }
     ensures low { IfOk result (λ x. x.height ≡ 0) }
 {
     let place = next_spot(tokens).place;
-    let rest = take(tokens, Fixed::OpenBracket)?;
-    let (name, rest) = take_word(rest)?;
+    let (name, rest) = take_word(rest_of(tokens))?;
     let rest = take(rest, Fixed::CloseBracket)?;
     let form = HeadForm::Size(name);
     Ok(Found {

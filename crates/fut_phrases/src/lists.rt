@@ -3,7 +3,7 @@ ghost use Rattle.std.specs.Prelude.{◌≡◌, ◌∷◌, ◌≤◌, ◌<◌, le
 ghost use Rattle.fut_ast.specs.Behind.{begins};
 ghost use Rattle.fut_ast.specs.Sorts.{Sort, Tree};
 ghost use Rattle.fut_grammar.specs.Phrases.{phrases, read_at};
-ghost use Rattle.fut_grammar.specs.Reading.{Gives, commas_at, many_at};
+ghost use Rattle.fut_grammar.specs.Reading.{Gives, commas_at, many_at, several_at};
 ghost use Rattle.fut_phrases.specs.Found.{found_as};
 ghost use Rattle.fut_tree.specs.Names.{all};
 
@@ -109,6 +109,47 @@ pub fn many<'a, T: Copy, R: BeginItem<'a, T>>(
         height,
         rest,
     })
+}
+
+/// One or more items, in a tree that is as high as given without them.
+#[tactic(auto, unfolding(fut_grammar::specs::Reading::several_at))]
+pub fn several<'a, T: Copy, R: BeginItem<'a, T>>(
+    bump: &'a Bump,
+    read: R,
+    inner: u32,
+    first_height: u32,
+    tokens: &'a [Token],
+) -> Result<Found<'a, &'a [T]>, Stop>
+    requires law { R.reads read inner }
+    requires room { (inner < 1000) × (first_height ≤ inner) }
+    ensures exact { Gives (found_as (λ t. map R.seen t.now)) result (several_at (phrases (read_at inner)) R.sort first_height tokens.now) }
+    ensures low { IfOk result (λ x. x.height ≤ inner) }
+{
+    let first = read.item(bump, inner, tokens)?;
+    let others = many(
+        bump,
+        read,
+        inner,
+        greater(first_height, first.height),
+        first.rest,
+    )?;
+    Ok(Found {
+        tree: led_by(bump, first.tree, others.tree)?,
+        height: others.height,
+        rest: others.rest,
+    })
+}
+
+fn led_by<'a, T: Copy>(bump: &'a Bump, first: T, others: &'a [T]) -> Result<&'a [T], AllocError>
+    ensures { IfOk result (λ list. list.now ≡ first ∷ others.now) }
+{
+    let mut made = Vec::new(bump);
+    match made.push(first) {
+        Ok(()) => (),
+        Err(_) => return Err(AllocError),
+    }
+    made.extend_from_slice(others)?;
+    Ok(into_bump_slice(made))
 }
 
 /// A list with one more in front.

@@ -1,7 +1,8 @@
 // What stands in the heads of functions, lets and loops: size names, parameters and their types.
-ghost use Rattle.std.specs.Prelude.{◌≡◌, ◌≤◌, ◌<◌, length, ℕ, IfOk};
+ghost use Rattle.std.specs.Prelude.{◌≡◌, ◌≤◌, ◌<◌, length, true, ℕ, IfOk};
 ghost use Rattle.fut_ast.specs.PatRows.{size_name};
 ghost use Rattle.fut_ast.specs.Rows.{of_pat};
+ghost use Rattle.fut_ast.specs.Tokens.{starts};
 ghost use Rattle.fut_ast.specs.Sorts.{Applied_type, Atomic_pat, Head_item, Size_item, Whole_type};
 ghost use Rattle.fut_grammar.specs.Phrases.{items, phrases, read_at};
 ghost use Rattle.fut_grammar.specs.Reading.{Gives, many_at, maybe_at, row_at, several_at};
@@ -10,7 +11,7 @@ ghost use Rattle.fut_tree.specs.Names.{maybe};
 
 use crate::found::Found;
 use crate::heads::heads;
-use crate::lists::{BeginItem, ReadItem, in_front, many};
+use crate::lists::{BeginItem, ReadItem, many, several};
 use crate::patterns::atomic_pattern;
 use crate::tokens::{begins_pattern, greater, refused, rest_of, starts_with, take, take_word};
 use crate::types::{applied_type, whole_type};
@@ -65,13 +66,13 @@ impl<'a> BeginItem<'a, &'a str> for SizeNames {
     }
 }
 
-#[tactic(auto, unfolding(fut_grammar::specs::Reading::row_at, fut_grammar::specs::Reading::parts_at, fut_grammar::specs::Reading::has_at))]
+#[tactic(auto, unfolding(fut_grammar::specs::Reading::row_at, fut_grammar::specs::Reading::parts_at, fut_grammar::specs::Reading::has_at, fut_grammar::specs::Reading::expect))]
 fn any_size<'a>(tokens: &'a [Token]) -> Result<Found<'a, &'a str>, Stop>
+    requires { starts Fixed.OpenBracket tokens.now ≡ true }
     ensures exact { (inner : ℕ) → Gives tree_found result (row_at (items (read_at inner)) (of_pat size_name) tokens.now) }
     ensures low { IfOk result (λ x. x.height ≡ 0) }
 {
-    let rest = take(tokens, Fixed::OpenBracket)?;
-    let (name, rest) = take_word(rest)?;
+    let (name, rest) = take_word(rest_of(tokens))?;
     let rest = take(rest, Fixed::CloseBracket)?;
     Ok(Found {
         tree: name,
@@ -128,7 +129,6 @@ pub fn patterns_behind<'a>(
 }
 
 /// One or more parameters.
-#[tactic(auto, unfolding(fut_grammar::specs::Reading::several_at, fut_grammar::specs::Phrases::phrases))]
 pub fn several_patterns<'a>(
     bump: &'a Bump,
     inner: u32,
@@ -139,13 +139,7 @@ pub fn several_patterns<'a>(
     ensures exact { Gives list_found result (several_at (phrases (read_at inner)) Atomic_pat first_height tokens.now) }
     ensures low { IfOk result (λ x. x.height ≤ inner) }
 {
-    let first = atomic_pattern(bump, inner, tokens)?;
-    let others = patterns_behind(bump, inner, greater(first_height, first.height), first.rest)?;
-    Ok(Found {
-        tree: in_front(bump, first.tree, others.tree)?,
-        height: others.height,
-        rest: others.rest,
-    })
+    several(bump, Patterns, inner, first_height, tokens)
 }
 
 /// A colon and a type, or nothing.
@@ -218,7 +212,6 @@ pub fn patterns_inside<'a>(
 }
 
 /// One or more parameters in a `let`.
-#[tactic(auto, unfolding(fut_grammar::specs::Reading::several_at, fut_grammar::specs::Phrases::items))]
 pub fn several_patterns_inside<'a>(
     bump: &'a Bump,
     inner: u32,
@@ -229,13 +222,7 @@ pub fn several_patterns_inside<'a>(
     ensures exact { Gives list_found result (several_at (items (read_at inner)) Atomic_pat first_height tokens.now) }
     ensures low { IfOk result (λ x. x.height ≤ inner) }
 {
-    let first = atomic_pattern(bump, inner, tokens)?;
-    let others = patterns_inside(bump, inner, greater(first_height, first.height), first.rest)?;
-    Ok(Found {
-        tree: in_front(bump, first.tree, others.tree)?,
-        height: others.height,
-        rest: others.rest,
-    })
+    several_patterns(bump, inner, first_height, tokens)
 }
 
 /// A colon and a type, or nothing, in a `let` or a declaration.

@@ -1,14 +1,16 @@
 // The nodes of patterns.
-ghost use Rattle.std.specs.Prelude.{◌≡◌, IfOk};
-ghost use Rattle.fut_ast.specs.Nodes.{bound, pat_at, round_pat_of};
-ghost use Rattle.fut_ast.specs.declared.pat.PatForm.TheVariants as form;
-ghost use Rattle.fut_ast.specs.declared.pat.PatForm.TheVariants.{Record};
+ghost use Rattle.std.specs.Prelude.{◌≡◌, IfOk, Ok};
+ghost use Rattle.fut_ast.specs.Nodes.{bound, round_pat_of};
+ghost use Rattle.fut_grammar.specs.Reading.{Gives};
+ghost use Rattle.fut_phrases.specs.Found.{tree_found};
 ghost use Rattle.fut_tree.specs.Names.{all};
-ghost use Rattle.fut_tree.specs.Pats.{pat_fields};
 
+use crate::found::Found;
+use crate::patterns::PatAnswer;
 use bumpalo::Bump;
 use fut_scalar::{NoMemory, Place};
-use fut_tree::{Held, Pat, PatField, PatForm};
+use fut_token::Token;
+use fut_tree::{Held, Pat, PatForm};
 
 /// A pattern that the arena holds.
 pub fn held<'a>(bump: &'a Bump, pattern: Pat<'a>) -> Result<&'a Pat<'a>, NoMemory>
@@ -32,51 +34,37 @@ pub fn name<'a>(bump: &'a Bump, place: Place, name: &'a str) -> Result<&'a Pat<'
     )
 }
 
-pub fn unit<'a>(bump: &'a Bump, place: Place) -> Result<&'a Pat<'a>, NoMemory>
-    ensures { IfOk result (λ p. p.now ≡ pat_at place form.Unit) }
+/// This pattern was read, and the arena holds it.
+pub fn made<'a>(bump: &'a Bump, pattern: Pat<'a>, height: u32, rest: &'a [Token]) -> PatAnswer<'a>
+    ensures { Gives tree_found result (Ok (pattern.entry, height, rest.now)) }
 {
-    held(
-        bump,
-        Pat {
-            place,
-            form: PatForm::Unit,
-        },
-    )
+    Ok(Found {
+        tree: held(bump, pattern)?,
+        height,
+        rest,
+    })
 }
 
-pub fn record_of<'a>(
-    bump: &'a Bump,
-    place: Place,
-    fields: &'a [PatField<'a>],
-) -> Result<&'a Pat<'a>, NoMemory>
-    ensures { IfOk result (λ p. p.now ≡ pat_at place (Record (pat_fields fields.now))) }
-{
-    held(
-        bump,
-        Pat {
-            place,
-            form: PatForm::Record(fields),
-        },
-    )
-}
-
-/// Patterns in parentheses: one alone is that pattern.
-pub fn round<'a>(
+/// Patterns in parentheses were read: one alone is that pattern.
+pub fn round_found<'a>(
     bump: &'a Bump,
     place: Place,
     patterns: &'a [Held<'a, Pat<'a>>],
-) -> Result<&'a Pat<'a>, NoMemory>
-    ensures { IfOk result (λ p. p.now ≡ round_pat_of place (all patterns.now)) }
+    height: u32,
+    rest: &'a [Token],
+) -> PatAnswer<'a>
+    ensures { Gives tree_found result (Ok (round_pat_of place (all patterns.now), height, rest.now)) }
 {
-    match patterns {
-        [] => unit(bump, place),
-        [only] => Ok(only.at),
-        [_, _, ..] => held(
-            bump,
-            Pat {
-                place,
-                form: PatForm::Tuple(patterns),
-            },
-        ),
-    }
+    let form = match patterns {
+        [] => PatForm::Unit,
+        [only] => {
+            return Ok(Found {
+                tree: only.at,
+                height,
+                rest,
+            });
+        }
+        [_, _, ..] => PatForm::Tuple(patterns),
+    };
+    made(bump, Pat { place, form }, height, rest)
 }

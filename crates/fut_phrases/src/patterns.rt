@@ -1,9 +1,9 @@
 // Patterns.
-ghost use Rattle.std.specs.Prelude.{Err, ◌≡◌, ◌≤◌, ◌<◌, ◌+◌, suc, length, ℕ, IfOk};
+ghost use Rattle.std.specs.Prelude.{Err, ◌≡◌, ◌≤◌, ◌<◌, ◌+◌, suc, length, true, ℕ, IfOk};
 ghost use Rattle.fut_ast.specs.PatRows.{fields_pat, no_fields_pat, pat_name, round_pat, set_field, short_field, unit_pat, wild};
 ghost use Rattle.fut_ast.specs.Rows.{of_pat, pat_type};
 ghost use Rattle.fut_ast.specs.Sorts.{Atomic_pat, Pat_field, Whole_pat};
-ghost use Rattle.fut_ast.specs.Tokens.{starts};
+ghost use Rattle.fut_ast.specs.Tokens.{starts, tail};
 ghost use Rattle.fut_phrases.specs.Handed.{Law};
 ghost use Rattle.fut_grammar.specs.Phrases.{atomic_pat_at, items, once_at, pat_field_at, phrases, read_at, whole_pat_at};
 ghost use Rattle.fut_grammar.specs.Reading.{Gives, commas_at, row_at};
@@ -211,11 +211,7 @@ fn round<'a, R: ReadPat<'a>>(
     let rest = take(tokens, Fixed::OpenParen)?;
     let found = commas(bump, read, inner, rest)?;
     let rest = take(found.rest, Fixed::CloseParen)?;
-    Ok(Found {
-        tree: node::round(bump, place, found.tree)?,
-        height: found.height + 1,
-        rest,
-    })
+    node::round_found(bump, place, found.tree, found.height + 1, rest)
 }
 
 #[tactic(auto, unfolding(fut_grammar::specs::Reading::row_at, fut_grammar::specs::Reading::parts_at, fut_grammar::specs::Reading::has_at, fut_grammar::specs::Reading::sub_at, fut_grammar::specs::Phrases::phrases))]
@@ -234,11 +230,8 @@ fn fields<'a, R: ReadPat<'a>>(
     let rest = take(tokens, Fixed::OpenBrace)?;
     let found = commas(bump, read, inner, rest)?;
     let rest = take(found.rest, Fixed::CloseBrace)?;
-    Ok(Found {
-        tree: node::record_of(bump, place, found.tree)?,
-        height: found.height + 1,
-        rest,
-    })
+    let form = PatForm::Record(found.tree);
+    node::made(bump, Pat { place, form }, found.height + 1, rest)
 }
 
 // ---- lists of patterns
@@ -357,18 +350,14 @@ fn type_behind<'a>(
         return Err(Stop::Fault(Fault::TooDeep(pattern.rest.len())));
     }
     let ty = whole_type(bump, inner, rest_of(pattern.rest))?;
+    let place = at.place;
     let form = PatForm::Ascribe(pattern.tree, ty.tree);
-    Ok(Found {
-        tree: node::held(
-            bump,
-            Pat {
-                place: at.place,
-                form,
-            },
-        )?,
-        height: greater(pattern.height, ty.height) + 1,
-        rest: ty.rest,
-    })
+    node::made(
+        bump,
+        Pat { place, form },
+        greater(pattern.height, ty.height) + 1,
+        ty.rest,
+    )
 }
 
 #[tactic(auto, unfolding(fut_grammar::specs::Reading::row_at, fut_grammar::specs::Reading::parts_at, fut_grammar::specs::Reading::has_at))]
@@ -378,41 +367,31 @@ fn name<'a>(bump: &'a Bump, tokens: &'a [Token]) -> PatAnswer<'a>
 {
     let place = next_spot(tokens).place;
     let (name, rest) = take_word(tokens)?;
-    Ok(Found {
-        tree: node::name(bump, place, name)?,
-        height: 1,
-        rest,
-    })
+    let form = PatForm::Var(name);
+    node::made(bump, Pat { place, form }, 1, rest)
 }
 
-#[tactic(auto, unfolding(fut_grammar::specs::Reading::row_at, fut_grammar::specs::Reading::parts_at, fut_grammar::specs::Reading::has_at))]
+#[tactic(auto, unfolding(fut_grammar::specs::Reading::row_at, fut_grammar::specs::Reading::parts_at, fut_grammar::specs::Reading::has_at, fut_grammar::specs::Reading::expect))]
 fn wildcard<'a>(bump: &'a Bump, tokens: &'a [Token]) -> PatAnswer<'a>
+    requires { starts Fixed.Wildcard tokens.now ≡ true }
     ensures exact { (inner : ℕ) → Gives tree_found result (row_at (phrases (read_at inner)) (of_pat wild) tokens.now) }
     ensures low { IfOk result (λ x. x.height ≡ 1) }
 {
     let place = next_spot(tokens).place;
-    let rest = take(tokens, Fixed::Wildcard)?;
     let form = PatForm::Wild;
-    Ok(Found {
-        tree: node::held(bump, Pat { place, form })?,
-        height: 1,
-        rest,
-    })
+    node::made(bump, Pat { place, form }, 1, rest_of(tokens))
 }
 
-#[tactic(auto, unfolding(fut_grammar::specs::Reading::row_at, fut_grammar::specs::Reading::parts_at, fut_grammar::specs::Reading::has_at))]
+#[tactic(auto, unfolding(fut_grammar::specs::Reading::row_at, fut_grammar::specs::Reading::parts_at, fut_grammar::specs::Reading::has_at, fut_grammar::specs::Reading::expect))]
 fn unit<'a>(bump: &'a Bump, tokens: &'a [Token]) -> PatAnswer<'a>
+    requires open { starts Fixed.OpenParen tokens.now ≡ true }
+    requires close { starts Fixed.CloseParen (tail tokens.now) ≡ true }
     ensures exact { (inner : ℕ) → Gives tree_found result (row_at (phrases (read_at inner)) (of_pat unit_pat) tokens.now) }
     ensures low { IfOk result (λ x. x.height ≡ 1) }
 {
     let place = next_spot(tokens).place;
-    let rest = take(tokens, Fixed::OpenParen)?;
-    let rest = take(rest, Fixed::CloseParen)?;
-    Ok(Found {
-        tree: node::unit(bump, place)?,
-        height: 1,
-        rest,
-    })
+    let form = PatForm::Unit;
+    node::made(bump, Pat { place, form }, 1, rest_of(rest_of(tokens)))
 }
 
 #[tactic(auto, unfolding(fut_grammar::specs::Reading::row_at, fut_grammar::specs::Reading::parts_at, fut_grammar::specs::Reading::has_at))]
@@ -423,11 +402,8 @@ fn no_fields<'a>(bump: &'a Bump, tokens: &'a [Token]) -> PatAnswer<'a>
     let place = next_spot(tokens).place;
     let rest = take(tokens, Fixed::OpenBrace)?;
     let rest = take(rest, Fixed::CloseBrace)?;
-    Ok(Found {
-        tree: node::record_of(bump, place, &[])?,
-        height: 1,
-        rest,
-    })
+    let form = PatForm::Record(&[]);
+    node::made(bump, Pat { place, form }, 1, rest)
 }
 
 #[tactic(auto, unfolding(fut_grammar::specs::Reading::row_at, fut_grammar::specs::Reading::parts_at, fut_grammar::specs::Reading::has_at))]

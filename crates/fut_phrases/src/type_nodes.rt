@@ -1,90 +1,48 @@
 // The nodes of types.
-ghost use Rattle.std.specs.Prelude.{◌≡◌, IfOk};
-ghost use Rattle.fut_ast.specs.Nodes.{round_type_of, type_at};
-ghost use Rattle.fut_ast.specs.declared.ty.TypeForm.TheVariants.{
-  Path,
-  Record,
-};
-ghost use Rattle.fut_ast.specs.declared.ty.TypeForm.TheVariants as form;
-ghost use Rattle.fut_tree.specs.Names.{all, names};
-ghost use Rattle.fut_tree.specs.Types.{args_of, type_fields};
+ghost use Rattle.std.specs.Prelude.{Ok};
+ghost use Rattle.fut_ast.specs.Nodes.{round_type_of};
+ghost use Rattle.fut_grammar.specs.Reading.{Gives};
+ghost use Rattle.fut_phrases.specs.Found.{tree_found};
+ghost use Rattle.fut_tree.specs.Names.{all};
 
+use crate::found::Found;
+use crate::types::TypeAnswer;
 use bumpalo::Bump;
-use fut_scalar::{NoMemory, Place};
-use fut_tree::{Held, TypeArg, TypeExp, TypeField, TypeForm};
+use fut_grammar::Stop;
+use fut_scalar::Place;
+use fut_token::Token;
+use fut_tree::{Held, TypeExp, TypeForm};
 
-/// A type that the arena holds.
-pub fn held<'a>(bump: &'a Bump, ty: TypeExp<'a>) -> Result<&'a TypeExp<'a>, NoMemory>
-    ensures { IfOk result (λ t. t.now ≡ ty.entry) }
+/// This type was read, and the arena holds it.
+pub fn made<'a>(bump: &'a Bump, ty: TypeExp<'a>, height: u32, rest: &'a [Token]) -> TypeAnswer<'a>
+    ensures { Gives tree_found result (Ok (ty.entry, height, rest.now)) }
 {
     match bump.try_alloc(ty) {
-        Ok(made) => Ok(made),
-        Err(_) => Err(NoMemory),
+        Ok(tree) => Ok(Found { tree, height, rest }),
+        Err(_) => Err(Stop::Memory),
     }
 }
 
-pub fn path<'a>(
-    bump: &'a Bump,
-    place: Place,
-    path: &'a [&'a str],
-    arguments: &'a [TypeArg<'a>],
-) -> Result<&'a TypeExp<'a>, NoMemory>
-    ensures { IfOk result (λ t. t.now ≡ type_at place (Path (names path.now) (args_of arguments.now))) }
-{
-    held(
-        bump,
-        TypeExp {
-            place,
-            form: TypeForm::Path(path, arguments),
-        },
-    )
-}
-
-pub fn unit<'a>(bump: &'a Bump, place: Place) -> Result<&'a TypeExp<'a>, NoMemory>
-    ensures { IfOk result (λ t. t.now ≡ type_at place form.Unit) }
-{
-    held(
-        bump,
-        TypeExp {
-            place,
-            form: TypeForm::Unit,
-        },
-    )
-}
-
-pub fn record_of<'a>(
-    bump: &'a Bump,
-    place: Place,
-    fields: &'a [TypeField<'a>],
-) -> Result<&'a TypeExp<'a>, NoMemory>
-    ensures { IfOk result (λ t. t.now ≡ type_at place (Record (type_fields fields.now))) }
-{
-    held(
-        bump,
-        TypeExp {
-            place,
-            form: TypeForm::Record(fields),
-        },
-    )
-}
-
-/// Types in parentheses: one alone is that type.
+/// Types in parentheses were read: one alone is that type.
 pub fn round<'a>(
     bump: &'a Bump,
     place: Place,
     types: &'a [Held<'a, TypeExp<'a>>],
-) -> Result<&'a TypeExp<'a>, NoMemory>
-    ensures { IfOk result (λ t. t.now ≡ round_type_of place (all types.now)) }
+    height: u32,
+    rest: &'a [Token],
+) -> TypeAnswer<'a>
+    ensures { Gives tree_found result (Ok (round_type_of place (all types.now), height, rest.now)) }
 {
-    match types {
-        [] => unit(bump, place),
-        [only] => Ok(only.at),
-        [_, _, ..] => held(
-            bump,
-            TypeExp {
-                place,
-                form: TypeForm::Tuple(types),
-            },
-        ),
-    }
+    let form = match types {
+        [] => TypeForm::Unit,
+        [only] => {
+            return Ok(Found {
+                tree: only.at,
+                height,
+                rest,
+            });
+        }
+        [_, _, ..] => TypeForm::Tuple(types),
+    };
+    made(bump, TypeExp { place, form }, height, rest)
 }

@@ -1,5 +1,5 @@
 // Types.
-ghost use Rattle.std.specs.Prelude.{Err, ◌≡◌, ◌≤◌, ◌<◌, ◌+◌, suc, length, ℕ, IfOk};
+ghost use Rattle.std.specs.Prelude.{Err, ◌≡◌, ◌≤◌, ◌<◌, ◌+◌, suc, length, true, ℕ, IfOk};
 ghost use Rattle.fut_ast.specs.Rows.{arrow, of_type};
 ghost use Rattle.fut_ast.specs.Sorts.{
   Applied_type,
@@ -9,7 +9,7 @@ ghost use Rattle.fut_ast.specs.Sorts.{
   Type_name,
   Whole_type,
 };
-ghost use Rattle.fut_ast.specs.Tokens.{starts};
+ghost use Rattle.fut_ast.specs.Tokens.{starts, tail};
 ghost use Rattle.fut_ast.specs.TypeRows.{
   applied_name,
   array_type,
@@ -258,11 +258,8 @@ fn type_name<'a>(bump: &'a Bump, depth: u32, tokens: &'a [Token]) -> TypeAnswer<
     }
     let place = next_spot(tokens).place;
     let (path, rest) = take_path(bump, tokens)?;
-    Ok(Found {
-        tree: node::path(bump, place, path, &[])?,
-        height: 1,
-        rest,
-    })
+    let form = TypeForm::Path(path, &[]);
+    node::made(bump, TypeExp { place, form }, 1, rest)
 }
 
 #[tactic(auto, unfolding(fut_grammar::specs::Phrases::whole_type_at))]
@@ -304,21 +301,17 @@ fn arrow_behind<'a, R: ReadType<'a>>(
         return Err(Stop::Fault(Fault::TooDeep(from.rest.len())));
     }
     let to = read.whole(inner, rest_of(from.rest))?;
+    let place = at.place;
     let form = TypeForm::Arrow(from.tree, to.tree);
-    Ok(Found {
-        tree: node::held(
-            bump,
-            TypeExp {
-                place: at.place,
-                form,
-            },
-        )?,
-        height: greater(from.height, to.height) + 1,
-        rest: to.rest,
-    })
+    node::made(
+        bump,
+        TypeExp { place, form },
+        greater(from.height, to.height) + 1,
+        to.rest,
+    )
 }
 
-#[tactic(auto, unfolding(fut_grammar::specs::Reading::row_at, fut_grammar::specs::Reading::parts_at, fut_grammar::specs::Reading::has_at, fut_grammar::specs::Reading::sub_at, fut_grammar::specs::Phrases::phrases))]
+#[tactic(auto, unfolding(fut_grammar::specs::Reading::row_at, fut_grammar::specs::Reading::parts_at, fut_grammar::specs::Reading::has_at, fut_grammar::specs::Reading::expect, fut_grammar::specs::Reading::sub_at, fut_grammar::specs::Phrases::phrases))]
 fn named_arrow<'a, R: ReadType<'a>>(
     bump: &'a Bump,
     read: R,
@@ -326,24 +319,25 @@ fn named_arrow<'a, R: ReadType<'a>>(
     tokens: &'a [Token],
 ) -> TypeAnswer<'a>
     requires law { R.reads read inner }
+    requires first { starts Fixed.OpenParen tokens.now ≡ true }
     requires room { inner < 1000 }
     ensures exact { Gives tree_found result (row_at (phrases (read_at inner)) (of_type named_arrow) tokens.now) }
     ensures low { IfOk result (λ x. x.height ≤ inner + 1) }
 {
     let place = next_spot(tokens).place;
-    let rest = take(tokens, Fixed::OpenParen)?;
-    let (name, rest) = take_word(rest)?;
+    let (name, rest) = take_word(rest_of(tokens))?;
     let rest = take(rest, Fixed::Colon)?;
     let from = read.whole(inner, rest)?;
     let rest = take(from.rest, Fixed::CloseParen)?;
     let rest = take(rest, Fixed::Arrow)?;
     let to = read.whole(inner, rest)?;
     let form = TypeForm::Named(name, from.tree, to.tree);
-    Ok(Found {
-        tree: node::held(bump, TypeExp { place, form })?,
-        height: greater(from.height, to.height) + 1,
-        rest: to.rest,
-    })
+    node::made(
+        bump,
+        TypeExp { place, form },
+        greater(from.height, to.height) + 1,
+        to.rest,
+    )
 }
 
 #[tactic(auto, unfolding(fut_grammar::specs::Phrases::applied_type_at))]
@@ -369,7 +363,7 @@ fn applied_type_below<'a, R: ReadType<'a>>(
     }
 }
 
-#[tactic(auto, unfolding(fut_grammar::specs::Reading::row_at, fut_grammar::specs::Reading::parts_at, fut_grammar::specs::Reading::has_at, fut_grammar::specs::Reading::sub_at, fut_grammar::specs::Phrases::phrases))]
+#[tactic(auto, unfolding(fut_grammar::specs::Reading::row_at, fut_grammar::specs::Reading::parts_at, fut_grammar::specs::Reading::has_at, fut_grammar::specs::Reading::expect, fut_grammar::specs::Reading::sub_at, fut_grammar::specs::Phrases::phrases))]
 fn unique<'a, R: ReadType<'a>>(
     bump: &'a Bump,
     read: R,
@@ -377,22 +371,18 @@ fn unique<'a, R: ReadType<'a>>(
     tokens: &'a [Token],
 ) -> TypeAnswer<'a>
     requires law { R.reads read inner }
+    requires first { starts Fixed.Star tokens.now ≡ true }
     requires room { inner < 1000 }
     ensures exact { Gives tree_found result (row_at (phrases (read_at inner)) (of_type unique) tokens.now) }
     ensures low { IfOk result (λ x. x.height ≤ inner + 1) }
 {
     let place = next_spot(tokens).place;
-    let rest = take(tokens, Fixed::Star)?;
-    let found = read.applied(inner, rest)?;
+    let found = read.applied(inner, rest_of(tokens))?;
     let form = TypeForm::Unique(found.tree);
-    Ok(Found {
-        tree: node::held(bump, TypeExp { place, form })?,
-        height: found.height + 1,
-        rest: found.rest,
-    })
+    node::made(bump, TypeExp { place, form }, found.height + 1, found.rest)
 }
 
-#[tactic(auto, unfolding(fut_grammar::specs::Reading::row_at, fut_grammar::specs::Reading::parts_at, fut_grammar::specs::Reading::has_at, fut_grammar::specs::Reading::sub_at, fut_grammar::specs::Phrases::phrases))]
+#[tactic(auto, unfolding(fut_grammar::specs::Reading::row_at, fut_grammar::specs::Reading::parts_at, fut_grammar::specs::Reading::has_at, fut_grammar::specs::Reading::expect, fut_grammar::specs::Reading::sub_at, fut_grammar::specs::Phrases::phrases))]
 fn array<'a, R: ReadType<'a>>(
     bump: &'a Bump,
     read: R,
@@ -400,21 +390,17 @@ fn array<'a, R: ReadType<'a>>(
     tokens: &'a [Token],
 ) -> TypeAnswer<'a>
     requires law { R.reads read inner }
+    requires first { starts Fixed.OpenBracket tokens.now ≡ true }
     requires room { inner < 1000 }
     ensures exact { Gives tree_found result (row_at (phrases (read_at inner)) (of_type array_type) tokens.now) }
     ensures low { IfOk result (λ x. x.height ≤ inner + 1) }
 {
     let place = next_spot(tokens).place;
-    let rest = take(tokens, Fixed::OpenBracket)?;
-    let (size, rest) = take_size(bump, rest)?;
+    let (size, rest) = take_size(bump, rest_of(tokens))?;
     let rest = take(rest, Fixed::CloseBracket)?;
     let row = read.applied(inner, rest)?;
     let form = TypeForm::Array(size, row.tree);
-    Ok(Found {
-        tree: node::held(bump, TypeExp { place, form })?,
-        height: row.height + 1,
-        rest: row.rest,
-    })
+    node::made(bump, TypeExp { place, form }, row.height + 1, row.rest)
 }
 
 #[tactic(auto, unfolding(fut_grammar::specs::Reading::row_at, fut_grammar::specs::Reading::parts_at, fut_grammar::specs::Reading::has_at, fut_grammar::specs::Reading::sub_at, fut_grammar::specs::Phrases::phrases))]
@@ -433,11 +419,8 @@ fn applied_name<'a, R: ReadType<'a>>(
     let (path, rest) = take_path(bump, tokens)?;
     let found = many(bump, read, inner, 0, rest)?;
     without_form(What::ExistentialSize, found.rest)?;
-    Ok(Found {
-        tree: node::path(bump, place, path, found.tree)?,
-        height: found.height + 1,
-        rest: found.rest,
-    })
+    let form = TypeForm::Path(path, found.tree);
+    node::made(bump, TypeExp { place, form }, found.height + 1, found.rest)
 }
 
 #[tactic(auto, unfolding(fut_grammar::specs::Phrases::atomic_type_at))]
@@ -482,11 +465,7 @@ fn round<'a, R: ReadType<'a>>(
     let rest = take(tokens, Fixed::OpenParen)?;
     let found = commas(bump, read, inner, rest)?;
     let rest = take(found.rest, Fixed::CloseParen)?;
-    Ok(Found {
-        tree: node::round(bump, place, found.tree)?,
-        height: found.height + 1,
-        rest,
-    })
+    node::round(bump, place, found.tree, found.height + 1, rest)
 }
 
 #[tactic(auto, unfolding(fut_grammar::specs::Reading::row_at, fut_grammar::specs::Reading::parts_at, fut_grammar::specs::Reading::has_at, fut_grammar::specs::Reading::sub_at, fut_grammar::specs::Phrases::phrases))]
@@ -505,11 +484,8 @@ fn fields<'a, R: ReadType<'a>>(
     let rest = take(tokens, Fixed::OpenBrace)?;
     let found = commas(bump, read, inner, rest)?;
     let rest = take(found.rest, Fixed::CloseBrace)?;
-    Ok(Found {
-        tree: node::record_of(bump, place, found.tree)?,
-        height: found.height + 1,
-        rest,
-    })
+    let form = TypeForm::Record(found.tree);
+    node::made(bump, TypeExp { place, form }, found.height + 1, rest)
 }
 
 // ---- lists of types
@@ -660,19 +636,16 @@ fn name_argument<'a>(
 
 // ---- types without types in them
 
-#[tactic(auto, unfolding(fut_grammar::specs::Reading::row_at, fut_grammar::specs::Reading::parts_at, fut_grammar::specs::Reading::has_at))]
+#[tactic(auto, unfolding(fut_grammar::specs::Reading::row_at, fut_grammar::specs::Reading::parts_at, fut_grammar::specs::Reading::has_at, fut_grammar::specs::Reading::expect))]
 fn unit<'a>(bump: &'a Bump, tokens: &'a [Token]) -> TypeAnswer<'a>
+    requires open { starts Fixed.OpenParen tokens.now ≡ true }
+    requires close { starts Fixed.CloseParen (tail tokens.now) ≡ true }
     ensures exact { (inner : ℕ) → Gives tree_found result (row_at (phrases (read_at inner)) (of_type unit_type) tokens.now) }
     ensures low { IfOk result (λ x. x.height ≡ 1) }
 {
     let place = next_spot(tokens).place;
-    let rest = take(tokens, Fixed::OpenParen)?;
-    let rest = take(rest, Fixed::CloseParen)?;
-    Ok(Found {
-        tree: node::unit(bump, place)?,
-        height: 1,
-        rest,
-    })
+    let form = TypeForm::Unit;
+    node::made(bump, TypeExp { place, form }, 1, rest_of(rest_of(tokens)))
 }
 
 #[tactic(auto, unfolding(fut_grammar::specs::Reading::row_at, fut_grammar::specs::Reading::parts_at, fut_grammar::specs::Reading::has_at))]
@@ -683,20 +656,17 @@ fn no_fields<'a>(bump: &'a Bump, tokens: &'a [Token]) -> TypeAnswer<'a>
     let place = next_spot(tokens).place;
     let rest = take(tokens, Fixed::OpenBrace)?;
     let rest = take(rest, Fixed::CloseBrace)?;
-    Ok(Found {
-        tree: node::record_of(bump, place, &[])?,
-        height: 1,
-        rest,
-    })
+    let form = TypeForm::Record(&[]);
+    node::made(bump, TypeExp { place, form }, 1, rest)
 }
 
-#[tactic(auto, unfolding(fut_grammar::specs::Reading::row_at, fut_grammar::specs::Reading::parts_at, fut_grammar::specs::Reading::has_at))]
+#[tactic(auto, unfolding(fut_grammar::specs::Reading::row_at, fut_grammar::specs::Reading::parts_at, fut_grammar::specs::Reading::has_at, fut_grammar::specs::Reading::expect))]
 fn size_argument<'a>(bump: &'a Bump, tokens: &'a [Token]) -> Result<Found<'a, TypeArg<'a>>, Stop>
+    requires { starts Fixed.OpenBracket tokens.now ≡ true }
     ensures exact { (inner : ℕ) → Gives (found_as arg_of) result (row_at (items (read_at inner)) (of_type size_argument) tokens.now) }
     ensures low { IfOk result (λ x. x.height ≡ 0) }
 {
-    let rest = take(tokens, Fixed::OpenBracket)?;
-    let (size, rest) = take_size(bump, rest)?;
+    let (size, rest) = take_size(bump, rest_of(tokens))?;
     let rest = take(rest, Fixed::CloseBracket)?;
     Ok(Found {
         tree: TypeArg::Size(size),

@@ -9,6 +9,10 @@ use crate::{Place, ScalarFault};
 pub enum FailKind {
     Division,
     Power,
+    /// The condition of an `assert` is false.
+    Assert,
+    /// A `while` loop needs more turns than the budget has.
+    Turns,
 }
 
 /// A failure and the place that reports it.

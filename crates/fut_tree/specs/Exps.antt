@@ -25,7 +25,7 @@ abbrev pub exp_fields : List ExpField → List (Text × SourceExp)
 exp_fields = map (λ (f : ExpField). (f.name.now, f.exp.now))
 
 abbrev pub bind_of : Bind → PlainBind Path Text
-bind_of b = roll-Bind Path Text (record { sizes = names b.sizes.now; pat = b.pat.now; heads = heads_of b.heads.now; value = b.value.now })
+bind_of b = roll-Bind Path Text (record { sizes = names b.sizes.now; pat = b.pat.now; is_function = b.is_function; heads = heads_of b.heads.now; value = b.value.now })
 
 abbrev pub binds_of : List Bind → List (PlainBind Path Text)
 binds_of = map bind_of

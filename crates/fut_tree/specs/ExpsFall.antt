@@ -29,7 +29,7 @@ exp_fields_fall [] = omega arith
 exp_fields_fall (x ∷ xs) = omega (arith, exp_fields_fall xs)
 
 pub bind_falls : (b : Bind) → deep-Bind b ≤ size-Bind Path Text (bind_of b)
-bind_falls b = omega (arith, size_roll-Bind Path Text (record { sizes = names b.sizes.now; pat = b.pat.now; heads = heads_of b.heads.now; value = b.value.now }))
+bind_falls b = omega (arith, size_roll-Bind Path Text (record { sizes = names b.sizes.now; pat = b.pat.now; is_function = b.is_function; heads = heads_of b.heads.now; value = b.value.now }))
 
 pub binds_fall : (xs : List Bind) → most deep-Bind xs ≤ weight-Form-Lets-0 Path Text (binds_of xs) + 1
 binds_fall [] = omega arith

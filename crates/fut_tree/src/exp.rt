@@ -66,12 +66,14 @@ pub struct ExpField<'a> {
     pub exp: &'a Exp<'a>,
 }
 
-/// One `let`. A function's `let` has heads and a lambda as its value.
+/// One `let`. One that is written with parameters binds one name to a lambda, and may have heads.
 #[cycle(exp)]
 #[derive(Clone, Copy)]
 pub struct Bind<'a> {
     pub sizes: &'a [&'a str],
     pub pat: &'a Pat<'a>,
+    /// Whether it is written with parameters, and so may be used at several types.
+    pub is_function: bool,
     pub heads: &'a [Head<'a>],
     pub value: &'a Exp<'a>,
 }

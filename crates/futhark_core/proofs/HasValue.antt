@@ -1,14 +1,13 @@
 -- A built expression whose names are bound comes to a value or a failure.
 use Rattle.std.proofs.Common.{◌≡◌, Bool, true, false, cond, ◌&&◌, ◌||◌, List, [], ◌∷◌, ◌++◌, length, map, refl, sym, ap, ◌∙◌, subst, arith}
 use Rattle.std.proofs.lemmas.List.{map-append}
-use Rattle.std.specs.Prelude.{ℤ, Option, Some, None, IsSome, is_some, Result, Ok, Err}
+use Rattle.std.specs.Prelude.{Option, Some, None, IsSome, is_some, Result, Ok, Err}
 use Rattle.std.specs.List.{list_all}
 use Rattle.std.specs.Str.{bytes_eq}
-use Rattle.fut_scalar.specs.Operations.{exact, fault_of, or_else, reduced_result}
+use Rattle.fut_arithmetic.specs.Operations.{result_of}
 use Rattle.fut_scalar.specs.declared.place.Place.{Place}
-use Rattle.fut_scalar.specs.declared.operator.BinOp.{BinOp}
 use Rattle.fut_scalar.specs.declared.operator.BinOp.TheVariants.{Add, Sub, Mul, Div}
-use Rattle.fut_scalar.specs.declared.arithmetic.ScalarFault.{ScalarFault}
+use Rattle.fut_scalar.specs.declared.operator.ScalarFault.{ScalarFault}
 use Rattle.fut_scalar.specs.declared.scalar.Scalar.{Scalar}
 use Rattle.fut_ast.specs.Sorts.{Text, Path, SourcePat, SourceExp}
 use Rattle.fut_ast.specs.declared.node.Oper.{Oper}
@@ -19,7 +18,7 @@ use Rattle.fut_ast.specs.declared.exp.Bind.{Bind, Bind-F}
 use Rattle.fut_ast.specs.declared.exp.Ix.{Ix}
 use Rattle.fut_ast.specs.declared.exp.LoopForm.{LoopForm}
 use Rattle.futhark_core.specs.Forms.{is_arithmetic, is_minus, is_i64_suffix, is_none, one_name, typed_name, is_built, is_built_bind}
-use Rattle.futhark_core.specs.Meaning.{Scope, Unbound, first_of, is_bound, with_name, names_of, unbound_use, unbound_lets, unbound_bind, unbound_of, Environment, Outcome, Gives, Fails, Wrong, Meaning, value_in, given, behind, reported, operated, operated_by, negated, value_use, value_lets, value_bind, value_of, with_bound, arguments}
+use Rattle.futhark_core.specs.Meaning.{Scope, Unbound, first_of, is_bound, with_name, names_of, unbound_use, unbound_lets, unbound_bind, unbound_of, Environment, Outcome, Gives, Fails, Wrong, Meaning, value_in, given, behind, reported, operated, negated, value_use, value_lets, value_bind, value_of, with_bound, arguments}
 use Rattle.futhark_core.proofs.Folds.{Layer, built_layer, built_out, unbound_layer, unbound_out, value_layer, value_out}
 
 abbrev pub names : Environment → Scope
@@ -75,15 +74,11 @@ reported_sure : (place : Place) (r : Result Scalar ScalarFault) → reported pla
 reported_sure place (Ok v) e = cc
 reported_sure place (Err fault) e = cc
 
-bin_sure : (f : Option (ℤ → ℤ → ℤ)) (op : BinOp) (place : Place) (a b : Scalar) → IsSome f → operated_by f op place a b ≡ Wrong → ⊥
-bin_sure (Some f) op place a b h e = reported_sure place (or_else (fault_of op b) (reduced_result f a b)) e
-bin_sure None op place a b h e = absurd cc
-
 operated_sure : (op : Oper) (place : Place) (a b : Scalar) → is_arithmetic op ≡ true → operated op place a b ≡ Wrong → ⊥
-operated_sure (oper.Bin Add) place a b h e = bin_sure (exact Add) Add place a b refl e
-operated_sure (oper.Bin Sub) place a b h e = bin_sure (exact Sub) Sub place a b refl e
-operated_sure (oper.Bin Mul) place a b h e = bin_sure (exact Mul) Mul place a b refl e
-operated_sure (oper.Bin Div) place a b h e = bin_sure (exact Div) Div place a b refl e
+operated_sure (oper.Bin Add) place a b h e = reported_sure place (result_of Add a b) e
+operated_sure (oper.Bin Sub) place a b h e = reported_sure place (result_of Sub a b) e
+operated_sure (oper.Bin Mul) place a b h e = reported_sure place (result_of Mul a b) e
+operated_sure (oper.Bin Div) place a b h e = reported_sure place (result_of Div a b) e
 operated_sure op place a b h e = absurd cc
 
 negated_sure : (op : Oper) (a : Scalar) → is_minus op ≡ true → negated op a ≡ Wrong → ⊥

@@ -1,15 +1,15 @@
 -- The names of a program, and what it means: exact integers reduced to the type, from left to right.
-use Rattle.std.specs.Prelude.{◌≡◌, ◌<◌, ◌^◌, ◌++◌, ℕ, Bool, cond, ℤ, List, [], ◌∷◌, length, Option, Some, None, Result, Ok, Err, codes}
+use Rattle.std.specs.Prelude.{◌≡◌, ◌<◌, ◌^◌, ◌++◌, ℕ, Bool, cond, List, [], ◌∷◌, length, Option, Some, None, Result, Ok, Err, codes}
 use Rattle.std.specs.List.{list_any}
 use Rattle.std.specs.Str.{bytes_eq}
 use Rattle.std.specs.Fmt.{signed_decimal}
 use Rattle.fut_scalar.specs.Integers.{integer_of}
-use Rattle.fut_scalar.specs.Operations.{exact, exact_of_one, fault_of, or_else, reduced_result, reduced_of_one}
+use Rattle.fut_arithmetic.specs.Operations.{result_of, result_of_one}
 use Rattle.fut_scalar.specs.Reports.{kind_of}
 use Rattle.fut_scalar.specs.declared.place.Place.{Place}
-use Rattle.fut_scalar.specs.declared.operator.BinOp.{BinOp}
+use Rattle.fut_scalar.specs.declared.operator.BinOp.TheVariants.{Add, Sub, Mul, Div}
 use Rattle.fut_scalar.specs.declared.operator.UnOp.TheVariants.{Neg}
-use Rattle.fut_scalar.specs.declared.arithmetic.ScalarFault.{ScalarFault}
+use Rattle.fut_scalar.specs.declared.operator.ScalarFault.{ScalarFault}
 use Rattle.fut_scalar.specs.declared.report.Report.{Report}
 use Rattle.fut_scalar.specs.declared.scalar.IntType.TheVariants as int
 use Rattle.fut_scalar.specs.declared.scalar.Scalar.{Scalar}
@@ -108,20 +108,15 @@ abbrev pub reported : Place → Result Scalar ScalarFault → Outcome
 reported place (Ok value) = Gives value
 reported place (Err fault) = Fails (record { kind = kind_of fault; place = place })
 
-abbrev pub operated_by : Option (ℤ → ℤ → ℤ) → BinOp → Place → Scalar → Scalar → Outcome
-operated_by None op place a b = Wrong
-operated_by (Some f) op place a b = reported place (or_else (fault_of op b) (reduced_result f a b))
-
 abbrev pub operated : Oper → Place → Scalar → Scalar → Outcome
-operated (oper.Bin op) place a b = operated_by (exact op) op place a b
+operated (oper.Bin Add) place a b = reported place (result_of Add a b)
+operated (oper.Bin Sub) place a b = reported place (result_of Sub a b)
+operated (oper.Bin Mul) place a b = reported place (result_of Mul a b)
+operated (oper.Bin Div) place a b = reported place (result_of Div a b)
 operated op place a b = Wrong
 
-abbrev pub negated_by : Option (ℤ → ℤ) → Scalar → Outcome
-negated_by None a = Wrong
-negated_by (Some f) a = Gives (reduced_of_one f a)
-
 abbrev pub negated : Oper → Scalar → Outcome
-negated oper.Neg a = negated_by (exact_of_one Neg) a
+negated oper.Neg a = Gives (result_of_one Neg a)
 negated op a = Wrong
 
 abbrev pub Meaning : Type 0

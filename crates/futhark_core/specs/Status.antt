@@ -95,6 +95,8 @@ input_parts text.Memory = []
 abbrev pub kind_text : FailKind → List ℕ
 kind_text kind.Division = codes "division by zero"
 kind_text kind.Power = codes "negative exponent"
+kind_text kind.Assert = codes "assertion failed"
+kind_text kind.Turns = codes "turns spent"
 
 abbrev pub failure_parts : Report → List ℕ → List (List ℕ)
 failure_parts report path = placed path report.place (codes ": failure: " ∷ kind_text report.kind ∷ codes "\n" ∷ [])

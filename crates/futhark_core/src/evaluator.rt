@@ -10,10 +10,9 @@ ghost use Rattle.futhark_core.specs.Forms.{is_i64_suffix, one_name, typed_name};
 ghost use Rattle.futhark_core.specs.Meaning.{arguments, negated, operated, value_bind, value_in, value_lets, value_of, value_use, with_bound, IsI64, Gives, Wrong, Environment, Outcome};
 
 use crate::forms::{is_i64_suffix, one_name, typed_name};
+use fut_arithmetic::{binop, unop};
 use fut_ast::Oper;
-use fut_scalar::{
-    BinOp, IntType, List, Name, NoMemory, Place, Report, Scalar, UnOp, binop, fail_kind, unop,
-};
+use fut_scalar::{BinOp, IntType, List, Name, NoMemory, Place, Report, Scalar, UnOp, fail_kind};
 use fut_tree::{Bind, Exp, Form, Held, Pat};
 use std::alloc::Global;
 

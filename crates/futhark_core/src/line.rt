@@ -243,6 +243,8 @@ fn kind_text(kind: FailKind) -> &'static [u8]
     match kind {
         FailKind::Division => b"division by zero",
         FailKind::Power => b"negative exponent",
+        FailKind::Assert => b"assertion failed",
+        FailKind::Turns => b"turns spent",
     }
 }
 

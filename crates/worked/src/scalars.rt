@@ -1,11 +1,14 @@
-// Operations on integers by their bits: `i8 127 + 1` is 128, and `i16 - 1` the negation of 1.
-ghost use Rattle.std.specs.Prelude.{◌^◌, ◌<◌, IfSome};
-ghost use Rattle.fut_scalar.specs.Integers.{width_of};
+// Operations on scalars by their bits: `i8 127 + 1` is 128, and `i16 - 1` the negation of 1.
+ghost use Rattle.std.specs.Prelude.{◌≡◌, ◌^◌, ◌<◌, IfSome};
+ghost use Rattle.fut_scalar.specs.Integers.{FitsType, width_of};
+ghost use Rattle.fut_scalar.specs.declared.scalar.ScalarType.TheVariants as sort;
+ghost use Rattle.fut_arithmetic.specs.Types.{IsOf, type_of};
 
 use crate::parts::{cut, number_of};
 use crate::rows::Answers;
 use crate::shown::Shown;
-use fut_scalar::{BinOp, IntType, Scalar, ScalarFault, UnOp, binop, unop};
+use fut_arithmetic::{binop, convert, decode_order, decode_word, encode_order, encode_word, unop};
+use fut_scalar::{BinOp, IntType, Scalar, ScalarFault, ScalarType, UnOp};
 
 /// Answers an operation with the bits of its result.
 #[derive(Clone, Copy)]
@@ -19,7 +22,8 @@ impl Answers for Scalars {
                 shown.push("= ");
                 shown.number(bits);
             }
-            Some(Ok(Scalar::Bool(_))) => shown.push("! no integer"),
+            Some(Ok(Scalar::Bool(true))) => shown.push("= true"),
+            Some(Ok(Scalar::Bool(false))) => shown.push("= false"),
             Some(Err(ScalarFault::Division)) => shown.push("! division by zero"),
             Some(Err(ScalarFault::Power)) => shown.push("! negative exponent"),
             None => shown.push("! no operation"),
@@ -28,16 +32,17 @@ impl Answers for Scalars {
     }
 }
 
-fn type_of(word: &[u8]) -> Option<IntType> {
+fn type_of(word: &[u8]) -> Option<ScalarType> {
     match word {
-        b"i8" => Some(IntType::I8),
-        b"i16" => Some(IntType::I16),
-        b"i32" => Some(IntType::I32),
-        b"i64" => Some(IntType::I64),
-        b"u8" => Some(IntType::U8),
-        b"u16" => Some(IntType::U16),
-        b"u32" => Some(IntType::U32),
-        b"u64" => Some(IntType::U64),
+        b"i8" => Some(ScalarType::Int(IntType::I8)),
+        b"i16" => Some(ScalarType::Int(IntType::I16)),
+        b"i32" => Some(ScalarType::Int(IntType::I32)),
+        b"i64" => Some(ScalarType::Int(IntType::I64)),
+        b"u8" => Some(ScalarType::Int(IntType::U8)),
+        b"u16" => Some(ScalarType::Int(IntType::U16)),
+        b"u32" => Some(ScalarType::Int(IntType::U32)),
+        b"u64" => Some(ScalarType::Int(IntType::U64)),
+        b"bool" => Some(ScalarType::Bool),
         _ => None,
     }
 }
@@ -54,13 +59,26 @@ fn highest(ty: IntType) -> u64
     }
 }
 
-/// The bits that a word spells.
-fn bits_of(ty: IntType, word: &[u8]) -> Option<u64>
-    ensures { IfSome result (λ bits. bits < 2 ^ width_of ty) }
+/// The scalar that a word spells.
+fn scalar_of(ty: ScalarType, word: &[u8]) -> Option<Scalar>
+    ensures { IfSome result (IsOf ty) }
+{
+    match ty {
+        ScalarType::Int(ty) => integer_of(ty, word),
+        ScalarType::Bool => match word {
+            b"true" => Some(Scalar::Bool(true)),
+            b"false" => Some(Scalar::Bool(false)),
+            _ => None,
+        },
+    }
+}
+
+fn integer_of(ty: IntType, word: &[u8]) -> Option<Scalar>
+    ensures { IfSome result (IsOf (sort.Int ty)) }
 {
     let bits = number_of(word)?;
     if bits <= highest(ty) {
-        Some(bits)
+        Some(Scalar::Int { ty, bits })
     } else {
         None
     }
@@ -70,27 +88,90 @@ fn bits_of(ty: IntType, word: &[u8]) -> Option<u64>
 fn result_of(text: &[u8]) -> Option<Result<Scalar, ScalarFault>> {
     let (ty, operation) = cut(text, b' ')?;
     let ty = type_of(ty)?;
-    match operation {
-        [b'-', b' ', word @ ..] => {
-            let bits = bits_of(ty, word)?;
-            Some(Ok(unop(UnOp::Neg, Scalar::Int { ty, bits })))
-        }
-        _ => result_of_two(ty, operation),
+    let (first, rest) = cut(operation, b' ')?;
+    match first {
+        b"-" => result_of_one(ty, UnOp::Neg, rest),
+        b"!" => result_of_one(ty, UnOp::Not, rest),
+        b"abs" => result_of_one(ty, UnOp::Abs, rest),
+        b"popc" => result_of_one(ty, UnOp::Popc, rest),
+        b"word" => Some(Ok(decode_word(ty, number_of(rest)?))),
+        b"order" => Some(Ok(decode_order(ty, number_of(rest)?))),
+        _ => result_of_value(scalar_of(ty, first)?, ty, rest),
     }
 }
 
-fn result_of_two(ty: IntType, operation: &[u8]) -> Option<Result<Scalar, ScalarFault>> {
-    let (left, rest) = cut(operation, b' ')?;
-    let (sign, right) = cut(rest, b' ')?;
-    let left = bits_of(ty, left)?;
-    let right = bits_of(ty, right)?;
-    let left = Scalar::Int { ty, bits: left };
-    let right = Scalar::Int { ty, bits: right };
+fn result_of_one(ty: ScalarType, op: UnOp, word: &[u8]) -> Option<Result<Scalar, ScalarFault>> {
+    let value = scalar_of(ty, word)?;
+    match (value, op) {
+        (Scalar::Int { ty: _, bits: _ }, _) => Some(Ok(unop(op, value))),
+        (Scalar::Bool(_), UnOp::Not) => Some(Ok(unop(op, value))),
+        _ => None,
+    }
+}
+
+/// The result of what follows a value.
+fn result_of_value(
+    value: Scalar,
+    ty: ScalarType,
+    rest: &[u8],
+) -> Option<Result<Scalar, ScalarFault>>
+    requires { IsOf ty value }
+{
+    match rest {
+        b"word" => Some(Ok(number(encode_word(value)))),
+        b"order" => Some(Ok(number(encode_order(value)))),
+        [b't', b'o', b' ', to @ ..] => Some(Ok(convert(type_of(to)?, value))),
+        _ => {
+            let (sign, word) = cut(rest, b' ')?;
+            result_of_two(operator_of(sign)?, value, scalar_of(ty, word)?)
+        }
+    }
+}
+
+/// A word as a scalar.
+fn number(word: u64) -> Scalar {
+    Scalar::Int {
+        ty: IntType::U64,
+        bits: word,
+    }
+}
+
+fn result_of_two(op: BinOp, left: Scalar, right: Scalar) -> Option<Result<Scalar, ScalarFault>>
+    requires one_type { type_of right ≡ type_of left }
+    requires left_fits { FitsType left }
+    requires right_fits { FitsType right }
+{
+    match (left, op) {
+        (Scalar::Int { ty: _, bits: _ }, _) => Some(binop(op, left, right)),
+        (Scalar::Bool(_), BinOp::Eq) => Some(binop(op, left, right)),
+        (Scalar::Bool(_), BinOp::Ne) => Some(binop(op, left, right)),
+        _ => None,
+    }
+}
+
+fn operator_of(sign: &[u8]) -> Option<BinOp> {
     match sign {
-        b"+" => Some(binop(BinOp::Add, left, right)),
-        b"-" => Some(binop(BinOp::Sub, left, right)),
-        b"*" => Some(binop(BinOp::Mul, left, right)),
-        b"/" => Some(binop(BinOp::Div, left, right)),
+        b"+" => Some(BinOp::Add),
+        b"-" => Some(BinOp::Sub),
+        b"*" => Some(BinOp::Mul),
+        b"/" => Some(BinOp::Div),
+        b"%" => Some(BinOp::Mod),
+        b"//" => Some(BinOp::Quot),
+        b"%%" => Some(BinOp::Rem),
+        b"**" => Some(BinOp::Pow),
+        b"&" => Some(BinOp::And),
+        b"|" => Some(BinOp::Or),
+        b"^" => Some(BinOp::Xor),
+        b"<<" => Some(BinOp::Shl),
+        b">>" => Some(BinOp::Shr),
+        b"==" => Some(BinOp::Eq),
+        b"!=" => Some(BinOp::Ne),
+        b"<" => Some(BinOp::Lt),
+        b"<=" => Some(BinOp::Le),
+        b">" => Some(BinOp::Gt),
+        b">=" => Some(BinOp::Ge),
+        b"min" => Some(BinOp::Min),
+        b"max" => Some(BinOp::Max),
         _ => None,
     }
 }

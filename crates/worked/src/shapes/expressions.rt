@@ -233,7 +233,7 @@ fn show_fields<'a>(fields: &'a [ExpField<'a>], shown: &mut Shown) {
 #[cycle(expressions)]
 fn show_binds<'a>(binds: &'a [Bind<'a>], shown: &mut Shown) {
     for bind in binds {
-        shown.push("(");
+        shown.push(if bind.is_function { "(function " } else { "(" });
         show_sizes(bind.sizes, shown);
         show_pat(bind.pat, shown);
         show_heads(bind.heads, shown);

@@ -1,0 +1,232 @@
+// Rows of lets.
+ghost use Rattle.std.specs.Prelude.{◌≡◌, ◌≤◌, ◌<◌, ◌+◌, suc, length, false, [], ◌∷◌, IfOk};
+ghost use Rattle.fut_ast.specs.ExpRows.{let_function, let_pattern, let_update};
+ghost use Rattle.fut_ast.specs.Nodes.{bound, let_one, node, use_of};
+ghost use Rattle.fut_ast.specs.Parts.{Commas, Sign, Sub};
+ghost use Rattle.fut_ast.specs.Rows.{of_exp};
+ghost use Rattle.fut_ast.specs.Sorts.{Let_item, Whole, Written_item};
+ghost use Rattle.fut_ast.specs.Tokens.{tail};
+ghost use Rattle.fut_ast.specs.declared.exp.Form.TheVariants as form;
+ghost use Rattle.fut_phrases.specs.Found.{found_as};
+ghost use Rattle.fut_grammar.specs.Phrases.{items, let_at, phrases, read_at, row_of_lets};
+ghost use Rattle.fut_grammar.specs.Reading.{Gives, parts_at, row_at};
+ghost use Rattle.fut_tree.specs.Exps.{bind_of, binds_of};
+
+use crate::tie::{ExpSort, ReadExp};
+use crate::written::written_list;
+use bumpalo::Bump;
+use bumpalo::collections::into_bump_slice;
+use fut_exp_parts::binds::{function_bound, update_bound};
+use fut_exp_parts::exp_tokens::{begins_function, begins_update, starts_with_tight};
+use fut_grammar::Stop;
+use fut_phrases::found::Found;
+use fut_phrases::params::{
+    heads_inside, maybe_type_inside, several_patterns_inside, size_names_inside,
+};
+use fut_phrases::patterns::whole_pattern;
+use fut_phrases::tokens::{
+    begins_pattern, greater, next_spot, refused, rest_of, starts_with, take, take_word,
+};
+use fut_scalar::Place;
+use fut_token::{Fixed, Token};
+use fut_tree::Bind;
+
+/// A row of lets, and the `in` behind it.
+pub fn lets<'a, R: ReadExp<'a>>(
+    bump: &'a Bump,
+    read: R,
+    inner: u32,
+    tokens: &'a [Token],
+) -> Result<Found<'a, &'a [Bind<'a>]>, Stop>
+    requires law { R.reads read inner }
+    requires room { inner < 1000 }
+    ensures exact { Gives (found_as (λ t. binds_of t.now)) result (row_of_lets (phrases (read_at inner)) (suc inner) (length tokens.now) 0 (tail tokens.now)) }
+    ensures low { IfOk result (λ x. x.height ≤ inner) }
+{
+    let mut all = Vec::new(bump);
+    let mut height = 0;
+    let mut rest = rest_of(tokens);
+    'lets: for _turn in 0..tokens.len() {
+        let item = one_let_item(bump, read, inner, rest)?;
+        all.push(item.tree)?;
+        height = greater(height, item.height);
+        if starts_with(item.rest, Fixed::KeyLet) {
+            rest = rest_of(item.rest);
+            continue;
+        }
+        let behind = take(item.rest, Fixed::KeyIn)?;
+        if !starts_with(behind, Fixed::KeyLet) {
+            return Ok(Found {
+                tree: into_bump_slice(all),
+                height,
+                rest: behind,
+            });
+        }
+        rest = rest_of(behind);
+    }
+    Err(Stop::Fault(refused(rest)))
+}
+
+#[tactic(auto, unfolding(fut_grammar::specs::Phrases::phrases, fut_grammar::specs::Phrases::bounded, fut_grammar::specs::Phrases::ended, fut_grammar::specs::Phrases::flat_at, fut_grammar::specs::Reading::refuse_sort))]
+fn one_let_item<'a, R: ReadExp<'a>>(
+    bump: &'a Bump,
+    read: R,
+    inner: u32,
+    tokens: &'a [Token],
+) -> Result<Found<'a, Bind<'a>>, Stop>
+    requires law { R.reads read inner }
+    requires room { inner < 1000 }
+    ensures exact { Gives (found_as bind_of) result (phrases (read_at inner) Let_item tokens.now) }
+    ensures low { IfOk result (λ x. x.height ≤ inner) }
+{
+    if begins_pattern(tokens) || starts_with(tokens, Fixed::OpenBracket) {
+        any_let(bump, read, inner, tokens)
+    } else {
+        Err(Stop::Fault(refused(tokens)))
+    }
+}
+
+#[tactic(auto, unfolding(fut_grammar::specs::Phrases::let_at))]
+fn any_let<'a, R: ReadExp<'a>>(
+    bump: &'a Bump,
+    read: R,
+    inner: u32,
+    tokens: &'a [Token],
+) -> Result<Found<'a, Bind<'a>>, Stop>
+    requires law { R.reads read inner }
+    requires room { inner < 1000 }
+    ensures exact { Gives (found_as bind_of) result (let_at (items (read_at inner)) tokens.now) }
+    ensures low { IfOk result (λ x. x.height ≤ inner) }
+{
+    if begins_update(tokens) {
+        let_update(bump, read, inner, tokens)
+    } else if begins_function(tokens) {
+        let_function(bump, read, inner, tokens)
+    } else {
+        let_pattern(bump, read, inner, tokens)
+    }
+}
+
+#[tactic(auto, unfolding(fut_grammar::specs::Reading::row_at, fut_grammar::specs::Reading::parts_at, fut_grammar::specs::Reading::has_at, fut_grammar::specs::Reading::sub_at, fut_grammar::specs::Phrases::items))]
+fn let_pattern<'a, R: ReadExp<'a>>(
+    bump: &'a Bump,
+    read: R,
+    inner: u32,
+    tokens: &'a [Token],
+) -> Result<Found<'a, Bind<'a>>, Stop>
+    requires law { R.reads read inner }
+    requires room { inner < 1000 }
+    ensures exact { Gives (found_as bind_of) result (row_at (items (read_at inner)) (of_exp let_pattern) tokens.now) }
+    ensures low { IfOk result (λ x. x.height ≤ inner) }
+{
+    if begins_update(tokens) || begins_function(tokens) {
+        return Err(Stop::Fault(refused(tokens)));
+    }
+    let sizes = size_names_inside(bump, inner, tokens)?;
+    let pat = whole_pattern(bump, inner, sizes.rest)?;
+    let value = read.read(inner, ExpSort::Whole, take(pat.rest, Fixed::Equal)?)?;
+    Ok(Found {
+        tree: Bind {
+            sizes: sizes.tree,
+            pat: pat.tree,
+            is_function: false,
+            heads: &[],
+            value: value.tree.exp,
+        },
+        height: greater(greater(sizes.height, pat.height), value.height),
+        rest: value.rest,
+    })
+}
+
+#[tactic(auto, unfolding(fut_grammar::specs::Reading::row_at, fut_grammar::specs::Reading::parts_at, fut_grammar::specs::Reading::has_at, fut_grammar::specs::Reading::sub_at, fut_grammar::specs::Phrases::items))]
+fn let_function<'a, R: ReadExp<'a>>(
+    bump: &'a Bump,
+    read: R,
+    inner: u32,
+    tokens: &'a [Token],
+) -> Result<Found<'a, Bind<'a>>, Stop>
+    requires law { R.reads read inner }
+    requires room { inner < 1000 }
+    ensures exact { Gives (found_as bind_of) result (row_at (items (read_at inner)) (of_exp let_function) tokens.now) }
+    ensures low { IfOk result (λ x. x.height ≤ inner) }
+{
+    if !begins_function(tokens) {
+        return Err(Stop::Fault(refused(tokens)));
+    }
+    let place = next_spot(tokens).place;
+    let (name, rest) = take_word(tokens)?;
+    let heads = heads_inside(bump, inner, rest)?;
+    let params = several_patterns_inside(bump, inner, heads.height, heads.rest)?;
+    let ty = maybe_type_inside(bump, inner, params.height, params.rest)?;
+    let body = read.read(inner, ExpSort::Whole, take(ty.rest, Fixed::Equal)?)?;
+    Ok(Found {
+        tree: function_bound(
+            bump,
+            place,
+            name,
+            heads.tree,
+            params.tree,
+            ty.tree,
+            body.tree.exp,
+        )?,
+        height: greater(ty.height, body.height),
+        rest: body.rest,
+    })
+}
+
+#[tactic(auto, unfolding(fut_grammar::specs::Reading::row_at, fut_grammar::specs::Reading::parts_at, fut_grammar::specs::Reading::has_at, fut_grammar::specs::Reading::sub_at, fut_grammar::specs::Phrases::items))]
+fn let_update<'a, R: ReadExp<'a>>(
+    bump: &'a Bump,
+    read: R,
+    inner: u32,
+    tokens: &'a [Token],
+) -> Result<Found<'a, Bind<'a>>, Stop>
+    requires law { R.reads read inner }
+    requires room { inner < 1000 }
+    ensures exact { Gives (found_as bind_of) result (row_at (items (read_at inner)) (of_exp let_update) tokens.now) }
+    ensures low { IfOk result (λ x. x.height ≤ inner) }
+{
+    if !begins_update(tokens) {
+        return Err(Stop::Fault(refused(tokens)));
+    }
+    let place = next_spot(tokens).place;
+    let (name, rest) = take_word(tokens)?;
+    if !starts_with_tight(rest) {
+        return Err(Stop::Fault(refused(rest)));
+    }
+    update_inside(
+        bump,
+        read,
+        inner,
+        place,
+        next_spot(rest).place,
+        name,
+        rest_of(rest),
+    )
+}
+
+// Behind the bracket of an update, its index and the new value.
+#[tactic(auto, unfolding(fut_grammar::specs::Reading::parts_at, fut_grammar::specs::Reading::has_at, fut_grammar::specs::Reading::sub_at, fut_grammar::specs::Phrases::items))]
+fn update_inside<'a, R: ReadExp<'a>>(
+    bump: &'a Bump,
+    read: R,
+    inner: u32,
+    place: Place,
+    mark: Place,
+    name: &'a str,
+    tokens: &'a [Token],
+) -> Result<Found<'a, Bind<'a>>, Stop>
+    requires law { R.reads read inner }
+    requires room { inner < 1000 }
+    ensures exact { Gives (found_as bind_of) result (parts_at (items (read_at inner)) false Let_item (Commas Written_item ∷ Sign Fixed.CloseBracket ∷ Sign Fixed.Equal ∷ Sub Whole ∷ []) (λ indices close_bracket equal e. let_one (bound place name.now) (node place mark (form.Update (use_of place name.now) indices e))) 0 tokens.now) }
+    ensures low { IfOk result (λ x. x.height ≤ inner) }
+{
+    let indices = written_list(bump, read, inner, 0, tokens)?;
+    let rest = take(indices.rest, Fixed::CloseBracket)?;
+    let value = read.read(inner, ExpSort::Whole, take(rest, Fixed::Equal)?)?;
+    Ok(Found {
+        tree: update_bound(bump, place, mark, name, indices.tree, value.tree.exp)?,
+        height: greater(indices.height, value.height),
+        rest: value.rest,
+    })
+}

@@ -1,0 +1,22 @@
+-- What is read of a sort, whatever goes on with it.
+use Rattle.std.specs.Prelude.{ℕ, suc, List}
+use Rattle.fut_token.specs.declared.token.Token.{Token}
+use Rattle.fut_ast.specs.Sorts.{Atom, Unary, Operands, Operand, Right, Whole, Last, Inside, Replacing}
+use Rattle.fut_tree.specs.Names.{names}
+use Rattle.fut_grammar.specs.Reading.{Gives}
+use Rattle.fut_grammar.specs.Phrases.{phrases, read_at, step}
+use Rattle.fut_phrases.specs.Found.{found_as}
+use Rattle.fut_atoms.specs.declared.tie.ExpSort.{ExpSort}
+use Rattle.fut_atoms.specs.declared.tie.ExpSort.TheVariants as sort
+use Rattle.fut_atoms.specs.Tie.{Answer}
+
+abbrev pub Steps : ExpSort → ℕ → List Token → Answer → Type 0
+Steps sort.Atom d ts r = Gives (found_as (λ t. t.exp.now)) r (step (phrases (read_at d)) (suc d) Atom ts)
+Steps sort.Unary d ts r = Gives (found_as (λ t. t.exp.now)) r (step (phrases (read_at d)) (suc d) Unary ts)
+Steps (sort.Operands k) d ts r = Gives (found_as (λ t. t.exp.now)) r (step (phrases (read_at d)) (suc d) (Operands k) ts)
+Steps (sort.Operand k) d ts r = Gives (found_as (λ t. t.exp.now)) r (step (phrases (read_at d)) (suc d) (Operand k) ts)
+Steps sort.Right d ts r = Gives (found_as (λ t. t.exp.now)) r (step (phrases (read_at d)) (suc d) Right ts)
+Steps sort.Whole d ts r = Gives (found_as (λ t. t.exp.now)) r (step (phrases (read_at d)) (suc d) Whole ts)
+Steps sort.Last d ts r = Gives (found_as (λ t. (t.exp.now, t.ended))) r (step (phrases (read_at d)) (suc d) Last ts)
+Steps sort.Inside d ts r = Gives (found_as (λ t. (t.exp.now, t.section))) r (step (phrases (read_at d)) (suc d) Inside ts)
+Steps sort.Replacing d ts r = Gives (found_as (λ t. (names t.path.now, t.exp.now))) r (step (phrases (read_at d)) (suc d) Replacing ts)

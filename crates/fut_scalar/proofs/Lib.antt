@@ -1,2 +1,0 @@
-pub mod Reduces
-pub mod Quotients
