@@ -1,0 +1,12 @@
+pub mod Names
+pub mod Primitives
+pub mod Scopes
+pub mod Rules
+pub mod Patterns
+pub mod Free
+pub mod Generalised
+pub mod Typing
+pub mod Program
+pub mod Answers
+pub mod Homes
+pub mod Rows
