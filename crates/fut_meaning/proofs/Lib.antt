@@ -1,0 +1,21 @@
+pub mod Limits
+pub mod Ever
+pub mod Within
+pub mod Tight
+pub mod Safe
+pub mod Agree
+pub mod OneResult
+pub mod Walk
+pub mod Comes
+pub mod Sims
+pub mod SameValues
+pub mod SameOperations
+pub mod SameNumbers
+pub mod SameNames
+pub mod SameUses
+pub mod SameForms
+pub mod SameReach
+pub mod SamePrograms
+pub mod SameTypes
+pub mod SameData
+mod Examples
