@@ -1,0 +1,5 @@
+pub mod Readings
+pub mod Downs
+pub mod Grown
+pub mod Terms
+pub mod Programs

@@ -1,0 +1,7 @@
+//! The nodes of flat trees. Each builder takes a part as the answer of the walk that made it, so that a walk over many
+//! forms has no early exits.
+#![tactic(auto)]
+
+pub mod exps;
+pub mod pats;
+pub mod types;

@@ -1,0 +1,167 @@
+// Written types.
+ghost use Rattle.std.specs.Prelude.{◌≡◌, IfErr, IfOk, None, Some, map};
+ghost use Rattle.fut_flat.specs.Erased.{FlatType, arguments, size_of, type_of, types};
+ghost use Rattle.fut_flat.specs.Terms.{Array_type, Arrow_type, Record_type, Tuple_type, Type_use, Unique_type};
+ghost use Rattle.fut_flat.proofs.ErasedPatterns.{argument_of, type_field};
+ghost use Rattle.fut_ast.specs.Sorts.{Text};
+ghost use Rattle.module_nodes.specs.Built.{Built1, Built2, Built3};
+ghost use Rattle.module_scopes.specs.declared.refusal.Stop.TheVariants as stop;
+
+use bumpalo::Bump;
+use fut_flat::{Ref, Size, TypeArg, TypeExp, TypeField, TypeForm};
+use fut_scalar::{BindId, Place};
+use module_scopes::Stop;
+
+/// A type that the arena holds.
+pub fn held<'a>(bump: &'a Bump, ty: TypeExp<'a>) -> Result<&'a TypeExp<'a>, Stop<'a>>
+    ensures held { IfOk result (λ x. x.now ≡ ty.entry) }
+    ensures memory { IfErr result (λ e. e ≡ stop.Memory) }
+{
+    match bump.try_alloc(ty) {
+        Ok(made) => Ok(made),
+        Err(_) => Err(Stop::Memory),
+    }
+}
+
+/// A type by its name, with arguments.
+#[tactic(auto, using(crate::proofs::Made::types))]
+pub fn named<'a>(
+    bump: &'a Bump,
+    place: Place,
+    of: Result<Ref, Stop<'a>>,
+    args: Result<&'a [TypeArg<'a>], Stop<'a>>,
+) -> Result<&'a TypeExp<'a>, Stop<'a>>
+    ensures { Built2 (λ r given x. type_of x.now ≡ Type_use r (arguments (map argument_of given.now))) of.entry args.entry result }
+{
+    let of = of?;
+    let args = args?;
+    held(
+        bump,
+        TypeExp {
+            place,
+            form: TypeForm::Use(of, args),
+        },
+    )
+}
+
+/// An array's type.
+#[tactic(auto, using(crate::proofs::Made::types))]
+pub fn array<'a>(
+    bump: &'a Bump,
+    place: Place,
+    size: Result<Size, Stop<'a>>,
+    row: Result<&'a TypeExp<'a>, Stop<'a>>,
+) -> Result<&'a TypeExp<'a>, Stop<'a>>
+    ensures { Built2 (λ s t x. type_of x.now ≡ Array_type (size_of s) (type_of t.now)) size.entry row.entry result }
+{
+    let size = size?;
+    let row = row?;
+    held(
+        bump,
+        TypeExp {
+            place,
+            form: TypeForm::Array(size, row),
+        },
+    )
+}
+
+/// `*t`
+#[tactic(auto, using(crate::proofs::Made::types))]
+pub fn unique<'a>(
+    bump: &'a Bump,
+    place: Place,
+    ty: Result<&'a TypeExp<'a>, Stop<'a>>,
+) -> Result<&'a TypeExp<'a>, Stop<'a>>
+    ensures { Built1 (λ t x. type_of x.now ≡ Unique_type (type_of t.now)) ty.entry result }
+{
+    let ty = ty?;
+    held(
+        bump,
+        TypeExp {
+            place,
+            form: TypeForm::Unique(ty),
+        },
+    )
+}
+
+/// A function's type.
+#[tactic(auto, using(crate::proofs::Made::types))]
+pub fn arrow<'a>(
+    bump: &'a Bump,
+    place: Place,
+    from: Result<&'a TypeExp<'a>, Stop<'a>>,
+    to: Result<&'a TypeExp<'a>, Stop<'a>>,
+) -> Result<&'a TypeExp<'a>, Stop<'a>>
+    ensures { Built2 (λ t u x. type_of x.now ≡ Arrow_type None (type_of t.now) (type_of u.now)) from.entry to.entry result }
+{
+    let from = from?;
+    let to = to?;
+    held(
+        bump,
+        TypeExp {
+            place,
+            form: TypeForm::Arrow(None, from, to),
+        },
+    )
+}
+
+/// A function's type whose parameter has a name.
+#[tactic(auto, using(crate::proofs::Made::types))]
+pub fn named_arrow<'a>(
+    bump: &'a Bump,
+    place: Place,
+    bind: Result<BindId, Stop<'a>>,
+    from: Result<&'a TypeExp<'a>, Stop<'a>>,
+    to: Result<&'a TypeExp<'a>, Stop<'a>>,
+) -> Result<&'a TypeExp<'a>, Stop<'a>>
+    ensures { Built3 (λ b t u x. type_of x.now ≡ Arrow_type (Some b) (type_of t.now) (type_of u.now)) bind.entry from.entry to.entry result }
+{
+    let bind = bind?;
+    let from = from?;
+    let to = to?;
+    held(
+        bump,
+        TypeExp {
+            place,
+            form: TypeForm::Arrow(Some(bind), from, to),
+        },
+    )
+}
+
+/// A tuple's type.
+#[tactic(auto, using(crate::proofs::Made::types))]
+pub fn tuple<'a>(
+    bump: &'a Bump,
+    place: Place,
+    parts: Result<&'a [TypeExp<'a>], Stop<'a>>,
+) -> Result<&'a TypeExp<'a>, Stop<'a>>
+    ensures { Built1 (λ ts x. type_of x.now ≡ Tuple_type (types (map type_of ts.now))) parts.entry result }
+{
+    let parts = parts?;
+    held(
+        bump,
+        TypeExp {
+            place,
+            form: TypeForm::Tuple(parts),
+        },
+    )
+}
+
+/// A record's type.
+#[tactic(auto, using(crate::proofs::Made::types))]
+pub fn record<'a>(
+    bump: &'a Bump,
+    place: Place,
+    fields: Result<&'a [TypeField<'a>], Stop<'a>>,
+) -> Result<&'a TypeExp<'a>, Stop<'a>>
+    ensures { Built1 (λ fs x. type_of x.now ≡ Record_type (map (λ (f : Text × FlatType). f.0) (map type_field fs.now)) (types (map (λ (f : Text × FlatType). f.1) (map type_field fs.now)))) fields.entry result }
+{
+    let fields = fields?;
+    held(
+        bump,
+        TypeExp {
+            place,
+            form: TypeForm::Record(fields),
+        },
+    )
+}

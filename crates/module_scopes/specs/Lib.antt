@@ -1,0 +1,7 @@
+pub mod Names
+pub mod Scopes
+pub mod Resolve
+pub mod Programs
+pub mod Table
+pub mod Answers
+pub mod Walks

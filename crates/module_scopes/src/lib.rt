@@ -1,0 +1,11 @@
+//! Names and scopes: which binding each use of a name has, and how what is bound is numbered. `specs/Resolve.antt` is
+//! the definition, by structure on terms.
+#![tactic(auto)]
+
+mod paths;
+mod refusal;
+mod table;
+
+pub use paths::{Found, size_of, type_of, value_of};
+pub use refusal::{Refusal, Stop};
+pub use table::{Entry, Names};

@@ -1,0 +1,10 @@
+pub mod Numbering
+pub mod HeldTypes
+pub mod HeldPats
+pub mod FlatParts
+pub mod Leaving
+pub mod TypeLists
+pub mod TypeLaws
+pub mod PatLists
+pub mod PatLaws
+pub mod BindLaws

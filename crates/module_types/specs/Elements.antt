@@ -1,0 +1,32 @@
+-- The parts of lists in types and patterns.
+use Rattle.std.specs.Prelude.{List, Result, Ok, Err}
+use Rattle.fut_ast.specs.Sorts.{Text, SourceType, SourcePat}
+use Rattle.fut_scalar.specs.declared.place.Place.{Place}
+use Rattle.fut_tree.specs.declared.held.Held.{Held}
+use Rattle.fut_tree.specs.declared.ty.TypeArg.{TypeArg}
+use Rattle.fut_tree.specs.declared.ty.TypeField.{TypeField}
+use Rattle.fut_tree.specs.declared.pat.PatField.{PatField}
+use Rattle.fut_tree.specs.declared.ty.TypeArg.TheVariants as held_arg
+use Rattle.fut_tree.specs.declared.ty.SizeExp.{SizeExp}
+use Rattle.fut_tree.specs.Types.{maybe_size_of}
+use Rattle.fut_flat.specs.Erased.{FlatType, FlatPattern, Argument, a_size, a_type}
+use Rattle.fut_flat.specs.Sources.{source_size, source_type, source_pattern}
+use Rattle.module_scopes.specs.Scopes.{Scope}
+use Rattle.module_scopes.specs.Resolve.{Numbered, Naming, after, resolve_size, resolve_type, name_pattern}
+use Rattle.module_scopes.specs.Names.{Refusal}
+
+unfoldable pub type_part : Held SourceType → Scope → List Text → Numbered FlatType
+type_part h sc made = resolve_type (source_type h.at.now) sc made
+
+unfoldable pub type_field_part : TypeField → Scope → List Text → Numbered (Text × FlatType)
+type_field_part f sc made = after (resolve_type (source_type f.ty.now) sc made) (λ t made. Ok ((f.name.now, t), made))
+
+unfoldable pub argument_part : Place → TypeArg → Scope → List Text → Numbered Argument
+argument_part at (held_arg.Size s) sc made = after (resolve_size (source_size at (maybe_size_of s)) sc made) (λ s made. Ok (a_size s, made))
+argument_part at (held_arg.Of t) sc made = after (resolve_type (source_type t.now) sc made) (λ t made. Ok (a_type t, made))
+
+unfoldable pub pattern_part : Held SourcePat → Scope → Naming → Result (FlatPattern × Naming) Refusal
+pattern_part h sc s = name_pattern (source_pattern h.at.now) sc s
+
+unfoldable pub field_pattern : PatField → Scope → Naming → Result ((Text × FlatPattern) × Naming) Refusal
+field_pattern f sc s = after (name_pattern (source_pattern f.pat.now) sc s) (λ p s. Ok ((f.name.now, p), s))

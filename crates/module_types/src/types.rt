@@ -1,0 +1,212 @@
+// Written types.
+ghost use Rattle.std.specs.Prelude.{◌≡◌, map};
+ghost use Rattle.fut_flat.specs.Erased.{size_of, type_of};
+ghost use Rattle.fut_flat.specs.Sources.{source_size, source_type};
+ghost use Rattle.fut_flat.proofs.ErasedPatterns.{argument_of, type_field};
+ghost use Rattle.fut_tree.specs.Types.{maybe_size_of};
+ghost use Rattle.fut_tree.specs.Names.{names as path_names};
+ghost use Rattle.fut_flat.specs.Sources.{spelled};
+ghost use Rattle.module_scopes.specs.Answers.{Answers, Went};
+ghost use Rattle.module_scopes.specs.Scopes.{type_of as type_found};
+ghost use Rattle.module_scopes.specs.Table.{bound_of, scope_of};
+ghost use Rattle.module_scopes.specs.Resolve.{resolve_size, resolve_type};
+ghost use Rattle.module_scopes.specs.Walks.{each};
+ghost use Rattle.module_types.specs.Elements.{argument_part, type_field_part, type_part};
+
+use crate::numbers::{in_scope, numbered};
+use bumpalo::Bump;
+use bumpalo::collections::into_bump_slice;
+use fut_flat as flat;
+use fut_flat::Ref;
+use fut_scalar::Place;
+use fut_tree::{Held, SizeExp, SizeForm, TypeArg, TypeExp, TypeField, TypeForm};
+use module_nodes::types as nodes;
+use module_scopes::{Names, Stop, size_of, type_of};
+
+/// A size, or a number of its own for one that is not written.
+#[tactic(auto, using(crate::proofs::TypeLaws::size_rules))]
+fn resolved_size<'a>(
+    size: Option<SizeExp<'a>>,
+    at: Place,
+    names: &mut Names<'a>,
+) -> Result<flat::Size, Stop<'a>>
+    ensures went { Went size_of (resolve_size (source_size at (maybe_size_of size.entry))) names.old names.new result }
+    ensures bound { bound_of names.new ≡ bound_of names.old }
+{
+    match size {
+        None => match numbered("", names) {
+            Ok(bind) => Ok(flat::Size {
+                place: at,
+                form: flat::SizeForm::Blank(bind),
+            }),
+            Err(stop) => Err(stop),
+        },
+        Some(size) => match size.form {
+            SizeForm::Const(value) => Ok(flat::Size {
+                place: size.place,
+                form: flat::SizeForm::Const(value),
+            }),
+            SizeForm::Path(path) => match size_of(names, path, size.place) {
+                Ok(of) => Ok(flat::Size {
+                    place: size.place,
+                    form: flat::SizeForm::Use(of),
+                }),
+                Err(refusal) => Err(Stop::Refused(refusal)),
+            },
+        },
+    }
+}
+
+/// The type that a path names.
+#[tactic(auto, using(crate::proofs::TypeLaws::use_rules))]
+fn used<'a>(path: &'a [&'a str], at: Place, names: &Names<'a>) -> Result<Ref, Stop<'a>>
+    ensures { Answers (type_found (scope_of names.now) (spelled (path_names path.now) at)) result }
+{
+    match type_of(names, path, at) {
+        Ok(of) => Ok(of),
+        Err(refusal) => Err(Stop::Refused(refusal)),
+    }
+}
+
+/// A type with its names resolved.
+#[cycle(types)]
+#[tactic(auto, using(crate::proofs::TypeLaws::type_rules))]
+pub fn resolved_type<'a>(
+    ty: &'a TypeExp<'a>,
+    bump: &'a Bump,
+    names: &mut Names<'a>,
+) -> Result<&'a flat::TypeExp<'a>, Stop<'a>>
+    ensures went { Went (λ t. type_of t.now) (resolve_type (source_type ty.now)) names.old names.new result }
+    ensures bound { bound_of names.new ≡ bound_of names.old }
+{
+    match ty.form {
+        TypeForm::Path(path, args) => {
+            let of = used(path, ty.place, names);
+            nodes::named(
+                bump,
+                ty.place,
+                of,
+                resolved_args(args, ty.place, bump, names),
+            )
+        }
+        TypeForm::Array(size, row) => {
+            nodes::array(
+                bump,
+                ty.place,
+                resolved_size(size, ty.place, names),
+                resolved_type(row, bump, names),
+            )
+        }
+        TypeForm::Unique(inside) => {
+            nodes::unique(bump, ty.place, resolved_type(inside, bump, names))
+        }
+        TypeForm::Arrow(from, to) => {
+            nodes::arrow(
+                bump,
+                ty.place,
+                resolved_type(from, bump, names),
+                resolved_type(to, bump, names),
+            )
+        }
+        TypeForm::Named(name, from, to) => {
+            let bind = numbered(name, names);
+            let from = resolved_type(from, bump, names);
+            let height = names.height();
+            let bind = in_scope(name, bind, names);
+            let to = resolved_type(to, bump, names);
+            names.leave(height);
+            nodes::named_arrow(bump, ty.place, bind, from, to)
+        }
+        TypeForm::Unit => nodes::tuple(bump, ty.place, Ok(&[])),
+        TypeForm::Tuple(parts) => {
+            nodes::tuple(bump, ty.place, resolved_types(parts, bump, names))
+        }
+        TypeForm::Record(fields) => {
+            nodes::record(bump, ty.place, resolved_fields(fields, bump, names))
+        }
+    }
+}
+
+#[cycle(types)]
+#[tactic(auto, using(crate::proofs::TypeLaws::list_rules))]
+fn resolved_types<'a>(
+    parts: &'a [Held<'a, TypeExp<'a>>],
+    bump: &'a Bump,
+    names: &mut Names<'a>,
+) -> Result<&'a [flat::TypeExp<'a>], Stop<'a>>
+    ensures went { Went (λ ts. map type_of ts.now) (each type_part parts.now) names.old names.new result }
+    ensures bound { bound_of names.new ≡ bound_of names.old }
+{
+    let mut made = Vec::new(bump);
+    for part in parts {
+        let next = resolved_type(part.at, bump, names)?;
+        match made.push(*next) {
+            Ok(()) => (),
+            Err(_) => return Err(Stop::Memory),
+        }
+    }
+    Ok(into_bump_slice(made))
+}
+
+#[cycle(types)]
+#[tactic(auto, using(crate::proofs::TypeLaws::list_rules))]
+fn resolved_fields<'a>(
+    fields: &'a [TypeField<'a>],
+    bump: &'a Bump,
+    names: &mut Names<'a>,
+) -> Result<&'a [flat::TypeField<'a>], Stop<'a>>
+    ensures went { Went (λ fs. map type_field fs.now) (each type_field_part fields.now) names.old names.new result }
+    ensures bound { bound_of names.new ≡ bound_of names.old }
+{
+    let mut made = Vec::new(bump);
+    for field in fields {
+        let ty = resolved_type(field.ty, bump, names)?;
+        match made.push(flat::TypeField {
+            name: field.name,
+            ty: *ty,
+        }) {
+            Ok(()) => (),
+            Err(_) => return Err(Stop::Memory),
+        }
+    }
+    Ok(into_bump_slice(made))
+}
+
+#[cycle(types)]
+#[tactic(auto, using(crate::proofs::TypeLaws::argument_rules))]
+fn resolved_arg<'a>(
+    arg: &'a TypeArg<'a>,
+    at: Place,
+    bump: &'a Bump,
+    names: &mut Names<'a>,
+) -> Result<flat::TypeArg<'a>, Stop<'a>>
+    ensures went { Went argument_of (argument_part at arg.now) names.old names.new result }
+    ensures bound { bound_of names.new ≡ bound_of names.old }
+{
+    match arg {
+        TypeArg::Size(size) => Ok(flat::TypeArg::Size(resolved_size(*size, at, names)?)),
+        TypeArg::Of(ty) => Ok(flat::TypeArg::Of(*resolved_type(ty, bump, names)?)),
+    }
+}
+
+#[cycle(types)]
+#[tactic(auto, using(crate::proofs::TypeLaws::list_rules))]
+fn resolved_args<'a>(
+    args: &'a [TypeArg<'a>],
+    at: Place,
+    bump: &'a Bump,
+    names: &mut Names<'a>,
+) -> Result<&'a [flat::TypeArg<'a>], Stop<'a>>
+    ensures went { Went (λ given. map argument_of given.now) (each (argument_part at) args.now) names.old names.new result }
+    ensures bound { bound_of names.new ≡ bound_of names.old }
+{
+    let mut made = Vec::new(bump);
+    for arg in args {
+        let next = resolved_arg(arg, at, bump, names)?;
+        match made.push(next) {
+            Ok(()) => (),
+            Err(_) => return Err(Stop::Memory),
+        }
+    }
+    Ok(into_bump_slice(made))
+}
