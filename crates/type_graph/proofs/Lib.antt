@@ -1,0 +1,9 @@
+pub mod GraphLaws
+pub mod StateLaws
+pub mod PartLaws
+pub mod Chains
+pub mod Short
+pub mod Cases
+pub mod Reducing
+pub mod Ends
+pub mod Loop

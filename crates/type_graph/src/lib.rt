@@ -1,0 +1,120 @@
+//! Types as a graph of numbered nodes, and unification on it.
+//!
+//! A node is free, a link to a node of a smaller number, made by a head of a row of nodes, or open: then it has certain
+//! named parts, and what it is made by is not known yet. `solve` brings about that nodes are equal, have a kind, or have a
+//! named part, and keeps all solutions (`specs/Graph.antt`).
+//!
+//! Every node has a kind and a level: the depth of nested generalised definitions at which its type is fixed
+//! (`specs/State.antt`). A type with named parts has level 0: it is never generalised.
+//!
+//! Roots are found by links that are halved on the way. A kind rises at most four times and a level falls at most once a
+//! depth. A part that is asked of an open node costs the number of its distinct labels, of a record that of its fields.
+#![tactic(auto)]
+
+ghost use Rattle.std.specs.Prelude.{◌≡◌, ◌<◌, OnOk, IfErr, length};
+ghost use Rattle.type_graph.specs.Graph.{IsGraph, IsBound, AreEntries, IsTask, Each, Tables, Told, Solved, Grows, Kept, Unmet, Tells};
+ghost use Rattle.fut_types.specs.Shapes.{IsTable};
+
+mod parts;
+mod roots;
+mod steps;
+mod tasks;
+
+use fut_scalar::{List, NoMemory};
+use fut_types::{Head, Kind, ShapeTable};
+pub use roots::{find, node_of, put};
+use steps::step;
+pub use tasks::entry_of;
+
+/// The level of a node that nothing outside a definition has touched.
+pub const FAR: u32 = 4294967295;
+
+/// What is known of a type.
+#[derive(Clone, Copy)]
+pub enum Form {
+    /// Nothing.
+    Free,
+    /// It is that of a node with a smaller number.
+    Link(u32),
+    /// It is made by a head of the nodes in a row, from the first on, as many as counted.
+    Made(Head, u32, u32),
+    /// It has the named parts of a chain of entries, from this one on, as many as counted.
+    Open(u32, u32),
+}
+
+/// A type, as far as it is known.
+#[derive(Clone, Copy)]
+pub struct Node {
+    pub kind: Kind,
+    pub level: u32,
+    pub form: Form,
+}
+
+/// A named part in a chain: its label, the node of its type, and the next entry.
+#[derive(Clone, Copy)]
+pub struct Entry {
+    pub label: u32,
+    pub child: u32,
+    pub next: u32,
+}
+
+/// What is to be brought about.
+#[derive(Clone, Copy)]
+pub enum Task {
+    /// Two nodes have the same type.
+    Same(u32, u32),
+    /// A node's type is of a kind, and its level at most this.
+    Has(u32, Kind, u32),
+    /// A node's type has the part with this label, and it is that of another node.
+    Part(u32, u32, u32),
+}
+
+/// Why no types solve a graph.
+#[derive(Clone, Copy)]
+pub enum UnifyErr {
+    /// The types of the two nodes differ.
+    Clash(u32, u32),
+    /// The node's type is not of the kind.
+    BadKind(u32, Kind),
+    /// The node's type would be a part of itself.
+    Infinite(u32),
+    Memory,
+}
+
+impl From<NoMemory> for UnifyErr {
+    ghost use Rattle.type_graph.specs.declared.UnifyErr.TheVariants.{Memory};
+
+    ghost from_gives = { λ _ e. e ≡ Memory };
+
+    fn from(_error: NoMemory) -> UnifyErr {
+        UnifyErr::Memory
+    }
+}
+
+/// Brings about all tasks.
+///
+/// `Err`: no types solve the graph and bring them about, or memory ran out.
+pub fn solve(
+    table: &ShapeTable,
+    nodes: &mut List<Node>,
+    entries: &mut List<Entry>,
+    tasks: &mut List<Task>,
+) -> Result<(), UnifyErr>
+    requires table { IsTable table.now }
+    requires graph { IsGraph nodes.old }
+    requires bound { IsBound table.now (length entries.old) nodes.old }
+    requires entries { AreEntries table.now (length nodes.old) entries.old }
+    requires within { Each (IsTask table.now (length nodes.old)) tasks.old }
+    ensures grows { Grows table.now (length nodes.old) entries.old entries.new }
+    ensures kept { OnOk result (Kept table.now nodes.old nodes.new entries.old entries.new) }
+    ensures solved { OnOk result ((T : Tables) → Told table.now entries.new T → Solved T nodes.old tasks.old nodes.new) }
+    ensures err { IfErr result (Tells ((T : Tables) → Told table.now entries.new T → Unmet T nodes.old tasks.old)) }
+{
+    while let Some(task) = tasks.pop() {
+        match step(table, nodes, entries, tasks, task) {
+            Ok(()) => {}
+            Err(error) => return Err(error),
+        }
+    }
+    Ok(())
+}

@@ -1,0 +1,5 @@
+use Rattle.std.proofs.Common.{◌≡◌, ◌++◌, replicate}
+use Rattle.type_homes.proofs.terms.note.Given as goal
+
+abbrev pub invariant-loop : goal.invariant-loop
+invariant-loop l = l.homes ≡ l.fn.homes ++ replicate l.counter l.home

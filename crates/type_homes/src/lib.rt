@@ -1,0 +1,23 @@
+//! Homes: how deep in generalised definitions each number of a program stands, and 0 for what never differs from one use of
+//! a definition to the next.
+#![tactic(auto)]
+
+ghost use Rattle.std.specs.Prelude.{IfOk};
+ghost use Rattle.fut_typing.specs.Program.{program_of};
+ghost use Rattle.type_homes.specs.Listed.{AreHomes};
+
+mod terms;
+
+use crate::terms::note_definitions;
+use fut_flat::Flat;
+use fut_scalar::{List, NoMemory};
+use std::alloc::Global;
+
+/// The home of each number of a program.
+pub fn homes(alloc: Global, flat: &Flat<'_>) -> Result<List<u32>, NoMemory>
+    ensures { IfOk result (λ homes. AreHomes homes (program_of flat.now)) }
+{
+    let mut homes = List::new(alloc);
+    note_definitions(&mut homes, flat.definitions)?;
+    Ok(homes)
+}

@@ -1,0 +1,213 @@
+// The homes of the numbers of trees, in the order of the numbers.
+ghost use Rattle.std.specs.Prelude.{◌≡◌, ◌++◌, replicate, IfOk, OnOk};
+ghost use Rattle.std.specs.List.{flat_map};
+ghost use Rattle.fut_typing.specs.Homes.{depth_if};
+ghost use Rattle.fut_flat.proofs.ErasedForms.{loop_of, turns_of};
+ghost use Rattle.type_homes.specs.Listed.{homes_of, turn_homes};
+ghost use Rattle.type_homes.specs.Trees.{act_homes, definition_homes, exp_homes, field_homes, let_homes, pattern_homes};
+
+use fut_flat::{Act, Definition, Exp, Form, Let, Loop, LoopForm, Pat, PatField, PatForm};
+use fut_scalar::{List, NoMemory};
+
+/// Notes the home of so many numbers.
+fn note(homes: &mut List<u32>, count: u32, home: u32) -> Result<(), NoMemory>
+    ensures { OnOk result (homes.new ≡ homes.old ++ replicate count home) }
+{
+    for _ in 0..count {
+        homes.push(home)?;
+    }
+    Ok(())
+}
+
+/// Notes the home of a pattern's numbers.
+#[cycle(pattern)]
+fn note_pattern(homes: &mut List<u32>, pat: &Pat<'_>, home: u32) -> Result<(), NoMemory>
+    ensures { OnOk result (homes.new ≡ homes.old ++ pattern_homes home pat.now) }
+{
+    match pat.form {
+        PatForm::Bound(_) => homes.push(home),
+        PatForm::Wild => homes.push(home),
+        PatForm::Tuple(parts) => {
+            homes.push(home)?;
+            note_patterns(homes, parts, home)
+        }
+        PatForm::Record(fields) => {
+            homes.push(home)?;
+            note_fields(homes, fields, home)
+        }
+        PatForm::Typed(inner, _) => note_pattern(homes, inner, home),
+    }
+}
+
+#[cycle(pattern)]
+fn note_patterns(homes: &mut List<u32>, parts: &[Pat<'_>], home: u32) -> Result<(), NoMemory>
+    ensures { OnOk result (homes.new ≡ homes.old ++ flat_map (pattern_homes home) parts.now) }
+{
+    for part in parts {
+        note_pattern(homes, part, home)?;
+    }
+    Ok(())
+}
+
+#[cycle(pattern)]
+#[tactic(auto, unfolding(crate::specs::Trees::field_homes))]
+fn note_fields(homes: &mut List<u32>, fields: &[PatField<'_>], home: u32) -> Result<(), NoMemory>
+    ensures { OnOk result (homes.new ≡ homes.old ++ flat_map (field_homes home) fields.now) }
+{
+    for field in fields {
+        note_pattern(homes, &field.pat, home)?;
+    }
+    Ok(())
+}
+
+/// Notes the homes of an operation's own numbers.
+#[tactic(auto, unfolding(crate::specs::Trees::act_homes))]
+fn note_act(homes: &mut List<u32>, act: Act<'_>, depth: u32) -> Result<(), NoMemory>
+    ensures { OnOk result (homes.new ≡ homes.old ++ act_homes depth act.entry) }
+{
+    match act {
+        Act::Binary(_) => note(homes, 2, 0),
+        Act::Project(_) => note(homes, 2, 0),
+        Act::Int { ty: None, .. } => note(homes, 1, 0),
+        Act::Negate => note(homes, 1, 0),
+        Act::Complement => note(homes, 1, 0),
+        Act::Replace(_) => note(homes, 1, 0),
+        Act::Int { ty: Some(_), .. } => note(homes, 1, depth),
+        Act::Truth(_) => note(homes, 1, depth),
+        Act::Tuple => note(homes, 1, depth),
+        Act::Record(_) => note(homes, 1, depth),
+        Act::Array => note(homes, 1, depth),
+        Act::Index(_) => note(homes, 1, depth),
+        Act::Update => note(homes, 1, depth),
+        Act::Ascribe(_) => note(homes, 1, depth),
+        Act::Coerce(_) => note(homes, 1, depth),
+        Act::Declared(_) => note(homes, 1, depth),
+        Act::Assert => note(homes, 1, depth),
+        Act::Range { .. } => note(homes, 1, depth),
+    }
+}
+
+/// Notes the homes of a term's numbers.
+#[cycle(term)]
+fn note_exp(homes: &mut List<u32>, exp: &Exp<'_>, depth: u32) -> Result<(), NoMemory>
+    ensures { OnOk result (homes.new ≡ homes.old ++ exp_homes depth exp.now) }
+{
+    match exp.form {
+        Form::Use(_, before) => {
+            homes.push(depth)?;
+            note(homes, before, depth)?;
+            note(homes, before, depth)
+        }
+        Form::Strict { act, parts, .. } => {
+            note_act(homes, act, depth)?;
+            note_parts(homes, parts, depth)
+        }
+        Form::Lambda(params, body) => {
+            homes.push(depth)?;
+            note_patterns(homes, params, depth)?;
+            note_exp(homes, body, depth)
+        }
+        Form::Apply(function, argument) => {
+            homes.push(depth)?;
+            note_exp(homes, function, depth)?;
+            note_exp(homes, argument, depth)
+        }
+        Form::Lets(lets, body) => {
+            note_lets(homes, lets, depth)?;
+            note_exp(homes, body, depth)
+        }
+        Form::If(test, yes, no) => {
+            homes.push(depth)?;
+            note_exp(homes, test, depth)?;
+            note_exp(homes, yes, depth)?;
+            note_exp(homes, no, depth)
+        }
+        Form::Loop(turning) => note_loop(homes, turning, depth),
+    }
+}
+
+#[cycle(term)]
+fn note_parts(homes: &mut List<u32>, parts: &[Exp<'_>], depth: u32) -> Result<(), NoMemory>
+    ensures { OnOk result (homes.new ≡ homes.old ++ flat_map (exp_homes depth) parts.now) }
+{
+    for part in parts {
+        note_exp(homes, part, depth)?;
+    }
+    Ok(())
+}
+
+#[cycle(term)]
+fn note_lets(homes: &mut List<u32>, lets: &[Let<'_>], depth: u32) -> Result<(), NoMemory>
+    ensures { OnOk result (homes.new ≡ homes.old ++ flat_map (let_homes depth) lets.now) }
+{
+    for one in lets {
+        note_let(homes, one, depth)?;
+    }
+    Ok(())
+}
+
+/// A function is one deeper.
+fn depth_of(one: &Let<'_>, depth: u32) -> Result<u32, NoMemory>
+    ensures { IfOk result (λ deep. deep ≡ depth_if one.now.is_function depth) }
+{
+    if one.is_function {
+        match depth.checked_add(1) {
+            Some(deep) => Ok(deep),
+            None => Err(NoMemory),
+        }
+    } else {
+        Ok(depth)
+    }
+}
+
+#[cycle(term)]
+fn note_let(homes: &mut List<u32>, one: &Let<'_>, depth: u32) -> Result<(), NoMemory>
+    ensures { OnOk result (homes.new ≡ homes.old ++ let_homes depth one.now) }
+{
+    let deep = depth_of(one, depth)?;
+    homes.push(depth)?;
+    note_pattern(homes, &one.pat, deep)?;
+    note_exp(homes, &one.value, deep)
+}
+
+#[cycle(term)]
+fn note_loop(homes: &mut List<u32>, turning: &Loop<'_>, depth: u32) -> Result<(), NoMemory>
+    ensures { OnOk result (homes.new ≡ homes.old ++ homes_of depth (loop_of turning.now)) }
+{
+    homes.push(depth)?;
+    note_pattern(homes, &turning.pat, depth)?;
+    note_exp(homes, &turning.first, depth)?;
+    note_turns(homes, turning, depth)?;
+    note_exp(homes, &turning.body, depth)
+}
+
+#[cycle(term)]
+fn note_turns(homes: &mut List<u32>, turning: &Loop<'_>, depth: u32) -> Result<(), NoMemory>
+    ensures { OnOk result (homes.new ≡ homes.old ++ turn_homes depth (turns_of turning.now.form)) }
+{
+    match turning.form {
+        LoopForm::For(_, bound) => {
+            homes.push(depth)?;
+            note_exp(homes, &bound, depth)
+        }
+        LoopForm::ForIn(pat, over) => {
+            note_pattern(homes, &pat, depth)?;
+            note_exp(homes, &over, depth)
+        }
+        LoopForm::While(test) => note_exp(homes, &test, depth),
+    }
+}
+
+/// Notes the homes of the numbers of definitions, each of which is one deep.
+pub(crate) fn note_definitions(
+    homes: &mut List<u32>,
+    definitions: &[Definition<'_>],
+) -> Result<(), NoMemory>
+    ensures { OnOk result (homes.new ≡ homes.old ++ flat_map definition_homes definitions.now) }
+{
+    for definition in definitions {
+        homes.push(1)?;
+        note_exp(homes, definition.value, 1)?;
+    }
+    Ok(())
+}

@@ -1,0 +1,26 @@
+use Rattle.std.proofs.Common.{length, subst}
+use Rattle.type_graph.proofs.Ends.{on_ok}
+use Rattle.type_schemes.specs.Schemes.{PartKnown}
+use Rattle.type_instances.proofs.Pushing.{use_free, use_shared, use_again, use_made, two_tasks, made_graph, made_bound, made_more}
+use Rattle.type_instances.proofs.use_part.Goals as goal
+
+pub returns-in-Free-clause-ok : goal.returns-in-Free-clause-ok
+returns-in-Free-clause-ok c T ins = use_free c.args.nodes.now c.args.tasks.now c.push_task.new.tasks c.args.part c.args.first c.args.count c.args.start c.args.at c.requires.graph c.requires.room c.requires.at c.requires.within c.in-Ok.ensures.ok c.requires.tasks T ins c.in-Free.is
+
+pub returns-in-Shared-clause-ok : goal.returns-in-Shared-clause-ok
+returns-in-Shared-clause-ok c = on_ok c.push_task-in-Shared.result (λ is T ins. use_shared c.args.nodes.now c.args.tasks.now c.push_task.new.tasks c.args.part c.args.first c.args.count c.args.start c.args.at c.requires.graph c.requires.room c.requires.at c.requires.within c.in-Ok.ensures.ok c.requires.tasks T ins c.push_task-in-Shared.new.tasks c.in-Shared.node c.in-Shared.is is) c.push_task-in-Shared.ensures.ok
+
+pub returns-in-Again-clause-ok : goal.returns-in-Again-clause-ok
+returns-in-Again-clause-ok c = on_ok c.push_task-in-Again.result (λ is T ins. use_again c.args.nodes.now c.args.tasks.now c.push_task.new.tasks c.args.part c.args.first c.args.count c.args.start c.args.at c.requires.graph c.requires.room c.requires.at c.requires.within c.in-Ok.ensures.ok c.requires.tasks T ins c.push_task-in-Again.new.tasks c.in-Again.place c.in-Again.is is) c.push_task-in-Again.ensures.ok
+
+pub returns-in-Ok-push_node-clause-graph : goal.returns-in-Ok-push_node-clause-graph
+returns-in-Ok-push_node-clause-graph c = on_ok c.push_task-in-Ok-push_node.result (λ is. made_graph c.args.nodes.now c.args.tasks.now c.push_task.new.tasks c.args.part c.args.first c.args.count c.args.start c.args.at c.requires.graph c.requires.room c.requires.at c.requires.within c.in-Ok.ensures.ok c.requires.tasks c.push_node.new.nodes c.in-Made.head c.in-Made.row c.in-Made.parts c.in-Made.is c.in-Ok-push_node.ensures.ok c.in-Ok-push_node.ensures.room) c.push_task-in-Ok-push_node.ensures.ok
+
+pub returns-in-Ok-push_node-clause-tasks : goal.returns-in-Ok-push_node-clause-tasks
+returns-in-Ok-push_node-clause-tasks c = on_ok c.push_task-in-Ok-push_node.result (λ is. let m = made_more c.args.nodes.now c.args.tasks.now c.push_task.new.tasks c.args.part c.args.first c.args.count c.args.start c.args.at c.requires.graph c.requires.room c.requires.at c.requires.within c.in-Ok.ensures.ok c.requires.tasks c.push_node.new.nodes c.in-Made.head c.in-Made.row c.in-Made.parts c.in-Ok-push_node.made c.in-Ok-push_node.ensures.ok c.in-Ok-push_node.ensures.number in two_tasks c.args.nodes.now c.args.tasks.now c.push_task.new.tasks c.args.part c.args.first c.args.count c.args.start c.args.at c.requires.graph c.requires.room c.requires.at c.requires.within c.in-Ok.ensures.ok c.requires.tasks (length c.push_node.new.nodes) c.push_task-in-Ok-push_node.new.tasks c.in-Ok-push_node.made m.0 m.1 is) c.push_task-in-Ok-push_node.ensures.ok
+
+pub returns-in-Ok-push_node-clause-bound : goal.returns-in-Ok-push_node-clause-bound
+returns-in-Ok-push_node-clause-bound c = on_ok c.push_task-in-Ok-push_node.result (λ is table m known b. made_bound c.args.nodes.now c.args.tasks.now c.push_task.new.tasks c.args.part c.args.first c.args.count c.args.start c.args.at c.requires.graph c.requires.room c.requires.at c.requires.within c.in-Ok.ensures.ok c.requires.tasks c.push_node.new.nodes c.in-Made.head c.in-Made.row c.in-Made.parts table m (subst (PartKnown table) c.in-Made.is known) b c.in-Ok-push_node.ensures.ok) c.push_task-in-Ok-push_node.ensures.ok
+
+pub returns-in-Ok-push_node-clause-ok : goal.returns-in-Ok-push_node-clause-ok
+returns-in-Ok-push_node-clause-ok c = on_ok c.push_task-in-Ok-push_node.result (λ is T ins. use_made c.args.nodes.now c.args.tasks.now c.push_task.new.tasks c.args.part c.args.first c.args.count c.args.start c.args.at c.requires.graph c.requires.room c.requires.at c.requires.within c.in-Ok.ensures.ok c.requires.tasks T ins c.push_node.new.nodes c.push_task-in-Ok-push_node.new.tasks c.in-Ok-push_node.made c.in-Made.head c.in-Made.row c.in-Made.parts c.in-Made.is c.in-Ok-push_node.ensures.ok c.in-Ok-push_node.ensures.number c.in-Ok-push_node.ensures.room is) c.push_task-in-Ok-push_node.ensures.ok

@@ -1,0 +1,164 @@
+//! The uses of definitions.
+//!
+//! A use of a definition makes a free node for each part of the copy of its type, and asks of them what the parts say. It
+//! costs the size of the copy.
+#![tactic(auto)]
+
+ghost use Rattle.std.specs.Prelude.{◌≡◌, ◌<◌, ◌≤◌, ◌+◌, ◌-◌, ◌++◌, ◌∷◌, [], ℕ, length, OnOk, IfErr};
+ghost use Rattle.fut_types.specs.Shapes.{IsTable};
+ghost use Rattle.fut_types.specs.declared.shapes.ShapeTable.{ShapeTable as TheTable};
+ghost use Rattle.type_graph.specs.Graph.{IsGraph, IsBound, Each, Tables, Told, Tells};
+ghost use Rattle.type_claims.specs.Claims.{Sound, Extends, Inside, Adds, Nowhere};
+ghost use Rattle.type_schemes.specs.Schemes.{PartWithin, PartKnown, Region, Known};
+ghost use Rattle.type_instances.specs.Instances.{IsUse, Pushes, Use, Uses, Instanced, Frees};
+
+use fut_scalar::List;
+use fut_types::ShapeTable;
+use std::alloc::Global;
+use type_claims::push_node;
+use type_graph::{Entry, FAR, Form, Node, Task, UnifyErr, solve};
+use type_schemes::{Part, PartForm, part_of};
+
+fn push_task(tasks: &mut List<Task>, task: Task) -> Result<(), UnifyErr>
+    ensures ok { OnOk result (tasks.new ≡ tasks.old ++ task ∷ []) }
+    ensures err { IfErr result (Tells ⊥) }
+{
+    match tasks.push(task) {
+        Ok(()) => Ok(()),
+        Err(_) => Err(UnifyErr::Memory),
+    }
+}
+
+// Adds free nodes.
+fn push_free(nodes: &mut List<Node>, count: u32) -> Result<(), UnifyErr>
+    requires graph { IsGraph nodes.old }
+    ensures graph { OnOk result (IsGraph nodes.new) }
+    ensures long { OnOk result (length nodes.new ≡ length nodes.old + count) }
+    ensures bound { OnOk result ((table : TheTable) (m : ℕ) → IsBound table m nodes.old → IsBound table m nodes.new) }
+    ensures ok { OnOk result ((T : Tables) → Inside T nodes.old → Frees T nodes.old nodes.new) }
+    ensures err { IfErr result (Tells ⊥) }
+{
+    let mut at = 0;
+    while at < count {
+        match push_node(nodes, Form::Free) {
+            Ok(_) => {}
+            Err(error) => return Err(error),
+        }
+        at += 1;
+    }
+    Ok(())
+}
+
+// Asks of a node what a part says.
+fn use_part(
+    nodes: &mut List<Node>,
+    tasks: &mut List<Task>,
+    part: Part,
+    first: u32,
+    count: u32,
+    start: u32,
+    at: u32,
+) -> Result<(), UnifyErr>
+    requires graph { IsGraph nodes.old }
+    requires room { start + count ≤ length nodes.old }
+    requires at { at < count }
+    requires within { PartWithin start first (first + count) (first + at) part.form }
+    requires tasks { Each (IsUse (length nodes.old)) tasks.old }
+    ensures graph { OnOk result (IsGraph nodes.new) }
+    ensures longer { OnOk result (length nodes.old ≤ length nodes.new) }
+    ensures tasks { OnOk result (Each (IsUse (length nodes.new)) tasks.new) }
+    ensures bound { OnOk result ((table : TheTable) (m : ℕ) → PartKnown table part.form → IsBound table m nodes.old → IsBound table m nodes.new) }
+    ensures ok { OnOk result ((T : Tables) → Inside T nodes.old → Pushes T nodes.old tasks.old (Use first start at part) nodes.new tasks.new) }
+    ensures err { IfErr result (Tells ⊥) }
+{
+    let number = start + at;
+    match push_task(tasks, Task::Has(number, part.kind, FAR)) {
+        Ok(()) => {}
+        Err(error) => return Err(error),
+    }
+    match part.form {
+        PartForm::Free => Ok(()),
+        PartForm::Shared(node) => push_task(tasks, Task::Same(number, node)),
+        PartForm::Again(place) => push_task(tasks, Task::Same(number, start + (place - first))),
+        PartForm::Made(head, row, parts) => {
+            match push_node(nodes, Form::Made(head, start + (row - first), parts)) {
+                Ok(made) => push_task(tasks, Task::Same(number, made)),
+                Err(error) => Err(error),
+            }
+        }
+    }
+}
+
+// Asks of nodes what the parts say.
+fn use_parts(
+    nodes: &mut List<Node>,
+    tasks: &mut List<Task>,
+    store: &List<Part>,
+    first: u32,
+    count: u32,
+    start: u32,
+) -> Result<(), UnifyErr>
+    requires graph { IsGraph nodes.old }
+    requires room { start + count ≤ length nodes.old }
+    requires region { Region start store.now first count }
+    requires tasks { Each (IsUse (length nodes.old)) tasks.old }
+    ensures graph { OnOk result (IsGraph nodes.new) }
+    ensures longer { OnOk result (length nodes.old ≤ length nodes.new) }
+    ensures tasks { OnOk result (Each (IsUse (length nodes.new)) tasks.new) }
+    ensures bound { OnOk result ((table : TheTable) (m : ℕ) → Known table store.now first count → IsBound table m nodes.old → IsBound table m nodes.new) }
+    ensures ok { OnOk result ((T : Tables) → Inside T nodes.old → Pushes T nodes.old tasks.old (Uses store.now first start count) nodes.new tasks.new) }
+    ensures err { IfErr result (Tells ⊥) }
+{
+    let mut at = 0;
+    while at < count {
+        let part = part_of(store, first + at);
+        match use_part(nodes, tasks, part, first, count, start, at) {
+            Ok(()) => {}
+            Err(error) => return Err(error),
+        }
+        at += 1;
+    }
+    Ok(())
+}
+
+/// Asks that a node's type is one of a definition.
+pub fn instance(
+    alloc: Global,
+    table: &ShapeTable,
+    base: u32,
+    nodes: &mut List<Node>,
+    entries: &mut List<Entry>,
+    store: &List<Part>,
+    first: u32,
+    count: u32,
+    number: u32,
+) -> Result<(), UnifyErr>
+    requires table { IsTable table.now }
+    requires sound { Sound table.now nodes.old entries.old }
+    requires base { base ≤ length nodes.old }
+    requires number { number < base }
+    requires region { Region (length nodes.old) store.now first count }
+    requires known { Known table.now store.now first count }
+    ensures extends { OnOk result (Extends table.now nodes.old entries.old nodes.new entries.new) }
+    ensures ok { OnOk result ((T : Tables) → Told table.now entries.new T → Adds T base (Instanced T base nodes.old store.now first count number) (λ home. Unit {0}) nodes.old nodes.new) }
+    ensures err { IfErr result (Tells ((T : Tables) → Told table.now entries.new T → Nowhere T base (Instanced T base nodes.old store.now first count number) nodes.old)) }
+    ensures before { IfErr result (Tells ((T : Tables) → Told table.now entries.new T → Told table.now entries.old T)) }
+{
+    if nodes.len() >= 4294967295 {
+        return Err(UnifyErr::Memory);
+    }
+    let start = nodes.len() as u32;
+    match push_free(nodes, count) {
+        Ok(()) => {}
+        Err(_) => return Err(UnifyErr::Memory),
+    }
+    let mut tasks = List::new(alloc);
+    match use_parts(nodes, &mut tasks, store, first, count, start) {
+        Ok(()) => {}
+        Err(_) => return Err(UnifyErr::Memory),
+    }
+    match push_task(&mut tasks, Task::Same(number, start)) {
+        Ok(()) => solve(table, nodes, entries, &mut tasks),
+        Err(_) => Err(UnifyErr::Memory),
+    }
+}

@@ -1,0 +1,15 @@
+use Rattle.type_rules.specs.Demands.{Met, All_met, IsDemand, Are_demands, Allows, All_allow}
+use Rattle.type_rules.proofs.Said.{range_to, range_from}
+use Rattle.type_rules.proofs.operations.range.Goals as goal
+
+pub returns-clause-says : goal.returns-clause-says
+unfolding All_met Met
+returns-clause-says c = λ N places end u S K a. (range_to places K (a c.args.id) (a c.args.from) (a c.args.to), range_from places K (a c.args.id) (a c.args.from) (a c.args.to))
+
+pub returns-clause-within : goal.returns-clause-within
+unfolding Are_demands IsDemand
+returns-clause-within c = λ table base w. ((w.0, w.1.0), (w.1.0, ((w.1.1.0, w.1.0), tt)))
+
+pub returns-clause-allowed : goal.returns-clause-allowed
+unfolding All_allow Allows
+returns-clause-allowed c = λ home. (tt, (tt, (tt, tt)))
