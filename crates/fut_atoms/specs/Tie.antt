@@ -1,13 +1,14 @@
 -- What reads the expressions in a production is handed over to the function that reads the production.
-use Rattle.std.specs.Prelude.{◌≤◌, ℕ, List, Option, Result, IfOk}
+use Rattle.std.specs.Prelude.{◌≤◌, ℕ, List, Option, Result, Err, IfOk, if◌then◌else◌}
 use Rattle.std.specs.Borrow.{Bor}
 use Rattle.fut_token.specs.declared.token.Fixed.{Fixed}
 use Rattle.fut_token.specs.declared.token.Token.{Token}
 use Rattle.fut_ast.specs.declared.node.Ended.{Ended}
 use Rattle.fut_ast.specs.Sorts.{Sort, Tree, Path, SourceExp, Atom, Unary, Operands, Operand, Right, Whole, Last, Inside, Replacing}
+use Rattle.fut_ast.specs.Tokens.{starts, tail}
 use Rattle.fut_tree.specs.Names.{names}
 use Rattle.fut_grammar.specs.declared.fault.Stop.{Stop}
-use Rattle.fut_grammar.specs.Reading.{Gives}
+use Rattle.fut_grammar.specs.Reading.{Gives, Read, refuse}
 use Rattle.fut_grammar.specs.Phrases.{read_at}
 use Rattle.fut_phrases.specs.declared.found.Found.{Found}
 use Rattle.fut_phrases.specs.Found.{found_as}
@@ -64,3 +65,7 @@ Reads s d ts r = Gives (found_as (seen s)) r (read_at d (sort_of s) ts)
 -- each answer is what reading gives, where post says what is answered
 abbrev pub Law : (ExpSort → Bor (List Token) → Answer → Type 0) → ℕ → Type 0
 Law post d = (n : ExpSort) (ts : Bor (List Token)) (r : Answer) → post n ts r → Reads n d ts.now r × IfOk r (λ x. x.height ≤ d)
+
+-- a keyword or symbol, and a phrase behind it
+abbrev pub behind : {A : Type 0} → Fixed → (List Token → Read A) → List Token → Read A
+behind f read ts = if starts f ts then read (tail ts) else Err (refuse ts)

@@ -1,6 +1,7 @@
 // Atoms: expressions of one token or in brackets, with indices and fields behind them.
-ghost use Rattle.std.specs.Prelude.{◌≡◌, ◌≤◌, ◌<◌, ◌+◌, suc, IfOk};
+ghost use Rattle.std.specs.Prelude.{◌≡◌, true, ◌≤◌, ◌<◌, ◌+◌, suc, IfOk};
 ghost use Rattle.fut_ast.specs.Behind.{behind_atom};
+ghost use Rattle.fut_ast.specs.Tokens.{starts};
 ghost use Rattle.fut_ast.specs.Rows.{field_digits, field_name, indexed};
 ghost use Rattle.fut_grammar.specs.Phrases.{again_at, atom_at, atom_suffix, phrases, read_at};
 ghost use Rattle.fut_grammar.specs.Reading.{Gives, suffix_at};
@@ -8,6 +9,7 @@ ghost use Rattle.fut_phrases.specs.Found.{tree_found};
 
 use crate::brackets::base_below;
 use crate::indices::index_list;
+use crate::made::made;
 use crate::tie::ReadExp;
 use bumpalo::Bump;
 use fut_ast::{Spot, What};
@@ -34,8 +36,10 @@ pub fn atom_below<'a, R: ReadExp<'a>>(
     ensures exact { Gives tree_found result (atom_at (phrases (read_at inner)) (suc inner) tokens.now) }
     ensures low { IfOk result (λ x. x.height ≤ inner + 1) }
 {
-    let base = base_below(bump, read, inner, tokens)?;
-    suffixes_behind(bump, read, inner, next_spot(tokens), base)
+    match base_below(bump, read, inner, tokens) {
+        Ok(base) => suffixes_behind(bump, read, inner, next_spot(tokens), base),
+        Err(stop) => Err(stop),
+    }
 }
 
 fn suffixes_behind<'a, R: ReadExp<'a>>(
@@ -103,39 +107,51 @@ fn index_behind<'a, R: ReadExp<'a>>(
         return Err(Stop::Fault(refused(first.rest)));
     }
     let bracket = next_spot(first.rest).place;
-    let parts = index_list(bump, read, inner, first.height, rest_of(first.rest))?;
-    let rest = take(parts.rest, Fixed::CloseBracket)?;
-    let tree = index(bump, at.place, bracket, first.tree, parts.tree)?;
-    Ok(Found {
-        tree,
-        height: parts.height + 1,
-        rest,
-    })
+    match index_list(bump, read, inner, first.height, rest_of(first.rest)) {
+        Ok(parts) => {
+            match take(parts.rest, Fixed::CloseBracket) {
+                Ok(rest) => match index(bump, at.place, bracket, first.tree, parts.tree) {
+                    Ok(tree) => Ok(Found {
+                        tree,
+                        height: parts.height + 1,
+                        rest,
+                    }),
+                    Err(_) => Err(Stop::Memory),
+                },
+                Err(stop) => Err(stop),
+            }
+        }
+        Err(stop) => Err(stop),
+    }
 }
 
-#[tactic(auto, unfolding(fut_grammar::specs::Reading::suffix_at, fut_grammar::specs::Reading::parts_at, fut_grammar::specs::Reading::has_at))]
+#[tactic(auto, unfolding(fut_grammar::specs::Reading::suffix_at, fut_grammar::specs::Reading::parts_at, fut_grammar::specs::Reading::has_at, fut_grammar::specs::Reading::expect))]
 fn field_behind<'a>(
     bump: &'a Bump,
     inner: u32,
     at: Spot,
     first: Found<'a, &'a Exp<'a>>,
 ) -> Result<Found<'a, &'a Exp<'a>>, Stop>
-    requires { (inner < 1000) × (first.height ≤ inner + 1) }
+    requires first { starts Fixed.Dot first.rest.now ≡ true }
+    requires room { (inner < 1000) × (first.height ≤ inner + 1) }
     ensures exact { Gives tree_found result (suffix_at (phrases (read_at inner)) field_name (suc inner) at first.entry.tree.now first.entry.height first.entry.rest.now) }
     ensures low { IfOk result (λ x. x.height ≤ inner + 1) }
 {
     if first.height > inner {
         return Err(Stop::Fault(Fault::TooDeep(first.rest.len())));
     }
-    without_form(What::LocalOpen, first.rest)?;
-    let rest = take(first.rest, Fixed::Dot)?;
-    let (name, rest) = take_word(rest)?;
-    let tree = field(bump, at.place, first.tree, name)?;
-    Ok(Found {
-        tree,
-        height: first.height + 1,
-        rest,
-    })
+    match without_form(What::LocalOpen, first.rest) {
+        Ok(()) => (),
+        Err(stop) => return Err(stop),
+    }
+    match take_word(rest_of(first.rest)) {
+        Ok((name, rest)) => made(
+            field(bump, at.place, first.tree, name),
+            first.height + 1,
+            rest,
+        ),
+        Err(stop) => Err(stop),
+    }
 }
 
 #[tactic(auto, unfolding(fut_grammar::specs::Reading::suffix_at, fut_grammar::specs::Reading::parts_at, fut_grammar::specs::Reading::has_at))]
@@ -152,11 +168,12 @@ fn digits_behind<'a>(
     if first.height > inner {
         return Err(Stop::Fault(Fault::TooDeep(first.rest.len())));
     }
-    let (name, rest) = take_digits(first.rest)?;
-    let tree = field(bump, at.place, first.tree, name)?;
-    Ok(Found {
-        tree,
-        height: first.height + 1,
-        rest,
-    })
+    match take_digits(first.rest) {
+        Ok((name, rest)) => made(
+            field(bump, at.place, first.tree, name),
+            first.height + 1,
+            rest,
+        ),
+        Err(stop) => Err(stop),
+    }
 }

@@ -1,7 +1,8 @@
 // Expressions of one token or in brackets.
-ghost use Rattle.std.specs.Prelude.{◌≡◌, ◌≤◌, ◌<◌, ◌+◌, suc, length, IfOk};
+ghost use Rattle.std.specs.Prelude.{◌≡◌, true, ◌≤◌, ◌<◌, ◌+◌, suc, length, IfOk};
 ghost use Rattle.fut_ast.specs.ExpRows.{elements, record_of};
 ghost use Rattle.fut_ast.specs.Rows.{of_exp};
+ghost use Rattle.fut_ast.specs.Tokens.{starts};
 ghost use Rattle.fut_ast.specs.Sorts.{Whole};
 ghost use Rattle.fut_grammar.specs.Phrases.{base_at, bracket_at, phrases, read_at};
 ghost use Rattle.fut_grammar.specs.Reading.{Gives, commas_at, row_at};
@@ -90,15 +91,26 @@ fn elements<'a, R: ReadExp<'a>>(
     ensures low { IfOk result (λ x. x.height ≤ inner + 1) }
 {
     let place = next_spot(tokens).place;
-    let rest = take(tokens, Fixed::OpenBracket)?;
-    let all = expressions(bump, read, inner, 0, rest)?;
-    let rest = take(all.rest, Fixed::CloseBracket)?;
-    let tree = array(bump, place, all.tree)?;
-    Ok(Found {
-        tree,
-        height: all.height + 1,
-        rest,
-    })
+    let behind = match take(tokens, Fixed::OpenBracket) {
+        Ok(behind) => behind,
+        Err(stop) => return Err(stop),
+    };
+    match expressions(bump, read, inner, 0, behind) {
+        Ok(all) => {
+            match take(all.rest, Fixed::CloseBracket) {
+                Ok(rest) => match array(bump, place, all.tree) {
+                    Ok(tree) => Ok(Found {
+                        tree,
+                        height: all.height + 1,
+                        rest,
+                    }),
+                    Err(_) => Err(Stop::Memory),
+                },
+                Err(stop) => Err(stop),
+            }
+        }
+        Err(stop) => Err(stop),
+    }
 }
 
 #[tactic(auto, unfolding(fut_grammar::specs::Reading::row_at, fut_grammar::specs::Reading::parts_at, fut_grammar::specs::Reading::has_at))]
@@ -114,15 +126,26 @@ fn fields<'a, R: ReadExp<'a>>(
     ensures low { IfOk result (λ x. x.height ≤ inner + 1) }
 {
     let place = next_spot(tokens).place;
-    let rest = take(tokens, Fixed::OpenBrace)?;
-    let all = field_list(bump, read, inner, rest)?;
-    let rest = take(all.rest, Fixed::CloseBrace)?;
-    let tree = record(bump, place, all.tree)?;
-    Ok(Found {
-        tree,
-        height: all.height + 1,
-        rest,
-    })
+    let behind = match take(tokens, Fixed::OpenBrace) {
+        Ok(behind) => behind,
+        Err(stop) => return Err(stop),
+    };
+    match field_list(bump, read, inner, behind) {
+        Ok(all) => {
+            match take(all.rest, Fixed::CloseBrace) {
+                Ok(rest) => match record(bump, place, all.tree) {
+                    Ok(tree) => Ok(Found {
+                        tree,
+                        height: all.height + 1,
+                        rest,
+                    }),
+                    Err(_) => Err(Stop::Memory),
+                },
+                Err(stop) => Err(stop),
+            }
+        }
+        Err(stop) => Err(stop),
+    }
 }
 
 /// Expressions with commas between.
@@ -161,11 +184,13 @@ impl<'a, R: ReadExp<'a>> ReadItem<'a, Held<'a, Exp<'a>>> for ExpItems<R> {
         tokens: &'a [Token],
     ) -> Result<Found<'a, Held<'a, Exp<'a>>>, Stop> {
         let _bump = bump;
-        let item = self.read.read(inner, ExpSort::Whole, tokens)?;
-        Ok(Found {
-            tree: Held { at: item.tree.exp },
-            height: item.height,
-            rest: item.rest,
-        })
+        match self.read.read(inner, ExpSort::Whole, tokens) {
+            Ok(item) => Ok(Found {
+                tree: Held { at: item.tree.exp },
+                height: item.height,
+                rest: item.rest,
+            }),
+            Err(stop) => Err(stop),
+        }
     }
 }

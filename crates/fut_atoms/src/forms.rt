@@ -1,7 +1,8 @@
 // Forms that begin with a keyword and reach far: if, functions, loops.
-ghost use Rattle.std.specs.Prelude.{◌≡◌, ◌≤◌, ◌<◌, ◌+◌, suc, length, IfOk};
+ghost use Rattle.std.specs.Prelude.{◌≡◌, true, ◌≤◌, ◌<◌, ◌+◌, suc, length, IfOk};
 ghost use Rattle.fut_ast.specs.ExpRows.{count, each, function, if_else, loop, while};
 ghost use Rattle.fut_ast.specs.Rows.{of_exp};
+ghost use Rattle.fut_ast.specs.Tokens.{starts};
 ghost use Rattle.fut_ast.specs.Sorts.{Loop_item};
 ghost use Rattle.fut_grammar.specs.Phrases.{form_at, items, loop_item_at, phrases, read_at};
 ghost use Rattle.fut_grammar.specs.Reading.{Gives, row_at, start_at};
@@ -9,7 +10,8 @@ ghost use Rattle.fut_atoms.specs.Tie.{ending_found};
 ghost use Rattle.fut_phrases.specs.Found.{found_as};
 ghost use Rattle.fut_tree.specs.Exps.{loop_of};
 
-use crate::tie::{Ending, ExpSort, ReadExp};
+use crate::made::{ending_made, loop_made};
+use crate::tie::{Ending, ExpSort, ReadExp, read_behind};
 use bumpalo::Bump;
 use fut_exp_parts::exp_nodes::{choice, function};
 use fut_exp_parts::loops::{for_in_loop, for_loop, looping, while_loop};
@@ -46,35 +48,39 @@ pub fn form_below<'a, R: ReadExp<'a>>(
     }
 }
 
-#[tactic(auto, unfolding(fut_grammar::specs::Reading::row_at, fut_grammar::specs::Reading::parts_at, fut_grammar::specs::Reading::has_at, fut_grammar::specs::Reading::sub_at, fut_grammar::specs::Phrases::phrases))]
+#[tactic(auto, unfolding(fut_grammar::specs::Reading::row_at, fut_grammar::specs::Reading::parts_at, fut_grammar::specs::Reading::has_at, fut_grammar::specs::Reading::sub_at, fut_grammar::specs::Phrases::phrases, fut_grammar::specs::Reading::expect))]
 fn if_else<'a, R: ReadExp<'a>>(
     bump: &'a Bump,
     read: R,
     inner: u32,
     tokens: &'a [Token],
 ) -> Result<Found<'a, Ending<'a>>, Stop>
+    requires first { starts Fixed.KeyIf tokens.now ≡ true }
     requires law { R.reads read inner }
     requires room { inner < 1000 }
     ensures exact { Gives ending_found result (row_at (phrases (read_at inner)) (of_exp if_else) tokens.now) }
     ensures low { IfOk result (λ x. x.height ≤ inner + 1) }
 {
     let place = next_spot(tokens).place;
-    let test = read.read(inner, ExpSort::Whole, take(tokens, Fixed::KeyIf)?)?;
-    let yes = read.read(inner, ExpSort::Whole, take(test.rest, Fixed::KeyThen)?)?;
-    let no = read.read(inner, ExpSort::Last, take(yes.rest, Fixed::KeyElse)?)?;
-    let exp = choice(bump, place, place, test.tree.exp, yes.tree.exp, no.tree.exp)?;
-    let height = greater(greater(test.height, yes.height), no.height);
-    Ok(Found {
-        tree: Ending {
-            exp,
-            ended: no.tree.ended,
-        },
-        height: height + 1,
-        rest: no.rest,
-    })
+    let test = match read.read(inner, ExpSort::Whole, rest_of(tokens)) {
+        Ok(test) => test,
+        Err(stop) => return Err(stop),
+    };
+    let yes = match read_behind(read, inner, Fixed::KeyThen, ExpSort::Whole, test.rest) {
+        Ok(yes) => yes,
+        Err(stop) => return Err(stop),
+    };
+    match read_behind(read, inner, Fixed::KeyElse, ExpSort::Last, yes.rest) {
+        Ok(no) => {
+            let node = choice(bump, place, place, test.tree.exp, yes.tree.exp, no.tree.exp);
+            let height = greater(greater(test.height, yes.height), no.height);
+            ending_made(node, no.tree.ended, height + 1, no.rest)
+        }
+        Err(stop) => Err(stop),
+    }
 }
 
-#[tactic(auto, unfolding(fut_grammar::specs::Reading::row_at, fut_grammar::specs::Reading::parts_at, fut_grammar::specs::Reading::has_at, fut_grammar::specs::Reading::sub_at, fut_grammar::specs::Phrases::phrases))]
+#[tactic(auto, unfolding(fut_grammar::specs::Reading::row_at, fut_grammar::specs::Reading::parts_at, fut_grammar::specs::Reading::has_at, fut_grammar::specs::Reading::sub_at, fut_grammar::specs::Phrases::phrases, fut_grammar::specs::Reading::expect))]
 fn function_form<'a, R: ReadExp<'a>>(
     bump: &'a Bump,
     read: R,
@@ -87,21 +93,29 @@ fn function_form<'a, R: ReadExp<'a>>(
     ensures low { IfOk result (λ x. x.height ≤ inner + 1) }
 {
     let place = next_spot(tokens).place;
-    let params = several_patterns(bump, inner, 0, take(tokens, Fixed::Backslash)?)?;
-    let ty = maybe_applied_type(bump, inner, params.height, params.rest)?;
-    let body = read.read(inner, ExpSort::Last, take(ty.rest, Fixed::Arrow)?)?;
-    let exp = function(bump, place, params.tree, ty.tree, body.tree.exp)?;
-    Ok(Found {
-        tree: Ending {
-            exp,
-            ended: body.tree.ended,
-        },
-        height: greater(ty.height, body.height) + 1,
-        rest: body.rest,
-    })
+    let behind = match take(tokens, Fixed::Backslash) {
+        Ok(behind) => behind,
+        Err(stop) => return Err(stop),
+    };
+    let params = match several_patterns(bump, inner, 0, behind) {
+        Ok(params) => params,
+        Err(stop) => return Err(stop),
+    };
+    let ty = match maybe_applied_type(bump, inner, params.height, params.rest) {
+        Ok(ty) => ty,
+        Err(stop) => return Err(stop),
+    };
+    match read_behind(read, inner, Fixed::Arrow, ExpSort::Last, ty.rest) {
+        Ok(body) => {
+            let node = function(bump, place, params.tree, ty.tree, body.tree.exp);
+            let height = greater(ty.height, body.height);
+            ending_made(node, body.tree.ended, height + 1, body.rest)
+        }
+        Err(stop) => Err(stop),
+    }
 }
 
-#[tactic(auto, unfolding(fut_grammar::specs::Reading::row_at, fut_grammar::specs::Reading::parts_at, fut_grammar::specs::Reading::has_at, fut_grammar::specs::Reading::sub_at, fut_grammar::specs::Phrases::phrases))]
+#[tactic(auto, unfolding(fut_grammar::specs::Reading::row_at, fut_grammar::specs::Reading::parts_at, fut_grammar::specs::Reading::has_at, fut_grammar::specs::Reading::sub_at, fut_grammar::specs::Phrases::phrases, fut_grammar::specs::Reading::expect))]
 fn loop_form<'a, R: ReadExp<'a>>(
     bump: &'a Bump,
     read: R,
@@ -114,28 +128,38 @@ fn loop_form<'a, R: ReadExp<'a>>(
     ensures low { IfOk result (λ x. x.height ≤ inner + 1) }
 {
     let place = next_spot(tokens).place;
-    let sizes = size_names(bump, inner, take(tokens, Fixed::KeyLoop)?)?;
-    let start = loop_start(bump, read, inner, sizes.height, sizes.rest)?;
-    let over = loop_item(bump, read, inner, start.rest)?;
-    let body = read.read(inner, ExpSort::Last, take(over.rest, Fixed::KeyDo)?)?;
-    let exp = looping(
-        bump,
-        place,
-        sizes.tree,
-        start.tree.pat,
-        start.tree.value,
-        over.tree,
-        body.tree.exp,
-    )?;
-    let height = greater(greater(start.height, over.height), body.height);
-    Ok(Found {
-        tree: Ending {
-            exp,
-            ended: body.tree.ended,
-        },
-        height: height + 1,
-        rest: body.rest,
-    })
+    let behind = match take(tokens, Fixed::KeyLoop) {
+        Ok(behind) => behind,
+        Err(stop) => return Err(stop),
+    };
+    let sizes = match size_names(bump, inner, behind) {
+        Ok(sizes) => sizes,
+        Err(stop) => return Err(stop),
+    };
+    let start = match loop_start(bump, read, inner, sizes.height, sizes.rest) {
+        Ok(start) => start,
+        Err(stop) => return Err(stop),
+    };
+    let over = match loop_item(bump, read, inner, start.rest) {
+        Ok(over) => over,
+        Err(stop) => return Err(stop),
+    };
+    match read_behind(read, inner, Fixed::KeyDo, ExpSort::Last, over.rest) {
+        Ok(body) => {
+            let node = looping(
+                bump,
+                place,
+                sizes.tree,
+                start.tree.pat,
+                start.tree.value,
+                over.tree,
+                body.tree.exp,
+            );
+            let height = greater(greater(start.height, over.height), body.height);
+            ending_made(node, body.tree.ended, height + 1, body.rest)
+        }
+        Err(stop) => Err(stop),
+    }
 }
 
 // The pattern of a loop and its first value.
@@ -158,31 +182,38 @@ fn loop_start<'a, R: ReadExp<'a>>(
     ensures exact { Gives (found_as (λ t. (t.pat.now, t.value.now))) result (start_at (phrases (read_at inner)) first_height tokens.now) }
     ensures low { IfOk result (λ x. x.height ≤ inner) }
 {
-    let pat = whole_pattern(bump, inner, tokens)?;
+    let pat = match whole_pattern(bump, inner, tokens) {
+        Ok(pat) => pat,
+        Err(stop) => return Err(stop),
+    };
     let height = greater(first_height, pat.height);
     if starts_with(pat.rest, Fixed::Equal) {
-        let value = read.read(inner, ExpSort::Whole, rest_of(pat.rest))?;
-        return Ok(Found {
-            tree: Start {
-                pat: pat.tree,
-                value: value.tree.exp,
-            },
-            height: greater(height, value.height),
-            rest: value.rest,
-        });
+        return match read.read(inner, ExpSort::Whole, rest_of(pat.rest)) {
+            Ok(value) => Ok(Found {
+                tree: Start {
+                    pat: pat.tree,
+                    value: value.tree.exp,
+                },
+                height: greater(height, value.height),
+                rest: value.rest,
+            }),
+            Err(stop) => Err(stop),
+        };
     }
     if has_wildcard(pat.tree) {
         return Err(Stop::Fault(refused(pat.rest)));
     }
-    let value = exp_of_pattern(bump, pat.tree)?;
-    Ok(Found {
-        tree: Start {
-            pat: pat.tree,
-            value,
-        },
-        height,
-        rest: pat.rest,
-    })
+    match exp_of_pattern(bump, pat.tree) {
+        Ok(value) => Ok(Found {
+            tree: Start {
+                pat: pat.tree,
+                value,
+            },
+            height,
+            rest: pat.rest,
+        }),
+        Err(_) => Err(Stop::Memory),
+    }
 }
 
 #[tactic(auto, unfolding(fut_grammar::specs::Phrases::phrases, fut_grammar::specs::Phrases::bounded, fut_grammar::specs::Phrases::ended, fut_grammar::specs::Phrases::flat_at, fut_grammar::specs::Reading::refuse_sort))]
@@ -226,27 +257,26 @@ fn any_loop_item<'a, R: ReadExp<'a>>(
     }
 }
 
-#[tactic(auto, unfolding(fut_grammar::specs::Reading::row_at, fut_grammar::specs::Reading::parts_at, fut_grammar::specs::Reading::has_at, fut_grammar::specs::Reading::sub_at, fut_grammar::specs::Phrases::items))]
+#[tactic(auto, unfolding(fut_grammar::specs::Reading::row_at, fut_grammar::specs::Reading::parts_at, fut_grammar::specs::Reading::has_at, fut_grammar::specs::Reading::sub_at, fut_grammar::specs::Phrases::items, fut_grammar::specs::Reading::expect))]
 fn as_long<'a, R: ReadExp<'a>>(
     bump: &'a Bump,
     read: R,
     inner: u32,
     tokens: &'a [Token],
 ) -> Result<Found<'a, &'a LoopForm<'a>>, Stop>
+    requires first { starts Fixed.KeyWhile tokens.now ≡ true }
     requires law { R.reads read inner }
     requires room { inner < 1000 }
     ensures exact { Gives (found_as (λ t. loop_of t.now)) result (row_at (items (read_at inner)) (of_exp while) tokens.now) }
     ensures low { IfOk result (λ x. x.height ≤ inner) }
 {
-    let test = read.read(inner, ExpSort::Whole, take(tokens, Fixed::KeyWhile)?)?;
-    Ok(Found {
-        tree: while_loop(bump, test.tree.exp)?,
-        height: test.height,
-        rest: test.rest,
-    })
+    match read.read(inner, ExpSort::Whole, rest_of(tokens)) {
+        Ok(test) => loop_made(while_loop(bump, test.tree.exp), test.height, test.rest),
+        Err(stop) => Err(stop),
+    }
 }
 
-#[tactic(auto, unfolding(fut_grammar::specs::Reading::row_at, fut_grammar::specs::Reading::parts_at, fut_grammar::specs::Reading::has_at, fut_grammar::specs::Reading::sub_at, fut_grammar::specs::Phrases::items))]
+#[tactic(auto, unfolding(fut_grammar::specs::Reading::row_at, fut_grammar::specs::Reading::parts_at, fut_grammar::specs::Reading::has_at, fut_grammar::specs::Reading::sub_at, fut_grammar::specs::Phrases::items, fut_grammar::specs::Reading::expect))]
 fn counted<'a, R: ReadExp<'a>>(
     bump: &'a Bump,
     read: R,
@@ -258,16 +288,25 @@ fn counted<'a, R: ReadExp<'a>>(
     ensures exact { Gives (found_as (λ t. loop_of t.now)) result (row_at (items (read_at inner)) (of_exp count) tokens.now) }
     ensures low { IfOk result (λ x. x.height ≤ inner) }
 {
-    let (name, rest) = take_word(take(tokens, Fixed::KeyFor)?)?;
-    let bound = read.read(inner, ExpSort::Whole, take(rest, Fixed::Less)?)?;
-    Ok(Found {
-        tree: for_loop(bump, name, bound.tree.exp)?,
-        height: bound.height,
-        rest: bound.rest,
-    })
+    let behind = match take(tokens, Fixed::KeyFor) {
+        Ok(behind) => behind,
+        Err(stop) => return Err(stop),
+    };
+    let (name, rest) = match take_word(behind) {
+        Ok(word) => word,
+        Err(stop) => return Err(stop),
+    };
+    match read_behind(read, inner, Fixed::Less, ExpSort::Whole, rest) {
+        Ok(bound) => loop_made(
+            for_loop(bump, name, bound.tree.exp),
+            bound.height,
+            bound.rest,
+        ),
+        Err(stop) => Err(stop),
+    }
 }
 
-#[tactic(auto, unfolding(fut_grammar::specs::Reading::row_at, fut_grammar::specs::Reading::parts_at, fut_grammar::specs::Reading::has_at, fut_grammar::specs::Reading::sub_at, fut_grammar::specs::Phrases::items))]
+#[tactic(auto, unfolding(fut_grammar::specs::Reading::row_at, fut_grammar::specs::Reading::parts_at, fut_grammar::specs::Reading::has_at, fut_grammar::specs::Reading::sub_at, fut_grammar::specs::Phrases::items, fut_grammar::specs::Reading::expect))]
 fn over_elements<'a, R: ReadExp<'a>>(
     bump: &'a Bump,
     read: R,
@@ -279,15 +318,22 @@ fn over_elements<'a, R: ReadExp<'a>>(
     ensures exact { Gives (found_as (λ t. loop_of t.now)) result (row_at (items (read_at inner)) (of_exp each) tokens.now) }
     ensures low { IfOk result (λ x. x.height ≤ inner) }
 {
-    let rest = take(tokens, Fixed::KeyFor)?;
+    let rest = match take(tokens, Fixed::KeyFor) {
+        Ok(rest) => rest,
+        Err(stop) => return Err(stop),
+    };
     if starts_with_word(rest) && starts_with(rest_of(rest), Fixed::Less) {
         return Err(Stop::Fault(refused(rest)));
     }
-    let pat = whole_pattern(bump, inner, rest)?;
-    let array = read.read(inner, ExpSort::Whole, take(pat.rest, Fixed::KeyIn)?)?;
-    Ok(Found {
-        tree: for_in_loop(bump, pat.tree, array.tree.exp)?,
-        height: greater(pat.height, array.height),
-        rest: array.rest,
-    })
+    let pat = match whole_pattern(bump, inner, rest) {
+        Ok(pat) => pat,
+        Err(stop) => return Err(stop),
+    };
+    match read_behind(read, inner, Fixed::KeyIn, ExpSort::Whole, pat.rest) {
+        Ok(array) => {
+            let node = for_in_loop(bump, pat.tree, array.tree.exp);
+            loop_made(node, greater(pat.height, array.height), array.rest)
+        }
+        Err(stop) => Err(stop),
+    }
 }

@@ -12,7 +12,8 @@ ghost use Rattle.fut_grammar.specs.Phrases.{items, let_at, phrases, read_at, row
 ghost use Rattle.fut_grammar.specs.Reading.{Gives, parts_at, row_at};
 ghost use Rattle.fut_tree.specs.Exps.{bind_of, binds_of};
 
-use crate::tie::{ExpSort, ReadExp};
+use crate::made::bind_made;
+use crate::tie::{ExpSort, ReadExp, read_behind};
 use crate::written::written_list;
 use bumpalo::Bump;
 use bumpalo::collections::into_bump_slice;
@@ -107,7 +108,7 @@ fn any_let<'a, R: ReadExp<'a>>(
     }
 }
 
-#[tactic(auto, unfolding(fut_grammar::specs::Reading::row_at, fut_grammar::specs::Reading::parts_at, fut_grammar::specs::Reading::has_at, fut_grammar::specs::Reading::sub_at, fut_grammar::specs::Phrases::items))]
+#[tactic(auto, unfolding(fut_grammar::specs::Reading::row_at, fut_grammar::specs::Reading::parts_at, fut_grammar::specs::Reading::has_at, fut_grammar::specs::Reading::sub_at, fut_grammar::specs::Phrases::items, fut_grammar::specs::Reading::expect))]
 fn let_pattern<'a, R: ReadExp<'a>>(
     bump: &'a Bump,
     read: R,
@@ -122,23 +123,31 @@ fn let_pattern<'a, R: ReadExp<'a>>(
     if begins_update(tokens) || begins_function(tokens) {
         return Err(Stop::Fault(refused(tokens)));
     }
-    let sizes = size_names_inside(bump, inner, tokens)?;
-    let pat = whole_pattern(bump, inner, sizes.rest)?;
-    let value = read.read(inner, ExpSort::Whole, take(pat.rest, Fixed::Equal)?)?;
-    Ok(Found {
-        tree: Bind {
-            sizes: sizes.tree,
-            pat: pat.tree,
-            is_function: false,
-            heads: &[],
-            value: value.tree.exp,
-        },
-        height: greater(greater(sizes.height, pat.height), value.height),
-        rest: value.rest,
-    })
+    let sizes = match size_names_inside(bump, inner, tokens) {
+        Ok(sizes) => sizes,
+        Err(stop) => return Err(stop),
+    };
+    let pat = match whole_pattern(bump, inner, sizes.rest) {
+        Ok(pat) => pat,
+        Err(stop) => return Err(stop),
+    };
+    match read_behind(read, inner, Fixed::Equal, ExpSort::Whole, pat.rest) {
+        Ok(value) => Ok(Found {
+            tree: Bind {
+                sizes: sizes.tree,
+                pat: pat.tree,
+                is_function: false,
+                heads: &[],
+                value: value.tree.exp,
+            },
+            height: greater(greater(sizes.height, pat.height), value.height),
+            rest: value.rest,
+        }),
+        Err(stop) => Err(stop),
+    }
 }
 
-#[tactic(auto, unfolding(fut_grammar::specs::Reading::row_at, fut_grammar::specs::Reading::parts_at, fut_grammar::specs::Reading::has_at, fut_grammar::specs::Reading::sub_at, fut_grammar::specs::Phrases::items))]
+#[tactic(auto, unfolding(fut_grammar::specs::Reading::row_at, fut_grammar::specs::Reading::parts_at, fut_grammar::specs::Reading::has_at, fut_grammar::specs::Reading::sub_at, fut_grammar::specs::Phrases::items, fut_grammar::specs::Reading::expect))]
 fn let_function<'a, R: ReadExp<'a>>(
     bump: &'a Bump,
     read: R,
@@ -154,24 +163,38 @@ fn let_function<'a, R: ReadExp<'a>>(
         return Err(Stop::Fault(refused(tokens)));
     }
     let place = next_spot(tokens).place;
-    let (name, rest) = take_word(tokens)?;
-    let heads = heads_inside(bump, inner, rest)?;
-    let params = several_patterns_inside(bump, inner, heads.height, heads.rest)?;
-    let ty = maybe_type_inside(bump, inner, params.height, params.rest)?;
-    let body = read.read(inner, ExpSort::Whole, take(ty.rest, Fixed::Equal)?)?;
-    Ok(Found {
-        tree: function_bound(
-            bump,
-            place,
-            name,
-            heads.tree,
-            params.tree,
-            ty.tree,
-            body.tree.exp,
-        )?,
-        height: greater(ty.height, body.height),
-        rest: body.rest,
-    })
+    let (name, rest) = match take_word(tokens) {
+        Ok(word) => word,
+        Err(stop) => return Err(stop),
+    };
+    let heads = match heads_inside(bump, inner, rest) {
+        Ok(heads) => heads,
+        Err(stop) => return Err(stop),
+    };
+    let params = match several_patterns_inside(bump, inner, heads.height, heads.rest) {
+        Ok(params) => params,
+        Err(stop) => return Err(stop),
+    };
+    let ty = match maybe_type_inside(bump, inner, params.height, params.rest) {
+        Ok(ty) => ty,
+        Err(stop) => return Err(stop),
+    };
+    match read_behind(read, inner, Fixed::Equal, ExpSort::Whole, ty.rest) {
+        Ok(body) => bind_made(
+            function_bound(
+                bump,
+                place,
+                name,
+                heads.tree,
+                params.tree,
+                ty.tree,
+                body.tree.exp,
+            ),
+            greater(ty.height, body.height),
+            body.rest,
+        ),
+        Err(stop) => Err(stop),
+    }
 }
 
 #[tactic(auto, unfolding(fut_grammar::specs::Reading::row_at, fut_grammar::specs::Reading::parts_at, fut_grammar::specs::Reading::has_at, fut_grammar::specs::Reading::sub_at, fut_grammar::specs::Phrases::items))]
@@ -206,7 +229,7 @@ fn let_update<'a, R: ReadExp<'a>>(
 }
 
 // Behind the bracket of an update, its index and the new value.
-#[tactic(auto, unfolding(fut_grammar::specs::Reading::parts_at, fut_grammar::specs::Reading::has_at, fut_grammar::specs::Reading::sub_at, fut_grammar::specs::Phrases::items))]
+#[tactic(auto, unfolding(fut_grammar::specs::Reading::parts_at, fut_grammar::specs::Reading::has_at, fut_grammar::specs::Reading::sub_at, fut_grammar::specs::Phrases::items, fut_grammar::specs::Reading::expect))]
 fn update_inside<'a, R: ReadExp<'a>>(
     bump: &'a Bump,
     read: R,
@@ -221,12 +244,20 @@ fn update_inside<'a, R: ReadExp<'a>>(
     ensures exact { Gives (found_as bind_of) result (parts_at (items (read_at inner)) false Let_item (Commas Written_item ∷ Sign Fixed.CloseBracket ∷ Sign Fixed.Equal ∷ Sub Whole ∷ []) (λ indices close_bracket equal e. let_one (bound place name.now) (node place mark (form.Update (use_of place name.now) indices e))) 0 tokens.now) }
     ensures low { IfOk result (λ x. x.height ≤ inner) }
 {
-    let indices = written_list(bump, read, inner, 0, tokens)?;
-    let rest = take(indices.rest, Fixed::CloseBracket)?;
-    let value = read.read(inner, ExpSort::Whole, take(rest, Fixed::Equal)?)?;
-    Ok(Found {
-        tree: update_bound(bump, place, mark, name, indices.tree, value.tree.exp)?,
-        height: greater(indices.height, value.height),
-        rest: value.rest,
-    })
+    let indices = match written_list(bump, read, inner, 0, tokens) {
+        Ok(indices) => indices,
+        Err(stop) => return Err(stop),
+    };
+    let rest = match take(indices.rest, Fixed::CloseBracket) {
+        Ok(rest) => rest,
+        Err(stop) => return Err(stop),
+    };
+    match read_behind(read, inner, Fixed::Equal, ExpSort::Whole, rest) {
+        Ok(value) => bind_made(
+            update_bound(bump, place, mark, name, indices.tree, value.tree.exp),
+            greater(indices.height, value.height),
+            value.rest,
+        ),
+        Err(stop) => Err(stop),
+    }
 }

@@ -11,6 +11,7 @@ pub mod forms;
 mod indices;
 mod leaves;
 pub mod lets;
+pub mod made;
 mod parens;
 pub mod tie;
 pub mod written;

@@ -1,9 +1,9 @@
 // Expressions in parentheses, and sections.
-ghost use Rattle.std.specs.Prelude.{◌≡◌, ◌≤◌, ◌<◌, ◌+◌, suc, ℕ, IfOk};
+ghost use Rattle.std.specs.Prelude.{◌≡◌, true, ◌≤◌, ◌<◌, ◌+◌, suc, ℕ, IfOk};
 ghost use Rattle.fut_ast.specs.ExpRows.{bare_fields, bare_index, bare_operator, operator_first};
 ghost use Rattle.fut_ast.specs.Operators.{any_operator};
 ghost use Rattle.fut_ast.specs.Rows.{of_exp};
-ghost use Rattle.fut_ast.specs.Tokens.{tail};
+ghost use Rattle.fut_ast.specs.Tokens.{starts, tail};
 ghost use Rattle.fut_grammar.specs.Phrases.{operator_section_at, paren_at, phrases, plain_at, read_at, round_end, section_end, section_or_plain};
 ghost use Rattle.fut_grammar.specs.Reading.{Gives, row_at};
 ghost use Rattle.fut_phrases.specs.Found.{tree_found};
@@ -11,6 +11,7 @@ ghost use Rattle.fut_phrases.specs.Found.{tree_found};
 use crate::brackets::expressions;
 use crate::indices::named_list;
 use crate::leaves::unit;
+use crate::made::made;
 use crate::tie::{ExpSort, ReadExp};
 use bumpalo::Bump;
 use fut_ast::{Spot, What};
@@ -39,6 +40,7 @@ pub fn paren_below<'a, R: ReadExp<'a>>(
     inner: u32,
     tokens: &'a [Token],
 ) -> Result<Found<'a, &'a Exp<'a>>, Stop>
+    requires first { starts Fixed.OpenParen tokens.now ≡ true }
     requires law { R.reads read inner }
     requires room { inner < 1000 }
     ensures exact { Gives tree_found result (paren_at (phrases (read_at inner)) (suc inner) tokens.now) }
@@ -64,6 +66,7 @@ fn section_or_round<'a, R: ReadExp<'a>>(
     inner: u32,
     tokens: &'a [Token],
 ) -> Result<Found<'a, &'a Exp<'a>>, Stop>
+    requires first { starts Fixed.OpenParen tokens.now ≡ true }
     requires law { R.reads read inner }
     requires room { inner < 1000 }
     ensures exact { Gives tree_found result (section_or_plain (phrases (read_at inner)) (suc inner) (any_operator (tail tokens.now)) tokens.now) }
@@ -90,6 +93,7 @@ fn operator_section<'a, R: ReadExp<'a>>(
     fixed: Fixed,
     tokens: &'a [Token],
 ) -> Result<Found<'a, &'a Exp<'a>>, Stop>
+    requires first { starts Fixed.OpenParen tokens.now ≡ true }
     requires law { R.reads read inner }
     requires room { inner < 1000 }
     ensures exact { Gives tree_found result (operator_section_at (phrases (read_at inner)) (suc inner) fixed tokens.now) }
@@ -117,19 +121,40 @@ fn operator_and_operand<'a, R: ReadExp<'a>>(
     ensures low { IfOk result (λ x. x.height ≤ inner + 1) }
 {
     let paren = next_spot(tokens).place;
-    let rest = take(tokens, Fixed::OpenParen)?;
+    let rest = match take(tokens, Fixed::OpenParen) {
+        Ok(rest) => rest,
+        Err(stop) => return Err(stop),
+    };
     if starts_with(rest, Fixed::Minus) {
         return Err(Stop::Fault(refused(rest)));
     }
-    let ((at, name), rest) = take_operator(fixed, rest)?;
-    let operand = read.read(inner, ExpSort::Operands(level_of(fixed) + 1), rest)?;
-    let rest = take(operand.rest, Fixed::CloseParen)?;
-    let tree = section_of_right(bump, fixed, paren, at.place, name, operand.tree.exp)?;
-    Ok(Found {
-        tree,
-        height: operand.height + 1,
-        rest,
-    })
+    let ((at, name), rest) = match take_operator(fixed, rest) {
+        Ok(operator) => operator,
+        Err(stop) => return Err(stop),
+    };
+    match read.read(inner, ExpSort::Operands(level_of(fixed) + 1), rest) {
+        Ok(operand) => {
+            match take(operand.rest, Fixed::CloseParen) {
+                Ok(rest) => match section_of_right(
+                    bump,
+                    fixed,
+                    paren,
+                    at.place,
+                    name,
+                    operand.tree.exp,
+                ) {
+                    Ok(tree) => Ok(Found {
+                        tree,
+                        height: operand.height + 1,
+                        rest,
+                    }),
+                    Err(_) => Err(Stop::Memory),
+                },
+                Err(stop) => Err(stop),
+            }
+        }
+        Err(stop) => Err(stop),
+    }
 }
 
 #[tactic(auto, unfolding(fut_grammar::specs::Phrases::plain_at, fut_grammar::specs::Phrases::phrases))]
@@ -145,14 +170,27 @@ fn plain<'a, R: ReadExp<'a>>(
     ensures low { IfOk result (λ x. x.height ≤ inner + 1) }
 {
     let at = next_spot(tokens);
-    let Found {
-        tree: first,
-        height,
-        rest,
-    } = read.read(inner, ExpSort::Inside, rest_of(tokens))?;
-    match first.section {
-        None => round(bump, read, inner, at, first.exp, height, rest),
-        Some(fixed) => operand_and_operator(bump, fixed, at, first.exp, height, rest),
+    match read.read(inner, ExpSort::Inside, rest_of(tokens)) {
+        Ok(first) => match first.tree.section {
+            None => round(
+                bump,
+                read,
+                inner,
+                at,
+                first.tree.exp,
+                first.height,
+                first.rest,
+            ),
+            Some(fixed) => operand_and_operator(
+                bump,
+                fixed,
+                at,
+                first.tree.exp,
+                first.height,
+                first.rest,
+            ),
+        },
+        Err(stop) => Err(stop),
     }
 }
 
@@ -172,55 +210,80 @@ fn round<'a, R: ReadExp<'a>>(
     ensures low { IfOk result (λ x. x.height ≤ inner + 1) }
 {
     if !starts_with(tokens, Fixed::Comma) {
-        let rest = take(tokens, Fixed::CloseParen)?;
-        return Ok(Found {
-            tree: first,
-            height: first_height + 1,
-            rest,
-        });
+        return match take(tokens, Fixed::CloseParen) {
+            Ok(rest) => Ok(Found {
+                tree: first,
+                height: first_height + 1,
+                rest,
+            }),
+            Err(stop) => Err(stop),
+        };
     }
-    let others = expressions(bump, read, inner, first_height, rest_of(tokens))?;
-    let rest = take(others.rest, Fixed::CloseParen)?;
-    let all = in_front(bump, first, others.tree)?;
-    let tree = round_of(bump, at.place, all)?;
-    Ok(Found {
-        tree,
-        height: others.height + 1,
-        rest,
-    })
+    let others = match expressions(bump, read, inner, first_height, rest_of(tokens)) {
+        Ok(others) => others,
+        Err(stop) => return Err(stop),
+    };
+    match in_front(bump, first, others.tree) {
+        Ok(all) => {
+            match take(others.rest, Fixed::CloseParen) {
+                Ok(rest) => match round_of(bump, at.place, all) {
+                    Ok(tree) => Ok(Found {
+                        tree,
+                        height: others.height + 1,
+                        rest,
+                    }),
+                    Err(_) => Err(Stop::Memory),
+                },
+                Err(stop) => Err(stop),
+            }
+        }
+        Err(_) => Err(Stop::Memory),
+    }
 }
 
-#[tactic(auto, unfolding(fut_grammar::specs::Reading::row_at, fut_grammar::specs::Reading::parts_at, fut_grammar::specs::Reading::has_at))]
+#[tactic(auto, unfolding(fut_grammar::specs::Reading::row_at, fut_grammar::specs::Reading::parts_at, fut_grammar::specs::Reading::has_at, fut_grammar::specs::Reading::expect))]
 fn index_alone<'a, R: ReadExp<'a>>(
     bump: &'a Bump,
     read: R,
     inner: u32,
     tokens: &'a [Token],
 ) -> Result<Found<'a, &'a Exp<'a>>, Stop>
+    requires first { starts Fixed.OpenParen tokens.now ≡ true }
+    requires dot { starts Fixed.Dot (tail tokens.now) ≡ true }
+    requires bracket { starts Fixed.OpenBracket (tail (tail tokens.now)) ≡ true }
     requires law { R.reads read inner }
     requires room { inner < 1000 }
     ensures exact { Gives tree_found result (row_at (phrases (read_at inner)) (of_exp bare_index) tokens.now) }
     ensures low { IfOk result (λ x. x.height ≤ inner + 1) }
 {
     let paren = next_spot(tokens).place;
-    let rest = take(tokens, Fixed::OpenParen)?;
-    let rest = take(rest, Fixed::Dot)?;
+    let rest = rest_of(rest_of(tokens));
     let bracket = next_spot(rest).place;
-    let rest = take(rest, Fixed::OpenBracket)?;
-    let parts = named_list(bump, read, inner, rest)?;
-    let rest = take(parts.rest, Fixed::CloseBracket)?;
-    let rest = take(rest, Fixed::CloseParen)?;
-    let tree = section_of_index(bump, paren, bracket, parts.tree)?;
-    Ok(Found {
-        tree,
-        height: parts.height + 1,
-        rest,
-    })
+    let parts = match named_list(bump, read, inner, rest_of(rest)) {
+        Ok(parts) => parts,
+        Err(stop) => return Err(stop),
+    };
+    match take(parts.rest, Fixed::CloseBracket) {
+        Ok(rest) => {
+            match take(rest, Fixed::CloseParen) {
+                Ok(rest) => match section_of_index(bump, paren, bracket, parts.tree) {
+                    Ok(tree) => Ok(Found {
+                        tree,
+                        height: parts.height + 1,
+                        rest,
+                    }),
+                    Err(_) => Err(Stop::Memory),
+                },
+                Err(stop) => Err(stop),
+            }
+        }
+        Err(stop) => Err(stop),
+    }
 }
 
 // ---- what has no expressions in it, or has them read before
 
-#[tactic(auto, unfolding(fut_grammar::specs::Phrases::section_end))]
+#[tactic(auto, unfolding(fut_grammar::specs::Phrases::section_end, fut_grammar::specs::Reading::expect))]
 fn operand_and_operator<'a>(
     bump: &'a Bump,
     fixed: Fixed,
@@ -233,53 +296,72 @@ fn operand_and_operator<'a>(
     ensures exact { (inner : ℕ) → Gives tree_found result (section_end (phrases (read_at inner)) (suc inner) fixed at first.now first_height tokens.now) }
     ensures low { IfOk result (λ x. x.height ≡ first_height + 1) }
 {
-    let ((key, name), rest) = take_operator(fixed, tokens)?;
-    let rest = take(rest, Fixed::CloseParen)?;
-    let tree = section_of_left(bump, fixed, at.place, first, key.place, name)?;
-    Ok(Found {
-        tree,
-        height: first_height + 1,
-        rest,
-    })
+    match take_operator(fixed, tokens) {
+        Ok(((key, name), rest)) => {
+            if !starts_with(rest, Fixed::CloseParen) {
+                return Err(Stop::Fault(refused(rest)));
+            }
+            made(
+                section_of_left(bump, fixed, at.place, first, key.place, name),
+                first_height + 1,
+                rest_of(rest),
+            )
+        }
+        Err(stop) => Err(stop),
+    }
 }
 
-#[tactic(auto, unfolding(fut_grammar::specs::Reading::row_at, fut_grammar::specs::Reading::parts_at, fut_grammar::specs::Reading::has_at))]
+#[tactic(auto, unfolding(fut_grammar::specs::Reading::row_at, fut_grammar::specs::Reading::parts_at, fut_grammar::specs::Reading::has_at, fut_grammar::specs::Reading::expect))]
 fn operator_in_parens<'a>(
     bump: &'a Bump,
     fixed: Fixed,
     tokens: &'a [Token],
 ) -> Result<Found<'a, &'a Exp<'a>>, Stop>
+    requires first { starts Fixed.OpenParen tokens.now ≡ true }
     ensures exact { (inner : ℕ) → Gives tree_found result (row_at (phrases (read_at inner)) (of_exp (bare_operator fixed)) tokens.now) }
     ensures low { IfOk result (λ x. x.height ≡ 1) }
 {
     let paren = next_spot(tokens).place;
-    let rest = take(tokens, Fixed::OpenParen)?;
-    let ((at, name), rest) = take_operator(fixed, rest)?;
-    let rest = take(rest, Fixed::CloseParen)?;
-    let tree = operator_alone(bump, fixed, paren, at.place, name)?;
-    Ok(Found {
-        tree,
-        height: 1,
-        rest,
-    })
+    match take_operator(fixed, rest_of(tokens)) {
+        Ok(((at, name), rest)) => {
+            if !starts_with(rest, Fixed::CloseParen) {
+                return Err(Stop::Fault(refused(rest)));
+            }
+            made(
+                operator_alone(bump, fixed, paren, at.place, name),
+                1,
+                rest_of(rest),
+            )
+        }
+        Err(stop) => Err(stop),
+    }
 }
 
-#[tactic(auto, unfolding(fut_grammar::specs::Reading::row_at, fut_grammar::specs::Reading::parts_at, fut_grammar::specs::Reading::has_at))]
+#[tactic(auto, unfolding(fut_grammar::specs::Reading::row_at, fut_grammar::specs::Reading::parts_at, fut_grammar::specs::Reading::has_at, fut_grammar::specs::Reading::expect))]
 fn fields_alone<'a>(bump: &'a Bump, tokens: &'a [Token]) -> Result<Found<'a, &'a Exp<'a>>, Stop>
+    requires first { starts Fixed.OpenParen tokens.now ≡ true }
+    requires dot { starts Fixed.Dot (tail tokens.now) ≡ true }
     ensures exact { (inner : ℕ) → Gives tree_found result (row_at (phrases (read_at inner)) (of_exp bare_fields) tokens.now) }
     ensures low { IfOk result (λ x. x.height ≡ 1) }
 {
     let paren = next_spot(tokens).place;
-    let rest = take(tokens, Fixed::OpenParen)?;
-    without_form(What::LocalOpen, rest)?;
+    let rest = rest_of(tokens);
+    match without_form(What::LocalOpen, rest) {
+        Ok(()) => (),
+        Err(stop) => return Err(stop),
+    }
     let dot = next_spot(rest).place;
-    let rest = take(rest, Fixed::Dot)?;
-    let (fields, rest) = take_path(bump, rest)?;
-    let rest = take(rest, Fixed::CloseParen)?;
-    let tree = section_of_fields(bump, paren, dot, fields)?;
-    Ok(Found {
-        tree,
-        height: 1,
-        rest,
-    })
+    match take_path(bump, rest_of(rest)) {
+        Ok((fields, rest)) => {
+            if !starts_with(rest, Fixed::CloseParen) {
+                return Err(Stop::Fault(refused(rest)));
+            }
+            made(
+                section_of_fields(bump, paren, dot, fields),
+                1,
+                rest_of(rest),
+            )
+        }
+        Err(stop) => Err(stop),
+    }
 }

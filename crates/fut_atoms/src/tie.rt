@@ -1,10 +1,15 @@
 // What reads the expressions in a production is handed over to the function that reads the production.
-ghost use Rattle.std.specs.Prelude.{◌≤◌, ℕ, IfOk};
-ghost use Rattle.fut_atoms.specs.Tie.{Law, Reads};
+ghost use Rattle.std.specs.Prelude.{◌≡◌, ◌≤◌, true, ℕ, IfOk};
+ghost use Rattle.fut_ast.specs.Tokens.{starts};
+ghost use Rattle.fut_atoms.specs.Tie.{Law, Reads, behind, seen, sort_of};
+ghost use Rattle.fut_grammar.specs.Phrases.{read_at};
+ghost use Rattle.fut_grammar.specs.Reading.{Gives};
+ghost use Rattle.fut_phrases.specs.Found.{found_as};
 
 use fut_ast::Ended;
 use fut_grammar::Stop;
 use fut_phrases::found::Found;
+use fut_phrases::tokens::{refused, rest_of, starts_with};
 use fut_token::{Fixed, Token};
 use fut_tree::Exp;
 
@@ -83,4 +88,23 @@ impl<'a, F: Fn(ExpSort, &'a [Token]) -> ExpAnswer<'a>> ReadExp<'a> for &F {
         let _inner = inner;
         self(sort, tokens)
     }
+}
+
+/// An expression behind a keyword or symbol.
+pub fn read_behind<'a, R: ReadExp<'a>>(
+    read: R,
+    inner: u32,
+    fixed: Fixed,
+    sort: ExpSort,
+    tokens: &'a [Token],
+) -> ExpAnswer<'a>
+    requires law { R.reads read inner }
+    ensures sign { IfOk result (λ x. starts fixed tokens.now ≡ true) }
+    ensures exact { Gives (found_as (seen sort)) result (behind fixed (read_at inner (sort_of sort)) tokens.now) }
+    ensures low { IfOk result (λ x. x.height ≤ inner) }
+{
+    if !starts_with(tokens, fixed) {
+        return Err(Stop::Fault(refused(tokens)));
+    }
+    read.read(inner, sort, rest_of(tokens))
 }

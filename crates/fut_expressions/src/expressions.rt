@@ -244,7 +244,10 @@ pub fn whole_expression<'a>(
     ensures exact { Gives tree_found result (read_at depth Whole tokens.now) }
     ensures low { IfOk result (λ x. x.height ≤ depth) }
 {
-    let found = expression(bump, depth, ExpSort::Whole, tokens)?;
+    let found = match expression(bump, depth, ExpSort::Whole, tokens) {
+        Ok(found) => found,
+        Err(stop) => return Err(stop),
+    };
     Ok(Found {
         tree: found.tree.exp,
         height: found.height,

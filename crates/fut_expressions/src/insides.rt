@@ -35,7 +35,10 @@ pub fn inside_below<'a, R: ReadExp<'a>>(
     ensures low { IfOk result (λ x. x.height ≤ inner + 1) }
 {
     if begins_exp_operand(tokens) {
-        let first = graded(bump, read, inner, true, 1, tokens)?;
+        let first = match graded(bump, read, inner, true, 1, tokens) {
+            Ok(first) => first,
+            Err(stop) => return Err(stop),
+        };
         inside_behind(bump, read, inner, first, tokens)
     } else {
         inside_big(bump, read, inner, tokens)
@@ -57,7 +60,10 @@ fn inside_big<'a, R: ReadExp<'a>>(
     if !begins_exp_operand(tokens) && !begins_exp_big(tokens) {
         return Err(Stop::Fault(refused(tokens)));
     }
-    let found = big_below(bump, read, inner, tokens)?;
+    let found = match big_below(bump, read, inner, tokens) {
+        Ok(found) => found,
+        Err(stop) => return Err(stop),
+    };
     if goes_on_typed(found.tree.ended, found.rest) {
         return Err(Stop::Fault(refused(found.rest)));
     }
@@ -122,7 +128,10 @@ fn inside_typed<'a, R: ReadExp<'a>>(
     if !begins_exp_operand(start) && !begins_exp_big(start) {
         return Err(Stop::Fault(refused(start)));
     }
-    let found = all_behind(bump, read, inner, next_spot(start), first)?;
+    let found = match all_behind(bump, read, inner, next_spot(start), first) {
+        Ok(found) => found,
+        Err(stop) => return Err(stop),
+    };
     if goes_on_typed(found.tree.ended, found.rest) {
         return Err(Stop::Fault(refused(found.rest)));
     }

@@ -1,10 +1,11 @@
 // Operands, applications and operators.
-ghost use Rattle.std.specs.Prelude.{◌≡◌, ◌≤◌, ◌<◌, ◌+◌, suc, length, if◌then◌else◌, Err, IfOk, List, ℕ};
+ghost use Rattle.std.specs.Prelude.{◌≡◌, ◌≤◌, ◌<◌, ◌+◌, suc, true, length, if◌then◌else◌, Err, IfOk, List, ℕ};
 ghost use Rattle.fut_ast.specs.Behind.{begins_argument, behind_app};
 ghost use Rattle.fut_ast.specs.ExpRows.{assertion, complement, negation};
 ghost use Rattle.fut_token.specs.declared.token.Token.{Token};
 ghost use Rattle.fut_ast.specs.Sorts.{SourceExp};
 ghost use Rattle.fut_ast.specs.declared.node.Ended.{Ended};
+ghost use Rattle.fut_ast.specs.Tokens.{starts};
 ghost use Rattle.fut_ast.specs.Rows.{applied, of_exp};
 ghost use Rattle.fut_atoms.specs.Tie.{ending_found};
 ghost use Rattle.fut_phrases.specs.Found.{tree_found};
@@ -15,7 +16,8 @@ use crate::behind::too_high;
 use bumpalo::Bump;
 use fut_ast::{Ended, Oper, Spot};
 use fut_atoms::atoms::atom_below;
-use fut_atoms::tie::{Ending, ExpSort, ReadExp};
+use fut_atoms::made::ending_made;
+use fut_atoms::tie::{Ending, ExpSort, ReadExp, read_behind};
 use fut_exp_parts::exp_nodes::{assertion, call, unary as unary_node};
 use fut_exp_parts::exp_tokens::{
     begins_exp_argument, begins_exp_atom, begins_exp_big, begins_exp_operand, goes_on_app,
@@ -24,7 +26,7 @@ use fut_exp_parts::exp_tokens::{
 use fut_exp_parts::joins::join;
 use fut_grammar::{Fault, Stop};
 use fut_phrases::found::Found;
-use fut_phrases::tokens::{greater, next_spot, refused, starts_with, take};
+use fut_phrases::tokens::{greater, next_spot, refused, rest_of, starts_with};
 use fut_token::{Fixed, Token};
 use fut_tree::Exp;
 
@@ -52,49 +54,61 @@ pub fn unary_below<'a, R: ReadExp<'a>>(
     }
 }
 
-#[tactic(auto, unfolding(fut_grammar::specs::Reading::row_at, fut_grammar::specs::Reading::parts_at, fut_grammar::specs::Reading::has_at, fut_grammar::specs::Reading::sub_at, fut_grammar::specs::Phrases::phrases))]
+#[tactic(auto, unfolding(fut_grammar::specs::Reading::row_at, fut_grammar::specs::Reading::parts_at, fut_grammar::specs::Reading::has_at, fut_grammar::specs::Reading::sub_at, fut_grammar::specs::Phrases::phrases, fut_grammar::specs::Reading::expect))]
 fn negated<'a, R: ReadExp<'a>>(
     bump: &'a Bump,
     read: R,
     inner: u32,
     tokens: &'a [Token],
 ) -> Result<Found<'a, &'a Exp<'a>>, Stop>
+    requires first { starts Fixed.Minus tokens.now ≡ true }
     requires law { R.reads read inner }
     requires room { inner < 1000 }
     ensures exact { Gives tree_found result (row_at (phrases (read_at inner)) (of_exp negation) tokens.now) }
     ensures low { IfOk result (λ x. x.height ≤ inner + 1) }
 {
     let place = next_spot(tokens).place;
-    let found = read.read(inner, ExpSort::Unary, take(tokens, Fixed::Minus)?)?;
-    Ok(Found {
-        tree: unary_node(bump, place, Oper::Neg, found.tree.exp)?,
-        height: found.height + 1,
-        rest: found.rest,
-    })
+    match read.read(inner, ExpSort::Unary, rest_of(tokens)) {
+        Ok(found) => match unary_node(bump, place, Oper::Neg, found.tree.exp) {
+            Ok(tree) => Ok(Found {
+                tree,
+                height: found.height + 1,
+                rest: found.rest,
+            }),
+            Err(_) => Err(Stop::Memory),
+        },
+        Err(stop) => Err(stop),
+    }
 }
 
-#[tactic(auto, unfolding(fut_grammar::specs::Reading::row_at, fut_grammar::specs::Reading::parts_at, fut_grammar::specs::Reading::has_at, fut_grammar::specs::Reading::sub_at, fut_grammar::specs::Phrases::phrases))]
+#[tactic(auto, unfolding(fut_grammar::specs::Reading::row_at, fut_grammar::specs::Reading::parts_at, fut_grammar::specs::Reading::has_at, fut_grammar::specs::Reading::sub_at, fut_grammar::specs::Phrases::phrases, fut_grammar::specs::Reading::expect))]
 fn complemented<'a, R: ReadExp<'a>>(
     bump: &'a Bump,
     read: R,
     inner: u32,
     tokens: &'a [Token],
 ) -> Result<Found<'a, &'a Exp<'a>>, Stop>
+    requires first { starts Fixed.Bang tokens.now ≡ true }
     requires law { R.reads read inner }
     requires room { inner < 1000 }
     ensures exact { Gives tree_found result (row_at (phrases (read_at inner)) (of_exp complement) tokens.now) }
     ensures low { IfOk result (λ x. x.height ≤ inner + 1) }
 {
     let place = next_spot(tokens).place;
-    let found = read.read(inner, ExpSort::Unary, take(tokens, Fixed::Bang)?)?;
-    Ok(Found {
-        tree: unary_node(bump, place, Oper::Not, found.tree.exp)?,
-        height: found.height + 1,
-        rest: found.rest,
-    })
+    match read.read(inner, ExpSort::Unary, rest_of(tokens)) {
+        Ok(found) => match unary_node(bump, place, Oper::Not, found.tree.exp) {
+            Ok(tree) => Ok(Found {
+                tree,
+                height: found.height + 1,
+                rest: found.rest,
+            }),
+            Err(_) => Err(Stop::Memory),
+        },
+        Err(stop) => Err(stop),
+    }
 }
 
-#[tactic(auto, unfolding(fut_grammar::specs::Reading::row_at, fut_grammar::specs::Reading::parts_at, fut_grammar::specs::Reading::has_at, fut_grammar::specs::Reading::sub_at, fut_grammar::specs::Phrases::phrases, fut_grammar::specs::Reading::argument_at))]
+#[tactic(auto, unfolding(fut_grammar::specs::Reading::row_at, fut_grammar::specs::Reading::parts_at, fut_grammar::specs::Reading::has_at, fut_grammar::specs::Reading::sub_at, fut_grammar::specs::Phrases::phrases, fut_grammar::specs::Reading::argument_at, fut_grammar::specs::Reading::expect))]
 fn asserted<'a, R: ReadExp<'a>>(
     bump: &'a Bump,
     read: R,
@@ -107,16 +121,24 @@ fn asserted<'a, R: ReadExp<'a>>(
     ensures low { IfOk result (λ x. x.height ≤ inner + 1) }
 {
     let place = next_spot(tokens).place;
-    let test = read.read(inner, ExpSort::Atom, take(tokens, Fixed::KeyAssert)?)?;
+    let test = match read_behind(read, inner, Fixed::KeyAssert, ExpSort::Atom, tokens) {
+        Ok(test) => test,
+        Err(stop) => return Err(stop),
+    };
     if !begins_exp_argument(test.rest) {
         return Err(Stop::Fault(refused(test.rest)));
     }
-    let value = read.read(inner, ExpSort::Atom, test.rest)?;
-    Ok(Found {
-        tree: assertion(bump, place, test.tree.exp, value.tree.exp)?,
-        height: greater(test.height, value.height) + 1,
-        rest: value.rest,
-    })
+    match read.read(inner, ExpSort::Atom, test.rest) {
+        Ok(value) => match assertion(bump, place, test.tree.exp, value.tree.exp) {
+            Ok(tree) => Ok(Found {
+                tree,
+                height: greater(test.height, value.height) + 1,
+                rest: value.rest,
+            }),
+            Err(_) => Err(Stop::Memory),
+        },
+        Err(stop) => Err(stop),
+    }
 }
 
 /// An atom and its arguments.
@@ -132,8 +154,10 @@ pub fn app_below<'a, R: ReadExp<'a>>(
     ensures exact { Gives tree_found result (app_at (phrases (read_at inner)) (suc inner) tokens.now) }
     ensures low { IfOk result (λ x. x.height ≤ inner + 1) }
 {
-    let first = atom_below(bump, read, inner, tokens)?;
-    arguments_behind(bump, read, inner, next_spot(tokens), first)
+    match atom_below(bump, read, inner, tokens) {
+        Ok(first) => arguments_behind(bump, read, inner, next_spot(tokens), first),
+        Err(stop) => Err(stop),
+    }
 }
 
 fn arguments_behind<'a, R: ReadExp<'a>>(
@@ -183,12 +207,17 @@ fn argument_behind<'a, R: ReadExp<'a>>(
     if !begins_exp_argument(tokens) {
         return Err(Stop::Fault(refused(tokens)));
     }
-    let value = read.read(inner, ExpSort::Atom, tokens)?;
-    Ok(Found {
-        tree: call(bump, at.place, at.place, first.tree, value.tree.exp)?,
-        height: greater(first.height, value.height) + 1,
-        rest: value.rest,
-    })
+    match read.read(inner, ExpSort::Atom, tokens) {
+        Ok(value) => match call(bump, at.place, at.place, first.tree, value.tree.exp) {
+            Ok(tree) => Ok(Found {
+                tree,
+                height: greater(first.height, value.height) + 1,
+                rest: value.rest,
+            }),
+            Err(_) => Err(Stop::Memory),
+        },
+        Err(stop) => Err(stop),
+    }
 }
 
 /// Operands and operators of a level or tighter.
@@ -223,7 +252,10 @@ pub fn graded<'a, R: ReadExp<'a>>(
     ensures exact { Gives ending_found result (graded_at (phrases (read_at inner)) (suc inner) section_ends least tokens.now) }
     ensures low { IfOk result (λ x. x.height ≤ inner + 1) }
 {
-    let found = unary_below(bump, read, inner, tokens)?;
+    let found = match unary_below(bump, read, inner, tokens) {
+        Ok(found) => found,
+        Err(stop) => return Err(stop),
+    };
     let first = Found {
         tree: Ending {
             exp: found.tree,
@@ -325,23 +357,24 @@ fn operation<'a, R: ReadExp<'a>>(
     if first.height > inner {
         return Err(operand_too_deep(fixed, tokens));
     }
-    let ((operator, name), rest) = take_operator(fixed, tokens)?;
-    let second = read.read(inner, ExpSort::Operand(right_level_of(fixed)), rest)?;
-    let exp = join(
-        bump,
-        fixed,
-        at.place,
-        operator.place,
-        name,
-        first.tree.exp,
-        second.tree.exp,
-    )?;
-    Ok(Found {
-        tree: Ending {
-            exp,
-            ended: Ended::Operands(Some(fixed)),
-        },
-        height: greater(first.height, second.height) + 1,
-        rest: second.rest,
-    })
+    let ((operator, name), rest) = match take_operator(fixed, tokens) {
+        Ok(taken) => taken,
+        Err(stop) => return Err(stop),
+    };
+    match read.read(inner, ExpSort::Operand(right_level_of(fixed)), rest) {
+        Ok(second) => {
+            let node = join(
+                bump,
+                fixed,
+                at.place,
+                operator.place,
+                name,
+                first.tree.exp,
+                second.tree.exp,
+            );
+            let height = greater(first.height, second.height);
+            ending_made(node, Ended::Operands(Some(fixed)), height + 1, second.rest)
+        }
+        Err(stop) => Err(stop),
+    }
 }

@@ -11,12 +11,13 @@ ghost use Rattle.fut_grammar.specs.Reading.{Gives, parts_at, suffix_at};
 use crate::operators::chain_below;
 use bumpalo::Bump;
 use fut_ast::{Ended, Spot};
-use fut_atoms::tie::{Ending, ExpSort, ReadExp};
+use fut_atoms::made::ending_made;
+use fut_atoms::tie::{Ending, ExpSort, ReadExp, read_behind};
 use fut_exp_parts::exp_nodes::range;
 use fut_exp_parts::exp_tokens::{goes_on_chain, goes_on_to_range, take_end};
 use fut_grammar::{Fault, Stop};
 use fut_phrases::found::Found;
-use fut_phrases::tokens::{greater, next_spot, refused, starts_with, take};
+use fut_phrases::tokens::{greater, next_spot, refused, starts_with};
 use fut_token::{Fixed, Token};
 
 /// A range, or what ranges are made of.
@@ -32,8 +33,10 @@ pub fn range_below<'a, R: ReadExp<'a>>(
     ensures exact { Gives ending_found result (range_at (phrases (read_at inner)) (suc inner) tokens.now) }
     ensures low { IfOk result (λ x. x.height ≤ inner + 1) }
 {
-    let first = chain_below(bump, read, inner, 1, tokens)?;
-    end_behind(bump, read, inner, next_spot(tokens), first)
+    match chain_below(bump, read, inner, 1, tokens) {
+        Ok(first) => end_behind(bump, read, inner, next_spot(tokens), first),
+        Err(stop) => Err(stop),
+    }
 }
 
 /// The end of a range behind its first value, or nothing.
@@ -98,25 +101,26 @@ fn end_to<'a, R: ReadExp<'a>>(
         return Err(Stop::Fault(Fault::TooDeep(tokens.len())));
     }
     let mark = next_spot(tokens).place;
-    let (end, rest) = take_end(tokens)?;
-    let last = read.read(inner, ExpSort::Operands(1), rest)?;
-    let exp = range(
-        bump,
-        at.place,
-        mark,
-        first.tree.exp,
-        None,
-        end,
-        last.tree.exp,
-    )?;
-    Ok(Found {
-        tree: Ending {
-            exp,
-            ended: Ended::Range,
-        },
-        height: greater(first.height, last.height) + 1,
-        rest: last.rest,
-    })
+    let (end, rest) = match take_end(tokens) {
+        Ok(end) => end,
+        Err(stop) => return Err(stop),
+    };
+    match read.read(inner, ExpSort::Operands(1), rest) {
+        Ok(last) => {
+            let node = range(
+                bump,
+                at.place,
+                mark,
+                first.tree.exp,
+                None,
+                end,
+                last.tree.exp,
+            );
+            let height = greater(first.height, last.height);
+            ending_made(node, Ended::Range, height + 1, last.rest)
+        }
+        Err(stop) => Err(stop),
+    }
 }
 
 #[tactic(auto, unfolding(fut_grammar::specs::Reading::suffix_at))]
@@ -142,7 +146,7 @@ fn end_by<'a, R: ReadExp<'a>>(
     end_by_steps(bump, read, inner, at, first)
 }
 
-#[tactic(auto, unfolding(fut_grammar::specs::Reading::parts_at, fut_grammar::specs::Reading::has_at, fut_grammar::specs::Reading::sub_at, fut_grammar::specs::Phrases::phrases))]
+#[tactic(auto, unfolding(fut_grammar::specs::Reading::parts_at, fut_grammar::specs::Reading::has_at, fut_grammar::specs::Reading::sub_at, fut_grammar::specs::Phrases::phrases, fut_grammar::specs::Reading::expect))]
 fn end_by_steps<'a, R: ReadExp<'a>>(
     bump: &'a Bump,
     read: R,
@@ -156,29 +160,28 @@ fn end_by_steps<'a, R: ReadExp<'a>>(
     ensures low { IfOk result (λ x. x.height ≤ inner + 1) }
 {
     let mark = next_spot(first.rest).place;
-    let next = read.read(
-        inner,
-        ExpSort::Operands(1),
-        take(first.rest, Fixed::DotDot)?,
-    )?;
-    let (end, rest) = take_end(next.rest)?;
-    let last = read.read(inner, ExpSort::Operands(1), rest)?;
-    let exp = range(
-        bump,
-        at.place,
-        mark,
-        first.tree.exp,
-        Some(next.tree.exp),
-        end,
-        last.tree.exp,
-    )?;
-    let height = greater(greater(first.height, next.height), last.height);
-    Ok(Found {
-        tree: Ending {
-            exp,
-            ended: Ended::Range,
-        },
-        height: height + 1,
-        rest: last.rest,
-    })
+    let next = match read_behind(read, inner, Fixed::DotDot, ExpSort::Operands(1), first.rest) {
+        Ok(next) => next,
+        Err(stop) => return Err(stop),
+    };
+    let (end, rest) = match take_end(next.rest) {
+        Ok(end) => end,
+        Err(stop) => return Err(stop),
+    };
+    match read.read(inner, ExpSort::Operands(1), rest) {
+        Ok(last) => {
+            let node = range(
+                bump,
+                at.place,
+                mark,
+                first.tree.exp,
+                Some(next.tree.exp),
+                end,
+                last.tree.exp,
+            );
+            let height = greater(greater(first.height, next.height), last.height);
+            ending_made(node, Ended::Range, height + 1, last.rest)
+        }
+        Err(stop) => Err(stop),
+    }
 }

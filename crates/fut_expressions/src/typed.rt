@@ -13,6 +13,7 @@ use crate::ranges::end_behind;
 use crate::updates::updates_again;
 use bumpalo::Bump;
 use fut_ast::{Ended, Spot};
+use fut_atoms::made::ending_made;
 use fut_atoms::tie::{Ending, ReadExp};
 use fut_exp_parts::exp_nodes::{ascribed, coerced};
 use fut_exp_parts::exp_tokens::goes_on_updated;
@@ -35,7 +36,10 @@ pub fn typed_below<'a, R: ReadExp<'a>>(
     ensures exact { Gives ending_found result (typed_at (phrases (read_at inner)) (suc inner) tokens.now) }
     ensures low { IfOk result (λ x. x.height ≤ inner + 1) }
 {
-    let first = chain_below(bump, read, inner, 1, tokens)?;
+    let first = match chain_below(bump, read, inner, 1, tokens) {
+        Ok(first) => first,
+        Err(stop) => return Err(stop),
+    };
     all_behind(bump, read, inner, next_spot(tokens), first)
 }
 
@@ -53,8 +57,14 @@ pub fn all_behind<'a, R: ReadExp<'a>>(
     ensures exact { Gives ending_found result (typed_behind (phrases (read_at inner)) (suc inner) at (first.entry.tree.exp.now, first.entry.tree.ended) first.entry.height first.entry.rest.now) }
     ensures low { IfOk result (λ x. x.height ≤ inner + 1) }
 {
-    let range = end_behind(bump, read, inner, at, first)?;
-    let updated = updates_again(bump, read, inner, at, range)?;
+    let range = match end_behind(bump, read, inner, at, first) {
+        Ok(range) => range,
+        Err(stop) => return Err(stop),
+    };
+    let updated = match updates_again(bump, read, inner, at, range) {
+        Ok(updated) => updated,
+        Err(stop) => return Err(stop),
+    };
     types_again(bump, inner, at, updated)
 }
 
@@ -125,16 +135,18 @@ fn ascribed_as<'a>(
     ensures exact { Gives ending_found result (parts_at (phrases (read_at inner)) true Typed (suffix_parts ascribed) (suffix_tree ascribed at (spot_of first.entry.rest.now) (first.entry.tree.exp.now, first.entry.tree.ended)) first.entry.height first.entry.rest.now) }
     ensures low { IfOk result (λ x. x.height ≤ inner + 1) }
 {
-    let ty = whole_type(bump, inner, take(first.rest, Fixed::Colon)?)?;
-    let exp = ascribed(bump, at.place, first.tree.exp, ty.tree)?;
-    Ok(Found {
-        tree: Ending {
-            exp,
-            ended: Ended::Type,
-        },
-        height: greater(first.height, ty.height) + 1,
-        rest: ty.rest,
-    })
+    let rest = match take(first.rest, Fixed::Colon) {
+        Ok(rest) => rest,
+        Err(stop) => return Err(stop),
+    };
+    match whole_type(bump, inner, rest) {
+        Ok(ty) => {
+            let node = ascribed(bump, at.place, first.tree.exp, ty.tree);
+            let height = greater(first.height, ty.height);
+            ending_made(node, Ended::Type, height + 1, ty.rest)
+        }
+        Err(stop) => Err(stop),
+    }
 }
 
 #[tactic(auto, unfolding(fut_grammar::specs::Reading::parts_at, fut_grammar::specs::Reading::has_at, fut_grammar::specs::Reading::sub_at, fut_grammar::specs::Phrases::phrases))]
@@ -149,14 +161,16 @@ fn coerced_to<'a>(
     ensures low { IfOk result (λ x. x.height ≤ inner + 1) }
 {
     let mark = next_spot(first.rest).place;
-    let ty = whole_type(bump, inner, take(first.rest, Fixed::ColonGreater)?)?;
-    let exp = coerced(bump, at.place, mark, first.tree.exp, ty.tree)?;
-    Ok(Found {
-        tree: Ending {
-            exp,
-            ended: Ended::Type,
-        },
-        height: greater(first.height, ty.height) + 1,
-        rest: ty.rest,
-    })
+    let rest = match take(first.rest, Fixed::ColonGreater) {
+        Ok(rest) => rest,
+        Err(stop) => return Err(stop),
+    };
+    match whole_type(bump, inner, rest) {
+        Ok(ty) => {
+            let node = coerced(bump, at.place, mark, first.tree.exp, ty.tree);
+            let height = greater(first.height, ty.height);
+            ending_made(node, Ended::Type, height + 1, ty.rest)
+        }
+        Err(stop) => Err(stop),
+    }
 }

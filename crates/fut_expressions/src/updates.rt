@@ -11,7 +11,8 @@ ghost use Rattle.fut_grammar.specs.Reading.{Gives, parts_at, refuse, row_at, suf
 use crate::behind::too_high;
 use bumpalo::Bump;
 use fut_ast::{Ended, Spot, What};
-use fut_atoms::tie::{Ending, ExpSort, ReadExp, Replacement};
+use fut_atoms::made::ending_made;
+use fut_atoms::tie::{Ending, ExpSort, ReadExp, Replacement, read_behind};
 use fut_atoms::written::written_list;
 use fut_exp_parts::binds::path_behind;
 use fut_exp_parts::exp_nodes::updated;
@@ -82,7 +83,7 @@ fn update_behind<'a, R: ReadExp<'a>>(
     }
 }
 
-#[tactic(auto, unfolding(fut_grammar::specs::Reading::parts_at, fut_grammar::specs::Reading::has_at, fut_grammar::specs::Reading::sub_at, fut_grammar::specs::Phrases::phrases))]
+#[tactic(auto, unfolding(fut_grammar::specs::Reading::parts_at, fut_grammar::specs::Reading::has_at, fut_grammar::specs::Reading::sub_at, fut_grammar::specs::Phrases::phrases, fut_grammar::specs::Reading::expect))]
 fn index_replaced<'a, R: ReadExp<'a>>(
     bump: &'a Bump,
     read: R,
@@ -95,31 +96,50 @@ fn index_replaced<'a, R: ReadExp<'a>>(
     ensures exact { Gives ending_found result (parts_at (phrases (read_at inner)) true Updated (suffix_parts with_index) (suffix_tree with_index at (spot_of first.entry.rest.now) (first.entry.tree.exp.now, first.entry.tree.ended)) first.entry.height first.entry.rest.now) }
     ensures low { IfOk result (λ x. x.height ≤ inner + 1) }
 {
-    let rest = take(first.rest, Fixed::KeyWith)?;
-    let mark = next_spot(rest).place;
-    let rest = take(rest, Fixed::OpenBracket)?;
-    let indices = written_list(bump, read, inner, first.height, rest)?;
-    let rest = take(indices.rest, Fixed::CloseBracket)?;
-    let value = read.read(inner, ExpSort::Right, take(rest, Fixed::Equal)?)?;
-    let exp = updated(
-        bump,
-        at.place,
-        mark,
-        first.tree.exp,
-        indices.tree,
-        value.tree.exp,
-    )?;
-    Ok(Found {
-        tree: Ending {
-            exp,
-            ended: Ended::Update,
-        },
-        height: greater(indices.height, value.height) + 1,
-        rest: value.rest,
-    })
+    let behind = match take(first.rest, Fixed::KeyWith) {
+        Ok(behind) => behind,
+        Err(stop) => return Err(stop),
+    };
+    let mark = next_spot(behind).place;
+    let rest = match take(behind, Fixed::OpenBracket) {
+        Ok(rest) => rest,
+        Err(stop) => return Err(stop),
+    };
+    let indices = match written_list(bump, read, inner, first.height, rest) {
+        Ok(indices) => indices,
+        Err(stop) => return Err(stop),
+    };
+    let rest = match take(indices.rest, Fixed::CloseBracket) {
+        Ok(rest) => rest,
+        Err(stop) => return Err(stop),
+    };
+    match read_behind(read, inner, Fixed::Equal, ExpSort::Right, rest) {
+        Ok(value) => {
+            let node = updated(
+                bump,
+                at.place,
+                mark,
+                first.tree.exp,
+                indices.tree,
+                value.tree.exp,
+            );
+            match node {
+                Ok(exp) => Ok(Found {
+                    tree: Ending {
+                        exp,
+                        ended: Ended::Update,
+                    },
+                    height: greater(indices.height, value.height) + 1,
+                    rest: value.rest,
+                }),
+                Err(_) => Err(Stop::Memory),
+            }
+        }
+        Err(stop) => Err(stop),
+    }
 }
 
-#[tactic(auto, unfolding(fut_grammar::specs::Reading::parts_at, fut_grammar::specs::Reading::has_at, fut_grammar::specs::Reading::sub_at, fut_grammar::specs::Phrases::phrases))]
+#[tactic(auto, unfolding(fut_grammar::specs::Reading::parts_at, fut_grammar::specs::Reading::has_at, fut_grammar::specs::Reading::sub_at, fut_grammar::specs::Phrases::phrases, fut_grammar::specs::Reading::expect))]
 fn field_replaced<'a, R: ReadExp<'a>>(
     bump: &'a Bump,
     read: R,
@@ -132,21 +152,29 @@ fn field_replaced<'a, R: ReadExp<'a>>(
     ensures exact { Gives ending_found result (parts_at (phrases (read_at inner)) true Updated (suffix_parts with_field) (suffix_tree with_field at (spot_of first.entry.rest.now) (first.entry.tree.exp.now, first.entry.tree.ended)) first.entry.height first.entry.rest.now) }
     ensures low { IfOk result (λ x. x.height ≤ inner + 1) }
 {
-    let (name, rest) = take_word(take(first.rest, Fixed::KeyWith)?)?;
-    let value = read.read(inner, ExpSort::Right, take(rest, Fixed::Equal)?)?;
-    let path = path_behind(bump, name, &[])?;
-    let exp = with_field_replaced(bump, at.place, first.tree.exp, path, value.tree.exp)?;
-    Ok(Found {
-        tree: Ending {
-            exp,
-            ended: Ended::Update,
-        },
-        height: greater(first.height, value.height) + 1,
-        rest: value.rest,
-    })
+    let behind = match take(first.rest, Fixed::KeyWith) {
+        Ok(behind) => behind,
+        Err(stop) => return Err(stop),
+    };
+    let (name, rest) = match take_word(behind) {
+        Ok(word) => word,
+        Err(stop) => return Err(stop),
+    };
+    let path = match path_behind(bump, name, &[]) {
+        Ok(path) => path,
+        Err(_) => return Err(Stop::Memory),
+    };
+    match read_behind(read, inner, Fixed::Equal, ExpSort::Right, rest) {
+        Ok(value) => {
+            let node = with_field_replaced(bump, at.place, first.tree.exp, path, value.tree.exp);
+            let height = greater(first.height, value.height);
+            ending_made(node, Ended::Update, height + 1, value.rest)
+        }
+        Err(stop) => Err(stop),
+    }
 }
 
-#[tactic(auto, unfolding(fut_grammar::specs::Reading::parts_at, fut_grammar::specs::Reading::has_at, fut_grammar::specs::Reading::sub_at, fut_grammar::specs::Phrases::phrases))]
+#[tactic(auto, unfolding(fut_grammar::specs::Reading::parts_at, fut_grammar::specs::Reading::has_at, fut_grammar::specs::Reading::sub_at, fut_grammar::specs::Phrases::phrases, fut_grammar::specs::Reading::expect))]
 fn path_replaced<'a, R: ReadExp<'a>>(
     bump: &'a Bump,
     read: R,
@@ -159,19 +187,29 @@ fn path_replaced<'a, R: ReadExp<'a>>(
     ensures exact { Gives ending_found result (parts_at (phrases (read_at inner)) true Updated (suffix_parts with_path) (suffix_tree with_path at (spot_of first.entry.rest.now) (first.entry.tree.exp.now, first.entry.tree.ended)) first.entry.height first.entry.rest.now) }
     ensures low { IfOk result (λ x. x.height ≤ inner + 1) }
 {
-    let (name, rest) = take_word(take(first.rest, Fixed::KeyWith)?)?;
-    without_form(What::LocalOpen, rest)?;
-    let found = read.read(inner, ExpSort::Replacing, take(rest, Fixed::Dot)?)?;
-    let path = path_behind(bump, name, found.tree.path)?;
-    let exp = with_field_replaced(bump, at.place, first.tree.exp, path, found.tree.exp)?;
-    Ok(Found {
-        tree: Ending {
-            exp,
-            ended: Ended::Update,
-        },
-        height: greater(first.height, found.height) + 1,
-        rest: found.rest,
-    })
+    let behind = match take(first.rest, Fixed::KeyWith) {
+        Ok(behind) => behind,
+        Err(stop) => return Err(stop),
+    };
+    let (name, rest) = match take_word(behind) {
+        Ok(word) => word,
+        Err(stop) => return Err(stop),
+    };
+    match without_form(What::LocalOpen, rest) {
+        Ok(()) => (),
+        Err(stop) => return Err(stop),
+    }
+    let found = match read_behind(read, inner, Fixed::Dot, ExpSort::Replacing, rest) {
+        Ok(found) => found,
+        Err(stop) => return Err(stop),
+    };
+    let path = match path_behind(bump, name, found.tree.path) {
+        Ok(path) => path,
+        Err(_) => return Err(Stop::Memory),
+    };
+    let node = with_field_replaced(bump, at.place, first.tree.exp, path, found.tree.exp);
+    let height = greater(first.height, found.height);
+    ending_made(node, Ended::Update, height + 1, found.rest)
 }
 
 /// What is replaced in a record.
@@ -194,7 +232,7 @@ pub fn replacing_below<'a, R: ReadExp<'a>>(
     }
 }
 
-#[tactic(auto, unfolding(fut_grammar::specs::Reading::row_at, fut_grammar::specs::Reading::parts_at, fut_grammar::specs::Reading::has_at, fut_grammar::specs::Reading::sub_at, fut_grammar::specs::Phrases::phrases))]
+#[tactic(auto, unfolding(fut_grammar::specs::Reading::row_at, fut_grammar::specs::Reading::parts_at, fut_grammar::specs::Reading::has_at, fut_grammar::specs::Reading::sub_at, fut_grammar::specs::Phrases::phrases, fut_grammar::specs::Reading::expect))]
 fn replaced_here<'a, R: ReadExp<'a>>(
     bump: &'a Bump,
     read: R,
@@ -206,19 +244,28 @@ fn replaced_here<'a, R: ReadExp<'a>>(
     ensures exact { Gives replacing_found result (row_at (phrases (read_at inner)) (of_exp last_replaced) tokens.now) }
     ensures low { IfOk result (λ x. x.height ≤ inner + 1) }
 {
-    let (name, rest) = take_word(tokens)?;
-    let value = read.read(inner, ExpSort::Right, take(rest, Fixed::Equal)?)?;
-    Ok(Found {
-        tree: Replacement {
-            path: path_behind(bump, name, &[])?,
-            exp: value.tree.exp,
-        },
-        height: value.height + 1,
-        rest: value.rest,
-    })
+    let (name, rest) = match take_word(tokens) {
+        Ok(word) => word,
+        Err(stop) => return Err(stop),
+    };
+    let value = match read_behind(read, inner, Fixed::Equal, ExpSort::Right, rest) {
+        Ok(value) => value,
+        Err(stop) => return Err(stop),
+    };
+    match path_behind(bump, name, &[]) {
+        Ok(path) => Ok(Found {
+            tree: Replacement {
+                path,
+                exp: value.tree.exp,
+            },
+            height: value.height + 1,
+            rest: value.rest,
+        }),
+        Err(_) => Err(Stop::Memory),
+    }
 }
 
-#[tactic(auto, unfolding(fut_grammar::specs::Reading::row_at, fut_grammar::specs::Reading::parts_at, fut_grammar::specs::Reading::has_at, fut_grammar::specs::Reading::sub_at, fut_grammar::specs::Phrases::phrases))]
+#[tactic(auto, unfolding(fut_grammar::specs::Reading::row_at, fut_grammar::specs::Reading::parts_at, fut_grammar::specs::Reading::has_at, fut_grammar::specs::Reading::sub_at, fut_grammar::specs::Phrases::phrases, fut_grammar::specs::Reading::expect))]
 fn replaced_inside<'a, R: ReadExp<'a>>(
     bump: &'a Bump,
     read: R,
@@ -230,15 +277,27 @@ fn replaced_inside<'a, R: ReadExp<'a>>(
     ensures exact { Gives replacing_found result (row_at (phrases (read_at inner)) (of_exp further_replaced) tokens.now) }
     ensures low { IfOk result (λ x. x.height ≤ inner + 1) }
 {
-    let (name, rest) = take_word(tokens)?;
-    without_form(What::LocalOpen, rest)?;
-    let found = read.read(inner, ExpSort::Replacing, take(rest, Fixed::Dot)?)?;
-    Ok(Found {
-        tree: Replacement {
-            path: path_behind(bump, name, found.tree.path)?,
-            exp: found.tree.exp,
-        },
-        height: found.height + 1,
-        rest: found.rest,
-    })
+    let (name, rest) = match take_word(tokens) {
+        Ok(word) => word,
+        Err(stop) => return Err(stop),
+    };
+    match without_form(What::LocalOpen, rest) {
+        Ok(()) => (),
+        Err(stop) => return Err(stop),
+    }
+    let found = match read_behind(read, inner, Fixed::Dot, ExpSort::Replacing, rest) {
+        Ok(found) => found,
+        Err(stop) => return Err(stop),
+    };
+    match path_behind(bump, name, found.tree.path) {
+        Ok(path) => Ok(Found {
+            tree: Replacement {
+                path,
+                exp: found.tree.exp,
+            },
+            height: found.height + 1,
+            rest: found.rest,
+        }),
+        Err(_) => Err(Stop::Memory),
+    }
 }

@@ -13,6 +13,7 @@ use crate::typed::typed_below;
 use bumpalo::Bump;
 use fut_atoms::forms::form_below;
 use fut_atoms::lets::lets;
+use fut_atoms::made::ending_made;
 use fut_atoms::tie::{Ending, ReadExp};
 use fut_exp_parts::exp_nodes::lets as lets_node;
 use fut_exp_parts::exp_tokens::{begins_exp_operand, goes_on_chain, goes_on_range, goes_on_typed};
@@ -93,17 +94,18 @@ fn lets_below<'a, R: ReadExp<'a>>(
     ensures low { IfOk result (λ x. x.height ≤ inner + 1) }
 {
     let place = next_spot(tokens).place;
-    let row = lets(bump, read, inner, tokens)?;
-    let body = body_below(bump, read, inner, row.rest)?;
-    let exp = lets_node(bump, place, place, row.tree, body.tree.exp)?;
-    Ok(Found {
-        tree: Ending {
-            exp,
-            ended: body.tree.ended,
-        },
-        height: greater(row.height + 1, body.height),
-        rest: body.rest,
-    })
+    let row = match lets(bump, read, inner, tokens) {
+        Ok(row) => row,
+        Err(stop) => return Err(stop),
+    };
+    match body_below(bump, read, inner, row.rest) {
+        Ok(body) => {
+            let node = lets_node(bump, place, place, row.tree, body.tree.exp);
+            let height = greater(row.height + 1, body.height);
+            ending_made(node, body.tree.ended, height, body.rest)
+        }
+        Err(stop) => Err(stop),
+    }
 }
 
 // ---- expressions that nothing goes on with
@@ -121,7 +123,10 @@ pub fn whole_below<'a, R: ReadExp<'a>>(
     ensures exact { Gives tree_found result (whole_at (phrases (read_at inner)) (suc inner) tokens.now) }
     ensures low { IfOk result (λ x. x.height ≤ inner + 1) }
 {
-    let found = last_below(bump, read, inner, tokens)?;
+    let found = match last_below(bump, read, inner, tokens) {
+        Ok(found) => found,
+        Err(stop) => return Err(stop),
+    };
     closed(found, goes_on_typed(found.tree.ended, found.rest))
 }
 
@@ -139,7 +144,10 @@ pub fn operands_below<'a, R: ReadExp<'a>>(
     ensures exact { Gives tree_found result (operands_at (phrases (read_at inner)) (suc inner) least tokens.now) }
     ensures low { IfOk result (λ x. x.height ≤ inner + 1) }
 {
-    let found = chain_below(bump, read, inner, least, tokens)?;
+    let found = match chain_below(bump, read, inner, least, tokens) {
+        Ok(found) => found,
+        Err(stop) => return Err(stop),
+    };
     closed(found, goes_on_chain(least, found.tree.ended, found.rest))
 }
 
@@ -158,10 +166,16 @@ pub fn operand_below<'a, R: ReadExp<'a>>(
     ensures low { IfOk result (λ x. x.height ≤ inner + 1) }
 {
     if begins_exp_operand(tokens) {
-        let found = chain_below(bump, read, inner, least, tokens)?;
+        let found = match chain_below(bump, read, inner, least, tokens) {
+            Ok(found) => found,
+            Err(stop) => return Err(stop),
+        };
         closed(found, goes_on_chain(least, found.tree.ended, found.rest))
     } else {
-        let found = big_below(bump, read, inner, tokens)?;
+        let found = match big_below(bump, read, inner, tokens) {
+            Ok(found) => found,
+            Err(stop) => return Err(stop),
+        };
         closed(found, goes_on_typed(found.tree.ended, found.rest))
     }
 }
@@ -180,10 +194,16 @@ pub fn right_below<'a, R: ReadExp<'a>>(
     ensures low { IfOk result (λ x. x.height ≤ inner + 1) }
 {
     if begins_exp_operand(tokens) {
-        let found = range_below(bump, read, inner, tokens)?;
+        let found = match range_below(bump, read, inner, tokens) {
+            Ok(found) => found,
+            Err(stop) => return Err(stop),
+        };
         closed(found, goes_on_range(found.tree.ended, found.rest))
     } else {
-        let found = big_below(bump, read, inner, tokens)?;
+        let found = match big_below(bump, read, inner, tokens) {
+            Ok(found) => found,
+            Err(stop) => return Err(stop),
+        };
         closed(found, goes_on_typed(found.tree.ended, found.rest))
     }
 }

@@ -1,0 +1,82 @@
+// What ends a production: a node was made, or there was no memory for it.
+ghost use Rattle.std.specs.Prelude.{◌≡◌, IfOk, Ok};
+ghost use Rattle.fut_ast.specs.Sorts.{Path, SourceExp, Text};
+ghost use Rattle.fut_atoms.specs.Tie.{ending_found};
+ghost use Rattle.fut_grammar.specs.Reading.{Gives};
+ghost use Rattle.fut_phrases.specs.Found.{found_as, tree_found};
+ghost use Rattle.fut_tree.specs.Exps.{bind_of, loop_of};
+ghost use Rattle.fut_ast.specs.declared.exp.Bind.{Bind as PlainBind};
+ghost use Rattle.fut_ast.specs.declared.exp.LoopForm.{LoopForm as PlainLoop};
+
+use crate::tie::Ending;
+use fut_ast::Ended;
+use fut_grammar::Stop;
+use fut_phrases::found::Found;
+use fut_scalar::NoMemory;
+use fut_token::Token;
+use fut_tree::{Bind, Exp, LoopForm};
+
+/// An expression was read, if there was memory for its node.
+pub fn made<'a>(
+    node: Result<&'a Exp<'a>, NoMemory>,
+    height: u32,
+    rest: &'a [Token],
+) -> Result<Found<'a, &'a Exp<'a>>, Stop>
+    ensures exact { (e : SourceExp) → IfOk node.entry (λ x. x.now ≡ e) → Gives tree_found result (Ok (e, height, rest.now)) }
+    ensures low { IfOk result (λ x. x.height ≡ height) }
+{
+    match node {
+        Ok(tree) => Ok(Found { tree, height, rest }),
+        Err(_) => Err(Stop::Memory),
+    }
+}
+
+/// The same of the last part of a form, which ended so.
+pub fn ending_made<'a>(
+    node: Result<&'a Exp<'a>, NoMemory>,
+    ended: Ended,
+    height: u32,
+    rest: &'a [Token],
+) -> Result<Found<'a, Ending<'a>>, Stop>
+    ensures exact { (e : SourceExp) → IfOk node.entry (λ x. x.now ≡ e) → Gives ending_found result (Ok ((e, ended), height, rest.now)) }
+    ensures low { IfOk result (λ x. x.height ≡ height) }
+{
+    match node {
+        Ok(exp) => Ok(Found {
+            tree: Ending { exp, ended },
+            height,
+            rest,
+        }),
+        Err(_) => Err(Stop::Memory),
+    }
+}
+
+/// The form of a loop was read, if there was memory for it.
+pub fn loop_made<'a>(
+    node: Result<&'a LoopForm<'a>, NoMemory>,
+    height: u32,
+    rest: &'a [Token],
+) -> Result<Found<'a, &'a LoopForm<'a>>, Stop>
+    ensures exact { (l : PlainLoop Path Text) → IfOk node.entry (λ x. loop_of x.now ≡ l) → Gives (found_as (λ t. loop_of t.now)) result (Ok (l, height, rest.now)) }
+    ensures low { IfOk result (λ x. x.height ≡ height) }
+{
+    match node {
+        Ok(tree) => Ok(Found { tree, height, rest }),
+        Err(_) => Err(Stop::Memory),
+    }
+}
+
+/// A `let` was read, if there was memory for it.
+pub fn bind_made<'a>(
+    node: Result<Bind<'a>, NoMemory>,
+    height: u32,
+    rest: &'a [Token],
+) -> Result<Found<'a, Bind<'a>>, Stop>
+    ensures exact { (b : PlainBind Path Text) → IfOk node.entry (λ x. bind_of x ≡ b) → Gives (found_as bind_of) result (Ok (b, height, rest.now)) }
+    ensures low { IfOk result (λ x. x.height ≡ height) }
+{
+    match node {
+        Ok(tree) => Ok(Found { tree, height, rest }),
+        Err(_) => Err(Stop::Memory),
+    }
+}
