@@ -6,3 +6,13 @@ pub mod Programs
 pub mod Envs
 pub mod Plain
 pub mod Examples
+pub mod Members
+pub mod Model
+pub mod Generic
+pub mod Exclude
+pub mod Locals
+pub mod Exact
+pub mod Readings
+pub mod Follows
+pub mod Instances
+pub mod Typings

@@ -8,5 +8,6 @@ pub mod Generalised
 pub mod Typing
 pub mod Program
 pub mod Answers
+pub mod Exact
 pub mod Homes
 pub mod Rows

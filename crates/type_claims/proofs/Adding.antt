@@ -1,20 +1,22 @@
 -- What the claims add.
 use Rattle.std.proofs.Common.{◌≡◌, ℕ, zero, suc, ◌+◌, ◌≤◌, ◌<◌, List, [], ◌∷◌, ◌++◌, length, refl, sym, ◌∙◌, ap, subst, arith}
-use mathlib.Core.Logic.{inl, inr}
+use mathlib.Core.Logic.{◌⊎◌, inl, inr}
+use Rattle.fut_types.specs.declared.Kind.{Kind}
 use Rattle.fut_types.specs.declared.Head.{Head}
+use Rattle.fut_types.specs.declared.Head.TheVariants as head
 use Rattle.fut_types.specs.declared.shapes.ShapeTable.{ShapeTable}
-use Rattle.fut_types.specs.Types.{Made, more, Sub, Kinds, level, rank, row}
+use Rattle.fut_types.specs.Types.{Made, Tys, more, Sub, Kinds, level, rank, row}
 use Rattle.fut_types.specs.Shapes.{HasPart, IsKnown}
 use Rattle.type_graph.specs.declared.Form.TheVariants as form
 use Rattle.type_graph.specs.declared.Node.{Node}
 use Rattle.type_graph.specs.declared.Entry.{Entry}
 use Rattle.type_graph.specs.declared.Task.{Task}
 use Rattle.type_graph.specs.declared.Task.TheVariants as task
-use Rattle.type_graph.specs.Graph.{node_at, entry_at, Tables, Told, Each, numbers, Fits, Meets, Holds, Solves, IsBound, Bound, IsTask, AreEntries, Kept, Solved, Unmet}
+use Rattle.type_graph.specs.Graph.{far, node_at, entry_at, parts_of, Reading, Tables, read, type_made, IsGraph, IsMaker, IsParameter, Told, Each, numbers, Fits, Meets, Holds, Solves, IsBound, Bound, IsTask, AreEntries, Kept, Solved, Unmet}
 use Rattle.type_graph.proofs.Ends.{told_grows}
 use Rattle.type_graph.proofs.Loop.{self_tables, told_self}
-use Rattle.type_claims.specs.Claims.{new_node, links, types_of, Sound, Extends, Allowed, Possible, Adds, Nowhere, Inside, Grown}
-use Rattle.type_claims.proofs.Grown.{grown_none, grown_push, grown_then, grown_links, links_full, links_row, long_links, links_more, links_none, lt_or, long_new, node_new, node_old, solves_old, same_types, extend_one, extend_low, extend_last, joined, waits_more, backed_more, sound_inside}
+use Rattle.type_claims.specs.Claims.{new_node, parameter_node, links, types_of, Sound, Extends, Allowed, Possible, Adds, Nowhere, Stands, Bears, Inside, Grown}
+use Rattle.type_claims.proofs.Grown.{made_no_link, same_parameter, push_graph, last_shows, state_new, backed_new, extend_at, grown_none, grown_push, grown_then, grown_links, links_full, links_row, long_links, links_more, links_none, lt_or, long_new, node_new, node_old, solves_old, same_types, extend_one, extend_low, extend_last, joined, waits_more, backed_more, sound_inside}
 
 abbrev pub Agree : ℕ → Sub → Sub → Type 0
 Agree n a b = (i : ℕ) → i < n → a i ≡ b i
@@ -31,11 +33,11 @@ module _ (T : Tables) (base : ℕ) (P : Kinds → Sub → Type 0) (H : (ℕ → 
     done = λ K a p. same K p.full a p.agrees (done K p.full (so.back K p.full p.solves));
     keeps = λ K a s. solves_old T nodes nodes1 gr K a (so.back K a s).solves;
     state = λ home s. so.state home base (waits_more T home base nodes1 tasks (gr.state home base le s));
-    backed = λ home h b. so.backed home (backed_more T home nodes1 tasks (allowed home h) (gr.backed home b));
+    backed = λ home born h b. so.backed home born (backed_more T home born nodes1 tasks (allowed home h) (gr.backed home born b));
   }
 
   pub nowhere_solved : Unmet T nodes1 tasks → Nowhere T base P nodes
-  nowhere_solved un K a p h = let f = forth K a p h in un K f.0 f.2
+  nowhere_solved un pl K a p h = let f = forth K a p h in un pl K f.0 f.2
 
 pub task_within : (table : ShapeTable) (n m : ℕ) (t : Task) → n ≤ m → IsTask table n t → IsTask table m t
 unfolding IsTask
@@ -89,8 +91,18 @@ bound_links : (table : ShapeTable) (m : ℕ) (ps : List ℕ) (nodes : List Node)
 bound_links table m [] nodes b = subst (IsBound table m) (sym (links_none nodes)) b
 bound_links table m (p ∷ ps) nodes b = subst (IsBound table m) (sym (links_more p ps nodes)) (bound_links table m ps (nodes ++ new_node (form.Link p) ∷ []) (bound_push table m nodes (new_node (form.Link p)) b tt))
 
+-- a head that is no type parameter's makes what it makes
+maker_made : (v : Reading) (h : Head) (ts : Tys) → IsMaker h → type_made v h ts ≡ Made h ts
+maker_made v (head.Rigid n k) ts m = absurd m
+maker_made v (head.Scalar s) ts m = refl
+maker_made v head.Array ts m = refl
+maker_made v head.Tuple ts m = refl
+maker_made v (head.Record n) ts m = refl
+maker_made v head.Fun ts m = refl
+maker_made v (head.Abstract n d) ts m = refl
+
 -- a head of a row
-module _ (table : ShapeTable) (base : ℕ) (nodes n1 n2 : List Node) (entries : List Entry) (number : ℕ) (h : Head) (ps : List ℕ) (s : Sound table nodes entries) (le : base ≤ length nodes) (lt : number < base) (kn : IsKnown table h) (lp : Each (λ p. p < base) ps) (room : length n1 < 4294967294)
+module _ (table : ShapeTable) (base : ℕ) (nodes n1 n2 : List Node) (entries : List Entry) (number : ℕ) (h : Head) (ps : List ℕ) (s : Sound table nodes entries) (le : base ≤ length nodes) (lt : number < base) (kn : IsKnown table h) (mk : IsMaker h) (lp : Each (λ p. p < base) ps) (room : length n1 < 4294967294)
     (is1 : n1 ≡ nodes ++ links ps) (is2 : n2 ≡ n1 ++ new_node (form.Made h (length nodes) (length ps)) ∷ []) where
   long1 : length n1 ≡ length nodes + length ps
   long1 = ap length is1 ∙ long_links ps nodes
@@ -118,7 +130,7 @@ module _ (table : ShapeTable) (base : ℕ) (nodes n1 n2 : List Node) (entries : 
     grown1 = subst (Grown T nodes) (sym is1) (grown_links T ps nodes s.graph inn (let e : length n1 ≡ length nodes + length ps = long1 in omega arith) low_parts)
 
     grown2 : Grown T n1 n2
-    grown2 = subst (Grown T n1) (sym is2) (grown_push T n1 (form.Made h (length nodes) (length ps)) grown1.graph grown1.inside (omega arith) row_in (row_inside (length n1) (length nodes) (length ps) row_in))
+    grown2 = subst (Grown T n1) (sym is2) (grown_push T n1 (form.Made h (length nodes) (length ps)) grown1.graph grown1.inside (omega arith) row_in mk (row_inside (length n1) (length nodes) (length ps) row_in))
 
     pub made_grown : Grown T nodes n2
     made_grown = grown_then T nodes n1 n2 grown1 grown2
@@ -141,7 +153,7 @@ module _ (table : ShapeTable) (base : ℕ) (nodes n1 n2 : List Node) (entries : 
           full,
           (λ i l. low i (omega arith) ∙ q.1 i (omega arith) ∙ p.agrees i l),
           record {
-            solves = subst (Solves T K full) (sym is2) (extend_one T n1 (form.Made h (length nodes) (length ps)) grown1.graph grown1.inside K f1 (a number) s1 shows);
+            solves = subst (Solves T K full) (sym is2) (extend_one T n1 (form.Made h (length nodes) (length ps)) grown1.graph grown1.inside K f1 (a number) s1 (shows ∙ sym (maker_made T.rigid h _ mk)));
             holds = (low number (omega arith) ∙ q.1 number (omega arith) ∙ p.agrees number lt ∙ sym last, tt);
           },
         )
@@ -151,7 +163,7 @@ module _ (table : ShapeTable) (base : ℕ) (nodes n1 n2 : List Node) (entries : 
     made_done K full m =
         let e2 : length n2 ≡ length nodes + length ps + 1 = long2 in let e1 : length n1 ≡ length nodes + length ps = long1 in
         let s1 : Solves T K full (nodes ++ links ps) = subst (Solves T K full) is1 (solves_old T n1 n2 grown2 K full m.solves) in
-        m.holds.0 ∙ (subst (Fits T K full (full (length n1))) made_node (m.solves.fits (length n1) (omega arith))).shows ∙ ap (Made h) (links_row T K full ps nodes s1)
+        m.holds.0 ∙ (subst (Fits T K full (full (length n1))) made_node (m.solves.fits (length n1) (omega arith))).shows ∙ maker_made T.rigid h _ mk ∙ ap (Made h) (links_row T K full ps nodes s1)
 
     made_same : (K : Kinds) (a b : Sub) → Agree base a b → a number ≡ Made h (types_of a ps) → b number ≡ Made h (types_of b ps)
     made_same K a b e p = sym (e number lt) ∙ p ∙ ap (Made h) (same_types base a b ps e lp)
@@ -175,3 +187,75 @@ module _ (table : ShapeTable) (base : ℕ) (nodes n1 n2 : List Node) (entries : 
 
   pub made_longer : length nodes ≤ length n2
   made_longer = let e2 : length n2 ≡ length nodes + length ps + 1 = long2 in omega arith
+
+-- a type parameter's node
+module _ (table : ShapeTable) (base : ℕ) (nodes : List Node) (entries : List Entry) (n : ℕ) (k : Kind) (l : ℕ) (s : Sound table nodes entries) (le : base ≤ length nodes) (near : l ≤ far) (room : length nodes < 4294967294) where
+  none_own : (T : Tables) → Each (λ c. c < length nodes) (parts_of T (form.Made (head.Rigid n k) 0 0))
+  unfolding numbers
+  none_own T = tt
+
+  flat : (T : Tables) → (far ≤ l) ⊎ (parts_of T (form.Made (head.Rigid n k) 0 0) ≡ [])
+  unfolding numbers
+  flat T = inr refl
+
+  bears_graph : IsGraph (nodes ++ parameter_node n k l ∷ [])
+  bears_graph = push_graph nodes (parameter_node n k l) s.graph (omega arith) (omega arith) refl near
+
+  rigid_known : IsKnown table (head.Rigid n k)
+  unfolding IsKnown
+  rigid_known = tt
+
+  bears_sound : Sound table (nodes ++ parameter_node n k l ∷ []) entries
+  bears_sound = record {
+    graph = bears_graph;
+    bound = bound_push table (length entries) nodes (parameter_node n k l) s.bound rigid_known;
+    are = entries_more table (length nodes) (length (nodes ++ parameter_node n k l ∷ [])) entries (let e : length (nodes ++ parameter_node n k l ∷ []) ≡ suc (length nodes) = long_new nodes (parameter_node n k l) in omega arith) s.are;
+  }
+
+  pub bears_extends : (nodes' : List Node) → nodes' ≡ nodes ++ parameter_node n k l ∷ [] → Extends table nodes entries nodes' entries
+  bears_extends nodes' is = subst (λ ns. Extends table nodes entries ns entries) (sym is) (record { sound = bears_sound; longer = (let e : length (nodes ++ parameter_node n k l ∷ []) ≡ suc (length nodes) = long_new nodes (parameter_node n k l) in omega arith); told = λ T t. t })
+
+  module _ (T : Tables) (inn : Inside T nodes) (seat : T.seat n ≡ length nodes) where
+    no_other : (m : ℕ) → IsParameter m (form.Made (head.Rigid n k) 0 0) → T.seat m ≡ length nodes
+    no_other m p = subst (λ j. T.seat j ≡ length nodes) (same_parameter n m k p) seat
+
+    shows_it : (v : Reading) (K : Kinds) (a : Sub) → Solves (read T v) K a (nodes ++ parameter_node n k l ∷ []) → a (length nodes) ≡ v n k
+    shows_it v K a sol = last_shows T nodes (form.Made (head.Rigid n k) 0 0) l s.graph inn (omega arith) (omega arith) (none_own T) near refl tt no_other (flat T) (λ j e. absurd (made_no_link (head.Rigid n k) 0 0 j e)) v K a (record { solves = sol; holds = tt })
+
+    first_solve : (K : Kinds) (a : Sub) → Solves T K a (nodes ++ parameter_node n k l ∷ []) → Solves T K a nodes
+    first_solve K a sol = record { fits = λ i lt. subst (Fits T K a (a i)) (node_old nodes (parameter_node n k l) i lt) (sol.fits i (let e : length (nodes ++ parameter_node n k l ∷ []) ≡ suc (length nodes) = long_new nodes (parameter_node n k l) in omega arith)) }
+
+    pub bears : (nodes' : List Node) → nodes' ≡ nodes ++ parameter_node n k l ∷ [] → Bears T base n k l nodes nodes'
+    bears nodes' is = subst (Bears T base n k l nodes) (sym is) (record {
+      forth = λ K a p. record {
+        full = joined (length nodes) p.full (λ j. T.rigid n k);
+        agrees = λ i lt. extend_low T nodes (form.Made (head.Rigid n k) 0 0) s.graph inn K p.full (T.rigid n k) i (omega arith) ∙ p.agrees i lt;
+        solves = extend_at T nodes (form.Made (head.Rigid n k) 0 0) s.graph inn K p.full (T.rigid n k) l p.solves (extend_last T nodes (form.Made (head.Rigid n k) 0 0) s.graph inn K p.full (T.rigid n k));
+      };
+      back = λ K a p. record { full = p.full; agrees = p.agrees; solves = first_solve K p.full p.solves };
+      keeps = first_solve;
+      stands = λ K a sol. shows_it T.rigid K a sol;
+      state = λ home st. state_new T nodes (form.Made (head.Rigid n k) 0 0) l s.graph inn (omega arith) (omega arith) (none_own T) near refl tt no_other (flat T) (λ j e. absurd (made_no_link (head.Rigid n k) 0 0 j e)) home base le st;
+      backed = λ home born lb b. backed_new T nodes (form.Made (head.Rigid n k) 0 0) l s.graph inn (omega arith) (omega arith) (none_own T) near refl tt no_other (flat T) (λ j e. absurd (made_no_link (head.Rigid n k) 0 0 j e)) home born
+          (λ lt v K a v' K' a' m m' same. shows_it v K a m.solves ∙ same.parameters n k lb ∙ sym (shows_it v' K' a' m'.solves)) b;
+    })
+
+pub parameter_within : (table : ShapeTable) (base number at : ℕ) (nodes : List Node) → base ≤ length nodes → number < base → at < length nodes → IsTask table (length nodes) (task.Same number at)
+unfolding IsTask
+parameter_within table base number at nodes le lt la = (omega arith, la)
+
+-- a node has the type of a type parameter
+module _ (table : ShapeTable) (T : Tables) (base number at n : ℕ) (k : Kind) (nodes nodes' : List Node) (entries : List Entry) (s : Sound table nodes entries) (told : Told table entries T) (le : base ≤ length nodes) (lt : number < base) (st : Stands T nodes at n k) where
+  parameter_forth : (K : Kinds) (a : Sub) → Possible T base K a nodes → a number ≡ T.rigid n k → (full : Sub) × Agree base full a × Meets T nodes (task.Same number at ∷ []) K full
+  unfolding Holds
+  parameter_forth K a p h = (p.full, p.agrees, record { solves = p.solves; holds = (p.agrees number lt ∙ h ∙ sym (st K p.full p.solves), tt) })
+
+  parameter_done : (K : Kinds) (full : Sub) → Meets T nodes (task.Same number at ∷ []) K full → full number ≡ T.rigid n k
+  unfolding Holds
+  parameter_done K full m = m.holds.0 ∙ st K full m.solves
+
+  pub parameter_adds : Solved T nodes (task.Same number at ∷ []) nodes' → Adds T base (λ K a. a number ≡ T.rigid n k) (λ home. Unit {0}) nodes nodes'
+  parameter_adds so = adds_solved T base (λ K a. a number ≡ T.rigid n k) (λ home. Unit {0}) nodes nodes nodes' (task.Same number at ∷ []) le (grown_none T nodes s.graph (sound_inside table nodes entries T s told)) (λ home h. (tt, tt)) parameter_forth parameter_done (λ K a b e h. sym (e number lt) ∙ h) so
+
+  pub parameter_nowhere : Unmet T nodes (task.Same number at ∷ []) → Nowhere T base (λ K a. a number ≡ T.rigid n k) nodes
+  parameter_nowhere un = nowhere_solved T base (λ K a. a number ≡ T.rigid n k) (λ home. Unit {0}) nodes nodes nodes' (task.Same number at ∷ []) le (grown_none T nodes s.graph (sound_inside table nodes entries T s told)) (λ home h. (tt, tt)) parameter_forth parameter_done (λ K a b e h. sym (e number lt) ∙ h) un

@@ -7,8 +7,9 @@
 ghost use Rattle.std.specs.Prelude.{◌≡◌, ◌<◌, ◌≤◌, ◌++◌, ◌∷◌, [], ℕ, length, OnOk, IfOk, IfErr};
 ghost use Rattle.fut_types.specs.Types.{Made};
 ghost use Rattle.fut_types.specs.Shapes.{IsTable, IsKnown};
-ghost use Rattle.type_graph.specs.Graph.{Each, IsTask, Tables, Told, Holds, Solved, Unmet, Grows, Kept, Tells};
-ghost use Rattle.type_claims.specs.Claims.{Sound, Extends, Adds, Nowhere, Allowed, new_node, links, types_of};
+ghost use Rattle.fut_types.specs.declared.Kind.{Kind as TheKind};
+ghost use Rattle.type_graph.specs.Graph.{Each, IsTask, Tables, IsMaker, Told, Holds, Solved, Unmet, Grows, Kept, Tells};
+ghost use Rattle.type_claims.specs.Claims.{Sound, Extends, Adds, Nowhere, Allowed, Bears, Stands, new_node, parameter_node, links, types_of};
 
 use fut_scalar::List;
 use fut_types::{Head, Kind, ShapeTable};
@@ -114,6 +115,7 @@ pub fn assert_made(
     requires base { base ≤ length nodes.old }
     requires number { number < base }
     requires head { IsKnown table.now head }
+    requires maker { IsMaker head }
     requires parts { Each (λ part. part < base) parts.now }
     ensures extends { OnOk result (Extends table.now nodes.old entries.old nodes.new entries.new) }
     ensures ok { OnOk result ((T : Tables) → Told table.now entries.new T → Adds T base (λ K a. a number ≡ Made head (types_of a parts.now)) (λ home. Unit {0}) nodes.old nodes.new) }
@@ -133,4 +135,61 @@ pub fn assert_made(
         Ok(made) => settle(alloc, table, nodes, entries, Task::Same(number, made)),
         Err(error) => Err(error),
     }
+}
+
+/// Gives a type parameter its node, which stands for it wherever it is written. Its level tells whether the type has come to
+/// be fixed by what stands outside the definition.
+pub fn push_parameter(
+    table: &ShapeTable,
+    base: u32,
+    nodes: &mut List<Node>,
+    entries: &List<Entry>,
+    parameter: u32,
+    kind: Kind,
+    depth: u32,
+) -> Result<u32, UnifyErr>
+    requires sound { Sound table.now nodes.old entries.now }
+    requires base { base ≤ length nodes.old }
+    ensures ok { OnOk result (nodes.new ≡ nodes.old ++ parameter_node parameter kind depth ∷ []) }
+    ensures number { IfOk result (λ n. n ≡ length nodes.old) }
+    ensures extends { OnOk result (Extends table.now nodes.old entries.now nodes.new entries.now) }
+    ensures bears { OnOk result ((T : Tables) → Told table.now entries.now T → T.seat parameter ≡ length nodes.old → Bears T base parameter kind depth nodes.old nodes.new) }
+    ensures err { IfErr result (Tells ⊥) }
+{
+    let at = nodes.len();
+    if at >= 4294967294 {
+        return Err(UnifyErr::Memory);
+    }
+    let node = Node {
+        kind: Kind::Any,
+        level: depth,
+        form: Form::Made(Head::Rigid(parameter, kind), 0, 0),
+    };
+    match nodes.push(node) {
+        Ok(()) => Ok(at as u32),
+        Err(_) => Err(UnifyErr::Memory),
+    }
+}
+
+/// Asks that a node's type is that of a type parameter, where `at` is a node that stands for it.
+pub fn assert_parameter(
+    alloc: Global,
+    table: &ShapeTable,
+    base: u32,
+    nodes: &mut List<Node>,
+    entries: &mut List<Entry>,
+    number: u32,
+    at: u32,
+) -> Result<(), UnifyErr>
+    requires table { IsTable table.now }
+    requires sound { Sound table.now nodes.old entries.old }
+    requires base { base ≤ length nodes.old }
+    requires number { number < base }
+    requires at { at < length nodes.old }
+    ensures extends { OnOk result (Extends table.now nodes.old entries.old nodes.new entries.new) }
+    ensures ok { OnOk result ((T : Tables) → Told table.now entries.new T → (n : ℕ) (k : TheKind) → Stands T nodes.old at n k → Adds T base (λ K a. a number ≡ T.rigid n k) (λ home. Unit {0}) nodes.old nodes.new) }
+    ensures err { IfErr result (Tells ((T : Tables) → Told table.now entries.new T → (n : ℕ) (k : TheKind) → Stands T nodes.old at n k → Nowhere T base (λ K a. a number ≡ T.rigid n k) nodes.old)) }
+    ensures before { IfErr result (Tells ((T : Tables) → Told table.now entries.new T → Told table.now entries.old T)) }
+{
+    settle(alloc, table, nodes, entries, Task::Same(number, at))
 }

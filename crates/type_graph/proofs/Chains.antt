@@ -1,5 +1,5 @@
 -- Going along a chain or a row.
-use Rattle.std.proofs.Common.{◌≡◌, ℕ, suc, ◌+◌, ◌-◌, ◌≤◌, ◌<◌, List, [], ◌∷◌, ◌++◌, length, refl, sym, ◌∙◌, ap, subst, arith, append_assoc}
+use Rattle.std.proofs.Common.{◌≡◌, ◌≢◌, ℕ, suc, ◌+◌, ◌-◌, ◌≤◌, ◌<◌, List, [], ◌∷◌, ◌++◌, length, refl, sym, ◌∙◌, ap, subst, arith, append_assoc}
 use mathlib.Core.Logic.{◌⊎◌, inl, inr}
 use Rattle.fut_types.specs.declared.Kind.{Kind}
 use Rattle.fut_types.specs.Types.{Ty, Sub}
@@ -9,7 +9,7 @@ use Rattle.type_graph.specs.declared.Form.TheVariants as form
 use Rattle.type_graph.specs.declared.Entry.{Entry}
 use Rattle.type_graph.specs.declared.Task.{Task}
 use Rattle.type_graph.specs.declared.Task.TheVariants as task
-use Rattle.type_graph.specs.Graph.{Tables, Listed, Names, entry_at, numbers, children, parts_of, all_have, chain_tasks, pairs}
+use Rattle.type_graph.specs.Graph.{Tables, Listed, Names, All_named, Lacks, entry_at, numbers, children, chained, parts_of, all_have, chain_tasks, all_asked, pairs}
 
 -- one task is pushed, and the rest is to come
 pub pushed : (xs ys zs all : List Task) (t : Task) → ys ≡ xs ++ t ∷ [] → xs ++ t ∷ zs ≡ all → ys ++ zs ≡ all
@@ -55,32 +55,43 @@ module _ (entries : List Entry) (T : Tables) (t : Listed entries T) (e : ℕ) (y
   is_entry = t e lt ∙ sym is
 
   have_suc : (k : Kind) (l m : ℕ) → all_have (children T e (suc m)) k l ≡ task.Has y.child k l ∷ all_have (children T y.next m) k l
-  unfolding all_have children
+  unfolding all_have chained
   have_suc k l m = ap (λ (z : Entry). task.Has z.child k l ∷ all_have (children T z.next m) k l) is_entry
 
   pub have_step : (k : Kind) (l n : ℕ) → 0 < n → all_have (children T e n) k l ≡ task.Has y.child k l ∷ all_have (children T y.next (n - 1)) k l
   have_step k l n h = ap (λ m. all_have (children T e m) k l) (some_more n h) ∙ have_suc k l (n - 1)
 
   chain_suc : (i m : ℕ) → chain_tasks T i e (suc m) ≡ task.Part i y.label y.child ∷ chain_tasks T i y.next m
-  unfolding chain_tasks
+  unfolding all_asked
   chain_suc i m = ap (λ (z : Entry). task.Part i z.label z.child ∷ chain_tasks T i z.next m) is_entry
 
   pub chain_step : (i n : ℕ) → 0 < n → chain_tasks T i e n ≡ task.Part i y.label y.child ∷ chain_tasks T i y.next (n - 1)
   chain_step i n h = ap (chain_tasks T i e) (some_more n h) ∙ chain_suc i (n - 1)
 
   names_suc : (a : Sub) (u : Ty) (m : ℕ) → Names T a u e (suc m) → HasPart T.shapes y.label u (a y.child) × Names T a u y.next m
-  unfolding Names
+  unfolding All_named
   names_suc a u m p = subst (λ (z : Entry). HasPart T.shapes z.label u (a z.child) × Names T a u z.next m) is_entry p
 
   pub names_step : (a : Sub) (u : Ty) (n : ℕ) → 0 < n → Names T a u e n → HasPart T.shapes y.label u (a y.child) × Names T a u y.next (n - 1)
   names_step a u n h p = names_suc a u (n - 1) (subst (Names T a u e) (some_more n h) p)
 
+  lacks_suc : (label m : ℕ) → y.label ≢ label → Lacks T.entry label y.next m → Lacks T.entry label e (suc m)
+  unfolding Lacks
+  lacks_suc label m ne l = subst (λ (z : Entry). (z.label ≢ label) × Lacks T.entry label z.next m) (sym is_entry) (ne, l)
+
+  pub lacks_step : (label n : ℕ) → 0 < n → y.label ≢ label → Lacks T.entry label y.next (n - 1) → Lacks T.entry label e n
+  lacks_step label n h ne l = subst (Lacks T.entry label e) (sym (some_more n h)) (lacks_suc label (n - 1) ne l)
+
+pub lacks_none : (T : Tables) (label e n : ℕ) → n ≤ 0 → Lacks T.entry label e n
+unfolding Lacks
+lacks_none T label e n z = subst (Lacks T.entry label e) (sym (none_left n z)) tt
+
 pub have_none : (T : Tables) (e n : ℕ) (k : Kind) (l : ℕ) → n ≤ 0 → all_have (children T e n) k l ≡ []
-unfolding all_have children
+unfolding all_have chained
 have_none T e n k l z = ap (λ m. all_have (children T e m) k l) (none_left n z)
 
 pub chain_none : (T : Tables) (i e n : ℕ) → n ≤ 0 → chain_tasks T i e n ≡ []
-unfolding chain_tasks
+unfolding all_asked
 chain_none T i e n z = ap (chain_tasks T i e) (none_left n z)
 
 pub none_pushed : (tasks : List Task) (f : Form) (T : Tables) (k : Kind) (l : ℕ) → (f ≡ form.Free) ⊎ ((j : ℕ) × (f ≡ form.Link j)) → tasks ≡ tasks ++ all_have (parts_of T f) k l

@@ -14,7 +14,7 @@ use Rattle.type_graph.specs.declared.Task.{Task}
 use Rattle.type_graph.specs.declared.Task.TheVariants as task
 use Rattle.type_graph.specs.declared.UnifyErr.{UnifyErr}
 use Rattle.type_graph.specs.declared.UnifyErr.TheVariants as err
-use Rattle.type_graph.specs.Graph.{node_at, with_node, entry_at, Tables, Told, Listed, Closed, IsGraph, IsBound, Bound, IsTask, IsEntry, AreEntries, Grows, IsRoot, Starts, Opens, IsNamed, Shows, Within, Found, Reduces, Does, Linked, Refuses, Tells, parts_of, pairs, all_have, chain_tasks}
+use Rattle.type_graph.specs.Graph.{node_at, with_node, entry_at, Tables, read, Lacks, Told, Listed, Closed, IsGraph, IsBound, Bound, IsTask, IsEntry, AreEntries, Grows, IsRoot, Starts, Opens, IsNamed, Shows, Within, Found, Reduces, Does, Linked, Refuses, Tells, parts_of, pairs, all_have, chain_tasks}
 use Rattle.type_graph.specs.State.{form_cap}
 use Rattle.type_graph.proofs.PartLaws.{reads}
 use Rattle.type_graph.proofs.Reducing.{Turns, unite_free, unite_made, unite_open, raised, no_kind_here, opened, has_already, same_already, part_known, made_part, lacks_name, lacks_place, turned, turns_roots}
@@ -101,7 +101,7 @@ told_grows table n entries entries' T g t = record { shapes = t.shapes; listed =
 pub starts : (table : ShapeTable) (m : ℕ) (nodes : List Node) (i : ℕ) → IsGraph nodes → IsBound table m nodes → i < length nodes → Starts m (node_at nodes i).form
 starts table m nodes i g b lt = go (node_at nodes i).form (g.within i lt) (b.forms i lt)
   where
-    go : (f : Form) → Within (length nodes) i f (node_at nodes i).level → Bound table m f → Starts m f
+    go : (f : Form) → Within (length nodes) i f → Bound table m f → Starts m f
     go form.Free w d = tt
     go (form.Link j) w d = tt
     go (form.Made h x n) w d = let s : length nodes < 4294967296 = g.short in omega arith
@@ -166,14 +166,15 @@ does_turned nodes tasks t u nodes' tasks' n d = record { added = d.added; is = d
 -- a part that is asked
 pub end_opened : (table : ShapeTable) (T : Tables) (nodes : List Node) (tasks : List Task) (entries entries' : List Entry) (r : ℕ) (nd : Node) (y : Entry) (count number : ℕ) (nodes' : List Node) (tasks' : List Task)
     → Told table entries' T → y.child < length nodes → r < length nodes → IsGraph nodes → Opens (node_at nodes r).form y.next count → count ≤ length entries → nd ≡ node_at nodes r → level nd.kind ≤ 2 → number ≡ length entries → entries' ≡ entries ++ y ∷ []
-    → nodes' ≡ with_node nodes r (record { kind = nd.kind; level = 0; form = form.Open number (count + 1) }) → tasks' ≡ tasks ++ task.Has y.child nd.kind 0 ∷ [] → Does table (length entries') T nodes tasks (task.Part r y.label y.child) nodes' tasks'
-end_opened table T nodes tasks entries entries' r nd y count number nodes' tasks' told hc h g op cm en cap num grown pn pt =
+    → ((T : Tables) → Listed entries T → Lacks T.entry y.label y.next count)
+    → nodes' ≡ with_node nodes r (record { kind = nd.kind; level = nd.level; form = form.Open number (count + 1) }) → tasks' ≡ tasks ++ task.Has y.child nd.kind nd.level ∷ [] → Does table (length entries') T nodes tasks (task.Part r y.label y.child) nodes' tasks'
+end_opened table T nodes tasks entries entries' r nd y count number nodes' tasks' told hc h g op cm en cap num grown lacks pn pt =
     let long : length entries' ≡ length entries + 1 = ap length grown ∙ long_push entries y in
     let here : T.entry number ≡ y = told.listed number (omega arith) ∙ ap (λ es. entry_at es number) grown ∙ ap (entry_at (entries ++ y ∷ [])) num ∙ entry_last entries y in record {
-      added = task.Has y.child (node_at nodes r).kind 0 ∷ [];
-      is = pt ∙ ap (λ n. tasks ++ task.Has y.child n.kind 0 ∷ []) en;
-      reduces = subst (λ n. Reduces table (length entries') T nodes (task.Part r y.label y.child) n (task.Has y.child (node_at nodes r).kind 0 ∷ [])) (sym (pn ∙ ap (λ n. with_node nodes r (record { kind = n.kind; level = 0; form = form.Open number (count + 1) })) en))
-          (opened table (length entries') T nodes r y.label y.child y.next count number h hc g (opens_root (node_at nodes r).form y.next count op) op here (omega arith) (omega arith) (subst (λ n. level n.kind ≤ 2) en cap));
+      added = task.Has y.child (node_at nodes r).kind (node_at nodes r).level ∷ [];
+      is = pt ∙ ap (λ n. tasks ++ task.Has y.child n.kind n.level ∷ []) en;
+      reduces = subst (λ n. Reduces table (length entries') T nodes (task.Part r y.label y.child) n (task.Has y.child (node_at nodes r).kind (node_at nodes r).level ∷ [])) (sym (pn ∙ ap (λ n. with_node nodes r (record { kind = n.kind; level = n.level; form = form.Open number (count + 1) })) en))
+          (opened table (length entries') T nodes r y.label y.child y.next count number h hc g (opens_root (node_at nodes r).form y.next count op) op here (omega arith) (omega arith) (subst (λ n. level n.kind ≤ 2) en cap) (lacks T (λ e lt. told.listed e (omega arith) ∙ ap (λ es. entry_at es e) grown ∙ entry_old entries y e lt)));
     }
   where
     opens_root : (f : Form) (e n : ℕ) → Opens f e n → IsRoot f
@@ -191,7 +192,7 @@ module _ (table : ShapeTable) (nodes : List Node) (r label c : ℕ) (nd : Node) 
     added = task.Same d c ∷ [];
     is = p;
     reduces = part_known table (length entries) T nodes g r label c d hc (subst (λ x. x < length nodes) (sym at.2) (are.within at.0 at.1).0)
-        (λ K a s. named T told.listed a (a r) (subst (Shows T a (a r)) (form_is _ f) (s.fits r h).shows));
+        (λ v K a s. named T told.listed a (a r) (subst (Shows (read T v) a (a r)) (form_is _ f) (s.fits r h).shows));
   }
 
   module _ (hd : Head) (x n : ℕ) (f : nd.form ≡ form.Made hd x n) where
@@ -200,15 +201,15 @@ module _ (table : ShapeTable) (nodes : List Node) (r label c : ℕ) (nd : Node) 
       added = task.Same (x + p) c ∷ [];
       is = q;
       reduces = part_known table (length entries) T nodes g r label c (x + p) hc
-          (let b : x + n ≤ length nodes = subst (λ f. Within (length nodes) r f (node_at nodes r).level) (form_is _ f) (g.within r h) in omega arith)
-          (made_part T nodes r label hd x n h (form_is _ f) p is lt);
+          (let b : x + n ≤ length nodes = subst (Within (length nodes) r) (form_is _ f) (g.within r h) in omega arith)
+          (made_part T nodes r label hd x n g h (form_is _ f) p is lt);
     }
 
     pub end_lacks : (T : Tables) → place T.shapes label hd ≡ None → Refuses T nodes (task.Part r label c)
-    end_lacks T is = lacks_name T nodes r label hd x n h (form_is _ f) c is
+    end_lacks T is = lacks_name T nodes r label hd x n g h (form_is _ f) c is
 
     pub end_past : (T : Tables) (p : ℕ) → place T.shapes label hd ≡ Some p → n ≤ p → Refuses T nodes (task.Part r label c)
-    end_past T p is le = lacks_place T nodes r label hd x n h (form_is _ f) c p is le
+    end_past T p is le = lacks_place T nodes r label hd x n g h (form_is _ f) c p is le
 
 -- `step`
 pub has_within : (table : ShapeTable) (n i : ℕ) (k : Kind) (l : ℕ) → IsTask table n (task.Has i k l) → i < n

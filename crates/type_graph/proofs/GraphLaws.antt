@@ -10,7 +10,7 @@ use Rattle.type_graph.specs.declared.Form.{Form}
 use Rattle.type_graph.specs.declared.Form.TheVariants as form
 use Rattle.type_graph.specs.declared.Node.{Node}
 use Rattle.fut_types.specs.declared.shapes.ShapeTable.{ShapeTable}
-use Rattle.type_graph.specs.Graph.{far, free_node, node_at, with_node, Tables, Fits, Solves, Within, IsGraph, Bound, IsBound, node_weight, total, is_root, one_root, IsRoot, Linked, link_to}
+use Rattle.type_graph.specs.Graph.{far, free_node, node_at, with_node, Tables, Fits, Solves, Within, Fitting, IsGraph, Bound, IsBound, depth, node_weight, total, is_root, one_root, IsRoot, Linked, link_to}
 use Rattle.std.proofs.Math.Nat.{zero-mul}
 
 pub node_same : (nodes : List Node) (i : ℕ) (x : Node) → i < length nodes → node_at (with_node nodes i x) i ≡ x
@@ -73,28 +73,30 @@ solves_from {T} {K} {a} {nodes} k x s f = record { fits = from_all (Good T K a) 
 pub solves_here : {T : Tables} {K : Kinds} {a : Sub} (nodes : List Node) (k : ℕ) (x : Node) → k < length nodes → Solves T K a (with_node nodes k x) → Fits T K a (a k) x
 solves_here {T} {K} {a} nodes k x h s = here_all (Good T K a) nodes k x h s.fits
 
-pub graph_with : {nodes : List Node} (k : ℕ) (x : Node) → k < length nodes → IsGraph nodes → Within (length nodes) k x.form x.level → IsGraph (with_node nodes k x)
-graph_with {nodes} k x h g w = record {
+pub graph_with : {nodes : List Node} (k : ℕ) (x : Node) → k < length nodes → IsGraph nodes → Within (length nodes) k x.form → Fitting x.form → x.level ≤ far → IsGraph (with_node nodes k x)
+graph_with {nodes} k x h g w fit near = record {
   short = subst (λ n. n < 2 ^ 32) (sym (length_with nodes k x)) g.short;
-  within = subst (λ n. (i : ℕ) → i < length (with_node nodes k x) → Within n i (node_at (with_node nodes k x) i).form (node_at (with_node nodes k x) i).level) (sym (length_with nodes k x))
-      (at_all (λ i node. Within (length nodes) i node.form node.level) nodes k x h w (λ i lt ne. g.within i lt));
+  within = subst (λ n. (i : ℕ) → i < length (with_node nodes k x) → Within n i (node_at (with_node nodes k x) i).form) (sym (length_with nodes k x))
+      (at_all (λ i node. Within (length nodes) i node.form) nodes k x h w (λ i lt ne. g.within i lt));
+  fitting = at_all (λ i node. Fitting node.form) nodes k x h fit (λ i lt ne. g.fitting i lt);
+  near = at_all (λ i node. node.level ≤ far) nodes k x h near (λ i lt ne. g.near i lt);
 }
 
 pub bound_with : {table : ShapeTable} {m : ℕ} {nodes : List Node} (k : ℕ) (x : Node) → k < length nodes → Bound table m x.form → IsBound table m nodes → IsBound table m (with_node nodes k x)
 bound_with {table} {m} {nodes} k x h w b = record { forms = at_all (λ i node. Bound table m node.form) nodes k x h w (λ i lt ne. b.forms i lt) }
 
 link_weight : (r j : ℕ) → node_weight r (link_to j) ≡ 0
-link_weight r j = zero-mul (8 * r + (5 - 0 + far))
+link_weight r j = zero-mul (depth * r + (5 - 0 + far))
 
 no_kind : (K : Kinds) (t : Ty) → level kind.Any ≤ rank K t
 no_kind K t = omega arith
 
 -- a form that is no link does not care where it stands
-pub root_within : (n i j : ℕ) (f : Form) (l : ℕ) → IsRoot f → Within n i f l → Within n j f l
-root_within n i j form.Free l r w = tt
-root_within n i j (form.Link x) l r w = absurd r
-root_within n i j (form.Made h first count) l r w = w
-root_within n i j (form.Open e count) l r w = w
+pub root_within : (n i j : ℕ) (f : Form) → IsRoot f → Within n i f → Within n j f
+root_within n i j form.Free r w = tt
+root_within n i j (form.Link x) r w = absurd r
+root_within n i j (form.Made h first count) r w = w
+root_within n i j (form.Open e count) r w = w
 
 pub moved_shows : {T : Tables} {K : Kinds} {a : Sub} {t u : Ty} {node : Node} → t ≡ u → Fits T K a t node → Fits T K a u node
 moved_shows {T} {K} {a} {t} {u} {node} e f = subst (λ v. Fits T K a v node) e f
@@ -102,7 +104,7 @@ moved_shows {T} {K} {a} {t} {u} {node} e f = subst (λ v. Fits T K a v node) e f
 -- the winner stands lower
 pub linked_down : (nodes : List Node) (w l : ℕ) → IsGraph nodes → IsRoot (node_at nodes l).form → w < l → l < length nodes → Linked nodes w l (with_node nodes l (link_to w))
 linked_down nodes w l g rl lt h = record {
-  graph = graph_with l (link_to w) h g lt;
+  graph = graph_with l (link_to w) h g lt tt (omega arith);
   long = length_with nodes l (link_to w);
   bound = λ table m b. bound_with l (link_to w) h tt b;
   roots = let e : total is_root (with_node nodes l (link_to w)) + is_root (node_at nodes l) ≡ total is_root nodes + 0 = weight_with is_root nodes l (link_to w) h in
@@ -139,7 +141,7 @@ module _ (nodes : List Node) (w l : ℕ) (g : IsGraph nodes) (r : IsRoot (node_a
 
   g_moved : IsGraph moved
   unfolding moved
-  g_moved = graph_with l (node_at nodes w) h_l g (root_within (length nodes) w l (node_at nodes w).form (node_at nodes w).level r (g.within w h))
+  g_moved = graph_with l (node_at nodes w) h_l g (root_within (length nodes) w l (node_at nodes w).form r (g.within w h)) (g.fitting w h) (g.near w h)
 
   l_after : node_at (with_node moved w (link_to l)) l ≡ node_at nodes w
   unfolding moved
@@ -164,7 +166,7 @@ module _ (nodes : List Node) (w l : ℕ) (g : IsGraph nodes) (r : IsRoot (node_a
   pub linked_up : Linked nodes w l (with_node (with_node nodes l (node_at nodes w)) w (link_to l))
   unfolding moved
   linked_up = record {
-    graph = graph_with w (link_to l) h_w g_moved lt;
+    graph = graph_with w (link_to l) h_w g_moved lt tt (omega arith);
     long = length_with moved w (link_to l) ∙ length_with nodes l (node_at nodes w);
     bound = λ table m b. bound_with w (link_to l) h_w tt (bound_with l (node_at nodes w) h_l (b.forms w h) b);
     roots = let c = counts is_root in let o : is_root (node_at nodes l) ≡ 1 = root_one (node_at nodes l).form rl in

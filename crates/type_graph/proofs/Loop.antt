@@ -1,12 +1,13 @@
 -- The loop over the tasks.
 use Rattle.std.proofs.Common.{◌≡◌, ℕ, ◌+◌, ◌≤◌, ◌<◌, List, [], ◌∷◌, ◌++◌, length, refl, sym, ◌∙◌, ap, subst, arith}
 use Rattle.fut_types.specs.declared.shapes.ShapeTable.{ShapeTable}
-use Rattle.fut_types.specs.Types.{Sub, Kinds}
+use Rattle.fut_types.specs.declared.Head.TheVariants as head
+use Rattle.fut_types.specs.Types.{Made, none, Sub, Kinds}
 use Rattle.fut_types.specs.Shapes.{Shapes, fields_of, position_at}
 use Rattle.type_graph.specs.declared.Node.{Node}
 use Rattle.type_graph.specs.declared.Entry.{Entry}
 use Rattle.type_graph.specs.declared.Task.{Task}
-use Rattle.type_graph.specs.Graph.{entry_at, Tables, Told, Holds, Each, Meets, IsGraph, IsBound, Bound, IsTask, AreEntries, Grows, Kept, task_weight, node_weight, total, roots, weigh, node_at, Does, Refuses, Solved, Unmet}
+use Rattle.type_graph.specs.Graph.{entry_at, Tables, Told, Holds, Each, Meets, Meeting, IsGraph, IsBound, Bound, IsTask, AreEntries, Grows, Kept, task_weight, node_weight, total, roots, weigh, node_at, Does, Refuses, Solved, Unmet}
 use Rattle.type_graph.specs.State.{State, Backed}
 use Rattle.type_graph.specs.declared.Form.{Form}
 use Rattle.type_graph.specs.declared.Form.TheVariants as form
@@ -19,7 +20,7 @@ table_shapes : ShapeTable → Shapes
 table_shapes table = record { fields = fields_of table; position = position_at table }
 
 pub self_tables : ShapeTable → List Entry → Tables
-self_tables table entries = record { shapes = table_shapes table; entry = entry_at entries }
+self_tables table entries = record { shapes = table_shapes table; entry = entry_at entries; rigid = λ n k. Made (head.Rigid n k) none; seat = λ n. 0 }
 
 pub told_self : (table : ShapeTable) (entries : List Entry) → Told table entries (self_tables table entries)
 unfolding self_tables table_shapes
@@ -39,10 +40,10 @@ pub record SoFar (T : Tables) (nodes : List Node) (tasks : List Task) (nodes' : 
   pub forth : (K : Kinds) (a : Sub) → Meets T nodes tasks K a → Meets T nodes' tasks' K a
   pub back : (K : Kinds) (a : Sub) → Meets T nodes' tasks' K a → Meets T nodes tasks K a
   pub state : (home : ℕ → ℕ) (base : ℕ) → State T home base nodes tasks → State T home base nodes' tasks'
-  pub backed : (home : ℕ → ℕ) → Backed (Meets T nodes tasks) home nodes tasks → Backed (Meets T nodes' tasks') home nodes' tasks'
+  pub backed : (home born : ℕ → ℕ) → Backed (Meeting T nodes tasks) home born nodes tasks → Backed (Meeting T nodes' tasks') home born nodes' tasks'
 
 pub so_far_none : (T : Tables) (nodes : List Node) (tasks : List Task) → SoFar T nodes tasks nodes tasks
-so_far_none T nodes tasks = record { forth = λ K a m. m; back = λ K a m. m; state = λ home base s. s; backed = λ home b. b }
+so_far_none T nodes tasks = record { forth = λ K a m. m; back = λ K a m. m; state = λ home base s. s; backed = λ home born b. b }
 
 pub kept_none : (table : ShapeTable) (nodes : List Node) (entries : List Entry) → IsGraph nodes → IsBound table (length entries) nodes → AreEntries table (length nodes) entries → Kept table nodes nodes entries entries
 kept_none table nodes entries g b a = record { graph = g; long = refl; bound = b; grows = grows_none table (length nodes) entries a }
@@ -59,7 +60,7 @@ module _ (tasks' rest : List Task) (t : Task) (is : tasks' ≡ rest ++ t ∷ [])
   last_within P h = (each_right P rest (t ∷ []) (subst (Each P) is h)).0
 
   pub last_refused : (T : Tables) (nodes : List Node) (tasks : List Task) (nodes' : List Node) → SoFar T nodes tasks nodes' tasks' → Refuses T nodes' t → Unmet T nodes tasks
-  last_refused T nodes tasks nodes' so r K a m = let m' = so.forth K a m in r K a m'.solves (last_within (Holds T K a) m'.holds)
+  last_refused T nodes tasks nodes' so r pl K a m = let m' = so.forth K a m in r pl K a m'.solves (last_within (Holds T K a) m'.holds)
 
   module _ (table : ShapeTable) (m : ℕ) (T : Tables) (nodes' nodes'' : List Node) (tasks'' : List Task) (d : Does table m T nodes' rest t nodes'' tasks'') where
     pub so_far_more : (nodes : List Node) (tasks : List Task) → SoFar T nodes tasks nodes' tasks' → SoFar T nodes tasks nodes'' tasks''
@@ -73,7 +74,7 @@ module _ (tasks' rest : List Task) (t : Task) (is : tasks' ≡ rest ++ t ∷ [])
               let n : Meets T nodes'' d.added K a = record { solves = m.solves; holds = each_right (Holds T K a) rest d.added m.holds } in
               so_is.back K a (record { solves = r.back K a n; holds = each_append (Holds T K a) rest (t ∷ []) (each_left (Holds T K a) rest d.added m.holds) (r.done K a n, tt) });
           state = λ home base s. r.state home base rest (so_is.state home base s);
-          backed = λ home b. r.backed home rest (so_is.backed home b);
+          backed = λ home born b. r.backed home born rest (so_is.backed home born b);
         })
 
     pub so_far_less : weigh nodes'' tasks'' < weigh nodes' tasks'

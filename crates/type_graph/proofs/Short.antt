@@ -11,10 +11,10 @@ use Rattle.type_graph.specs.declared.Form.{Form}
 use Rattle.type_graph.specs.declared.Form.TheVariants as form
 use Rattle.type_graph.specs.declared.Node.{Node}
 use Rattle.type_graph.specs.declared.Task.{Task}
-use Rattle.type_graph.specs.Graph.{node_at, with_node, Tables, Shows, Fits, Solves, Meets, Each, Within, IsGraph, IsTask, IsRoot, arity, one_root, is_root, roots, total, node_weight, task_weight, weigh, Found, Like, Does, Refuses, parts_of}
+use Rattle.type_graph.specs.Graph.{node_at, with_node, Reading, Tables, read, IsParameter, Once, Shows, Fits, Solves, Meeting, Each, Within, IsGraph, IsTask, IsRoot, arity, one_root, is_root, roots, total, depth, node_weight, task_weight, weigh, Found, Like, Does, Refuses, parts_of}
 use Rattle.type_graph.specs.State.{Ask, AtMost, Obeys, Tops, Sure, State, form_cap, Fixed, Backed}
 use Rattle.type_graph.proofs.GraphLaws.{node_same, node_other, length_with, weight_with, solves_with, solves_from, solves_here, graph_with, bound_with}
-use Rattle.type_graph.proofs.StateLaws.{each_map, fixed_less, asks_less}
+use Rattle.type_graph.proofs.StateLaws.{each_map, no_parameter, fixed_less, asks_less}
 
 pub like_none : (nodes : List Node) → IsGraph nodes → Like nodes nodes
 like_none nodes g = record { graph = g; long = refl; bound = λ table m b. b; roots = refl; weight = λ r. refl; kinds = λ i. refl; levels = λ i. refl; roots_are = λ i r. refl; are_roots = λ i r. refl; links = λ i j lt e. (j, e); forth = λ T K a s. s; back = λ T K a s. s; tops = λ top t. t; tops_back = λ top t. t }
@@ -67,13 +67,13 @@ module _ (nodes : List Node) (i j k : ℕ) (g : IsGraph nodes) (h : i < length n
   skip = record { kind = (node_at nodes i).kind; level = (node_at nodes i).level; form = form.Link k }
 
   j_below : j < i
-  j_below = subst (λ f. Within (length nodes) i f (node_at nodes i).level) p (g.within i h)
+  j_below = subst (Within (length nodes) i) p (g.within i h)
 
   h_j : j < length nodes
   h_j = let a : j < i = j_below in omega arith
 
   pub k_below : k < i
-  k_below = let a : j < i = j_below in let b : k < j = subst (λ f. Within (length nodes) j f (node_at nodes j).level) q (g.within j h_j) in omega arith
+  k_below = let a : j < i = j_below in let b : k < j = subst (Within (length nodes) j) q (g.within j h_j) in omega arith
 
   j_same : node_at (with_node nodes i (record { kind = (node_at nodes i).kind; level = (node_at nodes i).level; form = form.Link k })) j ≡ node_at nodes j
   j_same = node_other nodes i j skip (λ e. let a : j < i = j_below in absurd (omega arith))
@@ -89,14 +89,14 @@ module _ (nodes : List Node) (i j k : ℕ) (g : IsGraph nodes) (h : i < length n
 
   pub halved : Like nodes (with_node nodes i (record { kind = (node_at nodes i).kind; level = (node_at nodes i).level; form = form.Link k }))
   halved = record {
-    graph = graph_with i skip h g k_below;
+    graph = graph_with i skip h g k_below tt (g.near i h);
     long = length_with nodes i skip;
     bound = λ table m b. bound_with i skip h tt b;
     roots = let e : total is_root (with_node nodes i skip) + is_root (node_at nodes i) ≡ total is_root nodes + is_root skip = weight_with is_root nodes i skip h in
         let z : is_root (node_at nodes i) ≡ 0 = ap one_root p in omega arith;
     weight = λ r. let e : total (node_weight r) (with_node nodes i skip) + node_weight r (node_at nodes i) ≡ total (node_weight r) nodes + node_weight r skip = weight_with (node_weight r) nodes i skip h in
-        let z : node_weight r (node_at nodes i) ≡ 0 = ap (λ f. arity f * (8 * r + (5 - level (node_at nodes i).kind + (node_at nodes i).level))) p ∙ zero-mul (8 * r + (5 - level (node_at nodes i).kind + (node_at nodes i).level)) in
-        let y : node_weight r skip ≡ 0 = zero-mul (8 * r + (5 - level (node_at nodes i).kind + (node_at nodes i).level)) in omega arith;
+        let z : node_weight r (node_at nodes i) ≡ 0 = ap (λ f. arity f * (depth * r + (5 - level (node_at nodes i).kind + (node_at nodes i).level))) p ∙ zero-mul (depth * r + (5 - level (node_at nodes i).kind + (node_at nodes i).level)) in
+        let y : node_weight r skip ≡ 0 = zero-mul (depth * r + (5 - level (node_at nodes i).kind + (node_at nodes i).level)) in omega arith;
     kinds = each (λ m n. n.kind ≡ (node_at nodes m).kind) refl (λ m ne. refl);
     levels = each (λ m n. n.level ≡ (node_at nodes m).level) refl (λ m ne. refl);
     roots_are = λ m r. node_other nodes i m skip (other_root m r);
@@ -151,15 +151,18 @@ state_like T home base nodes nodes' tasks x s = record {
       (λ j e o. subst (λ f. Each (Sure nodes' tasks s.top q) (parts_of T f)) (sym e) tt)
       (λ o. each_map (sure_like nodes nodes' tasks s.top x q) _ (s.parts i q (subst (λ n. i < n) x.long lt) o));
   bare = λ i j lt e. let r = x.links i j (subst (λ n. i < n) x.long lt) e in ap level (x.kinds i) ∙ s.bare i r.0 (subst (λ n. i < n) x.long lt) r.1;
-  near = λ i lt. subst (λ l. l ≤ 4294967295) (sym (x.levels i)) (s.near i (subst (λ n. i < n) x.long lt));
+  afar = λ i j lt e. let r = x.links i j (subst (λ n. i < n) x.long lt) e in subst (λ v. 4294967295 ≤ v) (sym (x.levels i)) (s.afar i r.0 (subst (λ n. i < n) x.long lt) r.1);
   homes = λ m lt. sure_like nodes nodes' tasks s.top x (AtMost (home m)) m (s.homes m lt);
+  once = λ i lt. root_like (λ n. Once T n.form) nodes nodes' i x (λ j e. subst (Once T) (sym e) tt) (s.once i (subst (λ n. i < n) x.long lt));
+  seated = λ n i lt. root_like (λ y. IsParameter n y.form → (T.seat n < length nodes') × (s.top i ≡ s.top (T.seat n))) nodes nodes' i x (λ j e p. absurd (no_parameter n j (subst (IsParameter n) e p)))
+      (λ p. let q = s.seated n i (subst (λ n. i < n) x.long lt) p in (subst (λ m. T.seat n < m) (sym x.long) q.0, q.1));
 }
 
-pub backed_like : (T : Tables) (home : ℕ → ℕ) (nodes nodes' : List Node) (tasks : List Task) → Like nodes nodes' → Backed (Meets T nodes tasks) home nodes tasks → Backed (Meets T nodes' tasks) home nodes' tasks
-backed_like T home nodes nodes' tasks x b =
-    let sub : (K : Kinds) (a : Sub) → Meets T nodes' tasks K a → Meets T nodes tasks K a = λ K a m. record { solves = x.back T K a m.solves; holds = m.holds } in record {
-      notes = λ i lt. subst (λ l. Fixed (Meets T nodes' tasks) home l i) (sym (x.levels i)) (fixed_less _ _ home _ i sub (b.notes i (subst (λ n. i < n) x.long lt)));
-      asks = asks_less _ _ home sub tasks b.asks;
+pub backed_like : (T : Tables) (home born : ℕ → ℕ) (nodes nodes' : List Node) (tasks : List Task) → Like nodes nodes' → Backed (Meeting T nodes tasks) home born nodes tasks → Backed (Meeting T nodes' tasks) home born nodes' tasks
+backed_like T home born nodes nodes' tasks x b =
+    let sub : (v : Reading) (K : Kinds) (a : Sub) → Meeting T nodes' tasks v K a → Meeting T nodes tasks v K a = λ v K a m. record { solves = x.back (read T v) K a m.solves; holds = m.holds } in record {
+      notes = λ i lt. subst (λ l. Fixed (Meeting T nodes' tasks) home born l i) (sym (x.levels i)) (fixed_less _ _ home born _ i sub (b.notes i (subst (λ n. i < n) x.long lt)));
+      asks = asks_less _ _ home born sub tasks b.asks;
     }
 
 pub found_like : (nodes nodes' : List Node) (i w : ℕ) → Like nodes nodes' → Found nodes i w → Found nodes' i w
@@ -187,12 +190,12 @@ does_like table m T nodes nodes1 tasks t nodes' tasks' x d = let r = d.reduces i
         let k : task_weight (roots nodes1) t ≡ task_weight (roots nodes) t = ap (λ n. task_weight n t) x.roots in
         let l : weigh nodes' d.added < total (node_weight (roots nodes1)) nodes1 + task_weight (roots nodes1) t = r.less in omega arith;
     state = λ home base rest s. r.state home base rest (state_like T home base nodes nodes1 _ x s);
-    backed = λ home rest b. r.backed home rest (backed_like T home nodes nodes1 _ x b);
+    backed = λ home born rest b. r.backed home born rest (backed_like T home born nodes nodes1 _ x b);
   };
 }
 
 pub refuses_like : (T : Tables) (nodes nodes1 : List Node) (t : Task) → Like nodes nodes1 → Refuses T nodes1 t → Refuses T nodes t
-refuses_like T nodes nodes1 t x r K a s h = r K a (x.forth T K a s) h
+refuses_like T nodes nodes1 t x r pl K a s h = r pl K a (x.forth T K a s) h
 
 -- the ends of `hop`
 module _ (nodes nodes' : List Node) (i j k : ℕ) (one other : Node) (g : IsGraph nodes) (h : i < length nodes) (p : (node_at nodes i).form ≡ form.Link j) (e1 : one ≡ node_at nodes i) (e2 : other ≡ node_at nodes j) (q : other.form ≡ form.Link k)

@@ -9,7 +9,7 @@ use Rattle.type_graph.specs.declared.Form.TheVariants as form
 use Rattle.type_graph.specs.declared.Node.{Node}
 use Rattle.type_graph.specs.declared.Task.{Task}
 use Rattle.type_graph.specs.declared.Task.TheVariants as task
-use Rattle.type_graph.specs.Graph.{far, node_at, with_node, Each, IsRoot, Tables, parts_of, Linked, link_to, pairs, all_have}
+use Rattle.type_graph.specs.Graph.{far, node_at, with_node, Each, IsRoot, Reading, Tables, parts_of, Once, IsParameter, Linked, link_to, pairs, all_have}
 use Rattle.type_graph.specs.State.{Ask, AtLeast, AtMost, Obeys, Tops, Waits, Sure, State, form_cap, Fixed, FixedTask}
 use Rattle.type_graph.proofs.GraphLaws.{node_same, node_other, length_with}
 
@@ -101,6 +101,10 @@ link_same i j e = ap target e
 root_no_link : (f : Form) (j : ℕ) → IsRoot f → f ≡ form.Link j → ⊥
 root_no_link f j r e = subst IsRoot e r
 
+pub no_parameter : (n j : ℕ) → IsParameter n (form.Link j) → ⊥
+unfolding is_link
+no_parameter n j p = subst is_link p.3 tt
+
 -- two roots are linked
 module _ (nodes : List Node) (w l : ℕ) (nodes' : List Node) (hw : w < length nodes) (hl : l < length nodes) (rw' : IsRoot (node_at nodes w).form) (rl : IsRoot (node_at nodes l).form) (ne : w ≢ l) (d : Linked nodes w l nodes') where
   -- what holds of all nodes
@@ -170,6 +174,9 @@ module _ (nodes : List Node) (w l : ℕ) (nodes' : List Node) (hw : w < length n
       | inr u ↦ absurd u
     ]
 
+  seat_in : {k : ℕ} → k < length nodes → k < length nodes'
+  seat_in {k} lt = subst (λ n. k < n) (sym d.long) lt
+
   pub state_linked : (T : Tables) (home : ℕ → ℕ) (base : ℕ) (rest more : List Task) → State T home base nodes (rest ++ task.Same w l ∷ []) → State T home base nodes' (rest ++ task.Has w (node_at nodes l).kind (node_at nodes l).level ∷ more)
   state_linked T home base rest more s = record {
     top = λ i. retop d.up w l (s.top i);
@@ -182,8 +189,14 @@ module _ (nodes : List Node) (w l : ℕ) (nodes' : List Node) (hw : w < length n
         (λ i nw nl b o. each_map (sure_linked s.top s.tops rest more q) _ (s.parts i q b o)) i (subst (λ n. i < n) d.long lt);
     bare = λ i j lt. joined (λ i node. i < length nodes → node.form ≡ form.Link j → level node.kind ≡ 0)
         (λ b e. absurd (root_no_link _ j rw' e)) (λ b e. refl) (λ i nw nl b e. s.bare i j b e) i (subst (λ n. i < n) d.long lt);
-    near = λ i lt. joined (λ i node. i < length nodes → node.level ≤ far) (λ b. s.near w hw) (λ b. omega arith) (λ i nw nl b. s.near i b) i (subst (λ n. i < n) d.long lt);
+    afar = λ i j lt. joined (λ i node. i < length nodes → node.form ≡ form.Link j → far ≤ node.level)
+        (λ b e. absurd (root_no_link _ j rw' e)) (λ b e. omega arith) (λ i nw nl b e. s.afar i j b e) i (subst (λ n. i < n) d.long lt);
     homes = λ m lt. sure_linked s.top s.tops rest more (AtMost (home m)) m (s.homes m lt);
+    once = λ i lt. joined (λ i node. i < length nodes → Once T node.form) (λ b. s.once w hw) (λ b. tt) (λ i nw nl b. s.once i b) i (subst (λ n. i < n) d.long lt);
+    seated = λ n i lt. joined (λ i node. i < length nodes → IsParameter n node.form → (T.seat n < length nodes') × (retop d.up w l (s.top i) ≡ retop d.up w l (s.top (T.seat n))))
+        (λ b p. let q = s.seated n w hw p in (seat_in q.0, ap (retop d.up w l) (top_up s.top s.tops) ∙ re_up ∙ sym (retop_w d.up w l) ∙ ap (retop d.up w l) (sym (top_w s.top s.tops) ∙ q.1)))
+        (λ b p. absurd (no_parameter n d.up p))
+        (λ i nw nl b p. let q = s.seated n i b p in (seat_in q.0, ap (retop d.up w l) q.1)) i (subst (λ n. i < n) d.long lt);
   }
 
 -- a root is put in the place of another
@@ -197,6 +210,9 @@ module _ (nodes : List Node) (r : ℕ) (x : Node) (hr : r < length nodes) (root 
   inside : (i : ℕ) → i < length (with_node nodes r x) → i < length nodes
   inside i lt = subst (λ n. i < n) (length_with nodes r x) lt
 
+  in_with : {k : ℕ} → k < length nodes → k < length (with_node nodes r x)
+  in_with {k} lt = subst (λ n. k < n) (sym (length_with nodes r x)) lt
+
   tops_root : (top : ℕ → ℕ) → Tops nodes top → Tops (with_node nodes r x) top
   tops_root top t = record {
     below = λ i lt. subst (λ n. top i < n) (sym (length_with nodes r x)) (t.below i (inside i lt));
@@ -206,7 +222,8 @@ module _ (nodes : List Node) (r : ℕ) (x : Node) (hr : r < length nodes) (root 
   }
 
   module _ (T : Tables) (t : Task) (more : List Task) (up : level (node_at nodes r).kind ≤ level x.kind) (low : x.level ≤ (node_at nodes r).level) (cap : level x.kind ≤ form_cap x.form)
-      (gone : (top : ℕ → ℕ) → Tops nodes top → (s : ℕ) (q : Ask) → Waits top s q (t ∷ []) → (s ≡ r) × Obeys q x.kind x.level) where
+      (gone : (top : ℕ → ℕ) → Tops nodes top → (s : ℕ) (q : Ask) → Waits top s q (t ∷ []) → (s ≡ r) × Obeys q x.kind x.level)
+      (once : Once T (node_at nodes r).form → Once T x.form) (kept : (n : ℕ) → IsParameter n x.form → IsParameter n (node_at nodes r).form) where
     sure_root : (rest : List Task) (top : ℕ → ℕ) (w : Tops nodes top) (q : Ask) (c : ℕ) → Sure nodes (rest ++ t ∷ []) top q c → Sure (with_node nodes r x) (rest ++ more) top q c
     sure_root rest top w q c (inl o) = inl (at_each (λ i n. Obeys q (node_at nodes i).kind (node_at nodes i).level → Obeys q n.kind n.level) (obeys_more q _ x.kind _ x.level up low) (λ i ne o. o) (top c) o)
     sure_root rest top w q c (inr v) = elim (waits_split top (top c) q rest (t ∷ []) v) [
@@ -225,8 +242,11 @@ module _ (nodes : List Node) (r : ℕ) (x : Node) (hr : r < length nodes) (root 
           (λ b o. own s.top q o (λ o'. each_map (sure_root rest s.top s.tops q) _ (s.parts r q hr o')))
           (λ i ne b o. each_map (sure_root rest s.top s.tops q) _ (s.parts i q b o)) i (inside i lt);
       bare = λ i j lt. at_each (λ i n. i < length nodes → n.form ≡ form.Link j → level n.kind ≡ 0) (λ b e. absurd (root_no_link _ j rx e)) (λ i ne b e. s.bare i j b e) i (inside i lt);
-      near = λ i lt. at_each (λ i n. i < length nodes → n.level ≤ far) (λ b. let q : (node_at nodes r).level ≤ far = s.near r hr in omega arith) (λ i ne b. s.near i b) i (inside i lt);
+      afar = λ i j lt. at_each (λ i n. i < length nodes → n.form ≡ form.Link j → far ≤ n.level) (λ b e. absurd (root_no_link _ j rx e)) (λ i ne b e. s.afar i j b e) i (inside i lt);
       homes = λ m lt. sure_root rest s.top s.tops (AtMost (home m)) m (s.homes m lt);
+      once = λ i lt. at_each (λ i n. i < length nodes → Once T n.form) (λ b. once (s.once r hr)) (λ i ne b. s.once i b) i (inside i lt);
+      seated = λ n i lt. at_each (λ i node. i < length nodes → IsParameter n node.form → (T.seat n < length (with_node nodes r x)) × (s.top i ≡ s.top (T.seat n)))
+          (λ b p. let q = s.seated n r hr (kept n p) in (in_with q.0, q.1)) (λ i ne b p. let q = s.seated n i b p in (in_with q.0, q.1)) i (inside i lt);
     }
 
 -- a task is done, or turned into others, and the nodes stay
@@ -246,50 +266,52 @@ state_other T home base nodes rest t more f s =
       capped = s.capped;
       parts = λ i q lt o. each_map (other q) _ (s.parts i q lt o);
       bare = s.bare;
-      near = s.near;
+      afar = s.afar;
       homes = λ m lt. other (AtMost (home m)) m (s.homes m lt);
+      once = s.once;
+      seated = s.seated;
     }
 
 -- reasons for levels
-pub fixed_less : (S S' : Kinds → Sub → Type 0) (home : ℕ → ℕ) (l i : ℕ) → ((K : Kinds) (a : Sub) → S' K a → S K a) → Fixed S home l i → Fixed S' home l i
-fixed_less S S' home l i sub f lt K a K' a' s s' same = f lt K a K' a' (sub K a s) (sub K' a' s') same
+pub fixed_less : (S S' : Reading → Kinds → Sub → Type 0) (home born : ℕ → ℕ) (l i : ℕ) → ((r : Reading) (K : Kinds) (a : Sub) → S' r K a → S r K a) → Fixed S home born l i → Fixed S' home born l i
+fixed_less S S' home born l i sub f lt r K a r' K' a' s s' same = f lt r K a r' K' a' (sub r K a s) (sub r' K' a' s') same
 
-pub fixed_same : (S : Kinds → Sub → Type 0) (home : ℕ → ℕ) (l i j : ℕ) → ((K : Kinds) (a : Sub) → S K a → a i ≡ a j) → Fixed S home l i → Fixed S home l j
-fixed_same S home l i j eq f lt K a K' a' s s' same = sym (eq K a s) ∙ f lt K a K' a' s s' same ∙ eq K' a' s'
+pub fixed_same : (S : Reading → Kinds → Sub → Type 0) (home born : ℕ → ℕ) (l i j : ℕ) → ((r : Reading) (K : Kinds) (a : Sub) → S r K a → a i ≡ a j) → Fixed S home born l i → Fixed S home born l j
+fixed_same S home born l i j eq f lt r K a r' K' a' s s' same = sym (eq r K a s) ∙ f lt r K a r' K' a' s s' same ∙ eq r' K' a' s'
 
-pub fixed_min : (S : Kinds → Sub → Type 0) (home : ℕ → ℕ) (l l' i : ℕ) → Fixed S home l i → Fixed S home l' i → Fixed S home (min l l') i
-fixed_min S home l l' i f g = either (min_of l l')
+pub fixed_min : (S : Reading → Kinds → Sub → Type 0) (home born : ℕ → ℕ) (l l' i : ℕ) → Fixed S home born l i → Fixed S home born l' i → Fixed S home born (min l l') i
+fixed_min S home born l l' i f g = either (min_of l l')
   where
     min_of : (l l' : ℕ) → (l ≡ min l l') ⊎ (l' ≡ min l l')
     min_of l l' = elim (ℕ_discrete l (min l l')) as (λ d. (l ≡ min l l') ⊎ (l' ≡ min l l')) [ yes e ↦ inl e | no ne ↦ inr (grind (arith, ne)) ]
 
-    either : (l ≡ min l l') ⊎ (l' ≡ min l l') → Fixed S home (min l l') i
-    either (inl e) = subst (λ m. Fixed S home m i) e f
-    either (inr e) = subst (λ m. Fixed S home m i) e g
+    either : (l ≡ min l l') ⊎ (l' ≡ min l l') → Fixed S home born (min l l') i
+    either (inl e) = subst (λ m. Fixed S home born m i) e f
+    either (inr e) = subst (λ m. Fixed S home born m i) e g
 
-pub asks_append : (S : Kinds → Sub → Type 0) (home : ℕ → ℕ) (xs ys : List Task) → Each (FixedTask S home) xs → Each (FixedTask S home) ys → Each (FixedTask S home) (xs ++ ys)
-asks_append S home [] ys p q = q
-asks_append S home (x ∷ xs) ys p q = (p.0, asks_append S home xs ys p.1 q)
+pub asks_append : (S : Reading → Kinds → Sub → Type 0) (home born : ℕ → ℕ) (xs ys : List Task) → Each (FixedTask S home born) xs → Each (FixedTask S home born) ys → Each (FixedTask S home born) (xs ++ ys)
+asks_append S home born [] ys p q = q
+asks_append S home born (x ∷ xs) ys p q = (p.0, asks_append S home born xs ys p.1 q)
 
-pub asks_left : (S : Kinds → Sub → Type 0) (home : ℕ → ℕ) (xs ys : List Task) → Each (FixedTask S home) (xs ++ ys) → Each (FixedTask S home) xs
-asks_left S home [] ys p = tt
-asks_left S home (x ∷ xs) ys p = (p.0, asks_left S home xs ys p.1)
+pub asks_left : (S : Reading → Kinds → Sub → Type 0) (home born : ℕ → ℕ) (xs ys : List Task) → Each (FixedTask S home born) (xs ++ ys) → Each (FixedTask S home born) xs
+asks_left S home born [] ys p = tt
+asks_left S home born (x ∷ xs) ys p = (p.0, asks_left S home born xs ys p.1)
 
-pub asks_right : (S : Kinds → Sub → Type 0) (home : ℕ → ℕ) (xs ys : List Task) → Each (FixedTask S home) (xs ++ ys) → Each (FixedTask S home) ys
-asks_right S home [] ys p = p
-asks_right S home (x ∷ xs) ys p = asks_right S home xs ys p.1
+pub asks_right : (S : Reading → Kinds → Sub → Type 0) (home born : ℕ → ℕ) (xs ys : List Task) → Each (FixedTask S home born) (xs ++ ys) → Each (FixedTask S home born) ys
+asks_right S home born [] ys p = p
+asks_right S home born (x ∷ xs) ys p = asks_right S home born xs ys p.1
 
-pub asks_less : (S S' : Kinds → Sub → Type 0) (home : ℕ → ℕ) → ((K : Kinds) (a : Sub) → S' K a → S K a) → (ts : List Task) → Each (FixedTask S home) ts → Each (FixedTask S' home) ts
-asks_less S S' home sub [] p = tt
-asks_less S S' home sub (task.Same i j ∷ ts) p = (tt, asks_less S S' home sub ts p.1)
-asks_less S S' home sub (task.Part i label c ∷ ts) p = (fixed_less S S' home 0 i sub p.0, asks_less S S' home sub ts p.1)
-asks_less S S' home sub (task.Has i k l ∷ ts) p = (fixed_less S S' home l i sub p.0, asks_less S S' home sub ts p.1)
+pub asks_less : (S S' : Reading → Kinds → Sub → Type 0) (home born : ℕ → ℕ) → ((r : Reading) (K : Kinds) (a : Sub) → S' r K a → S r K a) → (ts : List Task) → Each (FixedTask S home born) ts → Each (FixedTask S' home born) ts
+asks_less S S' home born sub [] p = tt
+asks_less S S' home born sub (task.Same i j ∷ ts) p = (tt, asks_less S S' home born sub ts p.1)
+asks_less S S' home born sub (task.Part i label c ∷ ts) p = (tt, asks_less S S' home born sub ts p.1)
+asks_less S S' home born sub (task.Has i k l ∷ ts) p = (fixed_less S S' home born l i sub p.0, asks_less S S' home born sub ts p.1)
 
-pub asks_pairs : (S : Kinds → Sub → Type 0) (home : ℕ → ℕ) (x y n : ℕ) → Each (FixedTask S home) (pairs x y n)
-asks_pairs S home x y zero = tt
-asks_pairs S home x y (suc n) = (tt, asks_pairs S home (suc x) (suc y) n)
+pub asks_pairs : (S : Reading → Kinds → Sub → Type 0) (home born : ℕ → ℕ) (x y n : ℕ) → Each (FixedTask S home born) (pairs x y n)
+asks_pairs S home born x y zero = tt
+asks_pairs S home born x y (suc n) = (tt, asks_pairs S home born (suc x) (suc y) n)
 
-pub asks_all : (S : Kinds → Sub → Type 0) (home : ℕ → ℕ) (k : Kind) (l : ℕ) (cs : List ℕ) → Each (Fixed S home l) cs → Each (FixedTask S home) (all_have cs k l)
+pub asks_all : (S : Reading → Kinds → Sub → Type 0) (home born : ℕ → ℕ) (k : Kind) (l : ℕ) (cs : List ℕ) → Each (Fixed S home born l) cs → Each (FixedTask S home born) (all_have cs k l)
 unfolding all_have
-asks_all S home k l [] f = tt
-asks_all S home k l (c ∷ cs) f = (f.0, asks_all S home k l cs f.1)
+asks_all S home born k l [] f = tt
+asks_all S home born k l (c ∷ cs) f = (f.0, asks_all S home born k l cs f.1)

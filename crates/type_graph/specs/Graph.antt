@@ -4,7 +4,7 @@ use mathlib.Core.Logic.{◌⊎◌}
 use Rattle.fut_types.specs.declared.Kind.{Kind}
 use Rattle.fut_types.specs.declared.Kind.TheVariants as kind
 use Rattle.fut_types.specs.declared.shapes.ShapeTable.{ShapeTable}
-use Rattle.fut_types.specs.Types.{Ty, Made, Sub, Kinds, level, rank, row}
+use Rattle.fut_types.specs.Types.{Ty, Sub, Kinds, level, rank, row}
 use Rattle.fut_types.specs.Shapes.{HasPart, IsKnown}
 use Rattle.type_graph.specs.declared.Form.{Form}
 use Rattle.type_graph.specs.declared.Form.TheVariants as form
@@ -14,15 +14,15 @@ use Rattle.type_graph.specs.declared.Task.{Task}
 use Rattle.type_graph.specs.declared.Task.TheVariants as task
 use Rattle.type_graph.specs.declared.UnifyErr.{UnifyErr}
 use Rattle.type_graph.specs.declared.UnifyErr.TheVariants as err
-pub use Rattle.type_graph.specs.Nodes.{far, free_node, Each, IsRoot, Tables, Told, Listed, Closed, parts_of}
-unfoldable pub use Rattle.type_graph.specs.Nodes.{node_at, with_node, entry_at, numbers, children, Names}
+pub use Rattle.type_graph.specs.Nodes.{far, free_node, Each, IsRoot, Reading, Tables, read, Plain, Readable, type_made, Parts_fit, Fitting, IsMaker, IsParameter, Told, Listed, Closed, children, parts_of, Names, Once}
+unfoldable pub use Rattle.type_graph.specs.Nodes.{node_at, with_node, entry_at, numbers, chained, All_named, Lacks, Distinct}
 use Rattle.type_graph.specs.State.{Tops, State, Backed}
 
 -- what a node's form says of its type, where a gives the types of all nodes
 abbrev pub Shows : Tables → Sub → Ty → Form → Type 0
 Shows T a t form.Free = Unit {0}
 Shows T a t (form.Link j) = t ≡ a j
-Shows T a t (form.Made h first count) = t ≡ Made h (row a first count)
+Shows T a t (form.Made h first count) = t ≡ type_made T.rigid h (row a first count)
 Shows T a t (form.Open e count) = Names T a t e count
 
 -- t is a type of the node's form and kind; K has the kinds of the variables in these types
@@ -44,16 +44,22 @@ pub record Meets (T : Tables) (nodes : List Node) (tasks : List Task) (K : Kinds
   pub solves : Solves T K a nodes
   pub holds : Each (Holds T K a) tasks
 
--- well-formed: a link goes down, all others within; what has named parts is never generalised
-abbrev pub Within : ℕ → ℕ → Form → ℕ → Type 0
-Within n i form.Free l = Unit {0}
-Within n i (form.Link j) l = j < i
-Within n i (form.Made h first count) l = first + count ≤ n
-Within n i (form.Open e count) l = (0 < count) × (l ≡ 0)
+-- the solutions of all readings
+abbrev pub Meeting : Tables → List Node → List Task → Reading → Kinds → Sub → Type 0
+Meeting T nodes tasks r K a = Meets (read T r) nodes tasks K a
+
+-- well-formed: a link goes down, all others within; a level is a number of 32 bits
+abbrev pub Within : ℕ → ℕ → Form → Type 0
+Within n i form.Free = Unit {0}
+Within n i (form.Link j) = j < i
+Within n i (form.Made h first count) = first + count ≤ n
+Within n i (form.Open e count) = 0 < count
 
 pub record IsGraph (nodes : List Node) : Type 0 where
   pub short : length nodes < 2 ^ 32
-  pub within : (i : ℕ) → i < length nodes → Within (length nodes) i (node_at nodes i).form (node_at nodes i).level
+  pub within : (i : ℕ) → i < length nodes → Within (length nodes) i (node_at nodes i).form
+  pub fitting : (i : ℕ) → i < length nodes → Fitting (node_at nodes i).form
+  pub near : (i : ℕ) → i < length nodes → (node_at nodes i).level ≤ far
 
 -- within the tables: m entries are known
 abbrev pub Bound : ShapeTable → ℕ → Form → Type 0
@@ -99,13 +105,17 @@ one_root (form.Open e count) = 1
 abbrev pub is_root : Node → ℕ
 is_root node = one_root node.form
 
+-- more than a note may fall
+abbrev pub depth : ℕ
+depth = 4294967303
+
 abbrev pub node_weight : ℕ → Node → ℕ
-node_weight r node = arity node.form * (8 * r + (5 - level node.kind + node.level))
+node_weight r node = arity node.form * (depth * r + (5 - level node.kind + node.level))
 
 abbrev pub task_weight : ℕ → Task → ℕ
 task_weight r (task.Same i j) = 2
 task_weight r (task.Has i k l) = 1
-task_weight r (task.Part i label c) = 8 * r + 7
+task_weight r (task.Part i label c) = depth * r + 4294967302
 
 unfoldable pub total : {X : Type 0} → (X → ℕ) → List X → ℕ
 total f [] = 0
@@ -152,7 +162,7 @@ pub record Reduces (table : ShapeTable) (m : ℕ) (T : Tables) (nodes : List Nod
   pub fewer : roots nodes' ≤ roots nodes
   pub less : weigh nodes' added < total (node_weight (roots nodes)) nodes + task_weight (roots nodes) task
   pub state : (home : ℕ → ℕ) (base : ℕ) (rest : List Task) → State T home base nodes (rest ++ task ∷ []) → State T home base nodes' (rest ++ added)
-  pub backed : (home : ℕ → ℕ) (rest : List Task) → Backed (Meets T nodes (rest ++ task ∷ [])) home nodes (rest ++ task ∷ []) → Backed (Meets T nodes' (rest ++ added)) home nodes' (rest ++ added)
+  pub backed : (home born : ℕ → ℕ) (rest : List Task) → Backed (Meeting T nodes (rest ++ task ∷ [])) home born nodes (rest ++ task ∷ []) → Backed (Meeting T nodes' (rest ++ added)) home born nodes' (rest ++ added)
 
 pub record Does (table : ShapeTable) (m : ℕ) (T : Tables) (nodes : List Node) (tasks : List Task) (task : Task) (nodes' : List Node) (tasks' : List Task) : Type 0 where
   pub added : List Task
@@ -180,9 +190,9 @@ pub record Linked (nodes : List Node) (winner loser : ℕ) (nodes' : List Node) 
   pub at_down : node_at nodes' down ≡ link_to up
   pub others : (i : ℕ) → i ≢ winner → i ≢ loser → node_at nodes' i ≡ node_at nodes i
 
--- no solution brings the task about
+-- where each type parameter stands for itself, no solution brings the task about
 abbrev pub Refuses : Tables → List Node → Task → Type 0
-Refuses T nodes task = (K : Kinds) (a : Sub) → Solves T K a nodes → Holds T K a task → ⊥
+Refuses T nodes task = Plain T → (K : Kinds) (a : Sub) → Solves T K a nodes → Holds T K a task → ⊥
 
 -- the tasks that make two rows of nodes equal, give nodes a kind and a level, or give a node the parts of a chain
 abbrev pub pairs : ℕ → ℕ → ℕ → List Task
@@ -193,9 +203,12 @@ unfoldable pub all_have : List ℕ → Kind → ℕ → List Task
 all_have [] k l = []
 all_have (c ∷ cs) k l = task.Has c k l ∷ all_have cs k l
 
-unfoldable pub chain_tasks : Tables → ℕ → ℕ → ℕ → List Task
-chain_tasks T i e zero = []
-chain_tasks T i e (suc count) = task.Part i (T.entry e).label (T.entry e).child ∷ chain_tasks T i (T.entry e).next count
+unfoldable pub all_asked : (ℕ → Entry) → ℕ → ℕ → ℕ → List Task
+all_asked entry i e zero = []
+all_asked entry i e (suc count) = task.Part i (entry e).label (entry e).child ∷ all_asked entry i (entry e).next count
+
+abbrev pub chain_tasks : Tables → ℕ → ℕ → ℕ → List Task
+chain_tasks T i e count = all_asked T.entry i e count
 
 -- a child of the chain has this label
 abbrev pub IsNamed : Tables → ℕ → ℕ → ℕ → ℕ → Type 0
@@ -227,7 +240,7 @@ pub record Solved (T : Tables) (nodes : List Node) (tasks : List Task) (nodes' :
   pub forth : (K : Kinds) (a : Sub) → Meets T nodes tasks K a → Solves T K a nodes'
   pub back : (K : Kinds) (a : Sub) → Solves T K a nodes' → Meets T nodes tasks K a
   pub state : (home : ℕ → ℕ) (base : ℕ) → State T home base nodes tasks → State T home base nodes' []
-  pub backed : (home : ℕ → ℕ) → Backed (Meets T nodes tasks) home nodes tasks → Backed (Meets T nodes' []) home nodes' []
+  pub backed : (home born : ℕ → ℕ) → Backed (Meeting T nodes tasks) home born nodes tasks → Backed (Meeting T nodes' []) home born nodes' []
 
 -- nodes and entries are well-formed, and as many nodes as before
 pub record Kept (table : ShapeTable) (nodes nodes' : List Node) (entries entries' : List Entry) : Type 0 where
@@ -236,5 +249,6 @@ pub record Kept (table : ShapeTable) (nodes nodes' : List Node) (entries entries
   pub bound : IsBound table (length entries') nodes'
   pub grows : Grows table (length nodes) entries entries'
 
+-- where each type parameter stands for itself, no solution meets the tasks
 abbrev pub Unmet : Tables → List Node → List Task → Type 0
-Unmet T nodes tasks = (K : Kinds) (a : Sub) → Meets T nodes tasks K a → ⊥
+Unmet T nodes tasks = Plain T → (K : Kinds) (a : Sub) → Meets T nodes tasks K a → ⊥

@@ -5,7 +5,8 @@
 //! named part, and keeps all solutions (`specs/Graph.antt`).
 //!
 //! Every node has a kind and a level: the depth of nested generalised definitions at which its type is fixed
-//! (`specs/State.antt`). A type with named parts has level 0: it is never generalised.
+//! (`specs/State.antt`). A type parameter that the program writes is a head without parts. What is said of solutions holds
+//! however type parameters are read; a refusal says that there is none where each stands for itself.
 //!
 //! Roots are found by links that are halved on the way. A kind rises at most four times and a level falls at most once a
 //! depth. A part that is asked of an open node costs the number of its distinct labels, of a record that of its fields.

@@ -1,11 +1,11 @@
 // A named part that is asked of a root.
-ghost use Rattle.std.specs.Prelude.{◌≡◌, ◌<◌, ◌≤◌, ◌++◌, ◌∷◌, [], ℕ, length, OnOk, IfErr, IfSome, OnSome};
+ghost use Rattle.std.specs.Prelude.{◌≡◌, ◌<◌, ◌≤◌, ◌++◌, ◌∷◌, [], ℕ, length, OnOk, IfErr, IfSome, IfNone};
 ghost use mathlib.Core.Logic.{◌⊎◌};
 ghost use Rattle.fut_types.specs.Shapes.{IsTable};
 ghost use Rattle.fut_types.specs.declared.shapes.ShapeTable.{ShapeTable as TheTable};
 ghost use Rattle.type_graph.specs.declared.Form.TheVariants as form;
 ghost use Rattle.type_graph.specs.declared.Task.TheVariants as task;
-ghost use Rattle.type_graph.specs.Graph.{node_at, entry_at, Tables, Told, Listed, Closed, IsGraph, IsBound, IsRoot, AreEntries, Grows, IsNamed, Opens, Does, Refuses, Tells};
+ghost use Rattle.type_graph.specs.Graph.{node_at, entry_at, Tables, Told, Listed, Closed, IsGraph, IsBound, IsRoot, AreEntries, Grows, IsNamed, Opens, Lacks, Does, Refuses, Tells};
 
 use crate::roots::{node_of, put};
 use crate::tasks::{entry_of, push};
@@ -18,6 +18,7 @@ fn child_in(entries: &List<Entry>, start: u32, count: u32, label: u32) -> Option
     requires closed { Closed entries.now }
     requires start { start < length entries.now }
     ensures named { IfSome result (λ child. (T : Tables) → Listed entries.now T → IsNamed T start count label child) }
+    ensures none { IfNone result ((T : Tables) → Listed entries.now T → Lacks T.entry label start count) }
     ensures entry { IfSome result (λ child. (e : ℕ) × (e < length entries.now) × (child ≡ (entry_at entries.now e).child)) }
 {
     let mut at = start;
@@ -45,6 +46,7 @@ fn open_root(
     requires graph { IsGraph nodes.old }
     requires within { root < length nodes.old }
     requires form { Opens (node_at nodes.old root).form entry.next count }
+    requires lacks { (T : Tables) → Listed entries.old T → Lacks T.entry entry.label entry.next count }
     requires count { count ≤ length entries.old }
     ensures ok { OnOk result ((table : TheTable) (T : Tables) → Told table entries.new T → entry.child < length nodes.old → Does table (length entries.new) T nodes.old tasks.old (task.Part root entry.label entry.child) nodes.new tasks.new) }
     ensures entries { (entries.new ≡ entries.old) ⊎ (entries.new ≡ entries.old ++ entry ∷ []) }
@@ -64,11 +66,11 @@ fn open_root(
         root,
         Node {
             kind: node.kind,
-            level: 0,
+            level: node.level,
             form: Form::Open(number as u32, count + 1),
         },
     );
-    push(tasks, Task::Has(entry.child, node.kind, 0))
+    push(tasks, Task::Has(entry.child, node.kind, node.level))
 }
 
 // Asks of a root that another node is its part with this label.

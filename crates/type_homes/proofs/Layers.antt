@@ -1,5 +1,5 @@
 -- The homes of trees, one level at a time.
-use Rattle.std.proofs.Common.{◌≡◌, ℕ, ◌+◌, List, [], ◌∷◌, ◌++◌, map, replicate, refl, sym, ◌∙◌, ap, append_assoc, Bor}
+use Rattle.std.proofs.Common.{◌≡◌, ℕ, ◌+◌, Bool, true, false, ◌&&◌, List, [], ◌∷◌, ◌++◌, map, replicate, refl, sym, ◌∙◌, ap, append_assoc, Bor}
 use Rattle.std.specs.List.{flat_map}
 use Rattle.std.proofs.lemmas.List.{replicate-append-replicate}
 use Rattle.fut_scalar.specs.declared.place.BindId.{BindId}
@@ -13,19 +13,21 @@ use Rattle.fut_flat.specs.declared.exp.Loop.{Loop as LoopTree}
 use Rattle.fut_flat.specs.declared.exp.LoopForm.{LoopForm}
 use Rattle.fut_flat.specs.declared.exp.LoopForm.TheVariants as turns
 use Rattle.fut_flat.specs.declared.pat.Pat.{Pat}
+use Rattle.fut_flat.specs.declared.program.Definition.{Definition}
 use Rattle.fut_flat.specs.declared.pat.PatField.{PatField, fold_out-PatField}
 use Rattle.fut_flat.specs.declared.pat.PatForm.TheVariants as pat
 use Rattle.fut_flat.specs.declared.ty.TypeExp.{TypeExp}
 use Rattle.fut_flat.specs.declared.prim.Ref.{Ref}
 use Rattle.fut_flat.specs.Numbers.{pattern_numbers, all_pattern_numbers}
 use Rattle.fut_flat.specs.Terms.{Let}
-use Rattle.fut_flat.specs.Erased.{FlatPattern, FlatTerm, Row, patterns, pattern_of, pattern_form, terms, lets, term_of}
+use Rattle.fut_flat.specs.Erased.{FlatPattern, FlatTerm, Row, parameters, patterns, pattern_of, pattern_form, terms, lets, term_of}
 use Rattle.fut_flat.proofs.ErasedPatterns.{pattern_field, pattern_bound, pattern_wild, pattern_tuple, pattern_record, pattern_typed}
 use Rattle.fut_flat.proofs.ErasedForms.{row_of, loop_of, turns_of, term_use, term_strict, term_lambda, term_apply, term_lets, term_if, term_loop, row_is, loop_is, turns_counted, turns_over, turns_while}
-use Rattle.fut_typing.specs.Homes.{depth_if}
+use Rattle.fut_typing.specs.Free.{has_types}
+use Rattle.fut_typing.specs.Homes.{depth_if, written_if}
 use Rattle.type_homes.proofs.Lists.{pieces_3}
 use Rattle.type_homes.specs.Listed.{one, homes_of, all_homes, turn_homes}
-use Rattle.type_homes.specs.Trees.{pattern_homes, field_homes, act_homes, exp_homes, let_homes}
+use Rattle.type_homes.specs.Trees.{pattern_homes, field_homes, act_homes, exp_homes, written_in, let_homes, definition_homes}
 
 -- patterns
 patterns_homes : (home : ℕ) (ps : List Pat) → flat_map (pattern_homes home) ps ≡ replicate (all_pattern_numbers (patterns (map pattern_of ps))) home
@@ -70,65 +72,76 @@ unfolding pattern_homes
 homes_typed d p q t is = sym (ap (λ (r : FlatPattern). replicate (pattern_numbers r) d) (pattern_typed p q t is))
 
 -- expressions
-exps_homes : (d : ℕ) (es : List Exp) → flat_map (exp_homes d) es ≡ all_homes d (terms (map term_of es))
+exps_homes : (d w : ℕ) (es : List Exp) → flat_map (exp_homes d w) es ≡ all_homes d w (terms (map term_of es))
 unfolding exp_homes homes_of terms
-exps_homes d [] = refl
-exps_homes d (e ∷ es) = ap (λ l. homes_of d (term_of e) ++ l) (exps_homes d es)
+exps_homes d w [] = refl
+exps_homes d w (e ∷ es) = ap (λ l. homes_of d w (term_of e) ++ l) (exps_homes d w es)
 
-pub homes_use : (d : ℕ) (e : Exp) (r : Ref) (k : ℕ) → e.form ≡ form.Use r k → (one d ++ replicate k d) ++ replicate k d ≡ exp_homes d e
+pub homes_use : (d w : ℕ) (e : Exp) (r : Ref) (k : ℕ) → e.form ≡ form.Use r k → (one d ++ replicate k d) ++ replicate k d ≡ exp_homes d w e
 unfolding exp_homes homes_of
-homes_use d e r k is = append_assoc (one d) (replicate k d) (replicate k d) ∙ ap (λ l. one d ++ l) (replicate-append-replicate k k d) ∙ one_more (k + k) d ∙ sym (ap (homes_of d) (term_use e r k is))
+homes_use d w e r k is = append_assoc (one d) (replicate k d) (replicate k d) ∙ ap (λ l. one d ++ l) (replicate-append-replicate k k d) ∙ one_more (k + k) d ∙ sym (ap (homes_of d w) (term_use e r k is))
 
-pub homes_strict : (d : ℕ) (e : Exp) (a : Act) (mark : Place) (es : Bor (List Exp)) → e.form ≡ form.Strict a mark es → act_homes d a ++ flat_map (exp_homes d) es.now ≡ exp_homes d e
+pub homes_strict : (d w : ℕ) (e : Exp) (a : Act) (mark : Place) (es : Bor (List Exp)) → e.form ≡ form.Strict a mark es → act_homes d w a ++ flat_map (exp_homes d w) es.now ≡ exp_homes d w e
 unfolding exp_homes act_homes homes_of
-homes_strict d e a mark es is = ap (λ l. act_homes d a ++ l) (exps_homes d es.now) ∙ sym (ap (homes_of d) (term_strict e a mark es is))
+homes_strict d w e a mark es is = ap (λ l. act_homes d w a ++ l) (exps_homes d w es.now) ∙ sym (ap (homes_of d w) (term_strict e a mark es is))
 
-pub homes_lambda : (d : ℕ) (e : Exp) (ps : Bor (List Pat)) (b : Bor Exp) → e.form ≡ form.Lambda ps b → (one d ++ flat_map (pattern_homes d) ps.now) ++ exp_homes d b.now ≡ exp_homes d e
+pub homes_lambda : (d w : ℕ) (e : Exp) (ps : Bor (List Pat)) (b : Bor Exp) → e.form ≡ form.Lambda ps b → (one d ++ flat_map (pattern_homes d) ps.now) ++ exp_homes d w b.now ≡ exp_homes d w e
 unfolding exp_homes homes_of
-homes_lambda d e ps b is = ap (λ l. (one d ++ l) ++ homes_of d (term_of b.now)) (patterns_homes d ps.now) ∙ sym (ap (homes_of d) (term_lambda e ps b is))
+homes_lambda d w e ps b is = ap (λ l. (one d ++ l) ++ homes_of d w (term_of b.now)) (patterns_homes d ps.now) ∙ sym (ap (homes_of d w) (term_lambda e ps b is))
 
-pub homes_apply : (d : ℕ) (e : Exp) (f x : Bor Exp) → e.form ≡ form.Apply f x → (one d ++ exp_homes d f.now) ++ exp_homes d x.now ≡ exp_homes d e
+pub homes_apply : (d w : ℕ) (e : Exp) (f x : Bor Exp) → e.form ≡ form.Apply f x → (one d ++ exp_homes d w f.now) ++ exp_homes d w x.now ≡ exp_homes d w e
 unfolding exp_homes homes_of
-homes_apply d e f x is = sym (ap (homes_of d) (term_apply e f x is))
+homes_apply d w e f x is = sym (ap (homes_of d w) (term_apply e f x is))
 
-pub homes_if : (d : ℕ) (e : Exp) (c a b : Bor Exp) → e.form ≡ form.If c a b → ((one d ++ exp_homes d c.now) ++ exp_homes d a.now) ++ exp_homes d b.now ≡ exp_homes d e
+pub homes_if : (d w : ℕ) (e : Exp) (c a b : Bor Exp) → e.form ≡ form.If c a b → ((one d ++ exp_homes d w c.now) ++ exp_homes d w a.now) ++ exp_homes d w b.now ≡ exp_homes d w e
 unfolding exp_homes homes_of
-homes_if d e c a b is = sym (ap (homes_of d) (term_if e c a b is))
+homes_if d w e c a b is = sym (ap (homes_of d w) (term_if e c a b is))
 
-row_homes : (d : ℕ) (l : LetTree) (rest : FlatTerm) → homes_of d (Let (row_of l).0 (row_of l).1 rest) ≡ let_homes d l ++ homes_of d rest
+row_homes : (d w : ℕ) (l : LetTree) (rest : FlatTerm) → homes_of d w (Let (row_of l).0 (row_of l).1 rest) ≡ let_homes d w l ++ homes_of d w rest
 unfolding homes_of let_homes pattern_homes exp_homes
-row_homes d l rest = ap (λ (r : Row). homes_of d (Let r.0 r.1 rest)) (row_is l)
+row_homes d w l rest = ap (λ (r : Row). homes_of d w (Let r.0 r.1 rest)) (row_is l)
 
-rows_homes : (d : ℕ) (ls : List LetTree) (body : FlatTerm) → flat_map (let_homes d) ls ++ homes_of d body ≡ homes_of d (lets (map row_of ls) body)
+rows_homes : (d w : ℕ) (ls : List LetTree) (body : FlatTerm) → flat_map (let_homes d w) ls ++ homes_of d w body ≡ homes_of d w (lets (map row_of ls) body)
 unfolding lets
-rows_homes d [] body = refl
-rows_homes d (l ∷ ls) body = append_assoc (let_homes d l) (flat_map (let_homes d) ls) (homes_of d body) ∙ ap (λ x. let_homes d l ++ x) (rows_homes d ls body) ∙ sym (row_homes d l (lets (map row_of ls) body))
+rows_homes d w [] body = refl
+rows_homes d w (l ∷ ls) body = append_assoc (let_homes d w l) (flat_map (let_homes d w) ls) (homes_of d w body) ∙ ap (λ x. let_homes d w l ++ x) (rows_homes d w ls body) ∙ sym (row_homes d w l (lets (map row_of ls) body))
 
-pub homes_lets : (d : ℕ) (e : Exp) (ls : Bor (List LetTree)) (b : Bor Exp) → e.form ≡ form.Lets ls b → flat_map (let_homes d) ls.now ++ exp_homes d b.now ≡ exp_homes d e
+pub homes_lets : (d w : ℕ) (e : Exp) (ls : Bor (List LetTree)) (b : Bor Exp) → e.form ≡ form.Lets ls b → flat_map (let_homes d w) ls.now ++ exp_homes d w b.now ≡ exp_homes d w e
 unfolding exp_homes
-homes_lets d e ls b is = rows_homes d ls.now (term_of b.now) ∙ sym (ap (homes_of d) (term_lets e ls b is))
+homes_lets d w e ls b is = rows_homes d w ls.now (term_of b.now) ∙ sym (ap (homes_of d w) (term_lets e ls b is))
 
-pub homes_loop : (d : ℕ) (e : Exp) (l : Bor LoopTree) → e.form ≡ form.Loop l → homes_of d (loop_of l.now) ≡ exp_homes d e
+pub homes_loop : (d w : ℕ) (e : Exp) (l : Bor LoopTree) → e.form ≡ form.Loop l → homes_of d w (loop_of l.now) ≡ exp_homes d w e
 unfolding exp_homes
-homes_loop d e l is = sym (ap (homes_of d) (term_loop e l is))
+homes_loop d w e l is = sym (ap (homes_of d w) (term_loop e l is))
 
-pub homes_loop_parts : (d : ℕ) (l : LoopTree) → (((one d ++ pattern_homes d l.pat) ++ exp_homes d l.first) ++ turn_homes d (turns_of l.form)) ++ exp_homes d l.body ≡ homes_of d (loop_of l)
+pub homes_loop_parts : (d w : ℕ) (l : LoopTree) → (((one d ++ pattern_homes d l.pat) ++ exp_homes d w l.first) ++ turn_homes d w (turns_of l.form)) ++ exp_homes d w l.body ≡ homes_of d w (loop_of l)
 unfolding exp_homes pattern_homes homes_of
-homes_loop_parts d l = sym (ap (homes_of d) (loop_is l))
+homes_loop_parts d w l = sym (ap (homes_of d w) (loop_is l))
 
-pub homes_counted : (d : ℕ) (t : LoopForm) (i : BindId) (n : Exp) → t ≡ turns.For i n → one d ++ exp_homes d n ≡ turn_homes d (turns_of t)
+pub homes_counted : (d w : ℕ) (t : LoopForm) (i : BindId) (n : Exp) → t ≡ turns.For i n → one d ++ exp_homes d w n ≡ turn_homes d w (turns_of t)
 unfolding exp_homes homes_of
-homes_counted d t i n is = sym (ap (λ x. turn_homes d (turns_of x)) is ∙ ap (turn_homes d) (turns_counted i n))
+homes_counted d w t i n is = sym (ap (λ x. turn_homes d w (turns_of x)) is ∙ ap (turn_homes d w) (turns_counted i n))
 
-pub homes_over : (d : ℕ) (t : LoopForm) (p : Pat) (e : Exp) → t ≡ turns.ForIn p e → pattern_homes d p ++ exp_homes d e ≡ turn_homes d (turns_of t)
+pub homes_over : (d w : ℕ) (t : LoopForm) (p : Pat) (e : Exp) → t ≡ turns.ForIn p e → pattern_homes d p ++ exp_homes d w e ≡ turn_homes d w (turns_of t)
 unfolding exp_homes pattern_homes homes_of
-homes_over d t p e is = sym (ap (λ x. turn_homes d (turns_of x)) is ∙ ap (turn_homes d) (turns_over p e))
+homes_over d w t p e is = sym (ap (λ x. turn_homes d w (turns_of x)) is ∙ ap (turn_homes d w) (turns_over p e))
 
-pub homes_while : (d : ℕ) (t : LoopForm) (c : Exp) → t ≡ turns.While c → exp_homes d c ≡ turn_homes d (turns_of t)
+pub homes_while : (d w : ℕ) (t : LoopForm) (c : Exp) → t ≡ turns.While c → exp_homes d w c ≡ turn_homes d w (turns_of t)
 unfolding exp_homes homes_of
-homes_while d t c is = sym (ap (λ x. turn_homes d (turns_of x)) is ∙ ap (turn_homes d) (turns_while c))
+homes_while d w t c is = sym (ap (λ x. turn_homes d w (turns_of x)) is ∙ ap (turn_homes d w) (turns_while c))
 
-pub let_pieces : (d : ℕ) (l : LetTree) (old m1 m2 new : List ℕ) (deep : ℕ) → deep ≡ depth_if l.is_function d → m1 ≡ old ++ one d → m2 ≡ m1 ++ pattern_homes deep l.pat → new ≡ m2 ++ exp_homes deep l.value → new ≡ old ++ let_homes d l
+-- the innermost definition, by the depth of the value
+innermost : (f g : Bool) (d w deep : ℕ) → deep ≡ depth_if f d → written_if (f && g) deep w ≡ written_if (f && g) (1 + d) w
+innermost true true d w deep e = e
+innermost true false d w deep e = refl
+innermost false g d w deep e = refl
+
+pub let_pieces : (d w : ℕ) (l : LetTree) (old m1 m2 new : List ℕ) (deep within : ℕ) → deep ≡ depth_if l.is_function d → within ≡ written_in l deep w → m1 ≡ old ++ one d → m2 ≡ m1 ++ pattern_homes deep l.pat → new ≡ m2 ++ exp_homes deep within l.value
+    → new ≡ old ++ let_homes d w l
 unfolding let_homes
-let_pieces d l old m1 m2 new deep is e f g = pieces_3 old m1 m2 new (one d) (pattern_homes deep l.pat) (exp_homes deep l.value) ((one d ++ pattern_homes (depth_if l.is_function d) l.pat) ++ exp_homes (depth_if l.is_function d) l.value)
-    (ap (λ x. (one d ++ pattern_homes x l.pat) ++ exp_homes x l.value) is) e f g
+let_pieces d w l old m1 m2 new deep within is wis e f g = pieces_3 old m1 m2 new (one d) (pattern_homes deep l.pat) (exp_homes deep within l.value) ((one d ++ pattern_homes (depth_if l.is_function d) l.pat) ++ exp_homes (depth_if l.is_function d) (written_in l (1 + d) w) l.value)
+    (λ i. (one d ++ pattern_homes (is i) l.pat) ++ exp_homes (is i) ((wis ∙ innermost l.is_function (has_types (parameters l.heads.now)) d w deep is) i) l.value) e f g
+
+pub definition_is : (d : Definition) (w : ℕ) → w ≡ written_if (has_types (parameters d.heads.now)) 1 0 → one 1 ++ exp_homes 1 w d.value.now ≡ definition_homes d
+unfolding definition_homes
+definition_is d w is = ap (λ v. one 1 ++ exp_homes 1 v d.value.now) is

@@ -1,3 +1,4 @@
 pub mod Lists
+pub mod Heads
 pub mod Layers
 pub mod Homed

@@ -1,5 +1,6 @@
 //! Homes: how deep in generalised definitions each number of a program stands, and 0 for what never differs from one use of
-//! a definition to the next.
+//! a definition to the next. The record and the part of a field access are at home in the innermost definition that has
+//! written type parameters.
 #![tactic(auto)]
 
 ghost use Rattle.std.specs.Prelude.{IfOk};

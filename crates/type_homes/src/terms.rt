@@ -1,12 +1,16 @@
 // The homes of the numbers of trees, in the order of the numbers.
 ghost use Rattle.std.specs.Prelude.{◌≡◌, ◌++◌, replicate, IfOk, OnOk};
 ghost use Rattle.std.specs.List.{flat_map};
-ghost use Rattle.fut_typing.specs.Homes.{depth_if};
+ghost use Rattle.fut_flat.specs.Erased.{parameters};
+ghost use Rattle.fut_typing.specs.Free.{has_types};
+ghost use Rattle.fut_typing.specs.Homes.{depth_if, written_if};
 ghost use Rattle.fut_flat.proofs.ErasedForms.{loop_of, turns_of};
 ghost use Rattle.type_homes.specs.Listed.{homes_of, turn_homes};
-ghost use Rattle.type_homes.specs.Trees.{act_homes, definition_homes, exp_homes, field_homes, let_homes, pattern_homes};
+ghost use Rattle.type_homes.specs.Trees.{act_homes, definition_homes, exp_homes, field_homes, let_homes, pattern_homes, written_in};
 
-use fut_flat::{Act, Definition, Exp, Form, Let, Loop, LoopForm, Pat, PatField, PatForm};
+use fut_flat::{
+    Act, Definition, Exp, Form, Head, HeadForm, Let, Loop, LoopForm, Pat, PatField, PatForm,
+};
 use fut_scalar::{List, NoMemory};
 
 /// Notes the home of so many numbers.
@@ -60,18 +64,19 @@ fn note_fields(homes: &mut List<u32>, fields: &[PatField<'_>], home: u32) -> Res
     Ok(())
 }
 
-/// Notes the homes of an operation's own numbers.
+/// Notes the homes of an operation's own numbers, at this depth, where the innermost definition with written type parameters
+/// is at depth `written`.
 #[tactic(auto, unfolding(crate::specs::Trees::act_homes))]
-fn note_act(homes: &mut List<u32>, act: Act<'_>, depth: u32) -> Result<(), NoMemory>
-    ensures { OnOk result (homes.new ≡ homes.old ++ act_homes depth act.entry) }
+fn note_act(homes: &mut List<u32>, act: Act<'_>, depth: u32, written: u32) -> Result<(), NoMemory>
+    ensures { OnOk result (homes.new ≡ homes.old ++ act_homes depth written act.entry) }
 {
     match act {
         Act::Binary(_) => note(homes, 2, 0),
-        Act::Project(_) => note(homes, 2, 0),
+        Act::Project(_) => note(homes, 2, written),
         Act::Int { ty: None, .. } => note(homes, 1, 0),
         Act::Negate => note(homes, 1, 0),
         Act::Complement => note(homes, 1, 0),
-        Act::Replace(_) => note(homes, 1, 0),
+        Act::Replace(_) => note(homes, 1, written),
         Act::Int { ty: Some(_), .. } => note(homes, 1, depth),
         Act::Truth(_) => note(homes, 1, depth),
         Act::Tuple => note(homes, 1, depth),
@@ -89,8 +94,8 @@ fn note_act(homes: &mut List<u32>, act: Act<'_>, depth: u32) -> Result<(), NoMem
 
 /// Notes the homes of a term's numbers.
 #[cycle(term)]
-fn note_exp(homes: &mut List<u32>, exp: &Exp<'_>, depth: u32) -> Result<(), NoMemory>
-    ensures { OnOk result (homes.new ≡ homes.old ++ exp_homes depth exp.now) }
+fn note_exp(homes: &mut List<u32>, exp: &Exp<'_>, depth: u32, written: u32) -> Result<(), NoMemory>
+    ensures { OnOk result (homes.new ≡ homes.old ++ exp_homes depth written exp.now) }
 {
     match exp.form {
         Form::Use(_, before) => {
@@ -99,49 +104,59 @@ fn note_exp(homes: &mut List<u32>, exp: &Exp<'_>, depth: u32) -> Result<(), NoMe
             note(homes, before, depth)
         }
         Form::Strict { act, parts, .. } => {
-            note_act(homes, act, depth)?;
-            note_parts(homes, parts, depth)
+            note_act(homes, act, depth, written)?;
+            note_parts(homes, parts, depth, written)
         }
         Form::Lambda(params, body) => {
             homes.push(depth)?;
             note_patterns(homes, params, depth)?;
-            note_exp(homes, body, depth)
+            note_exp(homes, body, depth, written)
         }
         Form::Apply(function, argument) => {
             homes.push(depth)?;
-            note_exp(homes, function, depth)?;
-            note_exp(homes, argument, depth)
+            note_exp(homes, function, depth, written)?;
+            note_exp(homes, argument, depth, written)
         }
         Form::Lets(lets, body) => {
-            note_lets(homes, lets, depth)?;
-            note_exp(homes, body, depth)
+            note_lets(homes, lets, depth, written)?;
+            note_exp(homes, body, depth, written)
         }
         Form::If(test, yes, no) => {
             homes.push(depth)?;
-            note_exp(homes, test, depth)?;
-            note_exp(homes, yes, depth)?;
-            note_exp(homes, no, depth)
+            note_exp(homes, test, depth, written)?;
+            note_exp(homes, yes, depth, written)?;
+            note_exp(homes, no, depth, written)
         }
-        Form::Loop(turning) => note_loop(homes, turning, depth),
+        Form::Loop(turning) => note_loop(homes, turning, depth, written),
     }
 }
 
 #[cycle(term)]
-fn note_parts(homes: &mut List<u32>, parts: &[Exp<'_>], depth: u32) -> Result<(), NoMemory>
-    ensures { OnOk result (homes.new ≡ homes.old ++ flat_map (exp_homes depth) parts.now) }
+fn note_parts(
+    homes: &mut List<u32>,
+    parts: &[Exp<'_>],
+    depth: u32,
+    written: u32,
+) -> Result<(), NoMemory>
+    ensures { OnOk result (homes.new ≡ homes.old ++ flat_map (exp_homes depth written) parts.now) }
 {
     for part in parts {
-        note_exp(homes, part, depth)?;
+        note_exp(homes, part, depth, written)?;
     }
     Ok(())
 }
 
 #[cycle(term)]
-fn note_lets(homes: &mut List<u32>, lets: &[Let<'_>], depth: u32) -> Result<(), NoMemory>
-    ensures { OnOk result (homes.new ≡ homes.old ++ flat_map (let_homes depth) lets.now) }
+fn note_lets(
+    homes: &mut List<u32>,
+    lets: &[Let<'_>],
+    depth: u32,
+    written: u32,
+) -> Result<(), NoMemory>
+    ensures { OnOk result (homes.new ≡ homes.old ++ flat_map (let_homes depth written) lets.now) }
 {
     for one in lets {
-        note_let(homes, one, depth)?;
+        note_let(homes, one, depth, written)?;
     }
     Ok(())
 }
@@ -160,41 +175,76 @@ fn depth_of(one: &Let<'_>, depth: u32) -> Result<u32, NoMemory>
     }
 }
 
-#[cycle(term)]
-fn note_let(homes: &mut List<u32>, one: &Let<'_>, depth: u32) -> Result<(), NoMemory>
-    ensures { OnOk result (homes.new ≡ homes.old ++ let_homes depth one.now) }
+/// The depth of the innermost definition that has written type parameters, within one at depth `deep` with these heads;
+/// around it that depth is `written`.
+fn innermost_written(heads: &[Head], deep: u32, written: u32) -> u32
+    ensures { result ≡ written_if (has_types (parameters heads.now)) deep written }
 {
-    let deep = depth_of(one, depth)?;
-    homes.push(depth)?;
-    note_pattern(homes, &one.pat, deep)?;
-    note_exp(homes, &one.value, deep)
+    for head in heads {
+        if let HeadForm::Var { .. } = head.form {
+            return deep;
+        }
+    }
+    written
+}
+
+/// The same in the value of a `let`.
+fn written_of(one: &Let<'_>, deep: u32, written: u32) -> u32
+    ensures { result ≡ written_in one.now deep written }
+{
+    if one.is_function {
+        innermost_written(one.heads, deep, written)
+    } else {
+        written
+    }
 }
 
 #[cycle(term)]
-fn note_loop(homes: &mut List<u32>, turning: &Loop<'_>, depth: u32) -> Result<(), NoMemory>
-    ensures { OnOk result (homes.new ≡ homes.old ++ homes_of depth (loop_of turning.now)) }
+fn note_let(homes: &mut List<u32>, one: &Let<'_>, depth: u32, written: u32) -> Result<(), NoMemory>
+    ensures { OnOk result (homes.new ≡ homes.old ++ let_homes depth written one.now) }
+{
+    let deep = depth_of(one, depth)?;
+    let innermost = written_of(one, deep, written);
+    homes.push(depth)?;
+    note_pattern(homes, &one.pat, deep)?;
+    note_exp(homes, &one.value, deep, innermost)
+}
+
+#[cycle(term)]
+fn note_loop(
+    homes: &mut List<u32>,
+    turning: &Loop<'_>,
+    depth: u32,
+    written: u32,
+) -> Result<(), NoMemory>
+    ensures { OnOk result (homes.new ≡ homes.old ++ homes_of depth written (loop_of turning.now)) }
 {
     homes.push(depth)?;
     note_pattern(homes, &turning.pat, depth)?;
-    note_exp(homes, &turning.first, depth)?;
-    note_turns(homes, turning, depth)?;
-    note_exp(homes, &turning.body, depth)
+    note_exp(homes, &turning.first, depth, written)?;
+    note_turns(homes, turning, depth, written)?;
+    note_exp(homes, &turning.body, depth, written)
 }
 
 #[cycle(term)]
-fn note_turns(homes: &mut List<u32>, turning: &Loop<'_>, depth: u32) -> Result<(), NoMemory>
-    ensures { OnOk result (homes.new ≡ homes.old ++ turn_homes depth (turns_of turning.now.form)) }
+fn note_turns(
+    homes: &mut List<u32>,
+    turning: &Loop<'_>,
+    depth: u32,
+    written: u32,
+) -> Result<(), NoMemory>
+    ensures { OnOk result (homes.new ≡ homes.old ++ turn_homes depth written (turns_of turning.now.form)) }
 {
     match turning.form {
         LoopForm::For(_, bound) => {
             homes.push(depth)?;
-            note_exp(homes, &bound, depth)
+            note_exp(homes, &bound, depth, written)
         }
         LoopForm::ForIn(pat, over) => {
             note_pattern(homes, &pat, depth)?;
-            note_exp(homes, &over, depth)
+            note_exp(homes, &over, depth, written)
         }
-        LoopForm::While(test) => note_exp(homes, &test, depth),
+        LoopForm::While(test) => note_exp(homes, &test, depth, written),
     }
 }
 
@@ -207,7 +257,8 @@ pub(crate) fn note_definitions(
 {
     for definition in definitions {
         homes.push(1)?;
-        note_exp(homes, definition.value, 1)?;
+        let written = innermost_written(definition.heads, 1, 0);
+        note_exp(homes, definition.value, 1, written)?;
     }
     Ok(())
 }

@@ -4,13 +4,13 @@
 //! costs the size of the copy.
 #![tactic(auto)]
 
-ghost use Rattle.std.specs.Prelude.{◌≡◌, ◌<◌, ◌≤◌, ◌+◌, ◌-◌, ◌++◌, ◌∷◌, [], ℕ, length, OnOk, IfErr};
+ghost use Rattle.std.specs.Prelude.{◌≡◌, ◌<◌, ◌≤◌, ◌+◌, ◌-◌, ◌^◌, ◌++◌, ◌∷◌, [], ℕ, length, OnOk, IfErr};
 ghost use Rattle.fut_types.specs.Shapes.{IsTable};
 ghost use Rattle.fut_types.specs.declared.shapes.ShapeTable.{ShapeTable as TheTable};
 ghost use Rattle.type_graph.specs.Graph.{IsGraph, IsBound, Each, Tables, Told, Tells};
 ghost use Rattle.type_claims.specs.Claims.{Sound, Extends, Inside, Adds, Nowhere};
 ghost use Rattle.type_schemes.specs.Schemes.{PartWithin, PartKnown, Region, Known};
-ghost use Rattle.type_instances.specs.Instances.{IsUse, Pushes, Use, Uses, Instanced, Frees};
+ghost use Rattle.type_instances.specs.Instances.{IsUse, IsLabelled, asked, Pushes, Use, Uses, Instanced, Frees};
 
 use fut_scalar::List;
 use fut_types::ShapeTable;
@@ -49,10 +49,38 @@ fn push_free(nodes: &mut List<Node>, count: u32) -> Result<(), UnifyErr>
     Ok(())
 }
 
+// Asks that the nodes of a row are parts of a node, under the labels of the parts that they stand for.
+fn ask_parts(
+    tasks: &mut List<Task>,
+    store: &List<Part>,
+    number: u32,
+    row: u32,
+    child: u32,
+    count: u32,
+) -> Result<(), UnifyErr>
+    requires row { row + count ≤ length store.now }
+    requires short { length store.now < 4294967295 }
+    requires child { child + count < 2 ^ 32 }
+    ensures ok { OnOk result (tasks.new ≡ tasks.old ++ asked store.now number row child count) }
+    ensures err { IfErr result (Tells ⊥) }
+{
+    let mut at = 0;
+    while at < count {
+        let label = part_of(store, row + at).label;
+        match push_task(tasks, Task::Part(number, label, child + at)) {
+            Ok(()) => {}
+            Err(error) => return Err(error),
+        }
+        at += 1;
+    }
+    Ok(())
+}
+
 // Asks of a node what a part says.
 fn use_part(
     nodes: &mut List<Node>,
     tasks: &mut List<Task>,
+    store: &List<Part>,
     part: Part,
     first: u32,
     count: u32,
@@ -63,12 +91,15 @@ fn use_part(
     requires room { start + count ≤ length nodes.old }
     requires at { at < count }
     requires within { PartWithin start first (first + count) (first + at) part.form }
+    requires store { first + count ≤ length store.now }
+    requires short { length store.now < 4294967295 }
     requires tasks { Each (IsUse (length nodes.old)) tasks.old }
     ensures graph { OnOk result (IsGraph nodes.new) }
     ensures longer { OnOk result (length nodes.old ≤ length nodes.new) }
     ensures tasks { OnOk result (Each (IsUse (length nodes.new)) tasks.new) }
-    ensures bound { OnOk result ((table : TheTable) (m : ℕ) → PartKnown table part.form → IsBound table m nodes.old → IsBound table m nodes.new) }
-    ensures ok { OnOk result ((T : Tables) → Inside T nodes.old → Pushes T nodes.old tasks.old (Use first start at part) nodes.new tasks.new) }
+    ensures bound { OnOk result ((table : TheTable) (m : ℕ) → PartKnown table store.now part.form → IsBound table m nodes.old → IsBound table m nodes.new) }
+    ensures labels { OnOk result ((table : TheTable) → PartKnown table store.now part.form → Each (IsLabelled table) tasks.old → Each (IsLabelled table) tasks.new) }
+    ensures ok { OnOk result ((T : Tables) → Inside T nodes.old → Pushes T nodes.old tasks.old (Use T.shapes store.now first start at part) nodes.new tasks.new) }
     ensures err { IfErr result (Tells ⊥) }
 {
     let number = start + at;
@@ -85,6 +116,9 @@ fn use_part(
                 Ok(made) => push_task(tasks, Task::Same(number, made)),
                 Err(error) => Err(error),
             }
+        }
+        PartForm::Open(row, parts) => {
+            ask_parts(tasks, store, number, row, start + (row - first), parts)
         }
     }
 }
@@ -106,13 +140,14 @@ fn use_parts(
     ensures longer { OnOk result (length nodes.old ≤ length nodes.new) }
     ensures tasks { OnOk result (Each (IsUse (length nodes.new)) tasks.new) }
     ensures bound { OnOk result ((table : TheTable) (m : ℕ) → Known table store.now first count → IsBound table m nodes.old → IsBound table m nodes.new) }
-    ensures ok { OnOk result ((T : Tables) → Inside T nodes.old → Pushes T nodes.old tasks.old (Uses store.now first start count) nodes.new tasks.new) }
+    ensures labels { OnOk result ((table : TheTable) → Known table store.now first count → Each (IsLabelled table) tasks.old → Each (IsLabelled table) tasks.new) }
+    ensures ok { OnOk result ((T : Tables) → Inside T nodes.old → Pushes T nodes.old tasks.old (Uses T.shapes store.now first start count) nodes.new tasks.new) }
     ensures err { IfErr result (Tells ⊥) }
 {
     let mut at = 0;
     while at < count {
         let part = part_of(store, first + at);
-        match use_part(nodes, tasks, part, first, count, start, at) {
+        match use_part(nodes, tasks, store, part, first, count, start, at) {
             Ok(()) => {}
             Err(error) => return Err(error),
         }

@@ -1,28 +1,86 @@
 -- Resolved types: every solution is an instance of them, and they are one.
-use Rattle.std.proofs.Common.{◌≡◌, ℕ, zero, suc, ◌+◌, ◌≤◌, ◌<◌, List, [], ◌∷◌, length, max, refl, sym, ◌∙◌, ap, subst, arith}
+use Rattle.std.proofs.Common.{◌≡◌, ℕ, zero, suc, ◌+◌, ◌≤◌, ◌<◌, List, [], ◌∷◌, length, max, min, refl, sym, ◌∙◌, ap, subst, arith}
 use mathlib.Core.Logic.{◌⊎◌, inl, inr}
 use native.Mathlib.Decide.{ℕ_discrete}
+use Rattle.fut_types.specs.declared.Kind.{Kind}
 use Rattle.fut_types.specs.declared.Head.{Head}
+use Rattle.fut_types.specs.declared.Head.TheVariants as head
 use Rattle.fut_types.specs.Types.{Ty, Var, Made, Tys, none, more, Sub, Kinds, level, cap, rank, least, applied, size, row}
-use Rattle.fut_types.proofs.TyLaws.{applied_var, applied_made, row_applied, row_same, rank_var, rank_made, row_least, level_most, part_smaller, rises, Occurs, occurs_row}
+use Rattle.fut_types.proofs.TyLaws.{applied_var, applied_made, row_applied, row_same, rank_var, rank_made, row_least, level_most, part_smaller, Occurs, occurs_row}
 use Rattle.type_graph.specs.declared.Form.{Form}
 use Rattle.type_graph.specs.declared.Form.TheVariants as form
 use Rattle.type_graph.specs.declared.Node.{Node}
-use Rattle.type_graph.specs.Graph.{free_node, node_at, Tables, Each, numbers, parts_of, Names, Shows, Solves, Within, IsGraph, IsRoot}
+use Rattle.type_graph.proofs.PartLaws.{read_once, plain_made}
+use Rattle.type_graph.specs.Graph.{free_node, node_at, Reading, Tables, Plain, Readable, type_made, Parts_fit, Fitting, Each, numbers, parts_of, Names, Shows, Solves, Within, IsGraph, IsRoot}
 use Rattle.type_graph.specs.State.{AtLeast, AtMost, Tops, Sure, State, form_cap}
-use Rattle.type_resolve.specs.Resolving.{type_of, resolved, Loose, Settled, Stable, Respects, noted, Closed_form, NoneOpen, Laws}
+use Rattle.type_resolve.specs.Resolving.{type_of, in_reading, all_in_reading, resolved, Loose, Settled, Stable, Respects, noted, Closed_form, NoneOpen, Laws}
 
 -- every solution is an instance, at each depth
-one_level : (T : Tables) (a s : Sub) (n i l : ℕ) (f : Form) → i < n → ((j : ℕ) → j < n → a j ≡ applied a (s j)) → Within n i f l → Shows T a (a i) f → a i ≡ applied a (type_of s i f)
-one_level T a s n i l form.Free lt h w e = sym (applied_var a i)
-one_level T a s n i l (form.Link j) lt h w e = e ∙ h j (omega arith)
-one_level T a s n i l (form.Open e n') lt h w o = sym (applied_var a i)
-one_level T a s n i l (form.Made hd x c) lt h w e = e ∙ ap (Made hd) (row_same a (λ j. applied a (s j)) x x c (λ j lj. h (x + j) (omega arith)) ∙ sym (row_applied a s x c)) ∙ sym (applied_made a hd (row s x c))
+read_var : (v : Reading) (a : Sub) (n : ℕ) → in_reading v a (Var n) ≡ a n
+unfolding in_reading
+read_var v a n = refl
 
-pub factors : (nodes : List Node) → IsGraph nodes → (T : Tables) (K : Kinds) (a : Sub) → Solves T K a nodes → (d i : ℕ) → i < length nodes → a i ≡ applied a (resolved nodes d i)
+pub read_row : (v : Reading) (a s : Sub) (x n : ℕ) → all_in_reading v a (row s x n) ≡ row (λ i. in_reading v a (s i)) x n
+unfolding in_reading
+read_row v a s x zero = refl
+read_row v a s x (suc n) = λ i. more (in_reading v a (s x)) (read_row v a s (suc x) n i)
+
+pub read_made : (v : Reading) (a s : Sub) (h : Head) (x n : ℕ) → in_reading v a (Made h (row s x n)) ≡ type_made v h (row (λ i. in_reading v a (s i)) x n)
+unfolding in_reading
+read_made v a s h x n = ap (type_made v h) (read_row v a s x n)
+
+one_level : (T : Tables) (a s : Sub) (n i : ℕ) (f : Form) → i < n → ((j : ℕ) → j < n → a j ≡ in_reading T.rigid a (s j)) → Within n i f → Shows T a (a i) f → a i ≡ in_reading T.rigid a (type_of s i f)
+one_level T a s n i form.Free lt h w e = sym (read_var T.rigid a i)
+one_level T a s n i (form.Link j) lt h w e = e ∙ h j (omega arith)
+one_level T a s n i (form.Open e n') lt h w o = sym (read_var T.rigid a i)
+one_level T a s n i (form.Made hd x c) lt h w e = e ∙ ap (type_made T.rigid hd) (row_same a (λ j. in_reading T.rigid a (s j)) x x c (λ j lj. h (x + j) (omega arith))) ∙ sym (read_made T.rigid a s hd x c)
+
+pub factors : (nodes : List Node) → IsGraph nodes → (T : Tables) (K : Kinds) (a : Sub) → Solves T K a nodes → (d i : ℕ) → i < length nodes → a i ≡ in_reading T.rigid a (resolved nodes d i)
 unfolding resolved
-factors nodes g T K a s zero i lt = sym (applied_var a i)
-factors nodes g T K a s (suc d) i lt = one_level T a (resolved nodes d) (length nodes) i _ _ lt (λ j h. factors nodes g T K a s d j h) (g.within i lt) (s.fits i lt).shows
+factors nodes g T K a s zero i lt = sym (read_var T.rigid a i)
+factors nodes g T K a s (suc d) i lt = one_level T a (resolved nodes d) (length nodes) i _ lt (λ j h. factors nodes g T K a s d j h) (g.within i lt) (s.fits i lt).shows
+
+-- where type parameters stand for themselves
+plain_level : (T : Tables) (by s : Sub) (n i : ℕ) (f : Form) → Plain T → Fitting f → ((j : ℕ) → j < n → in_reading T.rigid by (s j) ≡ applied by (s j)) → i < n → Within n i f → in_reading T.rigid by (type_of s i f) ≡ applied by (type_of s i f)
+plain_level T by s n i form.Free p fit h lt w = read_var T.rigid by i ∙ sym (applied_var by i)
+plain_level T by s n i (form.Link j) p fit h lt w = h j (omega arith)
+plain_level T by s n i (form.Open e n') p fit h lt w = read_var T.rigid by i ∙ sym (applied_var by i)
+plain_level T by s n i (form.Made hd x c) p fit h lt w = read_made T.rigid by s hd x c ∙ plain_made T (λ j. in_reading T.rigid by (s j)) hd x c p fit
+    ∙ ap (Made hd) (row_same (λ j. in_reading T.rigid by (s j)) (λ j. applied by (s j)) x x c (λ j lj. h (x + j) (omega arith)) ∙ sym (row_applied by s x c)) ∙ sym (applied_made by hd (row s x c))
+
+pub plain_types : (nodes : List Node) → IsGraph nodes → (T : Tables) → Plain T → (by : Sub) (d i : ℕ) → i < length nodes → in_reading T.rigid by (resolved nodes d i) ≡ applied by (resolved nodes d i)
+unfolding resolved
+plain_types nodes g T p by zero i lt = read_var T.rigid by i ∙ sym (applied_var by i)
+plain_types nodes g T p by (suc d) i lt = plain_level T by (resolved nodes d) (length nodes) i _ p (g.fitting i lt) (λ j h. plain_types nodes g T p by d j h) lt (g.within i lt)
+
+-- a part of a made type is smaller, however type parameters are read
+pub smaller : (v : Reading) (a : Sub) (t : Ty) (h : Head) (x n p : ℕ) → Parts_fit h n → t ≡ type_made v h (row a x n) → p < n → size (a (x + p)) < size t
+smaller v a t h x n p fit e lt = elim (read_once h n fit) as (λ o. size (a (x + p)) < size t) [
+  | inl z ↦ absurd (omega arith)
+  | inr m ↦ part_smaller a t h x n p (e ∙ m v (row a x n)) lt
+]
+
+-- the kinds only rise where type parameters stand for types of theirs
+made_rises : (K K' : Kinds) (v : Reading) (g : Sub) → ((n : ℕ) (k : Kind) → level k ≤ rank K' (v n k)) → (h : Head) (ts us : Tys) → least K ts ≤ least K' us → min (cap h) (least K ts) ≤ rank K' (type_made v h us)
+unfolding rank
+made_rises K K' v g w (head.Rigid n k) ts us le = let p : level k ≤ rank K' (v n k) = w n k in omega arith
+made_rises K K' v g w (head.Scalar s) ts us le = omega arith
+made_rises K K' v g w head.Array ts us le = omega arith
+made_rises K K' v g w head.Tuple ts us le = omega arith
+made_rises K K' v g w (head.Record n) ts us le = omega arith
+made_rises K K' v g w head.Fun ts us le = omega arith
+made_rises K K' v g w (head.Abstract n d) ts us le = omega arith
+
+mutual
+  unfolding rank in_reading
+
+  pub reading_rises : (K K' : Kinds) (v : Reading) (g : Sub) → ((n : ℕ) (k : Kind) → level k ≤ rank K' (v n k)) → ((n : ℕ) → level (K n) ≤ rank K' (g n)) → (t : Ty) → rank K t ≤ rank K' (in_reading v g t)
+  reading_rises K K' v g w r (Var n) = r n
+  reading_rises K K' v g w r (Made h ts) = made_rises K K' v g w h ts (all_in_reading v g ts) (all_reading_rises K K' v g w r ts)
+
+  pub all_reading_rises : (K K' : Kinds) (v : Reading) (g : Sub) → ((n : ℕ) (k : Kind) → level k ≤ rank K' (v n k)) → ((n : ℕ) → level (K n) ≤ rank K' (g n)) → (ts : Tys) → least K ts ≤ least K' (all_in_reading v g ts)
+  all_reading_rises K K' v g w r none = omega arith
+  all_reading_rises K K' v g w r (more t ts) = let p : rank K t ≤ rank K' (in_reading v g t) = reading_rises K K' v g w r t in let q : least K ts ≤ least K' (all_in_reading v g ts) = all_reading_rises K K' v g w r ts in omega arith
 
 -- settling, level by level
 pub settled_loose : (nodes : List Node) (i : ℕ) (f : Form) → (node_at nodes i).form ≡ f → Loose f → Settled nodes i
@@ -88,7 +146,7 @@ settled_up nodes g top t (suc m) i lt h s = by_form (λ j p q r. settled_up node
     by_form ih form.Free e = subst (Settled nodes) (t.selves i h (subst IsRoot (sym e) tt)) s
     by_form ih (form.Open y n) e = subst (Settled nodes) (t.selves i h (subst IsRoot (sym e) tt)) s
     by_form ih (form.Made hd x n) e = subst (Settled nodes) (t.selves i h (subst IsRoot (sym e) tt)) s
-    by_form ih (form.Link j) e = let w : j < i = subst (λ f. Within (length nodes) i f (node_at nodes i).level) e (g.within i h) in
+    by_form ih (form.Link j) e = let w : j < i = subst (Within (length nodes) i) e (g.within i h) in
         settled_link nodes i j e (ih j (omega arith) (omega arith) (subst (Settled nodes) (t.links i j h e) s))
 
 -- the type of a node is that of its root
@@ -100,7 +158,7 @@ at_top nodes g top t a s (suc m) i lt h = by_form (λ j p q. at_top nodes g top 
     by_form ih form.Free e = ap a (sym (t.selves i h (subst IsRoot (sym e) tt)))
     by_form ih (form.Open y n) e = ap a (sym (t.selves i h (subst IsRoot (sym e) tt)))
     by_form ih (form.Made hd x n) e = ap a (sym (t.selves i h (subst IsRoot (sym e) tt)))
-    by_form ih (form.Link j) e = let w : j < i = subst (λ f. Within (length nodes) i f (node_at nodes i).level) e (g.within i h) in
+    by_form ih (form.Link j) e = let w : j < i = subst (Within (length nodes) i) e (g.within i h) in
         s i j h e ∙ ih j (omega arith) (omega arith) ∙ ap a (sym (t.links i j h e))
 
 -- one depth for all nodes
@@ -127,11 +185,11 @@ with_parts nodes g T K a s f ih (suc m) i lt h le = by_form (λ j p q r. with_pa
     by_form : ((j : ℕ) → j < m → j < length nodes → size (a j) ≤ suc f → Settled nodes j) → (o : Form) → (node_at nodes i).form ≡ o → Settled nodes i
     by_form lower form.Free e = settled_loose nodes i form.Free e tt
     by_form lower (form.Open y n) e = settled_loose nodes i (form.Open y n) e tt
-    by_form lower (form.Link j) e = let w : j < i = subst (λ f. Within (length nodes) i f (node_at nodes i).level) e (g.within i h) in
+    by_form lower (form.Link j) e = let w : j < i = subst (Within (length nodes) i) e (g.within i h) in
         settled_link nodes i j e (lower j (omega arith) (omega arith) (subst (λ t. size t ≤ suc f) (subst (Shows T a (a i)) e (s.fits i h).shows) le))
     by_form lower (form.Made hd x n) e = settled_made nodes i hd x n e (each_number (Settled nodes) x n (λ p lp.
-        let w : x + n ≤ length nodes = subst (λ f. Within (length nodes) i f (node_at nodes i).level) e (g.within i h) in
-        let q : size (a (x + p)) < size (a i) = part_smaller a (a i) hd x n p (subst (Shows T a (a i)) e (s.fits i h).shows) lp in
+        let w : x + n ≤ length nodes = subst (Within (length nodes) i) e (g.within i h) in
+        let q : size (a (x + p)) < size (a i) = smaller T.rigid a (a i) hd x n p (subst Fitting e (g.fitting i h)) (subst (Shows T a (a i)) e (s.fits i h).shows) lp in
         ih (x + p) (omega arith) (omega arith)))
 
 size_none : (nodes : List Node) → IsGraph nodes → (T : Tables) (K : Kinds) (a : Sub) → Solves T K a nodes → (f i : ℕ) → i < length nodes → size (a i) ≤ f → Settled nodes i
@@ -182,7 +240,7 @@ module _ (T : Tables) (home : ℕ → ℕ) (base : ℕ) (nodes : List Node) (g :
       go ih (form.Open y n) e = subst (λ t. k ≤ rank (noted nodes) t) (sym (loose_stable i (form.Open y n) lt e tt)) (subst (λ m. k ≤ m) (sym (rank_var (noted nodes) i)) h)
       go ih (form.Link j) e = absurd (subst IsRoot e r)
       go ih (form.Made hd x n) e =
-          let w : x + n ≤ length nodes = subst (λ f. Within (length nodes) i f (node_at nodes i).level) e (g.within i lt) in
+          let w : x + n ≤ length nodes = subst (Within (length nodes) i) e (g.within i lt) in
           let sh : resolved nodes D i ≡ Made hd (row (resolved nodes D) x n) = made_stable i hd x n lt e in
           let c : level (node_at nodes i).kind ≤ cap hd = subst (λ f. level (node_at nodes i).kind ≤ form_cap f) e (st.capped i lt) in
           let k4 : level (node_at nodes i).kind ≤ 4 = level_most (node_at nodes i).kind in
@@ -211,29 +269,29 @@ module _ (T : Tables) (home : ℕ → ℕ) (base : ℕ) (nodes : List Node) (g :
       go (form.Made hd x n) e = root (subst IsRoot (sym e) tt)
 
   -- each instance of the resolved types is a solution, if what is open has its parts
-  pub instance_solves : (K : Kinds) (r : Sub) → Respects (noted nodes) K r → ((i e n : ℕ) → i < length nodes → (node_at nodes i).form ≡ form.Open e n → Names T (λ j. applied r (resolved nodes D j)) (applied r (resolved nodes D i)) e n)
-      → Solves T K (λ j. applied r (resolved nodes D j)) nodes
-  instance_solves K r rs open_has = record {
+  pub instance_solves : (K : Kinds) (r : Sub) → Readable K T → Respects (noted nodes) K r → ((i e n : ℕ) → i < length nodes → (node_at nodes i).form ≡ form.Open e n → Names T (λ j. in_reading T.rigid r (resolved nodes D j)) (in_reading T.rigid r (resolved nodes D i)) e n)
+      → Solves T K (λ j. in_reading T.rigid r (resolved nodes D j)) nodes
+  instance_solves K r rd rs open_has = record {
     fits = λ i lt. record {
       shows = go i lt (node_at nodes i).form refl;
-      has = let p : level (node_at nodes i).kind ≤ rank (noted nodes) (resolved nodes D i) = has_stable i lt in let q : rank (noted nodes) (resolved nodes D i) ≤ rank K (applied r (resolved nodes D i)) = rises (noted nodes) K r rs (resolved nodes D i) in omega arith;
+      has = let p : level (node_at nodes i).kind ≤ rank (noted nodes) (resolved nodes D i) = has_stable i lt in let q : rank (noted nodes) (resolved nodes D i) ≤ rank K (in_reading T.rigid r (resolved nodes D i)) = reading_rises (noted nodes) K T.rigid r rd.kinds rs (resolved nodes D i) in omega arith;
     };
   }
     where
-      go : (i : ℕ) → i < length nodes → (f : Form) → (node_at nodes i).form ≡ f → Shows T (λ j. applied r (resolved nodes D j)) (applied r (resolved nodes D i)) f
+      go : (i : ℕ) → i < length nodes → (f : Form) → (node_at nodes i).form ≡ f → Shows T (λ j. in_reading T.rigid r (resolved nodes D j)) (in_reading T.rigid r (resolved nodes D i)) f
       go i lt form.Free e = tt
-      go i lt (form.Link j) e = ap (applied r) (link_stable i j lt e)
-      go i lt (form.Made hd x n) e = ap (applied r) (made_stable i hd x n lt e) ∙ applied_made r hd (row (resolved nodes D) x n) ∙ ap (Made hd) (row_applied r (resolved nodes D) x n)
+      go i lt (form.Link j) e = ap (in_reading T.rigid r) (link_stable i j lt e)
+      go i lt (form.Made hd x n) e = ap (in_reading T.rigid r) (made_stable i hd x n lt e) ∙ read_made T.rigid r (resolved nodes D) hd x n
       go i lt (form.Open y n) e = open_has i y n lt e
 
-  shown : NoneOpen nodes → (i : ℕ) → i < length nodes → (f : Form) → (node_at nodes i).form ≡ f → Shows T (resolved nodes D) (resolved nodes D i) f
-  shown closed i lt form.Free e = tt
-  shown closed i lt (form.Link j) e = link_stable i j lt e
-  shown closed i lt (form.Made hd x n) e = made_stable i hd x n lt e
-  shown closed i lt (form.Open y n) e = absurd (subst Closed_form e (closed i lt))
+  shown : Plain T → NoneOpen nodes → (i : ℕ) → i < length nodes → (f : Form) → (node_at nodes i).form ≡ f → Shows T (resolved nodes D) (resolved nodes D i) f
+  shown pl closed i lt form.Free e = tt
+  shown pl closed i lt (form.Link j) e = link_stable i j lt e
+  shown pl closed i lt (form.Made hd x n) e = made_stable i hd x n lt e ∙ sym (plain_made T (resolved nodes D) hd x n pl (subst Fitting e (g.fitting i lt)))
+  shown pl closed i lt (form.Open y n) e = absurd (subst Closed_form e (closed i lt))
 
-  pub solves_stable : NoneOpen nodes → Solves T (noted nodes) (resolved nodes D) nodes
-  solves_stable closed = record { fits = λ i lt. record { shows = shown closed i lt (node_at nodes i).form refl; has = has_stable i lt } }
+  pub solves_stable : Plain T → NoneOpen nodes → Solves T (noted nodes) (resolved nodes D) nodes
+  solves_stable pl closed = record { fits = λ i lt. record { shows = shown pl closed i lt (node_at nodes i).form refl; has = has_stable i lt } }
 
   -- what stands in a resolved type is a node of which nothing is known but named parts, of no higher level
   vars_root : (f i : ℕ) → i < length nodes → IsRoot (node_at nodes i).form → size (resolved nodes D i) ≤ f → (l : ℕ) → (node_at nodes i).level ≤ l → (v : ℕ) → Occurs v (resolved nodes D i) → (v < length nodes) × Loose (node_at nodes v).form × ((node_at nodes v).level ≤ l)
@@ -254,7 +312,7 @@ module _ (T : Tables) (home : ℕ → ℕ) (base : ℕ) (nodes : List Node) (g :
       go ih (form.Open y n) e = here (form.Open y n) e tt
       go ih (form.Link j) e = absurd (subst IsRoot e r)
       go ih (form.Made hd x n) e =
-          let w : x + n ≤ length nodes = subst (λ f. Within (length nodes) i f (node_at nodes i).level) e (g.within i lt) in
+          let w : x + n ≤ length nodes = subst (Within (length nodes) i) e (g.within i lt) in
           let sh : resolved nodes D i ≡ Made hd (row (resolved nodes D) x n) = made_stable i hd x n lt e in
           let part = occurs_row (resolved nodes D) v x n (subst (Occurs v) sh o) in
           let inn : x + part.0 < length nodes = let q : part.0 < n = part.1 in omega arith in
@@ -306,8 +364,9 @@ laws T home base nodes g st all =
       d.0,
       record {
         solves = solves_stable T home base nodes g st d.0 d.1;
-        instances = λ K by r met. instance_solves T home base nodes g st d.0 d.1 K by r met;
+        instances = λ K by rd r met. instance_solves T home base nodes g st d.0 d.1 K by rd r met;
         factor = λ K a sol i lt. factors nodes g T K a sol d.0 i lt;
         respects = λ K a sol. respects_noted T nodes K a sol;
+        plain = λ p by i lt. plain_types nodes g T p by d.0 i lt;
       },
     )

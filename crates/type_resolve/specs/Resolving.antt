@@ -1,12 +1,12 @@
 -- The type of a node, as far as the graph tells it.
 use Rattle.std.specs.Prelude.{◌≡◌, ℕ, zero, suc, ◌+◌, ◌<◌, ◌≤◌, List, [], ◌∷◌, length, slice_index_or, slice_set}
-use Rattle.fut_types.specs.Types.{Ty, Var, Made, Sub, Kinds, level, rank, applied, size, row}
+use Rattle.fut_types.specs.Types.{Ty, Var, Made, Tys, none, more, Sub, Kinds, level, rank, applied, size, row}
 use Rattle.type_graph.specs.declared.Form.{Form}
 use Rattle.type_graph.specs.declared.Form.TheVariants as form
 use Rattle.type_graph.specs.declared.Node.{Node}
 use Rattle.fut_types.specs.declared.shapes.ShapeTable.{ShapeTable}
 use Rattle.type_graph.specs.declared.Entry.{Entry}
-use Rattle.type_graph.specs.Graph.{node_at, Tables, Listed, Names, Solves, IsGraph, IsBound, AreEntries}
+use Rattle.type_graph.specs.Graph.{node_at, Reading, Tables, Plain, Readable, type_made, Listed, Each, parts_of, Names, Solves, IsGraph, IsBound, AreEntries}
 use Rattle.type_graph.specs.State.{Tops, State}
 use Rattle.type_resolve.specs.declared.Mark.{Mark}
 use Rattle.type_resolve.specs.declared.Mark.TheVariants as mark
@@ -16,6 +16,16 @@ type_of s i form.Free = Var i
 type_of s i (form.Link j) = s j
 type_of s i (form.Made h x n) = Made h (row s x n)
 type_of s i (form.Open e n) = Var i
+
+-- a type where its variables have types and its type parameters are read
+unfoldable mutual
+  pub in_reading : Reading → Sub → Ty → Ty
+  in_reading r a (Var n) = a n
+  in_reading r a (Made h ts) = type_made r h (all_in_reading r a ts)
+
+  pub all_in_reading : Reading → Sub → Tys → Tys
+  all_in_reading r a none = none
+  all_in_reading r a (more t ts) = more (in_reading r a t) (all_in_reading r a ts)
 
 -- a node of which nothing is known, but for named parts
 abbrev pub Loose : Form → Type 0
@@ -38,6 +48,17 @@ pub record Settled (nodes : List Node) (i : ℕ) : Type 0 where
 abbrev pub SettledIn : List Node → ℕ → Type 0
 SettledIn nodes i = (top : ℕ → ℕ) → Tops nodes top → Settled nodes i
 
+-- node i has a height: its parts, named ones too, have smaller ones
+unfoldable pub Founded : Tables → List Node → (ℕ → ℕ) → ℕ → ℕ → Type 0
+Founded T nodes top zero i = ⊥
+Founded T nodes top (suc h) i = Each (Founded T nodes top h) (parts_of T (node_at nodes (top i)).form)
+
+abbrev pub FoundedIn : List Node → List Entry → ℕ → Type 0
+FoundedIn nodes entries i = (T : Tables) → Listed entries T → (top : ℕ → ℕ) → Tops nodes top → (h : ℕ) × Founded T nodes top h i
+
+abbrev pub Walked : List Node → List Entry → ℕ → Type 0
+Walked nodes entries i = SettledIn nodes i × FoundedIn nodes entries i
+
 -- from this depth on the types stay
 abbrev pub Stable : List Node → ℕ → Type 0
 Stable nodes D = (i : ℕ) → i < length nodes → (d : ℕ) → D ≤ d → resolved nodes d i ≡ resolved nodes D i
@@ -57,12 +78,12 @@ unfoldable pub whites : List Mark → ℕ
 whites [] = 0
 whites (m ∷ ms) = white m + whites ms
 
--- what a walk leaves: fewer nodes are white, none more is open, and those that are done have types
-pub record Marked (nodes : List Node) (marks marks' : List Mark) : Type 0 where
+-- what a walk leaves: fewer nodes are white, none more is open, and those that are done have types and heights
+pub record Marked (nodes : List Node) (entries : List Entry) (marks marks' : List Mark) : Type 0 where
   pub long : length marks' ≡ length marks
   pub fewer : whites marks' ≤ whites marks
   pub opened : (i : ℕ) → mark_at marks' i ≡ mark.Open → mark_at marks i ≡ mark.Open
-  pub done : (i : ℕ) → mark_at marks' i ≡ mark.Done → SettledIn nodes i
+  pub done : (i : ℕ) → mark_at marks' i ≡ mark.Done → Walked nodes entries i
 
 -- whatever the labels mean, no types solve the graph
 abbrev pub Unsolvable : List Node → List Entry → Type 0
@@ -99,15 +120,16 @@ Respects K0 K g = (v : ℕ) → level (K0 v) ≤ rank K (g v)
 
 -- each open node has its named parts, where by gives types to the variables of s
 abbrev pub OpensMet : Tables → List Node → Sub → Sub → Type 0
-OpensMet T nodes s by = (i e n : ℕ) → i < length nodes → (node_at nodes i).form ≡ form.Open e n → Names T (λ j. applied by (s j)) (applied by (s i)) e n
+OpensMet T nodes s by = (i e n : ℕ) → i < length nodes → (node_at nodes i).form ≡ form.Open e n → Names T (λ j. in_reading T.rigid by (s j)) (in_reading T.rigid by (s i)) e n
 
 -- the solutions are the instances of s that give its variables types of their kinds K0, and open nodes their parts;
--- where no node is open, s is one itself
+-- where type parameters stand for themselves, instances put types for variables alone, and s is one if no node is open
 pub record Resolved (T : Tables) (nodes : List Node) (K0 : Kinds) (s : Sub) : Type 0 where
-  pub solves : NoneOpen nodes → Solves T K0 s nodes
-  pub instances : (K : Kinds) (by : Sub) → Respects K0 K by → OpensMet T nodes s by → Solves T K (λ i. applied by (s i)) nodes
-  pub factor : (K : Kinds) (a : Sub) → Solves T K a nodes → (i : ℕ) → i < length nodes → a i ≡ applied a (s i)
+  pub solves : Plain T → NoneOpen nodes → Solves T K0 s nodes
+  pub instances : (K : Kinds) (by : Sub) → Readable K T → Respects K0 K by → OpensMet T nodes s by → Solves T K (λ i. in_reading T.rigid by (s i)) nodes
+  pub factor : (K : Kinds) (a : Sub) → Solves T K a nodes → (i : ℕ) → i < length nodes → a i ≡ in_reading T.rigid a (s i)
   pub respects : (K : Kinds) (a : Sub) → Solves T K a nodes → Respects K0 K a
+  pub plain : Plain T → (by : Sub) (i : ℕ) → i < length nodes → in_reading T.rigid by (s i) ≡ applied by (s i)
 
 -- where each node has a type, the types are principal
 abbrev pub Laws : Type 0

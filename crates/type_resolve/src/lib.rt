@@ -5,10 +5,14 @@
 //! A node that is open stands for itself, as a variable with named parts.
 #![tactic(auto)]
 
-ghost use Rattle.std.specs.Prelude.{◌≡◌, ◌<◌, ◌+◌, ◌≤◌, ℕ, length, OnOk, IfOk, IfErr};
+ghost use Rattle.std.specs.Prelude.{◌≡◌, ◌<◌, ◌+◌, ◌≤◌, ℕ, length, OnOk, IfOk, IfErr, true, false, []};
 ghost use Rattle.type_graph.specs.declared.UnifyErr.TheVariants as err;
-ghost use Rattle.type_graph.specs.Graph.{IsGraph, Tells, Each, Tables, Listed, numbers, children, parts_of, node_at};
-ghost use Rattle.type_resolve.specs.Resolving.{Placed, Marked, Below, Unsolvable, SettledIn, mark_at, with_mark, Laws};
+ghost use Rattle.type_graph.specs.Graph.{IsGraph, Tells, Each, Tables, Listed, numbers, children, parts_of, node_at, far, Meeting};
+ghost use Rattle.type_graph.specs.State.{State, Backed};
+ghost use Rattle.fut_types.specs.declared.Kind.{Kind as TheKind};
+ghost use Rattle.type_resolve.specs.Resolving.{Placed, Marked, Below, Unsolvable, SettledIn, FoundedIn, Walked, mark_at, with_mark, Laws};
+ghost use Rattle.type_resolve.specs.Filling.{Fills};
+ghost use Rattle.type_resolve.specs.Rereading.{Bears_it, Deeper, Left, Rereads};
 ghost use Rattle.type_resolve.specs.declared.Mark.TheVariants as mark;
 
 use fut_scalar::List;
@@ -50,10 +54,10 @@ fn visit(
     requires placed { Placed nodes.now entries.now }
     requires long { length marks.old ≡ length nodes.now }
     requires start { start < length nodes.now }
-    requires done { (i : ℕ) → mark_at marks.old i ≡ mark.Done → SettledIn nodes.now i }
+    requires done { (i : ℕ) → mark_at marks.old i ≡ mark.Done → Walked nodes.now entries.now i }
     requires grey { (T : Tables) → Listed entries.now T → Below T nodes.now marks.old start }
-    ensures ok { OnOk result (Marked nodes.now marks.old marks.new) }
-    ensures here { OnOk result (SettledIn nodes.now start) }
+    ensures ok { OnOk result (Marked nodes.now entries.now marks.old marks.new) }
+    ensures here { OnOk result (Walked nodes.now entries.now start) }
     ensures err { IfErr result (Tells (Unsolvable nodes.now entries.now)) }
 {
     let root = find(nodes, start);
@@ -83,10 +87,10 @@ fn visit_parts(
     requires placed { Placed nodes.now entries.now }
     requires long { length marks.old ≡ length nodes.now }
     requires root { root < length nodes.now }
-    requires done { (i : ℕ) → mark_at marks.old i ≡ mark.Done → SettledIn nodes.now i }
+    requires done { (i : ℕ) → mark_at marks.old i ≡ mark.Done → Walked nodes.now entries.now i }
     requires grey { (T : Tables) → Listed entries.now T → Each (Below T nodes.now marks.old) (parts_of T (node_at nodes.now root).form) }
-    ensures ok { OnOk result (Marked nodes.now marks.old marks.new) }
-    ensures here { OnOk result ((T : Tables) → Listed entries.now T → Each (SettledIn nodes.now) (parts_of T (node_at nodes.now root).form)) }
+    ensures ok { OnOk result (Marked nodes.now entries.now marks.old marks.new) }
+    ensures here { OnOk result ((T : Tables) → Listed entries.now T → Each (Walked nodes.now entries.now) (parts_of T (node_at nodes.now root).form)) }
     ensures err { IfErr result (Tells (Unsolvable nodes.now entries.now)) }
 {
     match node_of(nodes, root).form {
@@ -107,10 +111,10 @@ fn visit_row(
     requires placed { Placed nodes.now entries.now }
     requires long { length marks.old ≡ length nodes.now }
     requires row { first + count ≤ length nodes.now }
-    requires done { (i : ℕ) → mark_at marks.old i ≡ mark.Done → SettledIn nodes.now i }
+    requires done { (i : ℕ) → mark_at marks.old i ≡ mark.Done → Walked nodes.now entries.now i }
     requires grey { (T : Tables) → Listed entries.now T → Each (Below T nodes.now marks.old) (numbers first count) }
-    ensures ok { OnOk result (Marked nodes.now marks.old marks.new) }
-    ensures here { OnOk result (Each (SettledIn nodes.now) (numbers first count)) }
+    ensures ok { OnOk result (Marked nodes.now entries.now marks.old marks.new) }
+    ensures here { OnOk result (Each (Walked nodes.now entries.now) (numbers first count)) }
     ensures err { IfErr result (Tells (Unsolvable nodes.now entries.now)) }
 {
     let mut at = first;
@@ -137,10 +141,10 @@ fn visit_chain(
     requires placed { Placed nodes.now entries.now }
     requires long { length marks.old ≡ length nodes.now }
     requires start { start < length entries.now }
-    requires done { (i : ℕ) → mark_at marks.old i ≡ mark.Done → SettledIn nodes.now i }
+    requires done { (i : ℕ) → mark_at marks.old i ≡ mark.Done → Walked nodes.now entries.now i }
     requires grey { (T : Tables) → Listed entries.now T → Each (Below T nodes.now marks.old) (children T start count) }
-    ensures ok { OnOk result (Marked nodes.now marks.old marks.new) }
-    ensures here { OnOk result ((T : Tables) → Listed entries.now T → Each (SettledIn nodes.now) (children T start count)) }
+    ensures ok { OnOk result (Marked nodes.now entries.now marks.old marks.new) }
+    ensures here { OnOk result ((T : Tables) → Listed entries.now T → Each (Walked nodes.now entries.now) (children T start count)) }
     ensures err { IfErr result (Tells (Unsolvable nodes.now entries.now)) }
 {
     let mut at = start;
@@ -178,6 +182,7 @@ fn white_marks(alloc: Global, count: usize) -> Result<List<Mark>, UnifyErr>
 pub fn resolve(alloc: Global, nodes: &List<Node>, entries: &List<Entry>) -> Result<(), UnifyErr>
     requires placed { Placed nodes.now entries.now }
     ensures ok { OnOk result ((i : ℕ) → i < length nodes.now → SettledIn nodes.now i) }
+    ensures founded { OnOk result ((i : ℕ) → i < length nodes.now → FoundedIn nodes.now entries.now i) }
     ensures err { IfErr result (Tells (Unsolvable nodes.now entries.now)) }
 {
     let mut marks = white_marks(alloc, nodes.len())?;
@@ -195,4 +200,27 @@ pub fn resolve(alloc: Global, nodes: &List<Node>, entries: &List<Entry>) -> Resu
 /// Where each node of a graph has a type, these types are principal.
 pub fn settled_types_are_principal()
     ensures { Laws }
+{}
+
+/// A solution stays one, but for what lies deeper, where type parameters of which all nodes lie deeper are read otherwise.
+pub fn parameters_may_be_read_otherwise()
+    ensures { Rereads }
+{}
+
+/// Whether a type parameter's type is fixed by what stands at a depth or outside, where `at` is the node that stands for it.
+///
+/// If it is not, it may be read otherwise while what stands there keeps its types. If it is, it may not.
+pub fn is_fixed(nodes: &List<Node>, at: u32, depth: u32) -> bool
+    requires graph { IsGraph nodes.now }
+    requires at { at < length nodes.now }
+    ensures deeper { result ≡ false → (T : Tables) (home : ℕ → ℕ) (base n : ℕ) → State T home base nodes.now [] → T.seat n ≡ at → Deeper nodes.now n depth }
+    ensures left { result ≡ true → depth < far → (T : Tables) (home born : ℕ → ℕ) (n : ℕ) (k : TheKind) → Backed (Meeting T nodes.now []) home born nodes.now [] → Bears_it T nodes.now at n k → Left T home born nodes.now depth n k }
+{
+    let root = find(nodes, at);
+    node_of(nodes, root).level <= depth
+}
+
+/// A graph that resolves has a solution for any types of its free nodes, of their kinds, if there are records with all names.
+pub fn settled_graphs_have_solutions()
+    ensures { Fills }
 {}

@@ -47,7 +47,7 @@ extends_then table n0 n1 n2 e0 e1 e2 x y = record { sound = y.sound; longer = (l
 
 module _ (T : Tables) (base : ℕ) where
   pub adds_none : (P : Claim) (H : Homes) (nodes : List Node) → ((K : Kinds) (a : Sub) → P K a) → Adds T base P H nodes nodes
-  adds_none P H nodes h = record { forth = λ K a p q. p; back = λ K a p. p; done = λ K a p. h K a; keeps = λ K a s. s; state = λ home s. s; backed = λ home g b. b }
+  adds_none P H nodes h = record { forth = λ K a p q. p; back = λ K a p. p; done = λ K a p. h K a; keeps = λ K a s. s; state = λ home s. s; backed = λ home born g b. b }
 
   pub adds_then : (P Q R : Claim) (G H I : Homes) (n0 n1 n2 : List Node) → Adds T base P G n0 n1 → Adds T base Q H n1 n2
       → ((K : Kinds) (a : Sub) → R K a → P K a × Q K a) → ((K : Kinds) (a : Sub) → P K a → Q K a → R K a) → ((home : ℕ → ℕ) → I home → G home × H home) → Adds T base R I n0 n2
@@ -57,7 +57,7 @@ module _ (T : Tables) (base : ℕ) where
     done = λ K a p. join K a (x.done K a (y.back K a p)) (y.done K a p);
     keeps = λ K a s. x.keeps K a (y.keeps K a s);
     state = λ home s. y.state home (x.state home s);
-    backed = λ home i b. let g = homes home i in y.backed home g.1 (x.backed home g.0 b);
+    backed = λ home born i b. let g = homes home i in y.backed home born g.1 (x.backed home born g.0 b);
   }
 
   pub adds_as : (P R : Claim) (H I : Homes) (n0 n1 : List Node) → ((K : Kinds) (a : Sub) → R K a → P K a) → ((K : Kinds) (a : Sub) → P K a → R K a) → ((home : ℕ → ℕ) → I home → H home) → Adds T base P H n0 n1 → Adds T base R I n0 n1
@@ -67,14 +67,14 @@ module _ (T : Tables) (base : ℕ) where
     done = λ K a p. join K a (x.done K a p);
     keeps = x.keeps;
     state = x.state;
-    backed = λ home i b. x.backed home (homes home i) b;
+    backed = λ home born i b. x.backed home born (homes home i) b;
   }
 
   pub nowhere_as : (P R : Claim) (n0 : List Node) → ((K : Kinds) (a : Sub) → R K a → P K a) → Nowhere T base P n0 → Nowhere T base R n0
-  nowhere_as P R n0 split x K a p r = x K a p (split K a r)
+  nowhere_as P R n0 split x pl K a p r = x pl K a p (split K a r)
 
   pub nowhere_then : (P Q R : Claim) (H : Homes) (n0 n1 : List Node) → Adds T base P H n0 n1 → Nowhere T base Q n1 → ((K : Kinds) (a : Sub) → R K a → P K a × Q K a) → Nowhere T base R n0
-  nowhere_then P Q R H n0 n1 x y split K a p r = let s = split K a r in y K a (x.forth K a p s.0) s.1
+  nowhere_then P Q R H n0 n1 x y split pl K a p r = let s = split K a r in y pl K a (x.forth K a p s.0) s.1
 
 pub no_demand : (T : Tables) (base : ℕ) (nodes : List Node) → Adds T base (λ K a. All_met T.shapes K a []) (λ home. All_allow home []) nodes nodes
 unfolding All_met

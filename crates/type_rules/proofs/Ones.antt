@@ -36,6 +36,10 @@ pub known_fun : (table : ShapeTable) → IsKnown table head.Fun
 unfolding IsKnown
 known_fun table = tt
 
+pub known_tuple : (table : ShapeTable) → IsKnown table head.Tuple
+unfolding IsKnown
+known_tuple table = tt
+
 module _ (table : ShapeTable) (base : ℕ) (d : Demand) (w : IsDemand table base d) where
   pub same_within : (i j : ℕ) → d ≡ demand.Same i j → IsTask table base (task.Same i j)
   unfolding IsDemand IsTask
@@ -56,6 +60,14 @@ module _ (table : ShapeTable) (base : ℕ) (d : Demand) (w : IsDemand table base
   pub fun_within : (i from to : ℕ) → d ≡ demand.Fun i from to → (i < base) × (from < base) × (to < base)
   unfolding IsDemand
   fun_within i from to is = subst (IsDemand table base) is w
+
+  pub pair_within : (i x y : ℕ) → d ≡ demand.Pair i x y → (i < base) × (x < base) × (y < base)
+  unfolding IsDemand
+  pair_within i x y is = subst (IsDemand table base) is w
+
+  pub triple_within : (i x y z : ℕ) → d ≡ demand.Triple i x y z → (i < base) × (x < base) × (y < base) × (z < base)
+  unfolding IsDemand
+  triple_within i x y z is = subst (IsDemand table base) is w
 
   pub part_within : (i label c : ℕ) → d ≡ demand.Part i label c → IsTask table base (task.Part i label c)
   unfolding IsDemand IsTask
@@ -109,3 +121,19 @@ module _ (T : Tables) (base : ℕ) (d : Demand) (n0 n1 : List Node) where
   pub fun_nowhere : (i from to : ℕ) → d ≡ demand.Fun i from to → Nowhere T base (λ K a. a i ≡ Made head.Fun (types_of a (from ∷ to ∷ []))) n0 → Nowhere T base (λ K a. Met T.shapes K a d) n0
   unfolding Met types_of
   fun_nowhere i from to is x = nowhere_is T base d (demand.Fun i from to) is n0 n1 x
+
+  pub pair_adds : (i x y : ℕ) → d ≡ demand.Pair i x y → Adds T base (λ K a. a i ≡ Made head.Tuple (types_of a (x ∷ y ∷ []))) (λ home. Unit {0}) n0 n1 → Adds T base (λ K a. Met T.shapes K a d) (λ home. Allows home d) n0 n1
+  unfolding Met Allows types_of
+  pair_adds i x y is h = adds_is T base d (demand.Pair i x y) is n0 n1 h
+
+  pub pair_nowhere : (i x y : ℕ) → d ≡ demand.Pair i x y → Nowhere T base (λ K a. a i ≡ Made head.Tuple (types_of a (x ∷ y ∷ []))) n0 → Nowhere T base (λ K a. Met T.shapes K a d) n0
+  unfolding Met types_of
+  pair_nowhere i x y is h = nowhere_is T base d (demand.Pair i x y) is n0 n1 h
+
+  pub triple_adds : (i x y z : ℕ) → d ≡ demand.Triple i x y z → Adds T base (λ K a. a i ≡ Made head.Tuple (types_of a (x ∷ y ∷ z ∷ []))) (λ home. Unit {0}) n0 n1 → Adds T base (λ K a. Met T.shapes K a d) (λ home. Allows home d) n0 n1
+  unfolding Met Allows types_of
+  triple_adds i x y z is h = adds_is T base d (demand.Triple i x y z) is n0 n1 h
+
+  pub triple_nowhere : (i x y z : ℕ) → d ≡ demand.Triple i x y z → Nowhere T base (λ K a. a i ≡ Made head.Tuple (types_of a (x ∷ y ∷ z ∷ []))) n0 → Nowhere T base (λ K a. Met T.shapes K a d) n0
+  unfolding Met types_of
+  triple_nowhere i x y z is h = nowhere_is T base d (demand.Triple i x y z) is n0 n1 h

@@ -24,6 +24,10 @@ pub enum Demand {
     Array(u32, u32),
     /// A node's type is that of functions from another's to a third's.
     Fun(u32, u32, u32),
+    /// A node's type is that of pairs of two others'.
+    Pair(u32, u32, u32),
+    /// A node's type is that of triples of three others'.
+    Triple(u32, u32, u32, u32),
     /// A node's type has a part under a label, which is another's type.
     Part(u32, u32, u32),
 }
@@ -75,6 +79,30 @@ fn put_one(
                 i,
                 Head::Fun,
                 &[from, to],
+            )
+        }
+        Demand::Pair(i, first, second) => {
+            assert_made(
+                alloc,
+                table,
+                base,
+                nodes,
+                entries,
+                i,
+                Head::Tuple,
+                &[first, second],
+            )
+        }
+        Demand::Triple(i, first, second, third) => {
+            assert_made(
+                alloc,
+                table,
+                base,
+                nodes,
+                entries,
+                i,
+                Head::Tuple,
+                &[first, second, third],
             )
         }
         Demand::Part(i, label, part) => {

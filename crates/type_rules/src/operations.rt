@@ -109,7 +109,7 @@ pub fn update(id: u32, array: u32, index: u32, value: u32, places: Kind) -> [Dem
 pub fn projection(id: u32, whole: u32, part: u32, label: u32) -> [Demand; 2]
     ensures says { (N : Names) (places : Kind) (f : Text) → N.label f ≡ label → Say_in N.shapes result (λ K a. Rule N places K (Project f) (a id) (a whole) (more (a part) none)) }
     ensures within { (table : ShapeTable) (base : ℕ) → All_below base (id ∷ whole ∷ part ∷ []) → label < length table.positions → Are_demands table base result }
-    ensures allowed { (home : ℕ → ℕ) → home whole ≤ 0 → All_allow home result }
+    ensures allowed { Always_allowed result }
 {
     [Demand::Same(part, whole), Demand::Part(whole, label, id)]
 }
@@ -118,7 +118,7 @@ pub fn projection(id: u32, whole: u32, part: u32, label: u32) -> [Demand; 2]
 pub fn replacement(id: u32, whole: u32, value: u32, label: u32) -> [Demand; 2]
     ensures says { (N : Names) (places : Kind) (f : Text) (u : Ty) → N.label f ≡ label → Say_in N.shapes result (λ K a. Rule N places K (Replace f) (a id) u (more (a whole) (more (a value) none))) }
     ensures within { (table : ShapeTable) (base : ℕ) → All_below base (id ∷ whole ∷ value ∷ []) → label < length table.positions → Are_demands table base result }
-    ensures allowed { (home : ℕ → ℕ) → home id ≤ 0 → All_allow home result }
+    ensures allowed { Always_allowed result }
 {
     [Demand::Same(id, whole), Demand::Part(id, label, value)]
 }

@@ -1,3 +1,4 @@
 pub mod Parts
+pub mod Regrown
 pub mod Laws
 pub mod Regions

@@ -1,19 +1,23 @@
 -- The parts of a scheme, one by one.
 use Rattle.std.proofs.Common.{◌≡◌, ◌≢◌, ℕ, zero, suc, ◌+◌, ◌≤◌, ◌<◌, List, [], ◌∷◌, ◌++◌, length, refl, sym, ◌∙◌, ap, subst, arith}
+use mathlib.Core.Logic.{◌⊎◌, inl, inr}
 use native.Mathlib.Decide.{ℕ_discrete}
 use Rattle.std.proofs.Math.ListN.{length-set}
 use Rattle.std.proofs.lemmas.List.{get_or-set_same, get_or-set_other}
 use Rattle.fut_types.specs.declared.Kind.{Kind}
 use Rattle.fut_types.specs.declared.Kind.TheVariants as kind
 use Rattle.fut_types.specs.declared.Head.{Head}
+use Rattle.fut_types.specs.declared.Head.TheVariants as head
 use Rattle.type_graph.specs.declared.Form.{Form}
 use Rattle.type_graph.specs.declared.Form.TheVariants as form
 use Rattle.type_graph.specs.declared.Node.{Node}
-use Rattle.type_graph.specs.Graph.{node_at, IsRoot, IsGraph, Within, Found}
+use Rattle.type_graph.specs.declared.Entry.{Entry}
+use Rattle.fut_types.specs.declared.shapes.ShapeTable.{ShapeTable}
+use Rattle.type_graph.specs.Graph.{node_at, entry_at, IsRoot, IsGraph, IsBound, Within, Bound, Found}
 use Rattle.type_schemes.specs.declared.PartForm.{PartForm}
 use Rattle.type_schemes.specs.declared.PartForm.TheVariants as part
 use Rattle.type_schemes.specs.declared.Part.{Part}
-use Rattle.type_schemes.specs.Schemes.{free_part, part_at, with_part, memo_at, with_memo, Solid, Copied, IsNew, Alike, PartOk, Partial, Entered, Extends, Opened, Filled, Copies}
+use Rattle.type_schemes.specs.Schemes.{free_part, part_at, with_part, memo_at, with_memo, Definition, FormWithin, Solid, Copied, IsForeign, IsOurs, copy_kind, IsNew, Alike, chain, HasRow, PartOk, Partial, Entered, Extends, Opened, Filled, Copies, child_at, label_at, child_count, child_number, child_label, head_count, head_copy, form_copy, next_to, no_label}
 
 pub part_old : (store : List Part) (x : Part) (i : ℕ) → i < length store → part_at (store ++ x ∷ []) i ≡ part_at store i
 unfolding part_at
@@ -54,31 +58,35 @@ pub memo_long : (memo : List ℕ) (i x : ℕ) → length (with_memo memo i x) �
 unfolding with_memo
 memo_long memo i x = length-set memo i x
 
+-- what stays of a store's parts below its end where others come or get their children
+pub record Stays (store store' : List Part) (end : ℕ) : Type 0 where
+  pub sources : (j : ℕ) → j < end → (part_at store' j).source ≡ (part_at store j).source
+  pub labels : (j : ℕ) → j < end → (part_at store' j).label ≡ (part_at store j).label
+  pub solid : (j : ℕ) → j < end → Solid (part_at store j).form → Solid (part_at store' j).form
+
+row_more : (nodes : List Node) (store store' : List Part) (first end end' x n : ℕ) (number label : ℕ → ℕ) → Stays store store' end → end ≤ end' → HasRow nodes store first end x n number label → HasRow nodes store' first end' x n number label
+row_more nodes store store' first end end' x n number label s le r = record {
+  from = r.from;
+  to = let q : x + n ≤ end = r.to in omega arith;
+  alike = λ i il top t. ap top (s.sources (x + i) (let q : x + n ≤ end = r.to in omega arith)) ∙ r.alike i il top t;
+  labels = λ i il. s.labels (x + i) (let q : x + n ≤ end = r.to in omega arith) ∙ r.labels i il;
+}
+
 -- a part stays right when others come or get their children
-pub ok_more : (nodes : List Node) (store store' : List Part) (first end end' depth : ℕ) (memo memo' : ℕ → ℕ) (at at' k : ℕ) (p : Part)
-    → ((j : ℕ) → j < end → (part_at store' j).source ≡ (part_at store j).source)
-    → ((j : ℕ) → j < end → Solid (part_at store j).form → Solid (part_at store' j).form)
-    → end ≤ end' → k < end → (k < at' → k < at)
-    → (f : PartForm) → (Solid f → IsNew nodes depth memo k p → IsNew nodes depth memo' k p)
-    → PartOk nodes store first end depth memo at k p f → PartOk nodes store' first end' depth memo' at' k p f
-ok_more nodes store store' first end end' depth memo memo' at at' k p src sol le lt late part.Free new ok = (new tt ok.0, λ h. ok.1 (late h))
-ok_more nodes store store' first end end' depth memo memo' at at' k p src sol le lt late (part.Shared j) new ok = ok
-ok_more nodes store store' first end end' depth memo memo' at at' k p src sol le lt late (part.Again m) new ok =
+pub ok_more : (d : Definition) (store store' : List Part) (first end end' : ℕ) (memo memo' : ℕ → ℕ) (at at' k : ℕ) (p : Part) → Stays store store' end → end ≤ end' → k < end → (k < at' → k < at)
+    → (f : PartForm) → (Solid f → IsNew d memo k p → IsNew d memo' k p) → PartOk d store first end memo at k p f → PartOk d store' first end' memo' at' k p f
+ok_more d store store' first end end' memo memo' at at' k p s le lt late part.Free new ok = (new tt ok.0, λ h. ok.1 (late h))
+ok_more d store store' first end end' memo memo' at at' k p s le lt late (part.Shared j) new ok = ok
+ok_more d store store' first end end' memo memo' at at' k p s le lt late (part.Again m) new ok =
     let h : m < end = let q : m < k = ok.to in omega arith in
-    record { from = ok.from; to = ok.to; is = src m h ∙ ok.is; solid = sol m h ok.solid }
-ok_more nodes store store' first end end' depth memo memo' at at' k p src sol le lt late (part.Made h x n) new ok = (
-  new tt ok.0,
-  record {
-    row = ok.1.row;
-    form = ok.1.form;
-    from = ok.1.from;
-    to = let q : x + n ≤ end = ok.1.to in omega arith;
-    alike = λ i il top t. ap top (src (x + i) (let q : x + n ≤ end = ok.1.to in omega arith)) ∙ ok.1.alike i il top t;
-  },
-)
+    record { from = ok.from; to = ok.to; is = s.sources m h ∙ ok.is; solid = s.solid m h ok.solid }
+ok_more d store store' first end end' memo memo' at at' k p s le lt late (part.Made h x n) new ok =
+    (new tt ok.0, record { built = ok.1.built; row = ok.1.row; form = ok.1.form; parts = row_more d.nodes store store' first end end' x n (next_to ok.1.row) no_label s le ok.1.parts })
+ok_more d store store' first end end' memo memo' at at' k p s le lt late (part.Open x n) new ok =
+    (new tt ok.0, record { entry = ok.1.entry; within = ok.1.within; form = ok.1.form; parts = row_more d.nodes store store' first end end' x n (child_at d.entries ok.1.entry) (label_at d.entries ok.1.entry) s le ok.1.parts })
 
 -- one part more
-module _ (nodes : List Node) (store : List Part) (first depth : ℕ) (memo memo' : ℕ → ℕ) (one : Part) (store' : List Part) (is : store' ≡ store ++ one ∷ []) (fl : first ≤ length store) where
+module _ (d : Definition) (store : List Part) (first : ℕ) (memo memo' : ℕ → ℕ) (one : Part) (store' : List Part) (is : store' ≡ store ++ one ∷ []) (fl : first ≤ length store) where
   long' : length store' ≡ suc (length store)
   long' = ap length is ∙ long_new store one
 
@@ -88,16 +96,22 @@ module _ (nodes : List Node) (store : List Part) (first depth : ℕ) (memo memo'
   new' : part_at store' (length store) ≡ one
   new' = ap (λ s. part_at s (length store)) is ∙ part_new store one
 
-  pub keep_one : one.source < length nodes → ((Solid one.form → ⊥) → one.kind ≡ kind.Any)
-      → ((at : ℕ) → at ≤ length store → Partial nodes store first (length store) depth memo at → PartOk nodes store' first (length store') depth memo' at (length store) one one.form)
-      → ((k : ℕ) → first ≤ k → k < length store → Solid (part_at store k).form → IsNew nodes depth memo k (part_at store k) → IsNew nodes depth memo' k (part_at store k))
-      → (at : ℕ) → at ≤ length store → Partial nodes store first (length store) depth memo at → Partial nodes store' first (length store') depth memo' at
+  stays' : Stays store store' (length store)
+  stays' = record {
+    sources = λ j jl. ap (λ (q : Part). q.source) (old' j jl);
+    labels = λ j jl. ap (λ (q : Part). q.label) (old' j jl);
+    solid = λ j jl s. subst (λ (q : Part). Solid q.form) (sym (old' j jl)) s;
+  }
+
+  pub keep_one : one.source < length d.nodes → ((Solid one.form → ⊥) → one.kind ≡ kind.Any)
+      → ((at : ℕ) → at ≤ length store → Partial d store first (length store) memo at → PartOk d store' first (length store') memo' at (length store) one one.form)
+      → ((k : ℕ) → first ≤ k → k < length store → Solid (part_at store k).form → IsNew d memo k (part_at store k) → IsNew d memo' k (part_at store k))
+      → (at : ℕ) → at ≤ length store → Partial d store first (length store) memo at → Partial d store' first (length store') memo' at
   keep_one inn light ok new at le p = record {
-    within = λ k f lt. at_last (λ k q. q.source < length nodes) k lt inn (λ h. p.within k f h);
+    within = λ k f lt. at_last (λ k q. q.source < length d.nodes) k lt inn (λ h. p.within k f h);
     light = λ k f lt. at_last (λ k q. (Solid q.form → ⊥) → q.kind ≡ kind.Any) k lt light (λ h. p.light k f h);
-    each = λ k f lt. at_last (λ k q. PartOk nodes store' first (length store') depth memo' at k q q.form) k lt (ok at le p)
-        (λ h. ok_more nodes store store' first (length store) (length store') depth memo memo' at at k (part_at store k) (λ j jl. ap (λ (q : Part). q.source) (old' j jl)) (λ j jl s. subst (λ q. Solid q.form) (sym (old' j jl)) s)
-        (let e : length store' ≡ suc (length store) = long' in omega arith) h (λ x. x) (part_at store k).form (new k f h) (p.each k f h));
+    each = λ k f lt. at_last (λ k q. PartOk d store' first (length store') memo' at k q q.form) k lt (ok at le p)
+        (λ h. ok_more d store store' first (length store) (length store') memo memo' at at k (part_at store k) stays' (let e : length store' ≡ suc (length store) = long' in omega arith) h (λ x. x) (part_at store k).form (new k f h) (p.each k f h));
   }
     where
       at_last : (P : ℕ → Part → Type 0) (k : ℕ) → k < length store' → P (length store) one → (k < length store → P k (part_at store k)) → P k (part_at store' k)
@@ -107,48 +121,58 @@ module _ (nodes : List Node) (store : List Part) (first depth : ℕ) (memo memo'
       ]
 
 -- the ends of `enter`
-module _ (nodes : List Node) (store : List Part) (memo : List ℕ) (first depth number root : ℕ) (nd : Node) (fl : first ≤ length store) (inm : root < length memo) (f : Found nodes number root) (en : nd ≡ node_at nodes root) (room : length store < 4294967294) where
-  same_new : (k : ℕ) → first ≤ k → k < length store → Solid (part_at store k).form → IsNew nodes depth (memo_at memo) k (part_at store k) → IsNew nodes depth (memo_at memo) k (part_at store k)
+module _ (d : Definition) (store : List Part) (memo : List ℕ) (first label number root : ℕ) (nd : Node) (fl : first ≤ length store) (inm : root < length memo) (f : Found d.nodes number root) (en : nd ≡ node_at d.nodes root) (room : length store < 4294967294) where
+  same_new : (k : ℕ) → first ≤ k → k < length store → Solid (part_at store k).form → IsNew d (memo_at memo) k (part_at store k) → IsNew d (memo_at memo) k (part_at store k)
   same_new k p q s n = n
 
   short_of : (store' : List Part) (one : Part) → store' ≡ store ++ one ∷ [] → length store' < 4294967295
   short_of store' one is = let e : length store' ≡ suc (length store) = ap length is ∙ long_new store one in omega arith
 
-  pub end_shared : (store' : List Part) → store' ≡ store ++ record { kind = kind.Any; source = root; form = part.Shared root } ∷ [] → nd.level ≤ depth → Entered nodes store memo first depth number store' memo
-  end_shared store' is le = record {
-    one = record { kind = kind.Any; source = root; form = part.Shared root };
+  end_shared : (store' : List Part) → store' ≡ store ++ record { kind = kind.Any; source = root; label = label; form = part.Shared root } ∷ [] → ((node_at d.nodes root).level ≤ d.depth) ⊎ IsForeign d.own (node_at d.nodes root).form → Entered d store memo first label number store' memo
+  end_shared store' is why = record {
+    one = record { kind = kind.Any; source = root; label = label; form = part.Shared root };
     is = is;
     short = short_of store' _ is;
     lasts = refl;
     alike = λ top t. t.selves root f.within f.is_root ∙ sym (f.tops top t);
-    keeps = keep_one nodes store first depth (memo_at memo) (memo_at memo) _ store' is fl f.within (λ s. refl) (λ at l p. (refl, subst (λ n. n.level ≤ depth) en le, f.is_root)) same_new;
+    named = refl;
+    keeps = keep_one d store first (memo_at memo) (memo_at memo) _ store' is fl f.within (λ s. refl) (λ at l p. (refl, why, f.is_root)) same_new;
   }
 
-  pub end_again : (store' : List Part) (place : ℕ) → store' ≡ store ++ record { kind = kind.Any; source = root; form = part.Again place } ∷ [] → Copied store first (length store) place root → Entered nodes store memo first depth number store' memo
+  pub end_low : (store' : List Part) → store' ≡ store ++ record { kind = kind.Any; source = root; label = label; form = part.Shared root } ∷ [] → nd.level ≤ d.depth → Entered d store memo first label number store' memo
+  end_low store' is le = end_shared store' is (inl (subst (λ (n : Node). n.level ≤ d.depth) en le))
+
+  pub end_foreign : (store' : List Part) → store' ≡ store ++ record { kind = kind.Any; source = root; label = label; form = part.Shared root } ∷ [] → IsForeign d.own nd.form → Entered d store memo first label number store' memo
+  end_foreign store' is o = end_shared store' is (inr (subst (λ (n : Node). IsForeign d.own n.form) en o))
+
+  pub end_again : (store' : List Part) (place : ℕ) → store' ≡ store ++ record { kind = kind.Any; source = root; label = label; form = part.Again place } ∷ [] → Copied store first (length store) place root → Entered d store memo first label number store' memo
   end_again store' place is c = record {
-    one = record { kind = kind.Any; source = root; form = part.Again place };
+    one = record { kind = kind.Any; source = root; label = label; form = part.Again place };
     is = is;
     short = short_of store' _ is;
     lasts = refl;
     alike = λ top t. t.selves root f.within f.is_root ∙ sym (f.tops top t);
-    keeps = keep_one nodes store first depth (memo_at memo) (memo_at memo) _ store' is fl f.within (λ s. refl)
-        (λ at l p. record { from = c.from; to = c.to; is = ap (λ (q : Part). q.source) (old' nodes store first depth (memo_at memo) (memo_at memo) _ store' is fl place c.to) ∙ c.is; solid = subst (λ (q : Part). Solid q.form) (sym (old' nodes store first depth (memo_at memo) (memo_at memo) _ store' is fl place c.to)) c.solid }) same_new;
+    named = refl;
+    keeps = keep_one d store first (memo_at memo) (memo_at memo) _ store' is fl f.within (λ s. refl)
+        (λ at l p. record { from = c.from; to = c.to; is = ap (λ (q : Part). q.source) (old' d store first (memo_at memo) (memo_at memo) _ store' is fl place c.to) ∙ c.is; solid = subst (λ (q : Part). Solid q.form) (sym (old' d store first (memo_at memo) (memo_at memo) _ store' is fl place c.to)) c.solid }) same_new;
   }
 
-  pub end_new : (store' : List Part) (memo' : List ℕ) (k : Kind) → store' ≡ store ++ record { kind = k; source = root; form = part.Free } ∷ [] → memo' ≡ with_memo memo root (length store) → k ≡ nd.kind → depth < nd.level
-      → (Copied store first (length store) (memo_at memo root) root → ⊥) → Entered nodes store memo first depth number store' memo'
-  end_new store' memo' k is im ek deep never = record {
-    one = record { kind = k; source = root; form = part.Free };
+  pub end_new : (store' : List Part) (memo' : List ℕ) (k : Kind) → store' ≡ store ++ record { kind = k; source = root; label = label; form = part.Free } ∷ [] → memo' ≡ with_memo memo root (length store) → k ≡ copy_kind nd → d.depth < nd.level → IsOurs d.own nd.form
+      → (Copied store first (length store) (memo_at memo root) root → ⊥) → Entered d store memo first label number store' memo'
+  end_new store' memo' k is im ek deep ours never = record {
+    one = record { kind = k; source = root; label = label; form = part.Free };
     is = is;
     short = short_of store' _ is;
     lasts = ap length im ∙ memo_long memo root (length store);
     alike = λ top t. t.selves root f.within f.is_root ∙ sym (f.tops top t);
-    keeps = keep_one nodes store first depth (memo_at memo) (memo_at memo') _ store' is fl f.within (λ s. absurd (s tt))
-        (λ at l p. (record { root = f.is_root; kind = ek ∙ ap (λ (n : Node). n.kind) en; deep = subst (λ n. depth < n.level) en deep; place = ap (λ m. memo_at m root) im ∙ memo_same memo root (length store) inm }, λ h. absurd (omega arith)))
+    named = refl;
+    keeps = keep_one d store first (memo_at memo) (memo_at memo') _ store' is fl f.within (λ s. absurd (s tt))
+        (λ at l p. (record { root = f.is_root; kind = ek ∙ ap copy_kind en; deep = subst (λ (n : Node). d.depth < n.level) en deep; ours = subst (λ (n : Node). IsOurs d.own n.form) en ours; place = ap (λ m. memo_at m root) im ∙ memo_same memo root (length store) inm }, λ h. absurd (omega arith)))
         (λ j p q s n. record {
           root = n.root;
           kind = n.kind;
           deep = n.deep;
+          ours = n.ours;
           place = elim (ℕ_discrete (part_at store j).source root) as (λ d. memo_at memo' (part_at store j).source ≡ j) [
             | yes e ↦ absurd (never (let z : memo_at memo root ≡ j = ap (memo_at memo) (sym e) ∙ n.place in subst (λ i. Copied store first (length store) i root) (sym z) (record { from = p; to = q; is = e; solid = s })))
             | no ne ↦ ap (λ m. memo_at m (part_at store j).source) im ∙ memo_other memo root (part_at store j).source (length store) ne ∙ n.place
@@ -157,18 +181,19 @@ module _ (nodes : List Node) (store : List Part) (memo : List ℕ) (first depth 
   }
 
 -- rows
-pub opened_none : (nodes : List Node) (store : List Part) (memo : List ℕ) (first depth row : ℕ) → Opened nodes store memo first depth row 0 store memo
-opened_none nodes store memo first depth row = record {
+pub opened_none : (d : Definition) (store : List Part) (memo : List ℕ) (first : ℕ) (number label : ℕ → ℕ) → Opened d store memo first number label 0 store memo
+opened_none d store memo first number label = record {
   extends = (omega arith, λ k lt. refl);
   long = omega arith;
   short = λ h. h;
   lasts = refl;
   alike = λ i lt. absurd (omega arith);
+  labels = λ i lt. absurd (omega arith);
   keeps = λ at le p. p;
 }
 
-pub opened_more : (nodes : List Node) (store : List Part) (memo : List ℕ) (first depth row count : ℕ) (s1 : List Part) (m1 : List ℕ) (s2 : List Part) (m2 : List ℕ) → Opened nodes store memo first depth row count s1 m1 → Entered nodes s1 m1 first depth (row + count) s2 m2 → Opened nodes store memo first depth row (count + 1) s2 m2
-opened_more nodes store memo first depth row count s1 m1 s2 m2 o e =
+pub opened_more : (d : Definition) (store : List Part) (memo : List ℕ) (first : ℕ) (number label : ℕ → ℕ) (count : ℕ) (s1 : List Part) (m1 : List ℕ) (s2 : List Part) (m2 : List ℕ) → Opened d store memo first number label count s1 m1 → Entered d s1 m1 first (label count) (number count) s2 m2 → Opened d store memo first number label (count + 1) s2 m2
+opened_more d store memo first number label count s1 m1 s2 m2 o e =
     let l2 : length s2 ≡ suc (length s1) = ap length e.is ∙ long_new s1 e.one in
     let old : (j : ℕ) → j < length s1 → part_at s2 j ≡ part_at s1 j = λ j lt. ap (λ s. part_at s j) e.is ∙ part_old s1 e.one j lt in
     let new : part_at s2 (length s1) ≡ e.one = ap (λ s. part_at s (length s1)) e.is ∙ part_new s1 e.one in
@@ -178,157 +203,228 @@ opened_more nodes store memo first depth row count s1 m1 s2 m2 o e =
       long = omega arith;
       short = λ h. e.short;
       lasts = e.lasts ∙ o.lasts;
-      alike = λ i lt. elim (ℕ_discrete i count) as (λ d. Alike nodes (part_at s2 (length store + i)).source (row + i)) [
-        | yes is ↦ λ top t. ap top (ap (λ (p : Part). p.source) (ap (part_at s2) (let z : length store + i ≡ length s1 = omega arith in z) ∙ new)) ∙ e.alike top t ∙ ap top (ap (λ j. row + j) (sym is))
+      alike = λ i lt. elim (ℕ_discrete i count) as (λ y. Alike d.nodes (part_at s2 (length store + i)).source (number i)) [
+        | yes is ↦ λ top t. ap top (ap (λ (p : Part). p.source) (ap (part_at s2) (let z : length store + i ≡ length s1 = omega arith in z) ∙ new)) ∙ e.alike top t ∙ ap (λ j. top (number j)) (sym is)
         | no ne ↦ λ top t. let h : i < count = grind (arith, ne) in ap top (ap (λ (p : Part). p.source) (old (length store + i) (omega arith))) ∙ o.alike i h top t
+      ];
+      labels = λ i lt. elim (ℕ_discrete i count) as (λ y. (part_at s2 (length store + i)).label ≡ label i) [
+        | yes is ↦ ap (λ (p : Part). p.label) (ap (part_at s2) (let z : length store + i ≡ length s1 = omega arith in z) ∙ new) ∙ e.named ∙ ap label (sym is)
+        | no ne ↦ let h : i < count = grind (arith, ne) in ap (λ (p : Part). p.label) (old (length store + i) (omega arith)) ∙ o.labels i h
       ];
       keeps = λ at le' p. e.keeps at (omega arith) (o.keeps at le' p);
     }
 
 -- a part gets its children, or has none
-made_not_free : (m i l depth : ℕ) (f : Form) → Within m i f l → depth < l → IsRoot f → ((h : Head) (x n : ℕ) → f ≡ form.Made h x n → ⊥) → f ≡ form.Free
-made_not_free m i l depth form.Free w d r never = refl
-made_not_free m i l depth (form.Open e n) w d r never = absurd (let z : l ≡ 0 = w.1 in omega arith)
-made_not_free m i l depth (form.Link j) w d r never = absurd r
-made_not_free m i l depth (form.Made h x n) w d r never = absurd (never h x n refl)
-
-module _ (nodes : List Node) (store : List Part) (first depth : ℕ) (memo : ℕ → ℕ) (at : ℕ) (fa : first ≤ at) (inn : at < length store) (p : Partial nodes store first (length store) depth memo at) where
+module _ (d : Definition) (store : List Part) (first : ℕ) (memo : ℕ → ℕ) (at : ℕ) (fa : first ≤ at) (inn : at < length store) (p : Partial d store first (length store) memo at) where
   late_of : (k : ℕ) → k ≢ at → k < suc at → k < at
   late_of k ne lt = grind (arith, ne)
 
-  advance : ((part_at store at).form ≡ part.Free → (node_at nodes (part_at store at).source).form ≡ form.Free) → Partial nodes store first (length store) depth memo (suc at)
-  advance free = record {
+  -- nothing is left to do
+  pub advance_other : (q : Part) → q ≡ part_at store at → (q.form ≡ part.Free → ⊥) → Partial d store first (length store) memo (at + 1)
+  advance_other q eq never = subst (Partial d store first (length store) memo) (let z : suc at ≡ at + 1 = omega arith in z) (record {
     within = p.within;
     light = p.light;
-    each = λ k f lt. elim (ℕ_discrete k at) as (λ d. PartOk nodes store first (length store) depth memo (suc at) k (part_at store k) (part_at store k).form) [
+    each = λ k f lt. elim (ℕ_discrete k at) as (λ y. PartOk d store first (length store) memo (suc at) k (part_at store k) (part_at store k).form) [
       | yes e ↦ here k e (part_at store k).form refl (p.each k f lt)
-      | no ne ↦ ok_more nodes store store first (length store) (length store) depth memo memo at (suc at) k (part_at store k) (λ j h. refl) (λ j h s. s) (omega arith) lt (late_of k ne) (part_at store k).form (λ s n. n) (p.each k f lt)
+      | no ne ↦ ok_more d store store first (length store) (length store) memo memo at (suc at) k (part_at store k) (record { sources = λ j h. refl; labels = λ j h. refl; solid = λ j h s. s }) (omega arith) lt (late_of k ne) (part_at store k).form (λ s n. n) (p.each k f lt)
     ];
-  }
+  })
     where
-      here : (k : ℕ) → k ≡ at → (f : PartForm) → (part_at store k).form ≡ f → PartOk nodes store first (length store) depth memo at k (part_at store k) f → PartOk nodes store first (length store) depth memo (suc at) k (part_at store k) f
-      here k e part.Free is ok = (ok.0, λ h. subst (λ j. (node_at nodes (part_at store j).source).form ≡ form.Free) (sym e) (free (ap (λ j. (part_at store j).form) (sym e) ∙ is)))
+      here : (k : ℕ) → k ≡ at → (f : PartForm) → (part_at store k).form ≡ f → PartOk d store first (length store) memo at k (part_at store k) f → PartOk d store first (length store) memo (suc at) k (part_at store k) f
+      here k e part.Free is ok = absurd (never (ap (λ (x : Part). x.form) (eq ∙ ap (part_at store) (sym e)) ∙ is))
       here k e (part.Shared j) is ok = ok
       here k e (part.Again m) is ok = ok
       here k e (part.Made h x n) is ok = ok
+      here k e (part.Open x n) is ok = ok
 
-  pub advance_other : (q : Part) → q ≡ part_at store at → (q.form ≡ part.Free → ⊥) → Partial nodes store first (length store) depth memo (at + 1)
-  advance_other q eq never = subst (Partial nodes store first (length store) depth memo) (omega arith) (advance (λ e. absurd (never (ap (λ (x : Part). x.form) eq ∙ e))))
+-- the copy of a form, with its parts
+module _ (d : Definition) (store : List Part) (first : ℕ) (memo : ℕ → ℕ) (at k : ℕ) (p : Part) (w : IsNew d memo k p) where
+  copied_made : (h : Head) (x r n : ℕ) → (node_at d.nodes p.source).form ≡ form.Made h r n → HasRow d.nodes store first (length store) x (head_count h n) (next_to r) no_label → PartOk d store first (length store) memo at k p (head_copy h x n)
+  copied_made (head.Rigid m r) x y n is has = (w, λ lt. inr (m, (r, y, n, is)))
+  copied_made (head.Scalar s) x r n is has = (w, record { built = tt; row = r; form = is; parts = has })
+  copied_made head.Array x r n is has = (w, record { built = tt; row = r; form = is; parts = has })
+  copied_made head.Tuple x r n is has = (w, record { built = tt; row = r; form = is; parts = has })
+  copied_made (head.Record m) x r n is has = (w, record { built = tt; row = r; form = is; parts = has })
+  copied_made head.Fun x r n is has = (w, record { built = tt; row = r; form = is; parts = has })
+  copied_made (head.Abstract m b) x r n is has = (w, record { built = tt; row = r; form = is; parts = has })
 
-  free_root : (f : PartForm) → f ≡ part.Free → PartOk nodes store first (length store) depth memo at at (part_at store at) f → IsNew nodes depth memo at (part_at store at)
-  free_root f e ok = (subst (PartOk nodes store first (length store) depth memo at at (part_at store at)) e ok).0
+  pub copied_ok : (f : Form) (x : ℕ) → FormWithin (length d.nodes) (length d.entries) f → (node_at d.nodes p.source).form ≡ f → HasRow d.nodes store first (length store) x (child_count f) (child_number d.entries f) (child_label d.entries f) → PartOk d store first (length store) memo at k p (form_copy f x)
+  copied_ok form.Free x wi is has = (w, λ lt. inl is)
+  copied_ok (form.Link j) x wi is has = absurd (subst IsRoot is w.root)
+  copied_ok (form.Made h r n) x wi is has = copied_made h x r n is has
+  copied_ok (form.Open e n) x wi is has = (w, record { entry = e; within = wi; form = is; parts = has })
 
-  new_at : (q : Part) → q ≡ part_at store at → q.form ≡ part.Free → IsNew nodes depth memo at (part_at store at)
-  new_at q eq e = free_root (part_at store at).form (sym (ap (λ (x : Part). x.form) eq) ∙ e) (p.each at fa inn)
+solid_head : (h : Head) (x n : ℕ) → Solid (head_copy h x n)
+solid_head (head.Rigid m r) x n = tt
+solid_head (head.Scalar s) x n = tt
+solid_head head.Array x n = tt
+solid_head head.Tuple x n = tt
+solid_head (head.Record m) x n = tt
+solid_head head.Fun x n = tt
+solid_head (head.Abstract m b) x n = tt
 
-  pub advance_free : IsGraph nodes → (q : Part) → q ≡ part_at store at → q.form ≡ part.Free → (nd : Node) → nd ≡ node_at nodes q.source → ((h : Head) (x n : ℕ) → nd.form ≡ form.Made h x n → ⊥) → Partial nodes store first (length store) depth memo (at + 1)
-  advance_free g q eq e nd en never = subst (Partial nodes store first (length store) depth memo) (omega arith) (advance (λ e'.
-      made_not_free (length nodes) (part_at store at).source (node_at nodes (part_at store at).source).level depth (node_at nodes (part_at store at).source).form (g.within (part_at store at).source (p.within at fa inn)) (new_at q eq e).deep (new_at q eq e).root (λ h x n is. never h x n (ap (λ (m : Node). m.form) (en ∙ ap (λ (x : Part). node_at nodes x.source) eq) ∙ is))))
-
-  -- what was pending gets its row
-  pub advance_made : (s1 : List Part) (memo1 : ℕ → ℕ) → ((Partial nodes s1 first (length s1) depth memo1 at)) → Extends store s1 → (q : Part) → q ≡ part_at store at → q.form ≡ part.Free → (nd : Node) → nd ≡ node_at nodes q.source
-      → (h : Head) (x n : ℕ) → nd.form ≡ form.Made h x n → length s1 ≡ length store + n → ((i : ℕ) → i < n → Alike nodes (part_at s1 (length store + i)).source (x + i))
-      → (s2 : List Part) → s2 ≡ with_part s1 at (record { kind = q.kind; source = q.source; form = part.Made h (length store) n }) → Partial nodes s2 first (length s2) depth memo1 (at + 1)
-  advance_made s1 memo1 p1 ex q eq e nd en h x n ef ln al s2 is =
-      let made : Part = record { kind = q.kind; source = q.source; form = part.Made h (length store) n } in
-      let in1 : at < length s1 = omega arith in
-      let here1 : part_at s1 at ≡ q = ex.1 at inn ∙ sym eq in
-      let at2 : part_at s2 at ≡ made = ap (λ s. part_at s at) is ∙ part_same s1 at (record { kind = q.kind; source = q.source; form = part.Made h (length store) n }) in1 in
-      let other2 : (k : ℕ) → k ≢ at → part_at s2 k ≡ part_at s1 k = λ k ne. ap (λ s. part_at s k) is ∙ part_other s1 at k (record { kind = q.kind; source = q.source; form = part.Made h (length store) n }) ne in
-      let l2 : length s2 ≡ length s1 = ap length is ∙ long_with s1 at (record { kind = q.kind; source = q.source; form = part.Made h (length store) n }) in
-      let src : (j : ℕ) → (part_at s2 j).source ≡ (part_at s1 j).source = λ j. elim (ℕ_discrete j at) as (λ d. (part_at s2 j).source ≡ (part_at s1 j).source) [
-        | yes z ↦ ap (λ i. (part_at s2 i).source) z ∙ ap (λ (y : Part). y.source) at2 ∙ ap (λ (y : Part). y.source) (sym here1) ∙ ap (λ i. (part_at s1 i).source) (sym z)
-        | no ne ↦ ap (λ (y : Part). y.source) (other2 j ne)
-      ] in
-      let sol : (j : ℕ) → Solid (part_at s1 j).form → Solid (part_at s2 j).form = λ j s. elim (ℕ_discrete j at) as (λ d. Solid (part_at s2 j).form) [
-        | yes z ↦ subst (λ i. Solid (part_at s2 i).form) (sym z) (subst (λ (y : Part). Solid y.form) (sym at2) tt)
-        | no ne ↦ subst (λ (y : Part). Solid y.form) (sym (other2 j ne)) s
-      ] in
-      let new1 : IsNew nodes depth memo1 at (part_at s1 at) = free_at s1 memo1 p1 in1 (ap (λ (y : Part). y.form) here1 ∙ e) in
-      let new2 : IsNew nodes depth memo1 at (record { kind = q.kind; source = q.source; form = part.Made h (length store) n }) =
-      record { root = subst (λ (y : Part). IsRoot (node_at nodes y.source).form) here1 new1.root; kind = subst (λ (y : Part). y.kind ≡ (node_at nodes y.source).kind) here1 new1.kind; deep = subst (λ (y : Part). depth < (node_at nodes y.source).level) here1 new1.deep; place = subst (λ (y : Part). memo1 y.source ≡ at) here1 new1.place } in
-      subst (Partial nodes s2 first (length s2) depth memo1) (let z : suc at ≡ at + 1 = omega arith in z) (record {
-        within = λ k f lt. subst (λ j. j < length nodes) (sym (src k)) (p1.within k f (subst (λ m. k < m) l2 lt));
-        light = λ k f lt. elim (ℕ_discrete k at) as (λ d. (Solid (part_at s2 k).form → ⊥) → (part_at s2 k).kind ≡ kind.Any) [
-          | yes z ↦ subst (λ j. (Solid (part_at s2 j).form → ⊥) → (part_at s2 j).kind ≡ kind.Any) (sym z) (subst (λ (y : Part). (Solid y.form → ⊥) → y.kind ≡ kind.Any) (sym at2) (λ s. absurd (s tt)))
-          | no ne ↦ subst (λ (y : Part). (Solid y.form → ⊥) → y.kind ≡ kind.Any) (sym (other2 k ne)) (p1.light k f (subst (λ m. k < m) l2 lt))
-        ];
-        each = λ k f lt. elim (ℕ_discrete k at) as (λ d. PartOk nodes s2 first (length s2) depth memo1 (suc at) k (part_at s2 k) (part_at s2 k).form) [
-          | yes z ↦ subst (λ j. PartOk nodes s2 first (length s2) depth memo1 (suc at) j (part_at s2 j) (part_at s2 j).form) (sym z)
-              (subst (λ (y : Part). PartOk nodes s2 first (length s2) depth memo1 (suc at) at y y.form) (sym at2) (
-                new2,
-                record {
-                  row = x;
-                  form = sym (ap (λ (m : Node). m.form) en) ∙ ef;
-                  from = omega arith;
-                  to = omega arith;
-                  alike = λ i il top t. ap top (src (length store + i)) ∙ al i il top t;
-                },
-              ))
-          | no ne ↦ subst (λ (y : Part). PartOk nodes s2 first (length s2) depth memo1 (suc at) k y y.form) (sym (other2 k ne))
-              (ok_more nodes s1 s2 first (length s1) (length s2) depth memo1 memo1 at (suc at) k (part_at s1 k) (λ j h. src j) (λ j h s. sol j s) (omega arith) (subst (λ m. k < m) l2 lt) (late_of k ne) (part_at s1 k).form (λ s n. n) (p1.each k f (subst (λ m. k < m) l2 lt)))
-        ];
-      })
-    where
-      free_at : (s1 : List Part) (memo1 : ℕ → ℕ) → Partial nodes s1 first (length s1) depth memo1 at → at < length s1 → (part_at s1 at).form ≡ part.Free → IsNew nodes depth memo1 at (part_at s1 at)
-      free_at s1 memo1 p1 in1 e = go (part_at s1 at).form e (p1.each at fa in1)
-        where
-          go : (f : PartForm) → f ≡ part.Free → PartOk nodes s1 first (length s1) depth memo1 at at (part_at s1 at) f → IsNew nodes depth memo1 at (part_at s1 at)
-          go f e ok = (subst (PartOk nodes s1 first (length s1) depth memo1 at at (part_at s1 at)) e ok).0
+solid_copy : (f : Form) (x : ℕ) → Solid (form_copy f x)
+solid_copy form.Free x = tt
+solid_copy (form.Link j) x = tt
+solid_copy (form.Made h r n) x = solid_head h x n
+solid_copy (form.Open e n) x = tt
 
 -- the ends of `fill`
-module _ (nodes : List Node) (store : List Part) (memo : List ℕ) (first depth at : ℕ) (fa : first ≤ at) (inn : at < length store) (short : length store < 4294967295) (p : Partial nodes store first (length store) depth (memo_at memo) at) where
-  pub source_in : (q : Part) → q ≡ part_at store at → q.source < length nodes
-  source_in q e = subst (λ (y : Part). y.source < length nodes) (sym e) (p.within at fa inn)
+module _ (d : Definition) (store : List Part) (memo : List ℕ) (first at : ℕ) (fa : first ≤ at) (inn : at < length store) (short : length store < 4294967295) (p : Partial d store first (length store) (memo_at memo) at) where
+  pub filled_other : (q : Part) → q ≡ part_at store at → (q.form ≡ part.Free → ⊥) → Filled d store memo first at store memo
+  filled_other q eq never = record {
+    longer = omega arith;
+    low = λ k lt. refl;
+    sources = λ k lt. refl;
+    short = short;
+    lasts = refl;
+    parts = advance_other d store first (memo_at memo) at fa inn p q eq never;
+  }
 
-  pub row_in : (q : Part) → q ≡ part_at store at → IsGraph nodes → (nd : Node) → nd ≡ node_at nodes q.source → (h : Head) (x n : ℕ) → nd.form ≡ form.Made h x n → x + n ≤ length nodes
-  row_in q e g nd en h x n ef = subst (λ f. Within (length nodes) q.source f (node_at nodes q.source).level) (sym (ap (λ (m : Node). m.form) en) ∙ ef) (g.within q.source (source_in q e))
+  module _ (s1 : List Part) (m1 : List ℕ) (f : Form) (o : Opened d store memo first (child_number d.entries f) (child_label d.entries f) (child_count f) s1 m1) (q : Part) (eq : q ≡ part_at store at) (e : q.form ≡ part.Free) (ef : (node_at d.nodes q.source).form ≡ f) (wi : FormWithin (length d.nodes) (length d.entries) f)
+      (s2 : List Part) (is : s2 ≡ with_part s1 at (record { kind = q.kind; source = q.source; label = q.label; form = form_copy f (length store) })) where
+    abbrev one : Part
+    one = record { kind = q.kind; source = q.source; label = q.label; form = form_copy f (length store) }
 
-  pub filled_none : Partial nodes store first (length store) depth (memo_at memo) (at + 1) → Filled nodes store memo first depth at store memo
-  filled_none q = record { longer = omega arith; low = λ k lt. refl; sources = λ k lt. refl; short = short; lasts = refl; parts = q }
+    l1 : length s1 ≡ length store + child_count f
+    l1 = o.long
 
-  pub filled_made : (s1 : List Part) (m1 : List ℕ) (q : Part) → q ≡ part_at store at → q.form ≡ part.Free → (nd : Node) → nd ≡ node_at nodes q.source → (h : Head) (x n : ℕ) → nd.form ≡ form.Made h x n → Opened nodes store memo first depth x n s1 m1
-      → (s2 : List Part) → s2 ≡ with_part s1 at (record { kind = q.kind; source = q.source; form = part.Made h (length store) n }) → Filled nodes store memo first depth at s2 m1
-  filled_made s1 m1 q eq e nd en h x n ef o s2 is =
-      let made : Part = record { kind = q.kind; source = q.source; form = part.Made h (length store) n } in
-      let l2 : length s2 ≡ length s1 = ap length is ∙ long_with s1 at (record { kind = q.kind; source = q.source; form = part.Made h (length store) n }) in
-      let l1 : length s1 ≡ length store + n = o.long in
-      let sh : length s1 < 4294967295 = o.short short in
-      let at2 : part_at s2 at ≡ record { kind = q.kind; source = q.source; form = part.Made h (length store) n } = ap (λ s. part_at s at) is ∙ part_same s1 at (record { kind = q.kind; source = q.source; form = part.Made h (length store) n }) (omega arith) in
-      let other2 : (k : ℕ) → k ≢ at → part_at s2 k ≡ part_at s1 k = λ k ne. ap (λ s. part_at s k) is ∙ part_other s1 at k (record { kind = q.kind; source = q.source; form = part.Made h (length store) n }) ne in record {
-        longer = omega arith;
-        low = λ k lt. other2 k (λ z. absurd (omega arith)) ∙ o.extends.1 k (omega arith);
-        sources = λ k lt. elim (ℕ_discrete k at) as (λ d. (part_at s2 k).source ≡ (part_at store k).source) [
-          | yes z ↦ ap (λ j. (part_at s2 j).source) z ∙ ap (λ (y : Part). y.source) (at2 ∙ refl) ∙ ap (λ (y : Part). y.source) eq ∙ ap (λ j. (part_at store j).source) (sym z)
-          | no ne ↦ ap (λ (y : Part). y.source) (other2 k ne ∙ o.extends.1 k lt)
+    in1 : at < length s1
+    in1 = let l : length s1 ≡ length store + child_count f = o.long in omega arith
+
+    here1 : part_at s1 at ≡ q
+    here1 = o.extends.1 at inn ∙ sym eq
+
+    at2 : part_at s2 at ≡ one
+    at2 = ap (λ s. part_at s at) is ∙ part_same s1 at one in1
+
+    other2 : (k : ℕ) → k ≢ at → part_at s2 k ≡ part_at s1 k
+    other2 k ne = ap (λ s. part_at s k) is ∙ part_other s1 at k one ne
+
+    l2 : length s2 ≡ length s1
+    l2 = ap length is ∙ long_with s1 at one
+
+    stays2 : Stays s1 s2 (length s1)
+    stays2 = record {
+      sources = λ j jl. elim (ℕ_discrete j at) as (λ y. (part_at s2 j).source ≡ (part_at s1 j).source) [
+        | yes z ↦ ap (λ i. (part_at s2 i).source) z ∙ ap (λ (y : Part). y.source) (at2 ∙ refl) ∙ ap (λ (y : Part). y.source) (sym here1) ∙ ap (λ i. (part_at s1 i).source) (sym z)
+        | no ne ↦ ap (λ (y : Part). y.source) (other2 j ne)
+      ];
+      labels = λ j jl. elim (ℕ_discrete j at) as (λ y. (part_at s2 j).label ≡ (part_at s1 j).label) [
+        | yes z ↦ ap (λ i. (part_at s2 i).label) z ∙ ap (λ (y : Part). y.label) (at2 ∙ refl) ∙ ap (λ (y : Part). y.label) (sym here1) ∙ ap (λ i. (part_at s1 i).label) (sym z)
+        | no ne ↦ ap (λ (y : Part). y.label) (other2 j ne)
+      ];
+      solid = λ j jl s. elim (ℕ_discrete j at) as (λ y. Solid (part_at s2 j).form) [
+        | yes z ↦ subst (λ i. Solid (part_at s2 i).form) (sym z) (subst (λ (y : Part). Solid y.form) (sym at2) (solid_copy f (length store)))
+        | no ne ↦ subst (λ (y : Part). Solid y.form) (sym (other2 j ne)) s
+      ];
+    }
+
+    p1 : Partial d s1 first (length s1) (memo_at m1) at
+    p1 = o.keeps at (omega arith) p
+
+    -- the part was pending
+    new1 : IsNew d (memo_at m1) at one
+    new1 = go (part_at s1 at).form (ap (λ (y : Part). y.form) here1 ∙ e) (p1.each at fa in1)
+      where
+        go : (g : PartForm) → g ≡ part.Free → PartOk d s1 first (length s1) (memo_at m1) at at (part_at s1 at) g → IsNew d (memo_at m1) at one
+        go g z ok = let n : IsNew d (memo_at m1) at (part_at s1 at) = (subst (PartOk d s1 first (length s1) (memo_at m1) at at (part_at s1 at)) z ok).0 in record {
+          root = subst (λ (y : Part). IsRoot (node_at d.nodes y.source).form) here1 n.root;
+          kind = subst (λ (y : Part). y.kind ≡ copy_kind (node_at d.nodes y.source)) here1 n.kind;
+          deep = subst (λ (y : Part). d.depth < (node_at d.nodes y.source).level) here1 n.deep;
+          ours = subst (λ (y : Part). IsOurs d.own (node_at d.nodes y.source).form) here1 n.ours;
+          place = subst (λ (y : Part). memo_at m1 y.source ≡ at) here1 n.place;
+        }
+
+    row2 : HasRow d.nodes s2 first (length s2) (length store) (child_count f) (child_number d.entries f) (child_label d.entries f)
+    row2 = let l : length s1 ≡ length store + child_count f = o.long in record {
+      from = omega arith;
+      to = omega (arith, l2);
+      alike = λ i il top t. ap top (stays2.sources (length store + i) (omega arith)) ∙ o.alike i il top t;
+      labels = λ i il. stays2.labels (length store + i) (omega arith) ∙ o.labels i il;
+    }
+
+    pub filled : Filled d store memo first at s2 m1
+    filled = let l : length s1 ≡ length store + child_count f = o.long in record {
+      longer = omega (arith, l2);
+      low = λ k lt. other2 k (λ z. absurd (omega arith)) ∙ o.extends.1 k (omega arith);
+      sources = λ k lt. stays2.sources k (omega arith) ∙ ap (λ (y : Part). y.source) (o.extends.1 k lt);
+      short = let h : length s1 < 4294967295 = o.short short in omega (arith, l2);
+      lasts = o.lasts;
+      parts = subst (Partial d s2 first (length s2) (memo_at m1)) (let z : suc at ≡ at + 1 = omega arith in z) (record {
+        within = λ k g lt. subst (λ j. j < length d.nodes) (sym (stays2.sources k (subst (λ m. k < m) l2 lt))) (p1.within k g (subst (λ m. k < m) l2 lt));
+        light = λ k g lt. elim (ℕ_discrete k at) as (λ y. (Solid (part_at s2 k).form → ⊥) → (part_at s2 k).kind ≡ kind.Any) [
+          | yes z ↦ subst (λ j. (Solid (part_at s2 j).form → ⊥) → (part_at s2 j).kind ≡ kind.Any) (sym z) (subst (λ (y : Part). (Solid y.form → ⊥) → y.kind ≡ kind.Any) (sym at2) (λ s. absurd (s (solid_copy f (length store)))))
+          | no ne ↦ subst (λ (y : Part). (Solid y.form → ⊥) → y.kind ≡ kind.Any) (sym (other2 k ne)) (p1.light k g (subst (λ m. k < m) l2 lt))
         ];
-        short = omega arith;
-        lasts = o.lasts;
-        parts = advance_made nodes store first depth (memo_at memo) at fa inn p s1 (memo_at m1) (o.keeps at (omega arith) p) o.extends q eq e nd en h x n ef l1 o.alike s2 is;
-      }
+        each = λ k g lt. elim (ℕ_discrete k at) as (λ y. PartOk d s2 first (length s2) (memo_at m1) (suc at) k (part_at s2 k) (part_at s2 k).form) [
+          | yes z ↦ subst (λ j. PartOk d s2 first (length s2) (memo_at m1) (suc at) j (part_at s2 j) (part_at s2 j).form) (sym z)
+              (subst (λ (y : Part). PartOk d s2 first (length s2) (memo_at m1) (suc at) at y y.form) (sym at2) (copied_ok d s2 first (memo_at m1) (suc at) at one new1 f (length store) wi ef row2))
+          | no ne ↦ subst (λ (y : Part). PartOk d s2 first (length s2) (memo_at m1) (suc at) k y y.form) (sym (other2 k ne))
+              (ok_more d s1 s2 first (length s1) (length s2) (memo_at m1) (memo_at m1) at (suc at) k (part_at s1 k) stays2 (omega (arith, l2)) (subst (λ m. k < m) l2 lt) (late_of d store first (memo_at memo) at fa inn p k ne) (part_at s1 k).form (λ s n. n) (p1.each k g (subst (λ m. k < m) l2 lt)))
+        ];
+      });
+    }
 
 -- at the end
-pub copies_all : (nodes : List Node) (store : List Part) (first count depth root : ℕ) (memo : ℕ → ℕ) (at : ℕ) → Partial nodes store first (length store) depth memo at → length store ≤ at → at ≡ first + count → at ≤ length store → first < length store → Alike nodes (part_at store first).source root → Copies nodes store first count depth root
-copies_all nodes store first count depth root memo at p le e le' lt al = record {
+pub copies_all : (d : Definition) (store : List Part) (first count root : ℕ) (memo : ℕ → ℕ) (at : ℕ) → Partial d store first (length store) memo at → length store ≤ at → at ≡ first + count → at ≤ length store → first < length store → Alike d.nodes (part_at store first).source root → Copies d store first count root
+copies_all d store first count root memo at p le e le' lt al = record {
   some = omega arith;
   memo = memo;
-  parts = subst (λ n. Partial nodes store first n depth memo n) (let z : at ≡ first + count = e in z) (subst (λ n. Partial nodes store first n depth memo at) (let z : length store ≡ at = omega arith in z) p);
+  parts = subst (λ n. Partial d store first n memo n) (let z : at ≡ first + count = e in z) (subst (λ n. Partial d store first n memo at) (let z : length store ≡ at = omega arith in z) p);
   starts = al;
 }
 
 -- the first part
-module _ (nodes : List Node) (store : List Part) (memo : List ℕ) (first depth number : ℕ) (s1 : List Part) (m1 : List ℕ) (fe : length store ≡ first) (e : Entered nodes store memo first depth number s1 m1) where
+module _ (d : Definition) (store : List Part) (memo : List ℕ) (first number : ℕ) (s1 : List Part) (m1 : List ℕ) (fe : length store ≡ first) (e : Entered d store memo first 0 number s1 m1) where
   first_long : length s1 ≡ suc (length store)
   first_long = ap length e.is ∙ long_new store e.one
 
   pub first_extends : Extends store s1
   first_extends = (let l : length s1 ≡ suc (length store) = first_long in omega arith, λ k lt. ap (λ s. part_at s k) e.is ∙ part_old store e.one k lt)
 
-  pub first_parts : Partial nodes s1 first (length s1) depth (memo_at m1) first
+  pub first_parts : Partial d s1 first (length s1) (memo_at m1) first
   first_parts = e.keeps first (omega arith) (record { within = λ k f lt. absurd (omega arith); light = λ k f lt. absurd (omega arith); each = λ k f lt. absurd (omega arith) })
 
-  pub first_alike : Alike nodes (part_at s1 first).source number
+  pub first_alike : Alike d.nodes (part_at s1 first).source number
   first_alike top t = ap top (ap (λ (p : Part). p.source) (ap (part_at s1) (sym fe) ∙ ap (λ s. part_at s (length store)) e.is ∙ part_new store e.one)) ∙ e.alike top t
 
   pub first_some : first < length s1
   first_some = let l : length s1 ≡ suc (length store) = first_long in omega arith
+
+pub all_done : (at count : ℕ) → at ≤ count → count ≤ at → at ≡ count
+all_done at count p q = omega arith
+
+-- one entry further in a chain
+pub chain_next : (entries : List Entry) (e i at : ℕ) (entry : Entry) → at ≡ chain entries e i → entry ≡ entry_at entries at → entry.next ≡ chain entries e (i + 1)
+unfolding chain
+chain_next entries e i at entry h is = ap (λ (x : Entry). x.next) is ∙ ap (λ j. (entry_at entries j).next) h ∙ ap (chain entries e) (let z : suc i ≡ i + 1 = omega arith in z)
+
+pub chain_none : (entries : List Entry) (e : ℕ) → e ≡ chain entries e 0
+unfolding chain
+chain_none entries e = refl
+
+pub entry_here : (entries : List Entry) (e i at : ℕ) (entry : Entry) → at ≡ chain entries e i → entry ≡ entry_at entries at → entry ≡ entry_at entries (chain entries e i)
+entry_here entries e i at entry h is = is ∙ ap (entry_at entries) h
+
+pub entered_as : (d : Definition) (store : List Part) (memo : List ℕ) (first : ℕ) (entry other : Entry) (s1 : List Part) (m1 : List ℕ) → entry ≡ other → Entered d store memo first entry.label entry.child s1 m1 → Entered d store memo first other.label other.child s1 m1
+entered_as d store memo first entry other s1 m1 is e = subst (λ (x : Entry). Entered d store memo first x.label x.child s1 m1) is e
+
+-- the parts of a node's form can be read
+pub form_within : (table : ShapeTable) (m : ℕ) (nodes : List Node) → IsGraph nodes → IsBound table m nodes → (i : ℕ) → i < length nodes → FormWithin (length nodes) m (node_at nodes i).form
+form_within table m nodes g b i lt = go (node_at nodes i).form (g.within i lt) (b.forms i lt)
+  where
+    go : (f : Form) → Within (length nodes) i f → Bound table m f → FormWithin (length nodes) m f
+    go form.Free w h = tt
+    go (form.Link j) w h = tt
+    go (form.Made hd x n) w h = w
+    go (form.Open e n) w h = h.0
+
+pub fewer_parts : (h : Head) (n : ℕ) → head_count h n ≤ n
+fewer_parts (head.Rigid m r) n = omega arith
+fewer_parts (head.Scalar s) n = omega arith
+fewer_parts head.Array n = omega arith
+fewer_parts head.Tuple n = omega arith
+fewer_parts (head.Record m) n = omega arith
+fewer_parts head.Fun n = omega arith
+fewer_parts (head.Abstract m b) n = omega arith

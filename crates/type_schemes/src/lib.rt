@@ -5,13 +5,14 @@
 //! not of the tree.
 #![tactic(auto)]
 
-ghost use Rattle.std.specs.Prelude.{◌≡◌, ◌<◌, ◌≤◌, ◌+◌, ◌++◌, ◌∷◌, [], ◌↔◌, ◌^◌, length, IsTrue, OnOk, IfOk, IfErr, ℕ};
+ghost use Rattle.std.specs.Prelude.{◌≡◌, ◌<◌, ◌≤◌, ◌+◌, ◌++◌, ◌∷◌, [], ◌↔◌, ◌^◌, length, true, false, IsTrue, OnOk, IfOk, IfErr, ℕ};
 ghost use Rattle.type_graph.specs.Graph.{IsGraph, Tells};
-ghost use Rattle.type_schemes.specs.Schemes.{part_at, with_part, memo_at, with_memo, Copied, Partial, Entered, Copies, Extends, Opened, Filled, Law};
+ghost use Rattle.type_resolve.specs.Resolving.{Placed};
+ghost use Rattle.type_schemes.specs.Schemes.{part_at, with_part, memo_at, with_memo, definition, Entries, FormWithin, IsForeign, IsOurs, copy_kind, form_copy, next_to, no_label, child_at, label_at, child_number, child_label, child_count, head_count, Copied, Partial, Entered, Copies, Extends, Opened, Filled, Law};
 
 use fut_scalar::List;
 use fut_types::{Head, Kind};
-use type_graph::{Form, Node, UnifyErr, find, node_of};
+use type_graph::{Entry, Form, Node, UnifyErr, entry_of, find, node_of};
 
 /// What a part of a definition's type is.
 #[derive(Clone, Copy)]
@@ -24,13 +25,16 @@ pub enum PartForm {
     Again(u32),
     /// Made by a head of the parts in a row, from the first on, as many as counted.
     Made(Head, u32, u32),
+    /// It has the parts in a row, each under its label, from the first on, as many as counted.
+    Open(u32, u32),
 }
 
-/// A part of the type of a definition: its kind, and the node that it copies.
+/// A part of the type of a definition: its kind, the node that it copies, and its label where it is a named part.
 #[derive(Clone, Copy)]
 pub struct Part {
     pub kind: Kind,
     pub source: u32,
+    pub label: u32,
     pub form: PartForm,
 }
 
@@ -96,6 +100,28 @@ fn is_copied(store: &List<Part>, first: u32, place: u32, source: u32) -> bool
         PartForm::Shared(_) => false,
         PartForm::Again(_) => false,
         PartForm::Made(_, _, _) => true,
+        PartForm::Open(_, _) => true,
+    }
+}
+
+// Whether a form is that of a type parameter that is not one of these.
+fn is_foreign(own: &[u32], form: Form) -> bool
+    ensures foreign { result ≡ true → IsForeign own.now form }
+    ensures ours { result ≡ false → IsOurs own.now form }
+{
+    match form {
+        Form::Made(Head::Rigid(number, _), _, _) => !own.contains(&number),
+        _ => false,
+    }
+}
+
+// The kind of a node's copy. That of a type parameter has all types of the parameter's kind.
+fn kind_of(node: Node) -> Kind
+    ensures { result ≡ copy_kind node }
+{
+    match node.form {
+        Form::Made(Head::Rigid(_, kind), _, _) => kind,
+        _ => node.kind,
     }
 }
 
@@ -104,15 +130,17 @@ fn enter(
     nodes: &List<Node>,
     store: &mut List<Part>,
     memo: &mut List<u32>,
+    own: &[u32],
     first: u32,
     depth: u32,
+    label: u32,
     number: u32,
 ) -> Result<(), UnifyErr>
     requires graph { IsGraph nodes.now }
     requires number { number < length nodes.now }
     requires memo { length nodes.now ≤ length memo.old }
     requires first { first ≤ length store.old }
-    ensures ok { OnOk result (Entered nodes.now store.old memo.old first depth number store.new memo.new) }
+    ensures ok { OnOk result ((entries : Entries) → Entered (definition nodes.now entries own.now depth) store.old memo.old first label number store.new memo.new) }
     ensures err { IfErr result (Tells ⊥) }
 {
     let at = store.len();
@@ -121,12 +149,13 @@ fn enter(
     }
     let root = find(nodes, number);
     let node = node_of(nodes, root);
-    if node.level <= depth {
+    if node.level <= depth || is_foreign(own, node.form) {
         return push_part(
             store,
             Part {
                 kind: Kind::Any,
                 source: root,
+                label,
                 form: PartForm::Shared(root),
             },
         );
@@ -138,6 +167,7 @@ fn enter(
             Part {
                 kind: Kind::Any,
                 source: root,
+                label,
                 form: PartForm::Again(place),
             },
         );
@@ -146,8 +176,9 @@ fn enter(
     push_part(
         store,
         Part {
-            kind: node.kind,
+            kind: kind_of(node),
             source: root,
+            label,
             form: PartForm::Free,
         },
     )
@@ -158,6 +189,7 @@ fn enter_row(
     nodes: &List<Node>,
     store: &mut List<Part>,
     memo: &mut List<u32>,
+    own: &[u32],
     first: u32,
     depth: u32,
     row: u32,
@@ -167,12 +199,12 @@ fn enter_row(
     requires row { row + count ≤ length nodes.now }
     requires memo { length nodes.now ≤ length memo.old }
     requires first { first ≤ length store.old }
-    ensures ok { OnOk result (Opened nodes.now store.old memo.old first depth row count store.new memo.new) }
+    ensures ok { OnOk result ((entries : Entries) → Opened (definition nodes.now entries own.now depth) store.old memo.old first (next_to row) no_label count store.new memo.new) }
     ensures err { IfErr result (Tells ⊥) }
 {
     let mut at = 0;
     while at < count {
-        match enter(nodes, store, memo, first, depth, row + at) {
+        match enter(nodes, store, memo, own, first, depth, 0, row + at) {
             Ok(()) => {}
             Err(error) => return Err(error),
         }
@@ -181,44 +213,138 @@ fn enter_row(
     Ok(())
 }
 
+// Adds a part for each named part of a chain.
+fn enter_chain(
+    nodes: &List<Node>,
+    entries: &List<Entry>,
+    store: &mut List<Part>,
+    memo: &mut List<u32>,
+    own: &[u32],
+    first: u32,
+    depth: u32,
+    start: u32,
+    count: u32,
+) -> Result<(), UnifyErr>
+    requires placed { Placed nodes.now entries.now }
+    requires start { start < length entries.now }
+    requires memo { length nodes.now ≤ length memo.old }
+    requires first { first ≤ length store.old }
+    ensures ok { OnOk result (Opened (definition nodes.now entries.now own.now depth) store.old memo.old first (child_at entries.now start) (label_at entries.now start) count store.new memo.new) }
+    ensures err { IfErr result (Tells ⊥) }
+{
+    let mut place = start;
+    let mut at = 0;
+    while at < count {
+        let entry = entry_of(entries, place);
+        match enter(
+            nodes,
+            store,
+            memo,
+            own,
+            first,
+            depth,
+            entry.label,
+            entry.child,
+        ) {
+            Ok(()) => {}
+            Err(error) => return Err(error),
+        }
+        place = entry.next;
+        at += 1;
+    }
+    Ok(())
+}
+
+// How many parts of a type are copied: a type parameter has none.
+fn count_of(head: Head, count: u32) -> u32
+    ensures { result ≡ head_count head count }
+{
+    match head {
+        Head::Rigid(_, _) => 0,
+        _ => count,
+    }
+}
+
+// Adds a part for each part of a type of this form.
+fn enter_parts(
+    nodes: &List<Node>,
+    entries: &List<Entry>,
+    store: &mut List<Part>,
+    memo: &mut List<u32>,
+    own: &[u32],
+    first: u32,
+    depth: u32,
+    form: Form,
+) -> Result<(), UnifyErr>
+    requires placed { Placed nodes.now entries.now }
+    requires form { FormWithin (length nodes.now) (length entries.now) form }
+    requires memo { length nodes.now ≤ length memo.old }
+    requires first { first ≤ length store.old }
+    ensures ok { OnOk result (Opened (definition nodes.now entries.now own.now depth) store.old memo.old first (child_number entries.now form) (child_label entries.now form) (child_count form) store.new memo.new) }
+    ensures err { IfErr result (Tells ⊥) }
+{
+    match form {
+        Form::Free | Form::Link(_) => Ok(()),
+        Form::Made(head, row, count) => {
+            let parts = count_of(head, count);
+            enter_row(nodes, store, memo, own, first, depth, row, parts)
+        }
+        Form::Open(start, count) => {
+            enter_chain(nodes, entries, store, memo, own, first, depth, start, count)
+        }
+    }
+}
+
+// What a copy of a type of this form is, with its parts from this one on.
+fn copy_of(form: Form, parts: u32) -> PartForm
+    ensures { result ≡ form_copy form parts }
+{
+    match form {
+        Form::Free | Form::Link(_) => PartForm::Free,
+        Form::Made(Head::Rigid(_, _), _, _) => PartForm::Free,
+        Form::Made(head, _, count) => PartForm::Made(head, parts, count),
+        Form::Open(_, count) => PartForm::Open(parts, count),
+    }
+}
+
 // Gives a part its children.
 fn fill(
     nodes: &List<Node>,
+    entries: &List<Entry>,
     store: &mut List<Part>,
     memo: &mut List<u32>,
+    own: &[u32],
     first: u32,
     depth: u32,
     at: u32,
 ) -> Result<(), UnifyErr>
-    requires graph { IsGraph nodes.now }
+    requires placed { Placed nodes.now entries.now }
     requires memo { length nodes.now ≤ length memo.old }
     requires first { first ≤ at }
     requires at { at < length store.old }
     requires short { length store.old < 4294967295 }
-    requires parts { Partial nodes.now store.old first (length store.old) depth (memo_at memo.old) at }
-    ensures ok { OnOk result (Filled nodes.now store.old memo.old first depth at store.new memo.new) }
+    requires parts { Partial (definition nodes.now entries.now own.now depth) store.old first (length store.old) (memo_at memo.old) at }
+    ensures ok { OnOk result (Filled (definition nodes.now entries.now own.now depth) store.old memo.old first at store.new memo.new) }
     ensures err { IfErr result (Tells ⊥) }
 {
     let part = part_of(store, at);
     if let PartForm::Free = part.form {
-        if let Form::Made(head, row, count) = node_of(nodes, part.source).form {
-            let parts = store.len() as u32;
-            match enter_row(nodes, store, memo, first, depth, row, count) {
-                Ok(()) => {}
-                Err(error) => return Err(error),
-            }
-            set_part(
-                store,
-                at,
-                Part {
-                    kind: part.kind,
-                    source: part.source,
-                    form: PartForm::Made(head, parts, count),
-                },
-            );
-            return Ok(());
+        let form = node_of(nodes, part.source).form;
+        let parts = store.len() as u32;
+        match enter_parts(nodes, entries, store, memo, own, first, depth, form) {
+            Ok(()) => {}
+            Err(error) => return Err(error),
         }
-        return Ok(());
+        set_part(
+            store,
+            at,
+            Part {
+                kind: part.kind,
+                source: part.source,
+                label: part.label,
+                form: copy_of(form, parts),
+            },
+        );
     }
     Ok(())
 }
@@ -239,18 +365,21 @@ fn grow_memo(memo: &mut List<u32>, count: usize) -> Result<(), UnifyErr>
 
 /// Copies the type of a node, but for what is of this depth or below.
 ///
-/// The answer is the number of parts, which stand behind those that the store has. `memo` has a place for each node and needs
-/// no clearing. What has named parts only is never copied.
+/// `own` has the numbers of the type parameters that the definition writes; the other type parameters are outside it. The
+/// answer is the number of parts, which stand behind those that the store has. `memo` has a place for each node and needs no
+/// clearing.
 pub fn scheme(
     nodes: &List<Node>,
+    entries: &List<Entry>,
     store: &mut List<Part>,
     memo: &mut List<u32>,
+    own: &[u32],
     root: u32,
     depth: u32,
 ) -> Result<u32, UnifyErr>
-    requires graph { IsGraph nodes.now }
+    requires placed { Placed nodes.now entries.now }
     requires root { root < length nodes.now }
-    ensures ok { IfOk result (λ count. Copies nodes.now store.new (length store.old) count depth root) }
+    ensures ok { IfOk result (λ count. Copies (definition nodes.now entries.now own.now depth) store.new (length store.old) count root) }
     ensures store { OnOk result (Extends store.old store.new) }
     ensures long { IfOk result (λ count. length store.new ≡ length store.old + count) }
     ensures short { OnOk result (length store.new < 4294967295) }
@@ -264,7 +393,7 @@ pub fn scheme(
         return Err(UnifyErr::Memory);
     }
     let first = store.len() as u32;
-    match enter(nodes, store, memo, first, depth, root) {
+    match enter(nodes, store, memo, own, first, depth, 0, root) {
         Ok(()) => {}
         Err(error) => return Err(error),
     }
@@ -273,7 +402,7 @@ pub fn scheme(
         if at >= 4294967293 {
             return Err(UnifyErr::Memory);
         }
-        match fill(nodes, store, memo, first, depth, at) {
+        match fill(nodes, entries, store, memo, own, first, depth, at) {
             Ok(()) => {}
             Err(error) => return Err(error),
         }

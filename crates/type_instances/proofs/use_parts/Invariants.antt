@@ -3,7 +3,7 @@ use Rattle.fut_types.specs.declared.shapes.ShapeTable.{ShapeTable}
 use Rattle.type_graph.specs.Graph.{Tables, Each, IsGraph, IsBound}
 use Rattle.type_claims.specs.Claims.{Inside}
 use Rattle.type_schemes.specs.Schemes.{Known}
-use Rattle.type_instances.specs.Instances.{IsUse, Pushes, Uses}
+use Rattle.type_instances.specs.Instances.{IsUse, IsLabelled, Pushes, Uses}
 use Rattle.type_instances.proofs.use_parts.Given as goal
 
 abbrev pub invariant-loop-at : goal.invariant-loop-at
@@ -12,7 +12,8 @@ invariant-loop-at l = record {
   longer : length l.fn.nodes ≤ length l.nodes;
   tasks : Each (IsUse (length l.nodes)) l.tasks;
   bound : (table : ShapeTable) (m : ℕ) → Known table l.store l.first l.count → IsBound table m l.fn.nodes → IsBound table m l.nodes;
-  so_far : (T : Tables) → Inside T l.fn.nodes → Pushes T l.fn.nodes l.fn.tasks (Uses l.store l.first l.start l.at) l.nodes l.tasks;
+  labels : (table : ShapeTable) → Known table l.store l.first l.count → Each (IsLabelled table) l.fn.tasks → Each (IsLabelled table) l.tasks;
+  so_far : (T : Tables) → Inside T l.fn.nodes → Pushes T l.fn.nodes l.fn.tasks (Uses T.shapes l.store l.first l.start l.at) l.nodes l.tasks;
   within : l.at ≤ l.count;
 }
 

@@ -1,8 +1,8 @@
 use Rattle.std.proofs.Common.{◌<◌, length, sym, ◌∙◌, subst, arith}
 use Rattle.type_graph.specs.declared.Form.TheVariants as form
-use Rattle.type_resolve.specs.Resolving.{SettledIn, Below}
+use Rattle.type_resolve.specs.Resolving.{Walked, Below}
 use Rattle.type_graph.proofs.StateLaws.{each_map}
-use Rattle.type_resolve.proofs.Marks.{end_done, end_open, open_long, open_whites, open_done, open_grey, end_here, end_marked, some_tables, some_listed, below_less, marked_then, row_within, chain_within, of_form, row_first, row_more, row_end, chain_first, chain_more, chain_end}
+use Rattle.type_resolve.proofs.Marks.{end_done, end_open, open_long, open_whites, open_done, open_grey, end_here, end_marked, below_less, marked_then, row_within, chain_within, of_form, row_first, row_more, row_end, chain_first, chain_more, chain_end}
 use Rattle.type_resolve.proofs.+visit.Goals as goal
 
 pub visit-visit_parts-requires : goal.visit-visit_parts-requires
@@ -21,10 +21,10 @@ pub visit-returns-in-Open-clause-err : goal.visit-returns-in-Open-clause-err
 visit-returns-in-Open-clause-err t c = end_open c.args.nodes.now c.args.entries.now c.args.marks.now c.args.start c.find-root.result c.requires.placed.graph c.requires.long c.requires.start c.find-root.ensures c.requires.done (sym c.mark_of.ensures ∙ c.in-Open.is) c.requires.grey
 
 pub visit-returns-in-Ok-clause-ok : goal.visit-returns-in-Ok-clause-ok
-visit-returns-in-Ok-clause-ok t c = end_marked c.args.nodes.now c.args.entries.now c.args.marks.now c.args.start c.find-root.result c.requires.placed.graph c.requires.long c.requires.start c.find-root.ensures c.requires.done c.set_mark.new.marks c.set_mark.ensures c.visit_parts.new.marks c.set_mark-in-White.new.marks c.in-Ok.ensures.ok c.set_mark-in-White.ensures (some_tables c.args.entries.now) (c.in-Ok.ensures.here (some_tables c.args.entries.now) (some_listed c.args.entries.now)) (sym c.mark_of.ensures ∙ c.in-White.is)
+visit-returns-in-Ok-clause-ok t c = end_marked c.args.nodes.now c.args.entries.now c.args.marks.now c.args.start c.find-root.result c.requires.placed.graph c.requires.long c.requires.start c.find-root.ensures c.requires.done c.set_mark.new.marks c.set_mark.ensures c.visit_parts.new.marks c.set_mark-in-White.new.marks c.in-Ok.ensures.ok c.set_mark-in-White.ensures c.in-Ok.ensures.here (sym c.mark_of.ensures ∙ c.in-White.is)
 
 pub visit-returns-in-Ok-clause-here : goal.visit-returns-in-Ok-clause-here
-visit-returns-in-Ok-clause-here t c = end_here c.args.nodes.now c.args.entries.now c.args.marks.now c.args.start c.find-root.result c.requires.placed.graph c.requires.long c.requires.start c.find-root.ensures c.requires.done c.set_mark.new.marks c.set_mark.ensures c.visit_parts.new.marks c.set_mark-in-White.new.marks c.in-Ok.ensures.ok c.set_mark-in-White.ensures (some_tables c.args.entries.now) (c.in-Ok.ensures.here (some_tables c.args.entries.now) (some_listed c.args.entries.now))
+visit-returns-in-Ok-clause-here t c = end_here c.args.nodes.now c.args.entries.now c.args.marks.now c.args.start c.find-root.result c.requires.placed.graph c.requires.long c.requires.start c.find-root.ensures c.requires.done c.set_mark.new.marks c.set_mark.ensures c.visit_parts.new.marks c.set_mark-in-White.new.marks c.in-Ok.ensures.ok c.set_mark-in-White.ensures c.in-Ok.ensures.here
 
 pub visit_parts-visit_row-requires : goal.visit_parts-visit_row-requires
 visit_parts-visit_row-requires t c = (
@@ -83,14 +83,14 @@ visit_row-visit-requires t c = (
 pub visit_row-loop-rest-preserved : goal.visit_row-loop-rest-preserved
 visit_row-loop-rest-preserved t c = record {
   long = c.in-Ok.ensures.ok.long ∙ c.loop-rest.invariant.long;
-  marked = marked_then c.args.nodes.now c.args.marks.now c.loop-rest.marks c.visit.new.marks c.loop-rest.invariant.marked c.in-Ok.ensures.ok;
+  marked = marked_then c.args.nodes.now c.args.entries.now c.args.marks.now c.loop-rest.marks c.visit.new.marks c.loop-rest.invariant.marked c.in-Ok.ensures.ok;
   row = omega (arith, c.loop-rest.invariant.row, c.loop-rest-test.true);
   grey = λ T l. each_map (below_less T c.args.nodes.now c.loop-rest.marks c.visit.new.marks c.in-Ok.ensures.ok.opened) _ (row_first (Below T c.args.nodes.now c.loop-rest.marks) c.loop-rest.at c.loop-rest.rest c.loop-rest-test.true (c.loop-rest.invariant.grey T l)).1;
-  here = λ h. c.loop-rest.invariant.here (row_more (SettledIn c.args.nodes.now) c.loop-rest.at c.loop-rest.rest c.loop-rest-test.true (c.in-Ok.ensures.here, h));
+  here = λ h. c.loop-rest.invariant.here (row_more (Walked c.args.nodes.now c.args.entries.now) c.loop-rest.at c.loop-rest.rest c.loop-rest-test.true (c.in-Ok.ensures.here, h));
 }
 
 pub visit_row-returns-clause-here : goal.visit_row-returns-clause-here
-visit_row-returns-clause-here t c = c.loop-rest.invariant.here (row_end (SettledIn c.args.nodes.now) c.loop-rest.at c.loop-rest.rest c.loop-rest-test.false)
+visit_row-returns-clause-here t c = c.loop-rest.invariant.here (row_end (Walked c.args.nodes.now c.args.entries.now) c.loop-rest.at c.loop-rest.rest c.loop-rest-test.false)
 
 pub visit_chain-visit-requires : goal.visit_chain-visit-requires
 visit_chain-visit-requires t c = (
@@ -113,11 +113,11 @@ visit_chain-visit-requires t c = (
 pub visit_chain-loop-rest-preserved : goal.visit_chain-loop-rest-preserved
 visit_chain-loop-rest-preserved t c = record {
   long = c.in-Ok.ensures.ok.long ∙ c.loop-rest.invariant.long;
-  marked = marked_then c.args.nodes.now c.args.marks.now c.loop-rest.marks c.visit.new.marks c.loop-rest.invariant.marked c.in-Ok.ensures.ok;
+  marked = marked_then c.args.nodes.now c.args.entries.now c.args.marks.now c.loop-rest.marks c.visit.new.marks c.loop-rest.invariant.marked c.in-Ok.ensures.ok;
   within = subst (λ y. y.next < length c.args.entries.now) (sym c.entry_of-entry.ensures) (c.requires.placed.are.within c.loop-rest.at c.loop-rest.invariant.within).2;
   grey = λ T l. each_map (below_less T c.args.nodes.now c.loop-rest.marks c.visit.new.marks c.in-Ok.ensures.ok.opened) _ (chain_first (Below T c.args.nodes.now c.loop-rest.marks) c.args.entries.now T l c.loop-rest.at c.entry_of-entry.result c.loop-rest.invariant.within c.entry_of-entry.ensures c.loop-rest.rest c.loop-rest-test.true (c.loop-rest.invariant.grey T l)).1;
-  here = λ T l h. c.loop-rest.invariant.here T l (chain_more (SettledIn c.args.nodes.now) c.args.entries.now T l c.loop-rest.at c.entry_of-entry.result c.loop-rest.invariant.within c.entry_of-entry.ensures c.loop-rest.rest c.loop-rest-test.true (c.in-Ok.ensures.here, h));
+  here = λ T l h. c.loop-rest.invariant.here T l (chain_more (Walked c.args.nodes.now c.args.entries.now) c.args.entries.now T l c.loop-rest.at c.entry_of-entry.result c.loop-rest.invariant.within c.entry_of-entry.ensures c.loop-rest.rest c.loop-rest-test.true (c.in-Ok.ensures.here, h));
 }
 
 pub visit_chain-returns-clause-here : goal.visit_chain-returns-clause-here
-visit_chain-returns-clause-here t c T l = c.loop-rest.invariant.here T l (chain_end (SettledIn c.args.nodes.now) T c.loop-rest.at c.loop-rest.rest c.loop-rest-test.false)
+visit_chain-returns-clause-here t c T l = c.loop-rest.invariant.here T l (chain_end (Walked c.args.nodes.now c.args.entries.now) T c.loop-rest.at c.loop-rest.rest c.loop-rest-test.false)

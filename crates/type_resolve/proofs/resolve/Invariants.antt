@@ -1,5 +1,5 @@
 use Rattle.std.proofs.Common.{◌≡◌, ◌<◌, ◌≤◌, ◌-◌, length, ℕ}
-use Rattle.type_resolve.specs.Resolving.{SettledIn, mark_at}
+use Rattle.type_resolve.specs.Resolving.{Walked, mark_at}
 use Rattle.type_resolve.specs.declared.Mark.TheVariants as mark
 use Rattle.type_resolve.proofs.resolve.Given as goal
 
@@ -7,8 +7,8 @@ abbrev pub invariant-loop-at : goal.invariant-loop-at
 invariant-loop-at l = record {
   long : length l.marks ≡ length l.nodes;
   opened : (i : ℕ) → mark_at l.marks i ≡ mark.Open → mark_at l.marks i ≡ mark.White;
-  done : (i : ℕ) → mark_at l.marks i ≡ mark.Done → SettledIn l.nodes i;
-  here : (i : ℕ) → i < l.at → SettledIn l.nodes i;
+  done : (i : ℕ) → mark_at l.marks i ≡ mark.Done → Walked l.nodes l.entries i;
+  here : (i : ℕ) → i < l.at → Walked l.nodes l.entries i;
   within : l.at ≤ length l.nodes;
 }
 

@@ -1,5 +1,6 @@
 use Rattle.std.proofs.Common.{length, sym, ◌∙◌, arith}
 use Rattle.type_graph.proofs.Ends.{on_ok, grows_either, end_known, end_part, end_lacks, end_past, open_within}
+use Rattle.type_graph.proofs.Chains.{lacks_none}
 use Rattle.type_graph.proofs.parts.meet_part.Goals as goal
 
 pub returns-in-Some-clause-ok : goal.returns-in-Some-clause-ok
@@ -24,3 +25,6 @@ returns-else-place-count-clause-err c T told = end_past c.args.table.now c.args.
 pub returns-in_default-place_of-clause-err : goal.returns-in_default-place_of-clause-err
 returns-in_default-place_of-clause-err c T told = end_lacks c.args.table.now c.args.nodes.now c.args.root c.args.label c.args.child c.node_of.result c.requires.graph c.requires.within c.requires.child c.node_of.ensures
     c.in-Made.head c.in-Made.first c.in-Made.count c.in-Made.is T (sym (c.place_of.ensures T.shapes told.shapes) ∙ c.in_default-place_of.is)
+
+pub open_root-requires-clause-lacks : goal.open_root-requires-clause-lacks
+open_root-requires-clause-lacks c T t = lacks_none T c.args.label 0 0 (omega arith)

@@ -1,5 +1,5 @@
 use Rattle.type_rules.proofs.Adding.{on_ok, if_err}
-use Rattle.type_rules.proofs.Ones.{known_scalar, known_array, known_fun, same_within, has_within, is_within, array_within, fun_within, part_within, same_adds, same_nowhere, has_adds, has_nowhere, is_adds, is_nowhere, array_adds, array_nowhere, fun_adds, fun_nowhere, part_adds, part_nowhere}
+use Rattle.type_rules.proofs.Ones.{known_scalar, known_array, known_fun, known_tuple, pair_within, triple_within, pair_adds, pair_nowhere, triple_adds, triple_nowhere, same_within, has_within, is_within, array_within, fun_within, part_within, same_adds, same_nowhere, has_adds, has_nowhere, is_adds, is_nowhere, array_adds, array_nowhere, fun_adds, fun_nowhere, part_adds, part_nowhere}
 use Rattle.type_rules.proofs.demand.put_one.Goals as goal
 
 pub assert_task-requires-clause-within : goal.assert_task-requires-clause-within
@@ -70,3 +70,33 @@ returns-in-Part-clause-ok c = on_ok c.assert_task-in-Part.result (λ h T told. p
 
 pub returns-in-Part-clause-err : goal.returns-in-Part-clause-err
 returns-in-Part-clause-err c = if_err c.assert_task-in-Part.result (λ h T told. part_nowhere T c.args.base c.args.demand c.args.nodes.now c.assert_task-in-Part.new.nodes c.in-Part.i c.in-Part.label c.in-Part.part c.in-Part.is (h T told)) c.assert_task-in-Part.ensures.err
+
+pub assert_made-requires-in-Pair-clause-number : goal.assert_made-requires-in-Pair-clause-number
+assert_made-requires-in-Pair-clause-number c = (pair_within c.args.table.now c.args.base c.args.demand c.requires.within c.in-Pair.i c.in-Pair.first c.in-Pair.second c.in-Pair.is).0
+
+pub assert_made-requires-in-Pair-clause-head : goal.assert_made-requires-in-Pair-clause-head
+assert_made-requires-in-Pair-clause-head c = known_tuple c.args.table.now
+
+pub assert_made-requires-in-Pair-clause-parts : goal.assert_made-requires-in-Pair-clause-parts
+assert_made-requires-in-Pair-clause-parts c = let w = pair_within c.args.table.now c.args.base c.args.demand c.requires.within c.in-Pair.i c.in-Pair.first c.in-Pair.second c.in-Pair.is in (w.1, (w.2, tt))
+
+pub returns-in-Pair-clause-ok : goal.returns-in-Pair-clause-ok
+returns-in-Pair-clause-ok c = on_ok c.assert_made-in-Pair.result (λ h T told. pair_adds T c.args.base c.args.demand c.args.nodes.now c.assert_made-in-Pair.new.nodes c.in-Pair.i c.in-Pair.first c.in-Pair.second c.in-Pair.is (h T told)) c.assert_made-in-Pair.ensures.ok
+
+pub returns-in-Pair-clause-err : goal.returns-in-Pair-clause-err
+returns-in-Pair-clause-err c = if_err c.assert_made-in-Pair.result (λ h T told. pair_nowhere T c.args.base c.args.demand c.args.nodes.now c.assert_made-in-Pair.new.nodes c.in-Pair.i c.in-Pair.first c.in-Pair.second c.in-Pair.is (h T told)) c.assert_made-in-Pair.ensures.err
+
+pub assert_made-requires-in-Triple-clause-number : goal.assert_made-requires-in-Triple-clause-number
+assert_made-requires-in-Triple-clause-number c = (triple_within c.args.table.now c.args.base c.args.demand c.requires.within c.in-Triple.i c.in-Triple.first c.in-Triple.second c.in-Triple.third c.in-Triple.is).0
+
+pub assert_made-requires-in-Triple-clause-head : goal.assert_made-requires-in-Triple-clause-head
+assert_made-requires-in-Triple-clause-head c = known_tuple c.args.table.now
+
+pub assert_made-requires-in-Triple-clause-parts : goal.assert_made-requires-in-Triple-clause-parts
+assert_made-requires-in-Triple-clause-parts c = let w = triple_within c.args.table.now c.args.base c.args.demand c.requires.within c.in-Triple.i c.in-Triple.first c.in-Triple.second c.in-Triple.third c.in-Triple.is in (w.1, (w.2, (w.3, tt)))
+
+pub returns-in-Triple-clause-ok : goal.returns-in-Triple-clause-ok
+returns-in-Triple-clause-ok c = on_ok c.assert_made-in-Triple.result (λ h T told. triple_adds T c.args.base c.args.demand c.args.nodes.now c.assert_made-in-Triple.new.nodes c.in-Triple.i c.in-Triple.first c.in-Triple.second c.in-Triple.third c.in-Triple.is (h T told)) c.assert_made-in-Triple.ensures.ok
+
+pub returns-in-Triple-clause-err : goal.returns-in-Triple-clause-err
+returns-in-Triple-clause-err c = if_err c.assert_made-in-Triple.result (λ h T told. triple_nowhere T c.args.base c.args.demand c.args.nodes.now c.assert_made-in-Triple.new.nodes c.in-Triple.i c.in-Triple.first c.in-Triple.second c.in-Triple.third c.in-Triple.is (h T told)) c.assert_made-in-Triple.ensures.err

@@ -13,4 +13,4 @@ returns-clause-within c = λ table base w lt. ((w.0, w.1.0), ((w.0, w.1.1.0, lt)
 
 pub returns-clause-allowed : goal.returns-clause-allowed
 unfolding All_allow Allows
-returns-clause-allowed c = λ home h. (tt, (h, tt))
+returns-clause-allowed c = λ home. (tt, (tt, tt))

@@ -1,0 +1,8 @@
+pub mod Opens
+pub mod Settled
+pub mod LeftLaws
+pub mod DefaultLaws
+pub mod Typings
+pub mod Programs
+pub mod Richness
+pub mod Spelling

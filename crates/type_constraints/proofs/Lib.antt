@@ -1,0 +1,10 @@
+pub mod Depending
+pub mod Forms
+pub mod Rows
+pub mod Functions
+pub mod Values
+pub mod Lets
+pub mod Using
+pub mod Chains
+pub mod Graphs
+pub mod Ruling

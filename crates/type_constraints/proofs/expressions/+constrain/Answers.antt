@@ -1,0 +1,258 @@
+use Rattle.std.proofs.Common.{◌≤◌, ◌<◌, ◌+◌, ◌++◌, List, [], ◌∷◌, map, take, slice_index_or, subst, sym, ◌∙◌, ap, refl, arith}
+use Rattle.fut_flat.specs.Numbers.{numbers, all_numbers}
+use Rattle.fut_flat.specs.Erased.{FlatTerm, operation_of, term_of, terms}
+use Rattle.fut_flat.proofs.ErasedForms.{term_use, term_strict, term_apply, term_if, term_lambda, term_lets}
+use Rattle.fut_typing.proofs.Ranges.{numbers_some, own_some}
+use Rattle.type_rules.proofs.Adding.{tells}
+use Rattle.type_constraints.proofs.Forms.{apply_ok, apply_err3, refused_apply, refused_apply2, if_ok, if_err4, refused_if, refused_if2, refused_if3, below_two, below_four}
+use Rattle.type_constraints.proofs.Rows.{gone_none, gone_more, gone_refused, falls_in, room_in, take_more, at_place, starts_below, Gone_over, strict_ok, refused_strict, strict_err2}
+use Rattle.fut_flat.specs.declared.exp.Exp.{Exp}
+use Rattle.type_graph.specs.Graph.{Each}
+use Rattle.type_constraints.specs.Parts.{starts, pattern_starts}
+use Rattle.type_constraints.proofs.Functions.{lambda_ok, lambda_err1, lambda_err2, lambda_err3, starts_below as pattern_starts_below}
+use Rattle.fut_flat.specs.Numbers.{all_pattern_numbers}
+use Rattle.fut_flat.specs.Erased.{Row, pattern_of, patterns}
+use Rattle.fut_flat.proofs.ErasedForms.{row_of}
+use Rattle.fut_typing.specs.Rows.{behind, behind_all, env_rows}
+use Rattle.type_scopes.specs.Scopes.{Opened}
+use Rattle.type_scopes.proofs.Binding.{take_all}
+use Rattle.type_constraints.specs.Parts.{Rows_claim, Rows_homes, row_starts}
+use Rattle.type_constraints.proofs.Lets.{Lets_open, lets_none, lets_more, lets_refused, lets_err1, lets_err2, lets_err3, lets_ok, numbers_lets, behind_from, some_rows, row_starts_below, row_falls, row_room, row_split, row_more, value_is}
+use Rattle.type_constraints.proofs.Values.{pattern_claimed, value_err1, value_err2, value_err3, value_ok, same_within, same_says, same_allowed}
+use Rattle.type_rules.specs.declared.demand.Demand.TheVariants as demand
+use Rattle.fut_flat.specs.Numbers.{pattern_numbers}
+use Rattle.type_constraints.proofs.expressions.+constrain.Goals as goal
+
+pub constrain-constrain_use-requires-clause-room : goal.constrain-constrain_use-requires-clause-room
+constrain-constrain_use-requires-clause-room t c = subst (λ (x : FlatTerm). c.args.lo + numbers x ≤ c.args.base) (term_use c.args.exp.now c.in-Use.reference c.in-Use.before c.in-Use.is) c.requires.room
+
+pub constrain-returns-in-Use-clause-next : goal.constrain-returns-in-Use-clause-next
+constrain-returns-in-Use-clause-next t c = rw (term_use c.args.exp.now c.in-Use.reference c.in-Use.before c.in-Use.is) c.constrain_use.ensures.next
+
+pub constrain-returns-in-Use-clause-ok : goal.constrain-returns-in-Use-clause-ok
+constrain-returns-in-Use-clause-ok t c = rw (term_use c.args.exp.now c.in-Use.reference c.in-Use.before c.in-Use.is) c.constrain_use.ensures.ok
+
+pub constrain-returns-in-Use-clause-err : goal.constrain-returns-in-Use-clause-err
+constrain-returns-in-Use-clause-err t c = rw (term_use c.args.exp.now c.in-Use.reference c.in-Use.before c.in-Use.is) c.constrain_use.ensures.err
+
+pub constrain-constrain_strict-requires : goal.constrain-constrain_strict-requires
+constrain-constrain_strict-requires t c = let e = ap (λ (x : FlatTerm). numbers x) (term_strict c.args.exp.now c.in-Strict.act c.in-Strict.mark c.in-Strict.parts c.in-Strict.is) in (omega (arith, e), (c.requires.safe, subst (λ (x : FlatTerm). c.args.lo + numbers x ≤ c.args.base) (term_strict c.args.exp.now c.in-Strict.act c.in-Strict.mark c.in-Strict.parts c.in-Strict.is) c.requires.room))
+
+pub constrain-returns-in-Strict-clause-next : goal.constrain-returns-in-Strict-clause-next
+constrain-returns-in-Strict-clause-next t c = rw (term_strict c.args.exp.now c.in-Strict.act c.in-Strict.mark c.in-Strict.parts c.in-Strict.is) c.constrain_strict.ensures.next
+
+pub constrain-returns-in-Strict-clause-ok : goal.constrain-returns-in-Strict-clause-ok
+constrain-returns-in-Strict-clause-ok t c = rw (term_strict c.args.exp.now c.in-Strict.act c.in-Strict.mark c.in-Strict.parts c.in-Strict.is) c.constrain_strict.ensures.ok
+
+pub constrain-returns-in-Strict-clause-err : goal.constrain-returns-in-Strict-clause-err
+constrain-returns-in-Strict-clause-err t c = rw (term_strict c.args.exp.now c.in-Strict.act c.in-Strict.mark c.in-Strict.parts c.in-Strict.is) c.constrain_strict.ensures.err
+
+pub constrain-constrain_apply-requires : goal.constrain-constrain_apply-requires
+constrain-constrain_apply-requires t c = let e = ap (λ (x : FlatTerm). numbers x) (term_apply c.args.exp.now c.in-Apply.function c.in-Apply.argument c.in-Apply.is) in (omega (arith, e), (c.requires.safe, subst (λ (x : FlatTerm). c.args.lo + numbers x ≤ c.args.base) (term_apply c.args.exp.now c.in-Apply.function c.in-Apply.argument c.in-Apply.is) c.requires.room))
+
+pub constrain-returns-in-Apply-clause-next : goal.constrain-returns-in-Apply-clause-next
+constrain-returns-in-Apply-clause-next t c = rw (term_apply c.args.exp.now c.in-Apply.function c.in-Apply.argument c.in-Apply.is) c.constrain_apply.ensures.next
+
+pub constrain-returns-in-Apply-clause-ok : goal.constrain-returns-in-Apply-clause-ok
+constrain-returns-in-Apply-clause-ok t c = rw (term_apply c.args.exp.now c.in-Apply.function c.in-Apply.argument c.in-Apply.is) c.constrain_apply.ensures.ok
+
+pub constrain-returns-in-Apply-clause-err : goal.constrain-returns-in-Apply-clause-err
+constrain-returns-in-Apply-clause-err t c = rw (term_apply c.args.exp.now c.in-Apply.function c.in-Apply.argument c.in-Apply.is) c.constrain_apply.ensures.err
+
+pub constrain-constrain_if-requires : goal.constrain-constrain_if-requires
+constrain-constrain_if-requires t c = let e = ap (λ (x : FlatTerm). numbers x) (term_if c.args.exp.now c.in-If.test c.in-If.yes c.in-If.no c.in-If.is) in (omega (arith, e), (c.requires.safe, subst (λ (x : FlatTerm). c.args.lo + numbers x ≤ c.args.base) (term_if c.args.exp.now c.in-If.test c.in-If.yes c.in-If.no c.in-If.is) c.requires.room))
+
+pub constrain-returns-in-If-clause-next : goal.constrain-returns-in-If-clause-next
+constrain-returns-in-If-clause-next t c = rw (term_if c.args.exp.now c.in-If.test c.in-If.yes c.in-If.no c.in-If.is) c.constrain_if.ensures.next
+
+pub constrain-returns-in-If-clause-ok : goal.constrain-returns-in-If-clause-ok
+constrain-returns-in-If-clause-ok t c = rw (term_if c.args.exp.now c.in-If.test c.in-If.yes c.in-If.no c.in-If.is) c.constrain_if.ensures.ok
+
+pub constrain-returns-in-If-clause-err : goal.constrain-returns-in-If-clause-err
+constrain-returns-in-If-clause-err t c = rw (term_if c.args.exp.now c.in-If.test c.in-If.yes c.in-If.no c.in-If.is) c.constrain_if.ensures.err
+
+pub constrain-constrain_lets-requires : goal.constrain-constrain_lets-requires
+constrain-constrain_lets-requires t c = let e = ap (λ (x : FlatTerm). numbers x) (term_lets c.args.exp.now c.in-Lets.lets c.in-Lets.body c.in-Lets.is) in (omega (arith, e), (c.requires.safe, subst (λ (x : FlatTerm). c.args.lo + numbers x ≤ c.args.base) (term_lets c.args.exp.now c.in-Lets.lets c.in-Lets.body c.in-Lets.is) c.requires.room))
+
+pub constrain-returns-in-Lets-clause-next : goal.constrain-returns-in-Lets-clause-next
+constrain-returns-in-Lets-clause-next t c = rw (term_lets c.args.exp.now c.in-Lets.lets c.in-Lets.body c.in-Lets.is) c.constrain_lets.ensures.next
+
+pub constrain-returns-in-Lets-clause-ok : goal.constrain-returns-in-Lets-clause-ok
+constrain-returns-in-Lets-clause-ok t c = rw (term_lets c.args.exp.now c.in-Lets.lets c.in-Lets.body c.in-Lets.is) c.constrain_lets.ensures.ok
+
+pub constrain-returns-in-Lets-clause-err : goal.constrain-returns-in-Lets-clause-err
+constrain-returns-in-Lets-clause-err t c = rw (term_lets c.args.exp.now c.in-Lets.lets c.in-Lets.body c.in-Lets.is) c.constrain_lets.ensures.err
+
+pub constrain-constrain_lambda-requires : goal.constrain-constrain_lambda-requires
+constrain-constrain_lambda-requires t c = let e = ap (λ (x : FlatTerm). numbers x) (term_lambda c.args.exp.now c.in-Lambda.params c.in-Lambda.body c.in-Lambda.is) in (omega (arith, e), (c.requires.safe, subst (λ (x : FlatTerm). c.args.lo + numbers x ≤ c.args.base) (term_lambda c.args.exp.now c.in-Lambda.params c.in-Lambda.body c.in-Lambda.is) c.requires.room))
+
+pub constrain-returns-in-Lambda-clause-next : goal.constrain-returns-in-Lambda-clause-next
+constrain-returns-in-Lambda-clause-next t c = rw (term_lambda c.args.exp.now c.in-Lambda.params c.in-Lambda.body c.in-Lambda.is) c.constrain_lambda.ensures.next
+
+pub constrain-returns-in-Lambda-clause-ok : goal.constrain-returns-in-Lambda-clause-ok
+constrain-returns-in-Lambda-clause-ok t c = rw (term_lambda c.args.exp.now c.in-Lambda.params c.in-Lambda.body c.in-Lambda.is) c.constrain_lambda.ensures.ok
+
+pub constrain-returns-in-Lambda-clause-err : goal.constrain-returns-in-Lambda-clause-err
+constrain-returns-in-Lambda-clause-err t c = rw (term_lambda c.args.exp.now c.in-Lambda.params c.in-Lambda.body c.in-Lambda.is) c.constrain_lambda.ensures.err
+
+pub constrain_apply-returns-in-Err-clause-err : goal.constrain_apply-returns-in-Err-clause-err
+constrain_apply-returns-in-Err-clause-err t c = tells c.in-Err.error (refused_apply c.args.places c.args.base c.args.depth c.args.lo (term_of c.args.function.now) (term_of c.args.argument.now) c.args.inference.now c.constrain.new.inference) c.in-Err.ensures.err
+
+pub constrain_apply-constrain-requires-2 : goal.constrain_apply-constrain-requires-2
+constrain_apply-constrain-requires-2 t c = (omega arith, (c.in-Ok.ensures.ok.later.safe, omega (arith, c.requires.room, c.in-Ok.ensures.next)))
+
+pub constrain_apply-returns-in-Err-constrain-clause-err : goal.constrain_apply-returns-in-Err-constrain-clause-err
+constrain_apply-returns-in-Err-constrain-clause-err t c = tells c.in-Err-constrain.error (refused_apply2 c.args.places c.args.base c.args.depth c.args.lo c.in-Ok.next (term_of c.args.function.now) (term_of c.args.argument.now) c.args.inference.now c.constrain.new.inference c.constrain-2.new.inference c.requires.safe c.in-Ok.ensures.next c.in-Ok.ensures.ok) c.in-Err-constrain.ensures.err
+
+pub constrain_apply-demand-requires-clause-within : goal.constrain_apply-demand-requires-clause-within
+constrain_apply-demand-requires-clause-within t c = c.application.ensures.within _ c.args.base (below_two c.args.base _ _ _ (omega (arith, c.requires.room)) (omega (arith, c.requires.room, numbers_some (term_of c.args.function.now), numbers_some (term_of c.args.argument.now))) (omega (arith, c.requires.room, c.in-Ok.ensures.next, numbers_some (term_of c.args.argument.now))))
+
+pub constrain_apply-returns-in-Ok-demand-clause-ok : goal.constrain_apply-returns-in-Ok-demand-clause-ok
+constrain_apply-returns-in-Ok-demand-clause-ok t c = apply_ok c.args.places c.args.base c.args.depth c.args.lo c.in-Ok.next (term_of c.args.function.now) (term_of c.args.argument.now) c.args.inference.now c.constrain.new.inference c.constrain-2.new.inference c.demand.new.inference c.requires.safe c.in-Ok.ensures.next c.application.result c.application.ensures.says c.application.ensures.allowed c.in-Ok.ensures.ok c.in-Ok-constrain.ensures.ok c.in-Ok-demand.ensures.ok
+
+pub constrain_apply-returns-in-Err-demand-clause-err : goal.constrain_apply-returns-in-Err-demand-clause-err
+constrain_apply-returns-in-Err-demand-clause-err t c = tells c.in-Err-demand.error (apply_err3 c.args.places c.args.base c.args.depth c.args.lo c.in-Ok.next (term_of c.args.function.now) (term_of c.args.argument.now) c.args.inference.now c.constrain.new.inference c.constrain-2.new.inference c.demand.new.inference c.requires.safe c.in-Ok.ensures.next c.application.result c.application.ensures.says c.application.ensures.allowed c.in-Ok.ensures.ok c.in-Ok-constrain.ensures.ok) c.in-Err-demand.ensures.err
+
+pub constrain_if-returns-in-Err-clause-err : goal.constrain_if-returns-in-Err-clause-err
+constrain_if-returns-in-Err-clause-err t c = tells c.in-Err.error (refused_if c.args.places c.args.base c.args.depth c.args.lo (term_of c.args.test.now) (term_of c.args.yes.now) (term_of c.args.no.now) c.args.inference.now c.constrain.new.inference) c.in-Err.ensures.err
+
+pub constrain_if-returns-in-Err-constrain-clause-err : goal.constrain_if-returns-in-Err-constrain-clause-err
+constrain_if-returns-in-Err-constrain-clause-err t c = tells c.in-Err-constrain.error (refused_if2 c.args.places c.args.base c.args.depth c.args.lo c.in-Ok.next (term_of c.args.test.now) (term_of c.args.yes.now) (term_of c.args.no.now) c.args.inference.now c.constrain.new.inference c.constrain-2.new.inference c.requires.safe c.in-Ok.ensures.next c.in-Ok.ensures.ok) c.in-Err-constrain.ensures.err
+
+pub constrain_if-constrain-requires-2 : goal.constrain_if-constrain-requires-2
+constrain_if-constrain-requires-2 t c = (omega arith, (c.in-Ok.ensures.ok.later.safe, omega (arith, c.requires.room, c.in-Ok.ensures.next)))
+
+pub constrain_if-constrain-requires-3 : goal.constrain_if-constrain-requires-3
+constrain_if-constrain-requires-3 t c = (omega arith, (c.in-Ok-constrain.ensures.ok.later.safe, omega (arith, c.requires.room, c.in-Ok.ensures.next, c.in-Ok-constrain.ensures.next)))
+
+pub constrain_if-returns-in-Err-constrain-2-clause-err : goal.constrain_if-returns-in-Err-constrain-2-clause-err
+constrain_if-returns-in-Err-constrain-2-clause-err t c = tells c.in-Err-constrain-2.error (refused_if3 c.args.places c.args.base c.args.depth c.args.lo c.in-Ok.next c.in-Ok-constrain.next (term_of c.args.test.now) (term_of c.args.yes.now) (term_of c.args.no.now) c.args.inference.now c.constrain.new.inference c.constrain-2.new.inference c.constrain-3.new.inference c.requires.safe c.in-Ok.ensures.next (c.in-Ok-constrain.ensures.next ∙ ap (λ m. m + numbers (term_of c.args.yes.now)) c.in-Ok.ensures.next) c.in-Ok.ensures.ok c.in-Ok-constrain.ensures.ok) c.in-Err-constrain-2.ensures.err
+
+pub constrain_if-demand-requires-clause-within : goal.constrain_if-demand-requires-clause-within
+constrain_if-demand-requires-clause-within t c = c.choice.ensures.within _ c.args.base (below_four c.args.base _ _ _ _ (omega (arith, c.requires.room)) (omega (arith, c.requires.room, numbers_some (term_of c.args.test.now))) (omega (arith, c.requires.room, c.in-Ok.ensures.next, numbers_some (term_of c.args.yes.now))) (omega (arith, c.requires.room, c.in-Ok.ensures.next, c.in-Ok-constrain.ensures.next, numbers_some (term_of c.args.no.now))))
+
+pub constrain_if-returns-in-Ok-demand-clause-ok : goal.constrain_if-returns-in-Ok-demand-clause-ok
+constrain_if-returns-in-Ok-demand-clause-ok t c = if_ok c.args.places c.args.base c.args.depth c.args.lo c.in-Ok.next c.in-Ok-constrain.next (term_of c.args.test.now) (term_of c.args.yes.now) (term_of c.args.no.now) c.args.inference.now c.constrain.new.inference c.constrain-2.new.inference c.constrain-3.new.inference c.demand.new.inference c.requires.safe c.in-Ok.ensures.next (c.in-Ok-constrain.ensures.next ∙ ap (λ m. m + numbers (term_of c.args.yes.now)) c.in-Ok.ensures.next) c.choice.result c.choice.ensures.says c.choice.ensures.allowed c.in-Ok.ensures.ok c.in-Ok-constrain.ensures.ok c.in-Ok-constrain-2.ensures.ok c.in-Ok-demand.ensures.ok
+
+pub constrain_if-returns-in-Err-demand-clause-err : goal.constrain_if-returns-in-Err-demand-clause-err
+constrain_if-returns-in-Err-demand-clause-err t c = tells c.in-Err-demand.error (if_err4 c.args.places c.args.base c.args.depth c.args.lo c.in-Ok.next c.in-Ok-constrain.next (term_of c.args.test.now) (term_of c.args.yes.now) (term_of c.args.no.now) c.args.inference.now c.constrain.new.inference c.constrain-2.new.inference c.constrain-3.new.inference c.demand.new.inference c.requires.safe c.in-Ok.ensures.next (c.in-Ok-constrain.ensures.next ∙ ap (λ m. m + numbers (term_of c.args.yes.now)) c.in-Ok.ensures.next) c.choice.result c.choice.ensures.says c.choice.ensures.allowed c.in-Ok.ensures.ok c.in-Ok-constrain.ensures.ok c.in-Ok-constrain-2.ensures.ok) c.in-Err-demand.ensures.err
+
+pub constrain_parts-loop-part-init : goal.constrain_parts-loop-part-init
+constrain_parts-loop-part-init t c = gone_none c.args.places c.args.base c.args.depth c.args.lo c.args.begins.now c.args.inference.now c.requires.safe
+
+pub constrain_parts-constrain-requires : goal.constrain_parts-constrain-requires
+constrain_parts-constrain-requires t c = (falls_in c.args.parts.now c.loop-part.part-index _ t c.loop-part-test.true (omega arith), (c.loop-part.invariant.claimed.later.safe, room_in c.args.parts.now c.loop-part.part-index _ c.args.lo c.loop-part.at c.args.base c.loop-part-test.true c.loop-part.invariant.next c.requires.room))
+
+pub constrain_parts-returns-in-Err-constrain-clause-err : goal.constrain_parts-returns-in-Err-constrain-clause-err
+constrain_parts-returns-in-Err-constrain-clause-err t c = let w = at_place c.args.parts.now c.loop-part.part-index _ c.loop-part-test.true in tells c.in-Err-constrain.error (gone_refused c.args.places c.args.base c.args.depth c.args.lo c.loop-part.at (take c.loop-part.part-index c.args.parts.now) (slice_index_or c.args.parts.now c.loop-part.part-index _) c.args.begins.now c.loop-part.begins c.args.inference.now c.loop-part.inference c.constrain.new.inference c.requires.safe c.loop-part.invariant c.args.parts.now w.0 w.1) c.in-Err-constrain.ensures.err
+
+pub constrain_parts-loop-part-preserved : goal.constrain_parts-loop-part-preserved
+constrain_parts-loop-part-preserved t c = subst (λ (l : List Exp). Gone_over c.args.places c.args.base c.args.depth c.args.lo c.in-Ok-constrain.next l c.args.begins.now c.push.new.self c.args.inference.now c.constrain.new.inference) (take_more c.args.parts.now c.loop-part.part-index _ c.loop-part-test.true) (gone_more c.args.places c.args.base c.args.depth c.args.lo c.loop-part.at (take c.loop-part.part-index c.args.parts.now) (slice_index_or c.args.parts.now c.loop-part.part-index _) c.args.begins.now c.loop-part.begins c.args.inference.now c.loop-part.inference c.constrain.new.inference c.requires.safe c.loop-part.invariant c.in-Ok-constrain.next c.push.new.self c.in-Ok.ensures.ok c.in-Ok-constrain.ensures.next c.in-Ok-constrain.ensures.ok)
+
+pub constrain_strict-returns-in-Err-clause-err : goal.constrain_strict-returns-in-Err-clause-err
+constrain_strict-returns-in-Err-clause-err t c = tells c.in-Err.error (refused_strict c.args.places c.args.base c.args.depth c.args.lo (c.args.lo + c.own_numbers_of.result) (operation_of c.args.act.now) c.args.mark (terms (map term_of c.args.parts.now)) c.args.inference.now c.constrain_parts.new.inference c.requires.safe (ap (λ n. c.args.lo + n) c.own_numbers_of.ensures)) c.in-Err.ensures.err
+
+pub constrain_strict-constrain_rule-requires-clause-parts : goal.constrain_strict-constrain_rule-requires-clause-parts
+constrain_strict-constrain_rule-requires-clause-parts t c = subst (λ l. Each (λ n. n < c.args.base) l) (sym (c.as_slice.ensures ∙ c.in-Ok.ensures.begins ∙ ap (λ l. l ++ starts (terms (map term_of c.args.parts.now)) (c.args.lo + c.own_numbers_of.result)) c.new-begins.ensures)) (starts_below c.args.base (terms (map term_of c.args.parts.now)) (c.args.lo + c.own_numbers_of.result) (omega (arith, c.requires.room, c.own_numbers_of.ensures)))
+
+pub constrain_strict-returns-in-Ok-constrain_rule-clause-ok : goal.constrain_strict-returns-in-Ok-constrain_rule-clause-ok
+constrain_strict-returns-in-Ok-constrain_rule-clause-ok t c = strict_ok c.args.places c.args.base c.args.depth c.args.lo (c.args.lo + c.own_numbers_of.result) (operation_of c.args.act.now) c.args.mark (terms (map term_of c.args.parts.now)) c.args.inference.now c.constrain_parts.new.inference c.constrain_rule.new.inference c.requires.safe (ap (λ n. c.args.lo + n) c.own_numbers_of.ensures) c.as_slice.result.now (c.as_slice.ensures ∙ c.in-Ok.ensures.begins ∙ ap (λ l. l ++ starts (terms (map term_of c.args.parts.now)) (c.args.lo + c.own_numbers_of.result)) c.new-begins.ensures) c.in-Ok.ensures.ok (c.in-Ok-constrain_rule.ensures.ok (c.args.lo + c.own_numbers_of.result + all_numbers (terms (map term_of c.args.parts.now))) (omega (arith, own_some (operation_of c.args.act.now), c.own_numbers_of.ensures)))
+
+pub constrain_strict-returns-clause-err : goal.constrain_strict-returns-clause-err
+constrain_strict-returns-clause-err t c = tells c.in-Err-constrain_rule.error (λ r. strict_err2 c.args.places c.args.base c.args.depth c.args.lo (c.args.lo + c.own_numbers_of.result) (operation_of c.args.act.now) c.args.mark (terms (map term_of c.args.parts.now)) c.args.inference.now c.constrain_parts.new.inference c.constrain_rule.new.inference c.requires.safe (ap (λ n. c.args.lo + n) c.own_numbers_of.ensures) c.as_slice.result.now (c.as_slice.ensures ∙ c.in-Ok.ensures.begins ∙ ap (λ l. l ++ starts (terms (map term_of c.args.parts.now)) (c.args.lo + c.own_numbers_of.result)) c.new-begins.ensures) c.in-Ok.ensures.ok (r (c.args.lo + c.own_numbers_of.result + all_numbers (terms (map term_of c.args.parts.now))) (omega (arith, own_some (operation_of c.args.act.now), c.own_numbers_of.ensures)))) c.in-Err-constrain_rule.ensures.err
+
+pub constrain_lambda-returns-in-Err-clause-err : goal.constrain_lambda-returns-in-Err-clause-err
+constrain_lambda-returns-in-Err-clause-err t c = tells c.in-Err.error (lambda_err1 c.args.places c.args.base c.args.depth c.args.lo (1 + c.args.lo + all_pattern_numbers (patterns (map pattern_of c.args.params.now))) (patterns (map pattern_of c.args.params.now)) (term_of c.args.body.now) refl c.args.inference.now c.constrain_parameters.new.inference) c.in-Err.ensures.err
+
+pub constrain_lambda-constrain-requires : goal.constrain_lambda-constrain-requires
+constrain_lambda-constrain-requires t c = (omega arith, (c.in-Ok.ensures.ok.later.safe, omega (arith, c.requires.room, c.in-Ok.ensures.next)))
+
+pub constrain_lambda-returns-in-Err-constrain-clause-err : goal.constrain_lambda-returns-in-Err-constrain-clause-err
+constrain_lambda-returns-in-Err-constrain-clause-err t c = tells c.in-Err-constrain.error (lambda_err2 c.args.places c.args.base c.args.depth c.args.lo c.in-Ok.next (patterns (map pattern_of c.args.params.now)) (term_of c.args.body.now) c.in-Ok.ensures.next c.args.inference.now c.constrain_parameters.new.inference c.in-Ok.ensures.ok c.constrain.new.inference) c.in-Err-constrain.ensures.err
+
+pub constrain_lambda-constrain_arrows-requires-clause-params : goal.constrain_lambda-constrain_arrows-requires-clause-params
+constrain_lambda-constrain_arrows-requires-clause-params t c = subst (λ l. Each (λ n. n < c.args.base) l) (sym (c.as_slice.ensures ∙ c.in-Ok.ensures.begins ∙ ap (λ l. l ++ pattern_starts (patterns (map pattern_of c.args.params.now)) (1 + c.args.lo)) c.new-begins.ensures)) (pattern_starts_below c.args.base (patterns (map pattern_of c.args.params.now)) (1 + c.args.lo) (omega (arith, c.requires.room)))
+
+pub constrain_lambda-constrain_arrows-requires-clause-body : goal.constrain_lambda-constrain_arrows-requires-clause-body
+constrain_lambda-constrain_arrows-requires-clause-body t c = omega (arith, c.requires.room, c.in-Ok.ensures.next, numbers_some (term_of c.args.body.now))
+
+pub constrain_lambda-returns-in-Ok-constrain_arrows-clause-ok : goal.constrain_lambda-returns-in-Ok-constrain_arrows-clause-ok
+constrain_lambda-returns-in-Ok-constrain_arrows-clause-ok t c = lambda_ok c.args.places c.args.base c.args.depth c.args.lo c.in-Ok.next (patterns (map pattern_of c.args.params.now)) (term_of c.args.body.now) c.in-Ok.ensures.next c.args.inference.now c.constrain_parameters.new.inference c.in-Ok.ensures.ok c.constrain.new.inference c.take_back.new.inference c.requires.safe c.in-Ok-constrain.ensures.ok (λ before added e l. c.take_back.ensures before added e (l ∙ sym c.mark_of-mark.ensures)) c.constrain_arrows.new.inference c.as_slice.result.now (c.as_slice.ensures ∙ c.in-Ok.ensures.begins ∙ ap (λ l. l ++ pattern_starts (patterns (map pattern_of c.args.params.now)) (1 + c.args.lo)) c.new-begins.ensures) c.in-Ok-constrain_arrows.ensures.ok
+
+pub constrain_lambda-returns-clause-err : goal.constrain_lambda-returns-clause-err
+constrain_lambda-returns-clause-err t c = tells c.in-Err-constrain_arrows.error (lambda_err3 c.args.places c.args.base c.args.depth c.args.lo c.in-Ok.next (patterns (map pattern_of c.args.params.now)) (term_of c.args.body.now) c.in-Ok.ensures.next c.args.inference.now c.constrain_parameters.new.inference c.in-Ok.ensures.ok c.constrain.new.inference c.take_back.new.inference c.requires.safe c.in-Ok-constrain.ensures.ok (λ before added e l. c.take_back.ensures before added e (l ∙ sym c.mark_of-mark.ensures)) c.constrain_arrows.new.inference c.as_slice.result.now (c.as_slice.ensures ∙ c.in-Ok.ensures.begins ∙ ap (λ l. l ++ pattern_starts (patterns (map pattern_of c.args.params.now)) (1 + c.args.lo)) c.new-begins.ensures)) c.in-Err-constrain_arrows.ensures.err
+
+pub constrain_lets-constrain_rows-requires : goal.constrain_lets-constrain_rows-requires
+constrain_lets-constrain_rows-requires t c = (omega (arith, numbers_lets (map row_of c.args.lets.now) (term_of c.args.body.now), numbers_some (term_of c.args.body.now)), (c.requires.safe, omega (arith, c.requires.room, numbers_lets (map row_of c.args.lets.now) (term_of c.args.body.now), behind_from (map row_of c.args.lets.now) c.args.lo)))
+
+pub constrain_lets-returns-in-Err-clause-err : goal.constrain_lets-returns-in-Err-clause-err
+constrain_lets-returns-in-Err-clause-err t c = tells c.in-Err.error (lets_err1 c.args.places c.args.base c.args.depth c.args.lo (behind_all (map row_of c.args.lets.now) c.args.lo) (map row_of c.args.lets.now) (term_of c.args.body.now) refl c.args.inference.now c.constrain_rows.new.inference) c.in-Err.ensures.err
+
+pub constrain_lets-constrain-requires : goal.constrain_lets-constrain-requires
+constrain_lets-constrain-requires t c = (omega (arith, numbers_lets (map row_of c.args.lets.now) (term_of c.args.body.now), (some_rows c.args.lets.now (omega (arith, c.if-lets-eq0.false)))), (c.in-Ok.ensures.ok.later.safe, omega (arith, c.requires.room, c.in-Ok.ensures.next, numbers_lets (map row_of c.args.lets.now) (term_of c.args.body.now), behind_from (map row_of c.args.lets.now) c.args.lo)))
+
+pub constrain_lets-returns-in-Err-constrain-clause-err : goal.constrain_lets-returns-in-Err-constrain-clause-err
+constrain_lets-returns-in-Err-constrain-clause-err t c = tells c.in-Err-constrain.error (lets_err2 c.args.places c.args.base c.args.depth c.args.lo c.in-Ok.next (map row_of c.args.lets.now) (term_of c.args.body.now) c.in-Ok.ensures.next c.args.inference.now c.constrain_rows.new.inference c.in-Ok.ensures.ok c.constrain.new.inference) c.in-Err-constrain.ensures.err
+
+pub constrain_lets-constrain_chain-requires-clause-numbers : goal.constrain_lets-constrain_chain-requires-clause-numbers
+constrain_lets-constrain_chain-requires-clause-numbers t c = subst (λ l. Each (λ n. n < c.args.base) l) (sym (c.as_slice.ensures ∙ c.in-Ok.ensures.begins ∙ ap (λ l. l ++ row_starts (map row_of c.args.lets.now) c.args.lo) c.new-begins.ensures)) (row_starts_below c.args.base (map row_of c.args.lets.now) c.args.lo (omega (arith, c.requires.room, numbers_lets (map row_of c.args.lets.now) (term_of c.args.body.now), behind_from (map row_of c.args.lets.now) c.args.lo)))
+
+pub constrain_lets-constrain_chain-requires-clause-last : goal.constrain_lets-constrain_chain-requires-clause-last
+constrain_lets-constrain_chain-requires-clause-last t c = omega (arith, c.requires.room, c.in-Ok.ensures.next, numbers_lets (map row_of c.args.lets.now) (term_of c.args.body.now), behind_from (map row_of c.args.lets.now) c.args.lo, numbers_some (term_of c.args.body.now))
+
+pub constrain_lets-returns-in-Err-constrain_chain-clause-err : goal.constrain_lets-returns-in-Err-constrain_chain-clause-err
+constrain_lets-returns-in-Err-constrain_chain-clause-err t c = tells c.in-Err-constrain_chain.error (lets_err3 c.args.places c.args.base c.args.depth c.args.lo c.in-Ok.next (map row_of c.args.lets.now) (term_of c.args.body.now) c.in-Ok.ensures.next c.args.inference.now c.constrain_rows.new.inference c.in-Ok.ensures.ok c.constrain.new.inference c.in-Ok-constrain.ensures.ok c.as_slice.result.now (c.as_slice.ensures ∙ c.in-Ok.ensures.begins ∙ ap (λ l. l ++ row_starts (map row_of c.args.lets.now) c.args.lo) c.new-begins.ensures) c.constrain_chain.new.inference) c.in-Err-constrain_chain.ensures.err
+
+pub constrain_lets-returns-clause-next : goal.constrain_lets-returns-clause-next
+constrain_lets-returns-clause-next t c = omega (arith, c.in-Ok-constrain.ensures.next, c.in-Ok.ensures.next, numbers_lets (map row_of c.args.lets.now) (term_of c.args.body.now), behind_from (map row_of c.args.lets.now) c.args.lo)
+
+pub constrain_lets-returns-clause-ok : goal.constrain_lets-returns-clause-ok
+constrain_lets-returns-clause-ok t c = lets_ok c.args.places c.args.base c.args.depth c.args.lo c.in-Ok.next (map row_of c.args.lets.now) (term_of c.args.body.now) c.in-Ok.ensures.next c.args.inference.now c.constrain_rows.new.inference c.in-Ok.ensures.ok c.constrain.new.inference c.in-Ok-constrain.ensures.ok c.as_slice.result.now (c.as_slice.ensures ∙ c.in-Ok.ensures.begins ∙ ap (λ l. l ++ row_starts (map row_of c.args.lets.now) c.args.lo) c.new-begins.ensures) c.constrain_chain.new.inference c.take_back.new.inference c.requires.safe c.in-Ok-constrain_chain.ensures.ok (λ before added e l. c.take_back.ensures before added e (l ∙ sym c.mark_of-mark.ensures))
+
+pub constrain_rows-loop-one-init : goal.constrain_rows-loop-one-init
+constrain_rows-loop-one-init t c = lets_none c.args.places c.args.base c.args.depth c.args.lo c.args.begins.now c.args.inference.now c.requires.safe
+
+pub constrain_rows-constrain_row-requires : goal.constrain_rows-constrain_row-requires
+constrain_rows-constrain_row-requires t c = (row_falls c.args.lets.now c.loop-one.one-index _ t c.loop-one-test.true (omega arith), (c.loop-one.invariant.opened.later.safe, row_room c.args.lets.now c.loop-one.one-index _ c.args.lo c.loop-one.at c.args.base c.loop-one-test.true c.loop-one.invariant.next c.requires.room))
+
+pub constrain_rows-returns-in-Err-constrain_row-clause-err : goal.constrain_rows-returns-in-Err-constrain_row-clause-err
+constrain_rows-returns-in-Err-constrain_row-clause-err t c = let w = row_split c.args.lets.now c.loop-one.one-index _ c.loop-one-test.true in tells c.in-Err-constrain_row.error (lets_refused c.args.places c.args.base c.args.depth c.args.lo c.loop-one.at (map row_of (take c.loop-one.one-index c.args.lets.now)) _ c.args.begins.now c.loop-one.begins c.args.inference.now c.loop-one.inference c.constrain_row.new.inference c.loop-one.invariant (map row_of c.args.lets.now) w.0 w.1) c.in-Err-constrain_row.ensures.err
+
+pub constrain_rows-loop-one-preserved : goal.constrain_rows-loop-one-preserved
+constrain_rows-loop-one-preserved t c = subst (λ l. Lets_open c.args.places c.args.base c.args.depth c.args.lo c.in-Ok-constrain_row.next l c.args.begins.now c.push.new.self c.args.inference.now c.constrain_row.new.inference) (row_more c.args.lets.now c.loop-one.one-index _ c.loop-one-test.true) (lets_more c.args.places c.args.base c.args.depth c.args.lo c.loop-one.at (map row_of (take c.loop-one.one-index c.args.lets.now)) _ c.args.begins.now c.loop-one.begins c.args.inference.now c.loop-one.inference c.constrain_row.new.inference c.loop-one.invariant c.in-Ok-constrain_row.next c.push.new.self c.in-Ok.ensures.ok c.in-Ok-constrain_row.ensures.next c.in-Ok-constrain_row.ensures.ok)
+
+pub constrain_rows-returns-clause-ok : goal.constrain_rows-returns-clause-ok
+constrain_rows-returns-clause-ok t c = subst (λ l. Opened c.args.places c.args.base c.args.depth c.args.lo (behind_all (map row_of l) c.args.lo) (Rows_claim c.args.places (map row_of l) c.args.lo) (Rows_homes c.args.depth (map row_of l) c.args.lo) (env_rows (map row_of l) c.args.lo) c.args.inference.now c.loop-one.inference) (take_all c.args.lets.now c.loop-one.one-index c.loop-one-test.false) c.loop-one.invariant.opened
+
+pub constrain_row-constrain_value-requires : goal.constrain_row-constrain_value-requires
+constrain_row-constrain_value-requires t c = let e = ap (λ (l : Row). behind l 0) (value_is c.args.one.now c.if-one.false (omega (arith, c.if-one-gt0.false))) in (omega (arith, e), (c.requires.safe, subst (λ (l : Row). behind l c.args.lo ≤ c.args.base) (value_is c.args.one.now c.if-one.false (omega (arith, c.if-one-gt0.false))) c.requires.room))
+
+pub constrain_row-returns-clause-next : goal.constrain_row-returns-clause-next
+constrain_row-returns-clause-next t c = rw (value_is c.args.one.now c.if-one.false (omega (arith, c.if-one-gt0.false))) c.constrain_value.ensures.next
+
+pub constrain_row-returns-clause-ok : goal.constrain_row-returns-clause-ok
+constrain_row-returns-clause-ok t c = rw (value_is c.args.one.now c.if-one.false (omega (arith, c.if-one-gt0.false))) c.constrain_value.ensures.ok
+
+pub constrain_row-returns-clause-err : goal.constrain_row-returns-clause-err
+constrain_row-returns-clause-err t c = rw (value_is c.args.one.now c.if-one.false (omega (arith, c.if-one-gt0.false))) c.constrain_value.ensures.err
+
+pub constrain_value-returns-in-Err-constrain_pattern-clause-err : goal.constrain_value-returns-in-Err-constrain_pattern-clause-err
+constrain_value-returns-in-Err-constrain_pattern-clause-err t c = tells c.in-Err-constrain_pattern.error (value_err1 c.args.places c.args.base c.args.depth c.args.lo (1 + c.args.lo + pattern_numbers (pattern_of c.args.pat.now)) c.args.sizes.now (pattern_of c.args.pat.now) (term_of c.args.value.now) refl c.args.inference.now c.enter_sizes.new.inference (c.in-Ok.ensures.ok (1 + c.args.lo)) c.constrain_pattern.new.inference) c.in-Err-constrain_pattern.ensures.err
+
+pub constrain_value-constrain-requires : goal.constrain_value-constrain-requires
+constrain_value-constrain-requires t c = (omega arith, ((pattern_claimed c.args.places c.args.base c.args.depth c.args.lo c.in-Ok-constrain_pattern.next c.args.sizes.now (pattern_of c.args.pat.now) (term_of c.args.value.now) c.in-Ok-constrain_pattern.ensures.next c.args.inference.now c.enter_sizes.new.inference (c.in-Ok.ensures.ok (1 + c.args.lo)) c.constrain_pattern.new.inference c.take_back.new.inference c.requires.safe c.in-Ok-constrain_pattern.ensures.ok (λ before added e l. c.take_back.ensures before added e (l ∙ sym c.mark_of-mark.ensures))).later.safe, omega (arith, c.requires.room, c.in-Ok-constrain_pattern.ensures.next)))
+
+pub constrain_value-returns-in-Err-constrain-clause-err : goal.constrain_value-returns-in-Err-constrain-clause-err
+constrain_value-returns-in-Err-constrain-clause-err t c = tells c.in-Err-constrain.error (value_err2 c.args.places c.args.base c.args.depth c.args.lo c.in-Ok-constrain_pattern.next c.args.sizes.now (pattern_of c.args.pat.now) (term_of c.args.value.now) c.in-Ok-constrain_pattern.ensures.next c.args.inference.now c.take_back.new.inference c.requires.safe (pattern_claimed c.args.places c.args.base c.args.depth c.args.lo c.in-Ok-constrain_pattern.next c.args.sizes.now (pattern_of c.args.pat.now) (term_of c.args.value.now) c.in-Ok-constrain_pattern.ensures.next c.args.inference.now c.enter_sizes.new.inference (c.in-Ok.ensures.ok (1 + c.args.lo)) c.constrain_pattern.new.inference c.take_back.new.inference c.requires.safe c.in-Ok-constrain_pattern.ensures.ok (λ before added e l. c.take_back.ensures before added e (l ∙ sym c.mark_of-mark.ensures))) c.constrain.new.inference) c.in-Err-constrain.ensures.err
+
+pub constrain_value-demand-requires-clause-within : goal.constrain_value-demand-requires-clause-within
+constrain_value-demand-requires-clause-within t c = same_within c.constrain.new.inference.table c.args.base (1 + c.args.lo) c.in-Ok-constrain_pattern.next (omega (arith, c.requires.room, c.in-Ok-constrain_pattern.ensures.next, numbers_some (term_of c.args.value.now))) (omega (arith, c.requires.room, c.in-Ok-constrain_pattern.ensures.next, numbers_some (term_of c.args.value.now)))
+
+pub constrain_value-returns-in-Err-demand-clause-err : goal.constrain_value-returns-in-Err-demand-clause-err
+constrain_value-returns-in-Err-demand-clause-err t c = tells c.in-Err-demand.error (value_err3 c.args.places c.args.base c.args.depth c.args.lo c.in-Ok-constrain_pattern.next c.args.sizes.now (pattern_of c.args.pat.now) (term_of c.args.value.now) c.in-Ok-constrain_pattern.ensures.next c.args.inference.now c.take_back.new.inference c.requires.safe (pattern_claimed c.args.places c.args.base c.args.depth c.args.lo c.in-Ok-constrain_pattern.next c.args.sizes.now (pattern_of c.args.pat.now) (term_of c.args.value.now) c.in-Ok-constrain_pattern.ensures.next c.args.inference.now c.enter_sizes.new.inference (c.in-Ok.ensures.ok (1 + c.args.lo)) c.constrain_pattern.new.inference c.take_back.new.inference c.requires.safe c.in-Ok-constrain_pattern.ensures.ok (λ before added e l. c.take_back.ensures before added e (l ∙ sym c.mark_of-mark.ensures))) c.constrain.new.inference c.in-Ok-constrain.ensures.ok (demand.Same (1 + c.args.lo) c.in-Ok-constrain_pattern.next ∷ []) (same_says (1 + c.args.lo) c.in-Ok-constrain_pattern.next) (same_allowed (1 + c.args.lo) c.in-Ok-constrain_pattern.next) c.demand.new.inference) c.in-Err-demand.ensures.err
+
+pub constrain_value-enter_sizes-requires-2 : goal.constrain_value-enter_sizes-requires-2
+constrain_value-enter_sizes-requires-2 t c = record { safe = (c.in-Ok-demand.ensures.ok c.args.places 0 0).later.safe }
+
+pub constrain_value-returns-in-Ok-enter_pattern-clause-ok : goal.constrain_value-returns-in-Ok-enter_pattern-clause-ok
+constrain_value-returns-in-Ok-enter_pattern-clause-ok t c = value_ok c.args.places c.args.base c.args.depth c.args.lo c.in-Ok-constrain_pattern.next c.args.sizes.now (pattern_of c.args.pat.now) (term_of c.args.value.now) c.in-Ok-constrain_pattern.ensures.next c.args.inference.now c.take_back.new.inference c.requires.safe (pattern_claimed c.args.places c.args.base c.args.depth c.args.lo c.in-Ok-constrain_pattern.next c.args.sizes.now (pattern_of c.args.pat.now) (term_of c.args.value.now) c.in-Ok-constrain_pattern.ensures.next c.args.inference.now c.enter_sizes.new.inference (c.in-Ok.ensures.ok (1 + c.args.lo)) c.constrain_pattern.new.inference c.take_back.new.inference c.requires.safe c.in-Ok-constrain_pattern.ensures.ok (λ before added e l. c.take_back.ensures before added e (l ∙ sym c.mark_of-mark.ensures))) c.constrain.new.inference c.in-Ok-constrain.ensures.ok (demand.Same (1 + c.args.lo) c.in-Ok-constrain_pattern.next ∷ []) (same_says (1 + c.args.lo) c.in-Ok-constrain_pattern.next) (same_allowed (1 + c.args.lo) c.in-Ok-constrain_pattern.next) c.demand.new.inference c.enter_sizes-2.new.inference c.enter_pattern.new.inference c.in-Ok-demand.ensures.ok c.in-Ok-enter_sizes.ensures.ok c.in-Ok-enter_pattern.ensures.ok

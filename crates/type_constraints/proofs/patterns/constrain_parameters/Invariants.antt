@@ -1,0 +1,7 @@
+use Rattle.std.proofs.Common.{map, take}
+use Rattle.fut_flat.specs.Erased.{pattern_of}
+use Rattle.type_constraints.proofs.Functions.{Row_open}
+use Rattle.type_constraints.proofs.patterns.constrain_parameters.Given as goal
+
+abbrev pub invariant-loop-param : goal.invariant-loop-param
+invariant-loop-param l = Row_open l.places l.base l.depth l.lo l.at (map pattern_of (take l.param-index l.params)) l.fn.begins l.begins l.fn.inference l.inference

@@ -1,0 +1,105 @@
+-- What the parts of an expression claim of the types of its numbers.
+use Rattle.std.specs.Prelude.{◌≡◌, ℕ, ◌+◌, false, List, [], ◌∷◌}
+use Rattle.fut_scalar.specs.declared.place.BindId.{BindId}
+use Rattle.fut_scalar.specs.declared.place.Place.{Place}
+use Rattle.fut_types.specs.declared.Kind.{Kind}
+use Rattle.fut_flat.specs.declared.prim.Ref.{Ref}
+use Rattle.fut_flat.specs.Terms.{Patterns, no_pattern, pattern_and, Operation, Use, Terms, no_term, term_and}
+use Rattle.fut_flat.specs.Numbers.{pattern_numbers, own_numbers, numbers}
+use Rattle.fut_flat.specs.Erased.{FlatTerm, FlatPattern, Row}
+use Rattle.fut_types.specs.Types.{Sub}
+use Rattle.fut_typing.specs.Rules.{Rule, Written}
+use Rattle.fut_typing.specs.Free.{differs}
+use Rattle.fut_typing.specs.Homes.{Env, env_bound, At_home, home_in, Homed, All_homed}
+use Rattle.fut_typing.specs.Rows.{behind, row_scheme, with_row, Row_homed, Rows_homed}
+use Rattle.fut_typing.specs.Patterns.{Pattern_typed, Parameters_typed}
+use Rattle.fut_typing.specs.Typing.{operand, Function_name, Let_typed, Typed, All_typed}
+use Rattle.type_claims.specs.Claims.{types_of}
+use Rattle.type_scopes.specs.declared.Inference.{Inference}
+use Rattle.type_scopes.specs.Scopes.{Claim, Homes, Claimed, Refused}
+
+-- a use of a name, as a term
+abbrev pub use_term : Ref → Place → ℕ → FlatTerm
+use_term r at k = Use r at k
+
+abbrev pub Term_claim : Kind → FlatTerm → ℕ → Claim
+Term_claim places t lo N scope = Typed N places t lo scope
+
+abbrev pub Term_homes : ℕ → FlatTerm → ℕ → Homes
+Term_homes d t lo home = (w : ℕ) × Homed home d w t lo
+
+-- the rules of all numbers of a term are put in
+abbrev pub Constrained : Kind → ℕ → ℕ → ℕ → FlatTerm → Inference → Inference → Type 0
+Constrained places base d lo t i i' = Claimed places base d lo (Term_claim places t lo) (Term_homes d t lo) i i'
+
+-- no types that are possible meet them
+abbrev pub Unconstrained : Kind → ℕ → ℕ → ℕ → FlatTerm → Inference → Inference → Type 0
+Unconstrained places base d lo t i i' = Refused places base d lo (Term_claim places t lo) (Term_homes d t lo) i i'
+
+-- the same of terms in a row
+abbrev pub Terms_claim : Kind → Terms Ref BindId → ℕ → Claim
+Terms_claim places ts lo N scope = All_typed N places ts lo scope
+
+abbrev pub Terms_homes : ℕ → Terms Ref BindId → ℕ → Homes
+Terms_homes d ts lo home = (w : ℕ) × All_homed home d w ts lo
+
+-- where the numbers of terms in a row begin
+unfoldable pub starts : Terms Ref BindId → ℕ → List ℕ
+starts no_term lo = []
+starts (term_and t ts) lo = lo ∷ starts ts (lo + numbers t)
+
+-- the rule of an operation on parts of these numbers
+abbrev pub Rule_claim : Kind → Operation Ref BindId → ℕ → List ℕ → Claim
+Rule_claim places o lo parts N scope K a = Rule N places K o (a lo) (a (operand o lo)) (types_of a parts) × Written N places K o scope a (a lo)
+
+abbrev pub Rule_homes : ℕ → Operation Ref BindId → ℕ → Homes
+Rule_homes d o lo home = (w : ℕ) × At_home home (home_in (differs o) d w) lo (own_numbers o)
+
+abbrev pub Pattern_claim : Kind → FlatPattern → ℕ → Claim
+Pattern_claim places p lo N scope K a = Pattern_typed N places K a p lo scope
+
+-- each parameter sees the names of those before it
+abbrev pub Parameters_claim : Kind → Patterns Ref BindId → ℕ → Claim
+Parameters_claim places ps lo N scope K a = Parameters_typed N places K a ps lo scope
+
+-- where the numbers of patterns in a row begin
+unfoldable pub pattern_starts : Patterns Ref BindId → ℕ → List ℕ
+pattern_starts no_pattern lo = []
+pattern_starts (pattern_and p ps) lo = lo ∷ pattern_starts ps (lo + pattern_numbers p)
+
+-- a let that is not written as a function
+abbrev pub value_row : List BindId → FlatPattern → FlatTerm → Row
+value_row sizes p v = (record { sizes = sizes; parameters = []; is_function = false; pattern = p }, v)
+
+-- what a let says of its pattern and value: all but that its whole has the type of what stands behind it
+abbrev pub Row_claim : Kind → Row → ℕ → Claim
+Row_claim places l lo N scope K a = Let_typed N places l.0.is_function (Function_name l.0.sizes l.0.pattern) (row_scheme N places l lo scope) K a
+
+abbrev pub Row_homes : ℕ → Row → ℕ → Homes
+Row_homes d l lo home = (w : ℕ) × Row_homed home d w l lo
+
+-- what stands in scope behind a let
+abbrev pub env_row : Row → ℕ → Env → Env
+env_row l lo E = env_bound l.0.is_function l.0 l.1 (1 + lo) E
+
+unfoldable pub Rows_claim : Kind → List Row → ℕ → Claim
+Rows_claim places [] lo N scope K a = Unit {0}
+Rows_claim places (l ∷ ls) lo N scope K a = Row_claim places l lo N scope K a × Rows_claim places ls (behind l lo) N (with_row N places l lo scope) K a
+
+abbrev pub Rows_homes : ℕ → List Row → ℕ → Homes
+Rows_homes d ls lo home = (w : ℕ) × Rows_homed home d w ls lo
+
+-- where the numbers of lets in a row begin
+unfoldable pub row_starts : List Row → ℕ → List ℕ
+row_starts [] lo = []
+row_starts (l ∷ ls) lo = lo ∷ row_starts ls (behind l lo)
+
+-- the first of these numbers, or else the last
+abbrev pub first_of : List ℕ → ℕ → ℕ
+first_of [] last = last
+first_of (n ∷ ns) last = n
+
+-- these numbers and the last have one type
+unfoldable pub Chained : Sub → List ℕ → ℕ → Type 0
+Chained a [] last = Unit {0}
+Chained a (n ∷ ns) last = (a n ≡ a (first_of ns last)) × Chained a ns last

@@ -1,0 +1,437 @@
+// Expressions.
+ghost use Rattle.std.specs.Prelude.{◌≡◌, ◌≤◌, ◌<◌, ◌+◌, ◌++◌, ℕ, map, OnOk, IfOk, IfErr};
+ghost use Rattle.fut_flat.specs.Terms.{Apply, If, Lambda, Strict};
+ghost use Rattle.fut_flat.specs.Numbers.{all_numbers, numbers};
+ghost use Rattle.fut_flat.specs.Erased.{lets as lets_term, operation_of, pattern_of, patterns, term_of, terms};
+ghost use Rattle.fut_flat.proofs.ErasedForms.{row_of};
+ghost use Rattle.fut_typing.specs.Rows.{behind, behind_all, env_rows};
+ghost use Rattle.type_graph.specs.Graph.{Each, Tells};
+ghost use Rattle.type_scopes.specs.Scopes.{Claimed, Opened, Refused, Safe};
+ghost use Rattle.type_constraints.specs.Parts.{Constrained, Row_claim, Row_homes, Rows_claim, Rows_homes, Terms_claim, Terms_homes, Unconstrained, env_row, row_starts, starts, use_term, value_row};
+
+use crate::operations::{constrain_rule, own_numbers_of};
+use crate::patterns::{constrain_arrows, constrain_chain, constrain_parameters, constrain_pattern};
+use crate::uses::use_name;
+use fut_flat::{Act, Exp, Form, Let, Pat, Ref};
+use fut_scalar::{BindId, List, Place};
+use fut_types::Kind;
+use std::alloc::Global;
+use type_graph::UnifyErr;
+use type_rules::{Demand, application, choice};
+use type_scopes::{Inference, demand, enter_pattern, enter_sizes, mark_of, take_back};
+
+/// Asks for the rules of all numbers of an expression, which begin at `lo`. The answer is where they end.
+#[cycle(constrain)]
+pub fn constrain(
+    alloc: Global,
+    places: Kind,
+    base: u32,
+    exp: &Exp<'_>,
+    depth: u32,
+    lo: u32,
+    inference: &mut Inference,
+) -> Result<u32, UnifyErr>
+    requires safe { Safe base inference.old }
+    requires room { lo + numbers (term_of exp.now) ≤ base }
+    ensures next { IfOk result (λ next. next ≡ lo + numbers (term_of exp.now)) }
+    ensures ok { OnOk result (Constrained places base depth lo (term_of exp.now) inference.old inference.new) }
+    ensures err { IfErr result (Tells (Unconstrained places base depth lo (term_of exp.now) inference.old inference.new)) }
+{
+    match exp.form {
+        Form::Use(reference, before) => constrain_use(
+            alloc, places, base, reference, exp.place, before, depth, lo, inference,
+        ),
+        Form::Strict { act, mark, parts } => {
+            constrain_strict(alloc, places, base, &act, mark, parts, depth, lo, inference)
+        }
+        Form::Lambda(params, body) => {
+            constrain_lambda(alloc, places, base, params, body, depth, lo, inference)
+        }
+        Form::Apply(function, argument) => {
+            constrain_apply(
+                alloc, places, base, function, argument, depth, lo, inference,
+            )
+        }
+        Form::Lets(lets, body) => {
+            constrain_lets(alloc, places, base, lets, body, depth, lo, inference)
+        }
+        Form::If(test, yes, no) => {
+            constrain_if(alloc, places, base, test, yes, no, depth, lo, inference)
+        }
+        Form::Loop(_) => Err(UnifyErr::Memory),
+    }
+}
+
+// A use of a name, behind names of modules.
+fn constrain_use(
+    alloc: Global,
+    places: Kind,
+    base: u32,
+    reference: Ref,
+    place: Place,
+    before: u32,
+    depth: u32,
+    lo: u32,
+    inference: &mut Inference,
+) -> Result<u32, UnifyErr>
+    requires safe { Safe base inference.old }
+    requires room { lo + numbers (use_term reference place before) ≤ base }
+    ensures next { IfOk result (λ next. next ≡ lo + numbers (use_term reference place before)) }
+    ensures ok { OnOk result (Constrained places base depth lo (use_term reference place before) inference.old inference.new) }
+    ensures err { IfErr result (Tells (Unconstrained places base depth lo (use_term reference place before) inference.old inference.new)) }
+{
+    let _place = place;
+    let _depth = depth;
+    match use_name(alloc, places, base, reference, lo, inference) {
+        Ok(()) => Ok(lo + (1 + (before + before))),
+        Err(error) => Err(error),
+    }
+}
+
+// Parts from left to right, and an operation on them.
+#[cycle(constrain)]
+fn constrain_strict(
+    alloc: Global,
+    places: Kind,
+    base: u32,
+    act: &Act<'_>,
+    mark: Place,
+    parts: &[Exp<'_>],
+    depth: u32,
+    lo: u32,
+    inference: &mut Inference,
+) -> Result<u32, UnifyErr>
+    requires safe { Safe base inference.old }
+    requires room { lo + numbers (Strict (operation_of act.now) mark (terms (map term_of parts.now))) ≤ base }
+    ensures next { IfOk result (λ next. next ≡ lo + numbers (Strict (operation_of act.now) mark (terms (map term_of parts.now)))) }
+    ensures ok { OnOk result (Constrained places base depth lo (Strict (operation_of act.now) mark (terms (map term_of parts.now))) inference.old inference.new) }
+    ensures err { IfErr result (Tells (Unconstrained places base depth lo (Strict (operation_of act.now) mark (terms (map term_of parts.now))) inference.old inference.new)) }
+{
+    let _mark = mark;
+    let mut begins = List::new(alloc);
+    let from = lo + own_numbers_of(act);
+    let next = match constrain_parts(
+        alloc,
+        places,
+        base,
+        parts,
+        depth,
+        from,
+        &mut begins,
+        inference,
+    ) {
+        Ok(next) => next,
+        Err(error) => return Err(error),
+    };
+    match constrain_rule(
+        alloc,
+        places,
+        base,
+        act,
+        depth,
+        lo,
+        begins.as_slice(),
+        inference,
+    ) {
+        Ok(()) => Ok(next),
+        Err(error) => Err(error),
+    }
+}
+
+// Expressions in a row. Where the numbers of each begin is noted.
+#[cycle(constrain)]
+fn constrain_parts(
+    alloc: Global,
+    places: Kind,
+    base: u32,
+    parts: &[Exp<'_>],
+    depth: u32,
+    lo: u32,
+    begins: &mut List<u32>,
+    inference: &mut Inference,
+) -> Result<u32, UnifyErr>
+    requires safe { Safe base inference.old }
+    requires room { lo + all_numbers (terms (map term_of parts.now)) ≤ base }
+    ensures next { IfOk result (λ next. next ≡ lo + all_numbers (terms (map term_of parts.now))) }
+    ensures begins { OnOk result (begins.new ≡ begins.old ++ starts (terms (map term_of parts.now)) lo) }
+    ensures ok { OnOk result (Claimed places base depth lo (Terms_claim places (terms (map term_of parts.now)) lo) (Terms_homes depth (terms (map term_of parts.now)) lo) inference.old inference.new) }
+    ensures err { IfErr result (Tells (Refused places base depth lo (Terms_claim places (terms (map term_of parts.now)) lo) (Terms_homes depth (terms (map term_of parts.now)) lo) inference.old inference.new)) }
+{
+    let mut at = lo;
+    for part in parts {
+        match begins.push(at) {
+            Ok(()) => {}
+            Err(_) => return Err(UnifyErr::Memory),
+        }
+        at = match constrain(alloc, places, base, part, depth, at, inference) {
+            Ok(next) => next,
+            Err(error) => return Err(error),
+        };
+    }
+    Ok(at)
+}
+
+// A function and its argument.
+#[cycle(constrain)]
+fn constrain_apply(
+    alloc: Global,
+    places: Kind,
+    base: u32,
+    function: &Exp<'_>,
+    argument: &Exp<'_>,
+    depth: u32,
+    lo: u32,
+    inference: &mut Inference,
+) -> Result<u32, UnifyErr>
+    requires safe { Safe base inference.old }
+    requires room { lo + numbers (Apply (term_of function.now) (term_of argument.now)) ≤ base }
+    ensures next { IfOk result (λ next. next ≡ lo + numbers (Apply (term_of function.now) (term_of argument.now))) }
+    ensures ok { OnOk result (Constrained places base depth lo (Apply (term_of function.now) (term_of argument.now)) inference.old inference.new) }
+    ensures err { IfErr result (Tells (Unconstrained places base depth lo (Apply (term_of function.now) (term_of argument.now)) inference.old inference.new)) }
+{
+    let middle = match constrain(alloc, places, base, function, depth, 1 + lo, inference) {
+        Ok(next) => next,
+        Err(error) => return Err(error),
+    };
+    let next = match constrain(alloc, places, base, argument, depth, middle, inference) {
+        Ok(next) => next,
+        Err(error) => return Err(error),
+    };
+    match demand(alloc, base, inference, &application(lo, 1 + lo, middle)) {
+        Ok(()) => Ok(next),
+        Err(error) => Err(error),
+    }
+}
+
+// A condition and two branches.
+#[cycle(constrain)]
+fn constrain_if(
+    alloc: Global,
+    places: Kind,
+    base: u32,
+    test: &Exp<'_>,
+    yes: &Exp<'_>,
+    no: &Exp<'_>,
+    depth: u32,
+    lo: u32,
+    inference: &mut Inference,
+) -> Result<u32, UnifyErr>
+    requires safe { Safe base inference.old }
+    requires room { lo + numbers (If (term_of test.now) (term_of yes.now) (term_of no.now)) ≤ base }
+    ensures next { IfOk result (λ next. next ≡ lo + numbers (If (term_of test.now) (term_of yes.now) (term_of no.now))) }
+    ensures ok { OnOk result (Constrained places base depth lo (If (term_of test.now) (term_of yes.now) (term_of no.now)) inference.old inference.new) }
+    ensures err { IfErr result (Tells (Unconstrained places base depth lo (If (term_of test.now) (term_of yes.now) (term_of no.now)) inference.old inference.new)) }
+{
+    let second = match constrain(alloc, places, base, test, depth, 1 + lo, inference) {
+        Ok(next) => next,
+        Err(error) => return Err(error),
+    };
+    let third = match constrain(alloc, places, base, yes, depth, second, inference) {
+        Ok(next) => next,
+        Err(error) => return Err(error),
+    };
+    let next = match constrain(alloc, places, base, no, depth, third, inference) {
+        Ok(next) => next,
+        Err(error) => return Err(error),
+    };
+    match demand(
+        alloc,
+        base,
+        inference,
+        &choice(lo, 1 + lo, second, third, places),
+    ) {
+        Ok(()) => Ok(next),
+        Err(error) => Err(error),
+    }
+}
+
+// A function of parameters. Its body sees their names.
+#[cycle(constrain)]
+fn constrain_lambda(
+    alloc: Global,
+    places: Kind,
+    base: u32,
+    params: &[Pat<'_>],
+    body: &Exp<'_>,
+    depth: u32,
+    lo: u32,
+    inference: &mut Inference,
+) -> Result<u32, UnifyErr>
+    requires safe { Safe base inference.old }
+    requires room { lo + numbers (Lambda (patterns (map pattern_of params.now)) (term_of body.now)) ≤ base }
+    ensures next { IfOk result (λ next. next ≡ lo + numbers (Lambda (patterns (map pattern_of params.now)) (term_of body.now))) }
+    ensures ok { OnOk result (Constrained places base depth lo (Lambda (patterns (map pattern_of params.now)) (term_of body.now)) inference.old inference.new) }
+    ensures err { IfErr result (Tells (Unconstrained places base depth lo (Lambda (patterns (map pattern_of params.now)) (term_of body.now)) inference.old inference.new)) }
+{
+    let mark = mark_of(inference);
+    let mut begins = List::new(alloc);
+    let from = match constrain_parameters(
+        alloc,
+        places,
+        base,
+        params,
+        depth,
+        1 + lo,
+        &mut begins,
+        inference,
+    ) {
+        Ok(next) => next,
+        Err(error) => return Err(error),
+    };
+    let next = match constrain(alloc, places, base, body, depth, from, inference) {
+        Ok(next) => next,
+        Err(error) => return Err(error),
+    };
+    take_back(inference, mark);
+    match constrain_arrows(alloc, base, lo, begins.as_slice(), from, inference) {
+        Ok(()) => Ok(next),
+        Err(error) => Err(error),
+    }
+}
+
+// A row of lets, and the body behind it. Elaboration makes no row without a let.
+#[cycle(constrain)]
+fn constrain_lets(
+    alloc: Global,
+    places: Kind,
+    base: u32,
+    lets: &[Let<'_>],
+    body: &Exp<'_>,
+    depth: u32,
+    lo: u32,
+    inference: &mut Inference,
+) -> Result<u32, UnifyErr>
+    requires safe { Safe base inference.old }
+    requires room { lo + numbers (lets_term (map row_of lets.now) (term_of body.now)) ≤ base }
+    ensures next { IfOk result (λ next. next ≡ lo + numbers (lets_term (map row_of lets.now) (term_of body.now))) }
+    ensures ok { OnOk result (Constrained places base depth lo (lets_term (map row_of lets.now) (term_of body.now)) inference.old inference.new) }
+    ensures err { IfErr result (Tells (Unconstrained places base depth lo (lets_term (map row_of lets.now) (term_of body.now)) inference.old inference.new)) }
+{
+    if lets.len() == 0 {
+        return Err(UnifyErr::Memory);
+    }
+    let mark = mark_of(inference);
+    let mut begins = List::new(alloc);
+    let from = match constrain_rows(alloc, places, base, lets, depth, lo, &mut begins, inference) {
+        Ok(next) => next,
+        Err(error) => return Err(error),
+    };
+    let next = match constrain(alloc, places, base, body, depth, from, inference) {
+        Ok(next) => next,
+        Err(error) => return Err(error),
+    };
+    match constrain_chain(alloc, base, begins.as_slice(), from, inference) {
+        Ok(()) => {}
+        Err(error) => return Err(error),
+    }
+    take_back(inference, mark);
+    Ok(next)
+}
+
+// Lets in a row, each of which sees the names of those before it. Where the numbers of each begin is noted.
+#[cycle(constrain)]
+fn constrain_rows(
+    alloc: Global,
+    places: Kind,
+    base: u32,
+    lets: &[Let<'_>],
+    depth: u32,
+    lo: u32,
+    begins: &mut List<u32>,
+    inference: &mut Inference,
+) -> Result<u32, UnifyErr>
+    requires safe { Safe base inference.old }
+    requires room { behind_all (map row_of lets.now) lo ≤ base }
+    ensures next { IfOk result (λ next. next ≡ behind_all (map row_of lets.now) lo) }
+    ensures begins { OnOk result (begins.new ≡ begins.old ++ row_starts (map row_of lets.now) lo) }
+    ensures ok { OnOk result (Opened places base depth lo (behind_all (map row_of lets.now) lo) (Rows_claim places (map row_of lets.now) lo) (Rows_homes depth (map row_of lets.now) lo) (env_rows (map row_of lets.now) lo) inference.old inference.new) }
+    ensures err { IfErr result (Tells (Refused places base depth lo (Rows_claim places (map row_of lets.now) lo) (Rows_homes depth (map row_of lets.now) lo) inference.old inference.new)) }
+{
+    let mut at = lo;
+    for one in lets {
+        match begins.push(at) {
+            Ok(()) => {}
+            Err(_) => return Err(UnifyErr::Memory),
+        }
+        at = match constrain_row(alloc, places, base, one, depth, at, inference) {
+            Ok(next) => next,
+            Err(error) => return Err(error),
+        };
+    }
+    Ok(at)
+}
+
+// A let.
+#[cycle(constrain)]
+fn constrain_row(
+    alloc: Global,
+    places: Kind,
+    base: u32,
+    one: &Let<'_>,
+    depth: u32,
+    lo: u32,
+    inference: &mut Inference,
+) -> Result<u32, UnifyErr>
+    requires safe { Safe base inference.old }
+    requires room { behind (row_of one.now) lo ≤ base }
+    ensures next { IfOk result (λ next. next ≡ behind (row_of one.now) lo) }
+    ensures ok { OnOk result (Opened places base depth lo (behind (row_of one.now) lo) (Row_claim places (row_of one.now) lo) (Row_homes depth (row_of one.now) lo) (env_row (row_of one.now) lo) inference.old inference.new) }
+    ensures err { IfErr result (Tells (Refused places base depth lo (Row_claim places (row_of one.now) lo) (Row_homes depth (row_of one.now) lo) inference.old inference.new)) }
+{
+    if one.is_function {
+        return Err(UnifyErr::Memory);
+    }
+    if one.heads.len() > 0 {
+        return Err(UnifyErr::Memory);
+    }
+    constrain_value(
+        alloc, places, base, one.sizes, &one.pat, &one.value, depth, lo, inference,
+    )
+}
+
+// A let that is not written as a function. Its pattern sees its size names, its value does not.
+#[cycle(constrain)]
+fn constrain_value(
+    alloc: Global,
+    places: Kind,
+    base: u32,
+    sizes: &[BindId],
+    pat: &Pat<'_>,
+    value: &Exp<'_>,
+    depth: u32,
+    lo: u32,
+    inference: &mut Inference,
+) -> Result<u32, UnifyErr>
+    requires safe { Safe base inference.old }
+    requires room { behind (value_row sizes.now (pattern_of pat.now) (term_of value.now)) lo ≤ base }
+    ensures next { IfOk result (λ next. next ≡ behind (value_row sizes.now (pattern_of pat.now) (term_of value.now)) lo) }
+    ensures ok { OnOk result (Opened places base depth lo (behind (value_row sizes.now (pattern_of pat.now) (term_of value.now)) lo) (Row_claim places (value_row sizes.now (pattern_of pat.now) (term_of value.now)) lo) (Row_homes depth (value_row sizes.now (pattern_of pat.now) (term_of value.now)) lo) (env_row (value_row sizes.now (pattern_of pat.now) (term_of value.now)) lo) inference.old inference.new) }
+    ensures err { IfErr result (Tells (Refused places base depth lo (Row_claim places (value_row sizes.now (pattern_of pat.now) (term_of value.now)) lo) (Row_homes depth (value_row sizes.now (pattern_of pat.now) (term_of value.now)) lo) inference.old inference.new)) }
+{
+    let mark = mark_of(inference);
+    match enter_sizes(base, sizes, inference) {
+        Ok(()) => {}
+        Err(_) => return Err(UnifyErr::Memory),
+    }
+    let from = match constrain_pattern(alloc, places, base, pat, 1 + lo, inference) {
+        Ok(next) => next,
+        Err(error) => return Err(error),
+    };
+    take_back(inference, mark);
+    let next = match constrain(alloc, places, base, value, depth, from, inference) {
+        Ok(next) => next,
+        Err(error) => return Err(error),
+    };
+    match demand(alloc, base, inference, &[Demand::Same(1 + lo, from)]) {
+        Ok(()) => {}
+        Err(error) => return Err(error),
+    }
+    match enter_sizes(base, sizes, inference) {
+        Ok(()) => {}
+        Err(_) => return Err(UnifyErr::Memory),
+    }
+    match enter_pattern(base, pat, 1 + lo, inference) {
+        Ok(_) => Ok(next),
+        Err(_) => Err(UnifyErr::Memory),
+    }
+}

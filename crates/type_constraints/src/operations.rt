@@ -1,0 +1,201 @@
+// The rules of operations.
+ghost use Rattle.std.specs.Prelude.{◌≡◌, ◌≤◌, ◌<◌, ◌+◌, ℕ, OnOk, IfErr};
+ghost use Rattle.fut_flat.specs.Numbers.{own_numbers};
+ghost use Rattle.fut_flat.specs.Erased.{operation_of};
+ghost use Rattle.type_graph.specs.Graph.{Each, Tells};
+ghost use Rattle.type_scopes.specs.Scopes.{Claimed, Refused, Safe};
+ghost use Rattle.type_constraints.specs.Parts.{Rule_claim, Rule_homes};
+
+use fut_flat::Act;
+use fut_types::Kind;
+use std::alloc::Global;
+use type_graph::UnifyErr;
+use type_rows::{array, index, tuple, update_at};
+use type_rules::{assertion, binary, complement, literal, negation, range, range_by, truth};
+use type_scopes::{Inference, demand};
+
+/// How many numbers an operation has beside those of its parts.
+pub fn own_numbers_of(act: &Act<'_>) -> u32
+    ensures { result ≡ own_numbers (operation_of act.now) }
+{
+    match *act {
+        Act::Binary(_) | Act::Project(_) => 2,
+        _ => 1,
+    }
+}
+
+/// Asks for the rule of an operation on parts of these numbers.
+pub fn constrain_rule(
+    alloc: Global,
+    places: Kind,
+    base: u32,
+    act: &Act<'_>,
+    depth: u32,
+    lo: u32,
+    parts: &[u32],
+    inference: &mut Inference,
+) -> Result<(), UnifyErr>
+    requires safe { Safe base inference.old }
+    requires room { lo + own_numbers (operation_of act.now) ≤ base }
+    requires parts { Each (λ part. part < base) parts.now }
+    ensures ok { OnOk result ((from : ℕ) → lo < from → Claimed places base depth from (Rule_claim places (operation_of act.now) lo parts.now) (Rule_homes depth (operation_of act.now) lo) inference.old inference.new) }
+    ensures err { IfErr result (Tells ((from : ℕ) → lo < from → Refused places base depth from (Rule_claim places (operation_of act.now) lo parts.now) (Rule_homes depth (operation_of act.now) lo) inference.old inference.new)) }
+{
+    let _depth = depth;
+    match *act {
+        Act::Tuple | Act::Array | Act::Index(_) | Act::Update => {
+            constrain_any(alloc, places, base, act, lo, parts, inference)
+        }
+        Act::Int { .. } | Act::Truth(_) => constrain_none(
+            alloc, places, base, act, lo, parts, inference,
+        ),
+        Act::Negate | Act::Complement => constrain_one(
+            alloc, places, base, act, lo, parts, inference,
+        ),
+        Act::Binary(_) | Act::Assert => constrain_two(
+            alloc, places, base, act, lo, parts, inference,
+        ),
+        Act::Range { .. } => constrain_range(alloc, places, base, act, lo, parts, inference),
+        _ => Err(UnifyErr::Memory),
+    }
+}
+
+// An operation on any number of parts.
+fn constrain_any(
+    alloc: Global,
+    places: Kind,
+    base: u32,
+    act: &Act<'_>,
+    lo: u32,
+    parts: &[u32],
+    inference: &mut Inference,
+) -> Result<(), UnifyErr>
+    requires safe { Safe base inference.old }
+    requires room { lo + own_numbers (operation_of act.now) ≤ base }
+    requires parts { Each (λ part. part < base) parts.now }
+    ensures ok { OnOk result ((depth from : ℕ) → Claimed places base depth from (Rule_claim places (operation_of act.now) lo parts.now) (Rule_homes depth (operation_of act.now) lo) inference.old inference.new) }
+    ensures err { IfErr result (Tells ((depth from : ℕ) → Refused places base depth from (Rule_claim places (operation_of act.now) lo parts.now) (Rule_homes depth (operation_of act.now) lo) inference.old inference.new)) }
+{
+    let table = &inference.table;
+    let nodes = &mut inference.nodes;
+    let entries = &mut inference.entries;
+    match *act {
+        Act::Tuple => tuple(alloc, table, base, nodes, entries, lo, parts),
+        Act::Array => array(alloc, table, base, nodes, entries, lo, parts, places),
+        Act::Index(what) => index(alloc, table, base, nodes, entries, lo, parts, what, places),
+        Act::Update => update_at(alloc, table, base, nodes, entries, lo, parts, places),
+        _ => Err(UnifyErr::Memory),
+    }
+}
+
+// A literal. It has no parts.
+fn constrain_none(
+    alloc: Global,
+    places: Kind,
+    base: u32,
+    act: &Act<'_>,
+    lo: u32,
+    parts: &[u32],
+    inference: &mut Inference,
+) -> Result<(), UnifyErr>
+    requires safe { Safe base inference.old }
+    requires room { lo + own_numbers (operation_of act.now) ≤ base }
+    requires parts { Each (λ part. part < base) parts.now }
+    ensures ok { OnOk result ((depth from : ℕ) → Claimed places base depth from (Rule_claim places (operation_of act.now) lo parts.now) (Rule_homes depth (operation_of act.now) lo) inference.old inference.new) }
+    ensures err { IfErr result (Tells ((depth from : ℕ) → Refused places base depth from (Rule_claim places (operation_of act.now) lo parts.now) (Rule_homes depth (operation_of act.now) lo) inference.old inference.new)) }
+{
+    if parts.len() != 0 {
+        return Err(UnifyErr::Memory);
+    }
+    match *act {
+        Act::Int { ty, .. } => demand(alloc, base, inference, &literal(lo, ty)),
+        Act::Truth(_) => demand(alloc, base, inference, &truth(lo)),
+        _ => Err(UnifyErr::Memory),
+    }
+}
+
+// An operation on one part.
+fn constrain_one(
+    alloc: Global,
+    places: Kind,
+    base: u32,
+    act: &Act<'_>,
+    lo: u32,
+    parts: &[u32],
+    inference: &mut Inference,
+) -> Result<(), UnifyErr>
+    requires safe { Safe base inference.old }
+    requires room { lo + own_numbers (operation_of act.now) ≤ base }
+    requires parts { Each (λ part. part < base) parts.now }
+    ensures ok { OnOk result ((depth from : ℕ) → Claimed places base depth from (Rule_claim places (operation_of act.now) lo parts.now) (Rule_homes depth (operation_of act.now) lo) inference.old inference.new) }
+    ensures err { IfErr result (Tells ((depth from : ℕ) → Refused places base depth from (Rule_claim places (operation_of act.now) lo parts.now) (Rule_homes depth (operation_of act.now) lo) inference.old inference.new)) }
+{
+    if parts.len() != 1 {
+        return Err(UnifyErr::Memory);
+    }
+    match *act {
+        Act::Negate => demand(alloc, base, inference, &negation(lo, parts[0])),
+        Act::Complement => demand(alloc, base, inference, &complement(lo, parts[0])),
+        _ => Err(UnifyErr::Memory),
+    }
+}
+
+// An operation on two parts.
+fn constrain_two(
+    alloc: Global,
+    places: Kind,
+    base: u32,
+    act: &Act<'_>,
+    lo: u32,
+    parts: &[u32],
+    inference: &mut Inference,
+) -> Result<(), UnifyErr>
+    requires safe { Safe base inference.old }
+    requires room { lo + own_numbers (operation_of act.now) ≤ base }
+    requires parts { Each (λ part. part < base) parts.now }
+    ensures ok { OnOk result ((depth from : ℕ) → Claimed places base depth from (Rule_claim places (operation_of act.now) lo parts.now) (Rule_homes depth (operation_of act.now) lo) inference.old inference.new) }
+    ensures err { IfErr result (Tells ((depth from : ℕ) → Refused places base depth from (Rule_claim places (operation_of act.now) lo parts.now) (Rule_homes depth (operation_of act.now) lo) inference.old inference.new)) }
+{
+    if parts.len() != 2 {
+        return Err(UnifyErr::Memory);
+    }
+    match *act {
+        Act::Binary(op) => {
+            let rule = binary(op, lo, 1 + lo, parts[0], parts[1]);
+            demand(alloc, base, inference, &rule)
+        }
+        Act::Assert => demand(alloc, base, inference, &assertion(lo, parts[0], parts[1])),
+        _ => Err(UnifyErr::Memory),
+    }
+}
+
+// A range, with a second element or without.
+fn constrain_range(
+    alloc: Global,
+    places: Kind,
+    base: u32,
+    act: &Act<'_>,
+    lo: u32,
+    parts: &[u32],
+    inference: &mut Inference,
+) -> Result<(), UnifyErr>
+    requires safe { Safe base inference.old }
+    requires room { lo + own_numbers (operation_of act.now) ≤ base }
+    requires parts { Each (λ part. part < base) parts.now }
+    ensures ok { OnOk result ((depth from : ℕ) → Claimed places base depth from (Rule_claim places (operation_of act.now) lo parts.now) (Rule_homes depth (operation_of act.now) lo) inference.old inference.new) }
+    ensures err { IfErr result (Tells ((depth from : ℕ) → Refused places base depth from (Rule_claim places (operation_of act.now) lo parts.now) (Rule_homes depth (operation_of act.now) lo) inference.old inference.new)) }
+{
+    match *act {
+        Act::Range { stepped, .. } => {
+            if stepped && parts.len() == 3 {
+                let rule = range_by(lo, parts[0], parts[1], parts[2]);
+                return demand(alloc, base, inference, &rule);
+            }
+            if !stepped && parts.len() == 2 {
+                return demand(alloc, base, inference, &range(lo, parts[0], parts[1]));
+            }
+            Err(UnifyErr::Memory)
+        }
+        _ => Err(UnifyErr::Memory),
+    }
+}

@@ -1,0 +1,131 @@
+// Patterns of parameters, and the types of functions of them.
+ghost use Rattle.std.specs.Prelude.{◌≡◌, ◌≤◌, ◌<◌, ◌+◌, ◌++◌, ℕ, map, OnOk, IfOk, IfErr};
+ghost use Rattle.fut_flat.specs.Numbers.{all_pattern_numbers, pattern_numbers};
+ghost use Rattle.fut_flat.specs.Erased.{pattern_of, patterns};
+ghost use Rattle.fut_types.specs.declared.Kind.{Kind as AnyKind};
+ghost use Rattle.fut_typing.specs.Homes.{At_home, env_patterns};
+ghost use Rattle.fut_typing.specs.Patterns.{arrows};
+ghost use Rattle.type_graph.specs.Graph.{Each, Tells};
+ghost use Rattle.type_claims.specs.Claims.{types_of};
+ghost use Rattle.type_scopes.specs.Scopes.{Claimed, Opened, Refused, Safe};
+ghost use Rattle.type_constraints.specs.Parts.{Chained, Parameters_claim, Pattern_claim, pattern_starts};
+
+use fut_flat::Pat;
+use fut_scalar::List;
+use fut_types::Kind;
+use std::alloc::Global;
+use type_graph::UnifyErr;
+use type_rows::{function, push_same};
+use type_scopes::{Inference, demand, enter_pattern};
+
+/// Asks that the numbers of a pattern, which begin at `lo`, have types of its form.
+pub fn constrain_pattern(
+    alloc: Global,
+    places: Kind,
+    base: u32,
+    pat: &Pat<'_>,
+    lo: u32,
+    inference: &mut Inference,
+) -> Result<u32, UnifyErr>
+    requires safe { Safe base inference.old }
+    requires room { lo + pattern_numbers (pattern_of pat.now) ≤ base }
+    ensures next { IfOk result (λ next. next ≡ lo + pattern_numbers (pattern_of pat.now)) }
+    ensures ok { OnOk result ((d : ℕ) → Claimed places base d lo (Pattern_claim places (pattern_of pat.now) lo) (λ home. At_home home d lo (pattern_numbers (pattern_of pat.now))) inference.old inference.new) }
+    ensures err { IfErr result (Tells ((d : ℕ) → Refused places base d lo (Pattern_claim places (pattern_of pat.now) lo) (λ home. At_home home d lo (pattern_numbers (pattern_of pat.now))) inference.old inference.new)) }
+{
+    let _alloc = alloc;
+    let _places = places;
+    let _base = base;
+    let _pat = pat;
+    let _lo = lo;
+    let _inference = inference;
+    Err(UnifyErr::Memory)
+}
+
+/// Asks the same of parameters in a row, and lets their names stand for values of the types of their numbers. Where the
+/// numbers of each begin is noted.
+pub fn constrain_parameters(
+    alloc: Global,
+    places: Kind,
+    base: u32,
+    params: &[Pat<'_>],
+    depth: u32,
+    lo: u32,
+    begins: &mut List<u32>,
+    inference: &mut Inference,
+) -> Result<u32, UnifyErr>
+    requires safe { Safe base inference.old }
+    requires room { lo + all_pattern_numbers (patterns (map pattern_of params.now)) ≤ base }
+    ensures next { IfOk result (λ next. next ≡ lo + all_pattern_numbers (patterns (map pattern_of params.now))) }
+    ensures begins { OnOk result (begins.new ≡ begins.old ++ pattern_starts (patterns (map pattern_of params.now)) lo) }
+    ensures ok { OnOk result (Opened places base depth lo (lo + all_pattern_numbers (patterns (map pattern_of params.now))) (Parameters_claim places (patterns (map pattern_of params.now)) lo) (λ home. At_home home depth lo (all_pattern_numbers (patterns (map pattern_of params.now)))) (env_patterns (patterns (map pattern_of params.now)) lo) inference.old inference.new) }
+    ensures err { IfErr result (Tells (Refused places base depth lo (Parameters_claim places (patterns (map pattern_of params.now)) lo) (λ home. At_home home depth lo (all_pattern_numbers (patterns (map pattern_of params.now)))) inference.old inference.new)) }
+{
+    let _depth = depth;
+    let mut at = lo;
+    for param in params {
+        match begins.push(at) {
+            Ok(()) => {}
+            Err(_) => return Err(UnifyErr::Memory),
+        }
+        match constrain_pattern(alloc, places, base, param, at, inference) {
+            Ok(_) => {}
+            Err(error) => return Err(error),
+        }
+        at = match enter_pattern(base, param, at, inference) {
+            Ok(next) => next,
+            Err(_) => return Err(UnifyErr::Memory),
+        };
+    }
+    Ok(at)
+}
+
+/// Asks that a number has the type of functions of parameters of these numbers.
+pub fn constrain_arrows(
+    alloc: Global,
+    base: u32,
+    number: u32,
+    params: &[u32],
+    body: u32,
+    inference: &mut Inference,
+) -> Result<(), UnifyErr>
+    requires safe { Safe base inference.old }
+    requires number { number < base }
+    requires params { Each (λ param. param < base) params.now }
+    requires body { body < base }
+    ensures ok { OnOk result ((places : AnyKind) (d lo : ℕ) → Claimed places base d lo (λ N scope K a. a number ≡ arrows (types_of a params.now) (a body)) (λ home. Unit {0}) inference.old inference.new) }
+    ensures err { IfErr result (Tells ((places : AnyKind) (d lo : ℕ) → Refused places base d lo (λ N scope K a. a number ≡ arrows (types_of a params.now) (a body)) (λ home. Unit {0}) inference.old inference.new)) }
+{
+    function(
+        alloc,
+        &inference.table,
+        base,
+        &mut inference.nodes,
+        &mut inference.entries,
+        number,
+        params,
+        body,
+    )
+}
+
+/// Asks that these numbers and the last have one type.
+pub fn constrain_chain(
+    alloc: Global,
+    base: u32,
+    numbers: &[u32],
+    last: u32,
+    inference: &mut Inference,
+) -> Result<(), UnifyErr>
+    requires safe { Safe base inference.old }
+    requires numbers { Each (λ number. number < base) numbers.now }
+    requires last { last < base }
+    ensures ok { OnOk result ((places : AnyKind) (d lo : ℕ) → Claimed places base d lo (λ N scope K a. Chained a numbers.now last) (λ home. Unit {0}) inference.old inference.new) }
+    ensures err { IfErr result (Tells ((places : AnyKind) (d lo : ℕ) → Refused places base d lo (λ N scope K a. Chained a numbers.now last) (λ home. Unit {0}) inference.old inference.new)) }
+{
+    let mut demands = List::new(alloc);
+    match push_same(&mut demands, last, numbers, 0) {
+        Ok(()) => {}
+        Err(_) => return Err(UnifyErr::Memory),
+    }
+    demand(alloc, base, inference, demands.as_slice())
+}

@@ -1,0 +1,6 @@
+pub mod Binding
+pub mod Claiming
+pub mod Going
+pub mod Opening
+pub mod Putting
+pub mod Table

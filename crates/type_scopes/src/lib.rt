@@ -1,0 +1,36 @@
+//! What inference works on: the graph of types, the templates of definitions, and what each name stands for.
+//!
+//! A name is entered where it is bound and taken back behind its scope, in the order in which a program is gone over.
+//! `specs/Scopes.antt` says what is known where a part of a program is gone over, and what is known behind it.
+#![tactic(auto)]
+
+mod names;
+mod patterns;
+mod steps;
+
+use fut_scalar::List;
+use fut_types::ShapeTable;
+pub use names::{Known, Past, enter, known_of, mark_of, take_back};
+pub use patterns::{enter_pattern, enter_patterns, enter_sizes};
+pub use steps::demand;
+use type_graph::{Entry, Node};
+use type_schemes::Part;
+
+/// What inference works on. It grows while a program is gone over.
+#[derive(Drop)]
+pub struct Inference {
+    /// The program's records and labels.
+    pub table: ShapeTable,
+    /// The graph of types. The program's numbers stand first.
+    pub nodes: List<Node>,
+    /// The named parts of the graph's open nodes.
+    pub entries: List<Entry>,
+    /// The templates of definitions.
+    pub store: List<Part>,
+    /// Room for the making of templates.
+    pub memo: List<u32>,
+    /// What each name stands for, by its number.
+    pub names: List<Known>,
+    /// What the names that were entered stood for before, oldest first.
+    pub past: List<Past>,
+}
