@@ -21,3 +21,16 @@ pub data Built3 {A B C D : Type 0} (P : A → B → C → D → Type 0) : Result
   second_of_three : {a : A} {e : Stop} {c : Result C Stop} → Built3 P (Ok a) (Err e) c (Err e)
   third_of_three : {a : A} {b : B} {e : Stop} → Built3 P (Ok a) (Ok b) (Err e) (Err e)
   no_memory3 : {a : Result A Stop} {b : Result B Stop} {c : Result C Stop} → Built3 P a b c (Err stop.Memory)
+
+-- what a call gives that is given no parts
+pub data Built0 {C : Type 0} (P : C → Type 0) : Result C Stop → Type 0 where
+  built0 : {c : C} → P c → Built0 P (Ok c)
+  no_memory0 : Built0 P (Err stop.Memory)
+
+pub data Built4 {A B C D E : Type 0} (P : A → B → C → D → E → Type 0) : Result A Stop → Result B Stop → Result C Stop → Result D Stop → Result E Stop → Type 0 where
+  built4 : {a : A} {b : B} {c : C} {d : D} {e : E} → P a b c d e → Built4 P (Ok a) (Ok b) (Ok c) (Ok d) (Ok e)
+  first_of_four : {e : Stop} {b : Result B Stop} {c : Result C Stop} {d : Result D Stop} → Built4 P (Err e) b c d (Err e)
+  second_of_four : {a : A} {e : Stop} {c : Result C Stop} {d : Result D Stop} → Built4 P (Ok a) (Err e) c d (Err e)
+  third_of_four : {a : A} {b : B} {e : Stop} {d : Result D Stop} → Built4 P (Ok a) (Ok b) (Err e) d (Err e)
+  fourth_of_four : {a : A} {b : B} {c : C} {e : Stop} → Built4 P (Ok a) (Ok b) (Ok c) (Err e) (Err e)
+  no_memory4 : {a : Result A Stop} {b : Result B Stop} {c : Result C Stop} {d : Result D Stop} → Built4 P a b c d (Err stop.Memory)

@@ -4,4 +4,7 @@
 
 pub mod exps;
 pub mod pats;
+pub mod rows;
+pub mod typed;
 pub mod types;
+pub mod uses;

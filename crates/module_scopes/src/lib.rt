@@ -2,10 +2,14 @@
 //! the definition, by structure on terms.
 #![tactic(auto)]
 
+mod newest;
 mod paths;
 mod refusal;
+mod scope;
 mod table;
+mod texts;
 
 pub use paths::{Found, size_of, type_of, value_of};
 pub use refusal::{Refusal, Stop};
 pub use table::{Entry, Names};
+pub use texts::Texts;

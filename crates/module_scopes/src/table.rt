@@ -1,9 +1,10 @@
 // The names in scope.
-ghost use Rattle.std.specs.Prelude.{◌≡◌, ◌++◌, [], ◌∷◌, IfOk, OnOk, length};
+ghost use Rattle.std.specs.Prelude.{◌≡◌, ◌++◌, [], ◌∷◌, IfOk, OnOk, length, map};
 ghost use Rattle.module_scopes.specs.Resolve.{has, next, with_text};
-ghost use Rattle.module_scopes.specs.Scopes.{newer_type, newer_value, type_in, value_in};
+ghost use Rattle.module_scopes.specs.Scopes.{type_in, value_in};
 ghost use Rattle.module_scopes.specs.Table.{bound_of, entries_of, entry_of, made_of, outside, scope_of};
 
+use crate::scope::Scope;
 use bumpalo::Bump;
 use fut_scalar::{BindId, List, NoMemory};
 use std::alloc::Global;
@@ -19,29 +20,9 @@ pub struct Entry<'a> {
 /// The names in scope, those that the pattern at hand has bound so far, and the text of each number.
 #[derive(Drop)]
 pub struct Names<'a> {
-    scope: List<Entry<'a>>,
-    bound: List<Entry<'a>>,
+    scope: Scope<'a>,
+    bound: Scope<'a>,
     made: List<&'a str>,
-}
-
-fn newer_value(entry: &Entry, name: &str, older: Option<BindId>) -> Option<BindId>
-    ensures { result ≡ newer_value (entry_of entry.now) name.now older }
-{
-    if !entry.is_type && entry.name == name {
-        Some(entry.bind)
-    } else {
-        older
-    }
-}
-
-fn newer_type(entry: &Entry, name: &str, older: Option<BindId>) -> Option<BindId>
-    ensures { result ≡ newer_type (entry_of entry.now) name.now older }
-{
-    if entry.is_type && entry.name == name {
-        Some(entry.bind)
-    } else {
-        older
-    }
 }
 
 impl<'a> Names<'a> {
@@ -53,8 +34,8 @@ impl<'a> Names<'a> {
         ensures made { made_of result ≡ [] }
     {
         Names {
-            scope: List::new(alloc),
-            bound: List::new(alloc),
+            scope: Scope::new(alloc),
+            bound: Scope::new(alloc),
             made: List::new(alloc),
         }
     }
@@ -68,29 +49,19 @@ impl<'a> Names<'a> {
     }
 
     /// The newest value of a name.
-    #[tactic(auto, using(crate::proofs::Tables::searches), unfolding(crate::specs::Table::scope_of, crate::specs::Scopes::value_in))]
+    #[tactic(auto, unfolding(crate::specs::Table::scope_of, crate::specs::Scopes::value_in))]
     pub fn value(&self, name: &str) -> Option<BindId>
         ensures { result ≡ value_in (scope_of self.now) name.now }
     {
-        let mut found = None;
-        let entries = self.scope.as_slice();
-        for entry in entries {
-            found = newer_value(entry, name, found);
-        }
-        found
+        self.scope.of(false, name)
     }
 
     /// The newest type of a name.
-    #[tactic(auto, using(crate::proofs::Tables::searches), unfolding(crate::specs::Table::scope_of, crate::specs::Scopes::type_in))]
+    #[tactic(auto, unfolding(crate::specs::Table::scope_of, crate::specs::Scopes::type_in))]
     pub fn type_name(&self, name: &str) -> Option<BindId>
         ensures { result ≡ type_in (scope_of self.now) name.now }
     {
-        let mut found = None;
-        let entries = self.scope.as_slice();
-        for entry in entries {
-            found = newer_type(entry, name, found);
-        }
-        found
+        self.scope.of(true, name)
     }
 
     /// Brings a name in scope.
@@ -100,7 +71,7 @@ impl<'a> Names<'a> {
         ensures bound { bound_of self.new ≡ bound_of self.old }
         ensures made { made_of self.new ≡ made_of self.old }
     {
-        self.scope.push(entry)
+        self.scope.enter(entry)
     }
 
     /// Takes the newest names out of scope until so many are left.
@@ -110,7 +81,7 @@ impl<'a> Names<'a> {
         ensures bound { bound_of self.new ≡ bound_of self.old }
         ensures made { made_of self.new ≡ made_of self.old }
     {
-        self.scope.truncate(height);
+        self.scope.leave(height);
     }
 
     /// The next number, for a name of this text.
@@ -135,7 +106,7 @@ impl<'a> Names<'a> {
         ensures scope { scope_of self.new ≡ scope_of self.old }
         ensures made { made_of self.new ≡ made_of self.old }
     {
-        self.bound.truncate(0);
+        self.bound.leave(0);
     }
 
     /// Whether the pattern at hand has bound the name.
@@ -143,12 +114,7 @@ impl<'a> Names<'a> {
     pub fn is_bound(&self, name: &str) -> bool
         ensures { result ≡ has (bound_of self.now) name.now }
     {
-        for entry in self.bound.as_slice() {
-            if !entry.is_type && entry.name == name {
-                return true;
-            }
-        }
-        false
+        self.bound.of(false, name).is_some()
     }
 
     /// Binds a name in the pattern at hand. It comes in scope behind the pattern.
@@ -158,7 +124,7 @@ impl<'a> Names<'a> {
         ensures scope { scope_of self.new ≡ scope_of self.old }
         ensures made { made_of self.new ≡ made_of self.old }
     {
-        self.bound.push(entry)
+        self.bound.enter(entry)
     }
 
     /// The names that the pattern has bound.
@@ -166,6 +132,14 @@ impl<'a> Names<'a> {
     pub fn pattern_names(&self, bump: &'a Bump) -> Result<&'a [Entry<'a>], NoMemory>
         ensures { IfOk result (λ names. entries_of names.now ≡ bound_of self.now) }
     {
-        Ok(bump.try_alloc_slice_copy(self.bound.as_slice())?)
+        self.bound.names(bump)
+    }
+
+    /// The text of each number, held by the arena.
+    #[tactic(auto, unfolding(crate::specs::Table::made_of))]
+    pub fn texts(&self, bump: &'a Bump) -> Result<&'a [&'a str], NoMemory>
+        ensures { IfOk result (λ texts. map (λ x. x.now) texts.now ≡ made_of self.now) }
+    {
+        Ok(bump.try_alloc_slice_copy(self.made.as_slice())?)
     }
 }

@@ -1,0 +1,4 @@
+pub mod ValueLaws
+pub mod DefinitionLaws
+pub mod FileLaws
+pub mod Whole

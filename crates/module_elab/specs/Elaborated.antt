@@ -1,0 +1,35 @@
+-- What `elaborate` answers: the flat program of a set of files, or the first refusal in order of text.
+use Rattle.std.specs.Prelude.{◌≡◌, map, Result, Err}
+use Rattle.fut_flat.specs.declared.program.Definition.{Definition}
+use Rattle.fut_flat.specs.declared.program.Flat.{Flat}
+use Rattle.fut_flat.specs.Erased.{parameters, term_of, texts}
+use Rattle.module_scopes.specs.Names.{Refusal, Unbound, Twice, NoMember, NotYet}
+use Rattle.module_scopes.specs.Programs.{FlatDefinition, FlatProgram}
+use Rattle.module_scopes.specs.declared.refusal.Refusal.TheVariants as held
+use Rattle.module_scopes.specs.declared.refusal.Stop.{Stop}
+use Rattle.module_scopes.specs.declared.refusal.Stop.TheVariants as stop
+use Rattle.module_elab.specs.declared.refused.ModErr.{ModErr}
+use Rattle.module_elab.specs.declared.refused.ModErr.TheVariants as err
+
+abbrev pub definition_of : Definition → FlatDefinition
+definition_of d = record { bind = d.bind; parameters = parameters d.heads.now; value = term_of d.value.now; is_entry = d.is_entry; file = d.file }
+
+-- the program as definitions speak of it
+abbrev pub program_of : Flat → FlatProgram
+program_of f = record { definitions = map definition_of f.definitions.now; names = texts f.names.now }
+
+-- the error of a walk that stopped
+abbrev pub error_of : Stop → ModErr
+error_of (stop.Refused (held.Unbound x at)) = err.Unbound x at
+error_of (stop.Refused (held.Twice x at)) = err.Twice x at
+error_of (stop.Refused (held.NoMember x at)) = err.NoMember x at
+error_of (stop.Refused (held.NotYet at)) = err.NotYet at
+error_of stop.Memory = err.Memory
+
+-- the refusal that an error tells; that memory ran out tells nothing of the files
+abbrev pub Tells : Result FlatProgram Refusal → ModErr → Type 0
+Tells r (err.Unbound x at) = r ≡ Err (Unbound x.now at)
+Tells r (err.Twice x at) = r ≡ Err (Twice x.now at)
+Tells r (err.NoMember x at) = r ≡ Err (NoMember x.now at)
+Tells r (err.NotYet at) = r ≡ Err (NotYet at)
+Tells r err.Memory = Unit {0}

@@ -1,0 +1,104 @@
+-- Each form of expressions.
+use Rattle.std.proofs.Common.{◌≡◌, ℕ, ◌+◌, ◌<◌, ◌++◌, List, [], ◌∷◌, map, length, drop, get_or, true, false, Option, None, Some, sym, ◌∙◌, ap, subst, Result, Ok, Err}
+use Rattle.std.specs.Borrow.{Bor}
+use Rattle.fut_scalar.specs.declared.place.Place.{Place}
+use Rattle.fut_ast.specs.Sorts.{SourcePat, SourceExp, SourceType}
+use Rattle.fut_tree.specs.declared.held.Held.{Held}
+use Rattle.fut_tree.specs.declared.exp.Exp.TheInside.{Inside}
+use Rattle.fut_tree.specs.declared.exp.Form.{Form}
+use Rattle.fut_tree.specs.declared.exp.Form.TheVariants as held_form
+use Rattle.fut_ast.specs.declared.node.End.{End}
+use Rattle.fut_tree.specs.Exps.{exp_of}
+use Rattle.fut_flat.specs.declared.exp.Exp.{Exp as Flat}
+use Rattle.fut_flat.specs.declared.pat.Pat.{Pat}
+use Rattle.fut_flat.specs.declared.ty.TypeExp.{TypeExp as FlatTy}
+use Rattle.fut_flat.specs.Terms.{Apply, Declared, If, Lambda, Range, Strict, term_and, no_term}
+use Rattle.fut_flat.specs.Erased.{patterns, pattern_of, term_of, type_of}
+use Rattle.fut_flat.specs.Sources as source
+use Rattle.fut_flat.specs.Sources.{SourceTerm, declared, placed, source_pattern, source_type}
+use Rattle.module_scopes.specs.declared.refusal.Stop.{Stop}
+use Rattle.module_scopes.specs.declared.table.Names.{Names}
+use Rattle.module_scopes.specs.Resolve.{resolve, resolve_parameters, resolve_type}
+use Rattle.module_scopes.specs.Answers.{Walked, Went, went, refused, no_memory, Entered}
+use Rattle.module_scopes.specs.Table.{scope_of, made_of, outside}
+use Rattle.module_scopes.specs.Walks.{Doing}
+use Rattle.module_scopes.proofs.Walking.{doing_start, doing_next, doing_stops, doing_end}
+use Rattle.module_nodes.specs.Built.{Built2, Built3}
+use Rattle.module_nodes.proofs.Steps.{of_two, of_three}
+use Rattle.module_types.specs.Bindings.{parameters_of}
+use Rattle.module_exps.specs.Parts.{exp_part, source_of}
+use Rattle.module_exps.proofs.HeldExps.{exp_held, held_layer, place_held}
+use Rattle.module_exps.proofs.Grouping.{group_held}
+use Rattle.module_exps.proofs.StrictLaws.{none_went, one_went, two_went, three_went, binary_went, listed_went, ascribed_went, coerced_went, declared_went, plain_rules, record_names}
+use Rattle.module_exps.proofs.RowLaws.{lets_went}
+use Rattle.module_exps.proofs.TurnLaws.{loop_went, loop_stops}
+use Rattle.module_exps.proofs.ComposedLaws.{composed_at}
+use Rattle.module_exps.proofs.Above.{parameters_rise, scoped}
+
+pub apply_went : (f e : SourceTerm) (s t u : Names) (a b c : Result Flat Stop) → Went term_of (resolve f) s t a → Went term_of (resolve e) t u b → Built2 (λ f e x. term_of x ≡ Apply (term_of f) (term_of e)) a b c → Went term_of (resolve (Apply f e)) s u c
+unfolding resolve
+apply_went f e s t u a b c p q w = of_two Apply p q w
+
+pub choice_went : (c a b : SourceTerm) (s t u v : Names) (x y z d : Result Flat Stop) → Went term_of (resolve c) s t x → Went term_of (resolve a) t u y → Went term_of (resolve b) u v z
+    → Built3 (λ c a b w. term_of w ≡ If (term_of c) (term_of a) (term_of b)) x y z d → Went term_of (resolve (If c a b)) s v d
+unfolding resolve
+choice_went c a b s t u v x y z d p q r w = of_three If p q r w
+
+pub lambda_went : (ps : List SourcePat) (e : SourceTerm) (s s1 s2 u : Names) (h : ℕ) (a : Result (Bor (List Pat)) Stop) (b d : Result Flat Stop)
+    → Entered (λ (ps : Bor (List Pat)). parameters_of ps.now) (resolve_parameters (source.patterns (map source_pattern ps)) (scope_of s) (made_of s)) s1 a → Went term_of (resolve e) s1 s2 b
+    → h ≡ length (scope_of s) → scope_of u ≡ outside h (scope_of s2) → made_of u ≡ made_of s2
+    → Built2 (λ (ps : Bor (List Pat)) e x. term_of x ≡ Lambda (patterns (map pattern_of ps.now)) (term_of e)) a b d → Went term_of (resolve (Lambda (source.patterns (map source_pattern ps)) e)) s u d
+unfolding resolve
+lambda_went ps e s s1 s2 u h a b d params w hs out mk q =
+    scoped (resolve_parameters (source.patterns (map source_pattern ps))) (resolve e) Lambda s s1 s2 u h a b d hs (parameters_rise (source.patterns (map source_pattern ps)) (scope_of s) (made_of s)) params w out mk q
+
+-- an expression goes as its form does
+pub exp_went : {s t : Names} {c : Result Flat Stop} (e : Inside) (v : SourceExp) (f : Form) → exp_of e ≡ v → e.form ≡ f → Went term_of (resolve (held_layer f e.place e.mark)) s t c → Went term_of (resolve (source_of v)) s t c
+exp_went {s = s} {t = t} {c = c} e v f stands is w = subst (λ x. Went term_of (resolve (source_of x)) s t c) stands (subst (λ x. Went term_of (resolve x) s t c) (sym (exp_held e)) (subst (λ g. Went term_of (resolve (held_layer g e.place e.mark)) s t c) (sym is) w))
+
+-- a range, with its second element or without
+pub range_went : {s t : Names} {c : Result Flat Stop} (e : Inside) (v : SourceExp) (a b : Bor SourceExp) (o : Option (Bor SourceExp)) (end : End) → exp_of e ≡ v → e.form ≡ held_form.Range a o end b → o ≡ None
+    → Went term_of (resolve (Strict (Range false end) e.mark (source.two (source_of a.now) (source_of b.now)))) s t c → Went term_of (resolve (source_of v)) s t c
+range_went e v a b o end stands is none w = exp_went e v (held_form.Range a None end b) stands (is ∙ ap (λ n. held_form.Range a n end b) none) w
+
+pub stepped_went : {s t : Names} {c : Result Flat Stop} (e : Inside) (v : SourceExp) (a n b : Bor SourceExp) (o : Option (Bor SourceExp)) (end : End) → exp_of e ≡ v → e.form ≡ held_form.Range a o end b → o ≡ Some n
+    → Went term_of (resolve (Strict (Range true end) e.mark (source.three (source_of a.now) (source_of n.now) (source_of b.now)))) s t c → Went term_of (resolve (source_of v)) s t c
+stepped_went e v a n b o end stands is some w = exp_went e v (held_form.Range a (Some n) end b) stands (is ∙ ap (λ n. held_form.Range a n end b) some) w
+
+pub ruleset form_rules = (exp_held, group_held, apply_went, choice_went, lambda_went, lets_went)
+
+pub ruleset loop_rules = (exp_held, group_held, binary_went, composed_at, loop_went, loop_stops)
+
+pub ruleset strict_rules = (exp_held, group_held, none_went, one_went, two_went, three_went, listed_went, ascribed_went, coerced_went, plain_rules)
+
+pub ruleset list_form_rules = (exp_held, group_held, record_names, listed_went, plain_rules, no_memory)
+
+-- ---- bodies with a declared type
+
+pub plain_body : (e : SourceExp) (s t : Names) (c : Result Flat Stop) → Went term_of (resolve (source_of e)) s t c → Went term_of (resolve (declared None (placed e))) s t c
+unfolding source_of
+plain_body e s t c w = w
+
+pub typed_body : (e : SourceExp) (y : SourceType) (at : Place) (s t u : Names) (a : Result Flat Stop) (b : Result (Bor FlatTy) Stop) (c : Result Flat Stop) → (placed e).place ≡ at
+    → Built2 (λ (t : Bor FlatTy) e z. term_of z ≡ Strict (Declared (type_of t.now)) at (term_and (term_of e) no_term)) b a c
+    → Went (λ (t : Bor FlatTy). type_of t.now) (resolve_type (source_type y)) s t b → Went term_of (resolve (source_of e)) t u a → Went term_of (resolve (declared (Some y) (placed e))) s u c
+unfolding source_of
+typed_body e y at s t u a b c is q w1 w2 = subst (λ p. Went term_of (resolve (Strict (Declared (source_type y)) p (term_and ((placed e).term) no_term))) s u c) (sym is) (declared_went (source_type y) ((placed e).term) at s t u a b c q w1 w2)
+
+pub ruleset body_rules = (plain_body, typed_body, place_held)
+
+-- ---- lists
+
+pub part_made : (h : Held SourceExp) (s t : Names) (a : Flat) → Went term_of (resolve (source_of h.at.now)) s t (Ok a) → Went term_of (exp_part h) s t (Ok a)
+unfolding exp_part
+part_made h s t a w = w
+
+pub part_stops : (h : Held SourceExp) (s t : Names) (e : Stop) → Went term_of (resolve (source_of h.at.now)) s t (Err e) → Went term_of (exp_part h) s t (Err e)
+unfolding exp_part
+part_stops h s t e w = w
+
+pub part_next : (xs : List (Held SourceExp)) (s t u : Names) (i : ℕ) (h : Held SourceExp) (done more : List Flat) (a : Flat) → i < length xs → h ≡ get_or xs i h → Went term_of (resolve (source_of h.at.now)) t u (Ok a) → more ≡ done ++ a ∷ []
+    → Doing made_of term_of exp_part xs s (drop i xs) done t → Doing made_of term_of exp_part xs s (drop (i + 1) xs) more u
+part_next xs s t u i h done more a k is w so d = subst (λ l. Doing made_of term_of exp_part xs s (drop (i + 1) xs) l u) (sym so) (doing_next xs s t u i h done a k is (part_made h t u a w) d)
+
+pub ruleset part_rules = (doing_start, doing_next, doing_stops, doing_end, part_made, part_stops, no_memory)

@@ -1,0 +1,11 @@
+pub mod HeldExps
+pub mod Grouping
+pub mod StrictLaws
+pub mod UseLaws
+pub mod Above
+pub mod HeadLaws
+pub mod RowLaws
+pub mod TurnLaws
+pub mod ComposedLaws
+pub mod ListSizes
+pub mod ExpLaws

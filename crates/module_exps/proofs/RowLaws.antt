@@ -1,0 +1,223 @@
+-- Rows of lets.
+use Rattle.std.proofs.Common.{◌≡◌, ℕ, ◌+◌, ◌<◌, ◌≤◌, ◌++◌, List, [], ◌∷◌, map, length, drop, get_or, Bool, refl, sym, ◌∙◌, ap, Result, Ok, Err, append_assoc, append-nil}
+use Rattle.std.proofs.Math.ListN.{drop_of_length-le}
+use Rattle.std.proofs.lemmas.List.{map-append}
+use Rattle.std.specs.Borrow.{Bor}
+use Rattle.fut_scalar.specs.declared.place.BindId.{BindId}
+use Rattle.fut_scalar.specs.declared.place.Place.{Place}
+use Rattle.fut_ast.specs.Sorts.{Text}
+use Rattle.fut_ast.specs.declared.pat.Head.{Head as PlainHead}
+use Rattle.fut_tree.specs.declared.exp.Bind.{Bind}
+use Rattle.fut_tree.specs.Names.{names}
+use Rattle.fut_tree.specs.Pats.{heads_of}
+use Rattle.fut_tree.specs.Exps.{bind_of, binds_of}
+use Rattle.fut_flat.specs.declared.exp.Exp.{Exp as Flat}
+use Rattle.fut_flat.specs.declared.exp.Let.{Let as LetTree}
+use Rattle.fut_flat.specs.declared.prim.Ref.{Ref}
+use Rattle.fut_flat.specs.Terms.{Parameter, Binding, Let}
+use Rattle.fut_flat.specs.Erased.{FlatPattern, FlatTerm, Row, lets, parameters, term_of}
+use Rattle.fut_flat.specs.Sources as source
+use Rattle.fut_flat.specs.Sources.{SourceTerm, labels, source_parameters, source_pattern, source_term}
+use Rattle.fut_flat.proofs.ErasedForms.{row_of, row_is}
+use Rattle.fut_flat.proofs.SourceForms as sources
+use Rattle.module_scopes.specs.declared.refusal.Stop.{Stop}
+use Rattle.module_scopes.specs.declared.table.Names.{Names}
+use Rattle.module_scopes.specs.Scopes.{Scope, enter}
+use Rattle.module_scopes.specs.Resolve.{Bound, Numbered, after, and_size, next, with_text, number_sizes, number_heads, resolve, resolve_pattern}
+use Rattle.module_scopes.specs.Answers.{Walked, Went, went, refused, no_memory, Entered, entered, not_entered, no_memory_entered}
+use Rattle.module_scopes.specs.Table.{scope_of, made_of, outside}
+use Rattle.module_scopes.proofs.Walking.{from_here, after_assoc}
+use Rattle.module_nodes.specs.Built.{Built2}
+use Rattle.module_nodes.proofs.Steps.{by_same}
+use Rattle.module_types.specs.declared.binds.Heads.{Heads}
+use Rattle.module_types.specs.Bindings.{Brings, bound_heads_of, heads_numbered, sizes_numbered}
+use Rattle.module_exps.specs.declared.heads.Head.{Head}
+use Rattle.module_exps.specs.declared.heads.Valued.{Valued}
+use Rattle.module_exps.specs.Heads.{head_of, valued_of, Behind, now_behind, not_behind}
+use Rattle.module_exps.specs.Parts.{Doing_rows, doing_rows, Headed, behind, each_row, headed_value, row_part, sized_pattern, source_of}
+use Rattle.module_exps.proofs.Above.{Above, Rises, rises, above_all, enter_above, higher, rises_behind, rises_then, same_scope, scoped}
+use Rattle.module_exps.proofs.HeadLaws.{bring_stops, within, within_first, within_second}
+
+-- ---- values with their parameters
+
+pub value_made : (hs : List (PlainHead Text)) (v : SourceTerm) (s s1 s2 s3 u : Names) (h : ℕ) (z : Heads) (w : Unit {0}) (x : Flat) → h ≡ length (scope_of s)
+    → Went bound_heads_of (heads_numbered hs) s s1 (Ok z) → Brings z.names.now s1 s2 (Ok w) → Went term_of (resolve v) s2 s3 (Ok x) → scope_of u ≡ outside h (scope_of s3) → made_of u ≡ made_of s3
+    → Went valued_of (headed_value hs v) s u (Ok (record { heads = z.heads; value = x }))
+unfolding headed_value valued_of
+value_made hs v s s1 s2 s3 u h z w x n ws bs wv out mk = within {vx = bound_heads_of} {vy = term_of} {vz = λ (v : Valued). (parameters v.heads.now, term_of v.value)} (heads_numbered hs) (resolve v) (λ h v. (h.0, v)) s s1 s2 s3 u h z z.names.now w x (record { heads = z.heads; value = x }) n ws refl bs wv out mk refl
+
+pub value_first : (hs : List (PlainHead Text)) (v : SourceTerm) (s s1 : Names) (e : Stop) → Went bound_heads_of (heads_numbered hs) s s1 (Err e) → Went valued_of (headed_value hs v) s s1 (Err e)
+unfolding headed_value
+value_first hs v s s1 e w = within_first (heads_numbered hs) (resolve v) (λ h v. (h.0, v)) s s1 e w
+
+pub value_second : (hs : List (PlainHead Text)) (v : SourceTerm) (s s1 s2 s3 : Names) (z : Heads) (w : Unit {0}) (e : Stop) → Went bound_heads_of (heads_numbered hs) s s1 (Ok z) → Brings z.names.now s1 s2 (Ok w) → Went term_of (resolve v) s2 s3 (Err e)
+    → Went valued_of (headed_value hs v) s s3 (Err e)
+unfolding headed_value
+value_second hs v s s1 s2 s3 z w e ws bs wv = within_second {vx = bound_heads_of} {vy = term_of} (heads_numbered hs) (resolve v) (λ h v. (h.0, v)) s s1 s2 s3 z z.names.now w e ws refl bs wv
+
+pub ruleset value_rules = (value_made, value_first, value_second, bring_stops, no_memory)
+
+-- ---- one row
+
+row_after : Bind → Scope → Headed → List (Parameter BindId) × FlatTerm → List Text → Numbered (Row × Scope)
+row_after b sc h v m = Ok (((record { sizes = h.0.0; parameters = v.0; is_function = b.is_function; pattern = h.1.0 }, v.1), behind h sc), m)
+
+pub row_made : (b : Bind) (s s1 s2 s3 : Names) (h : Head) (v : Valued) (w : Unit {0}) → Went head_of (sized_pattern (names b.sizes.now) (source_pattern b.pat.now)) s s1 (Ok h)
+    → Went valued_of (headed_value (heads_of b.heads.now) (source_of b.value.now)) s1 s2 (Ok v) → Behind (head_of h) s2 s3 (Ok w)
+    → Entered row_of (row_part b (scope_of s) (made_of s)) s3 (Ok (record { sizes = h.sizes.binds; heads = v.heads; is_function = b.is_function; pat = h.pat.pat; value = v.value }))
+unfolding row_part after row_after head_of valued_of
+row_made b s s1 s2 s3 h v w (went gh sh) (went gv sv) (now_behind sb mb) = entered (
+    ap (λ r. after r (λ h m. after (headed_value (heads_of b.heads.now) (source_of b.value.now) (scope_of s) m) (λ v m. row_after b (scope_of s) h v m))) gh
+    ∙ (λ i. after (headed_value (heads_of b.heads.now) (source_of b.value.now) (sym sh i) (made_of s1)) (λ v m. row_after b (scope_of s) (head_of h) v m))
+    ∙ ap (λ r. after r (λ v m. row_after b (scope_of s) (head_of h) v m)) gv
+    ∙ (λ i. Ok ((sym (row_is (record { sizes = h.sizes.binds; heads = v.heads; is_function = b.is_function; pat = h.pat.pat; value = v.value })) i, place i), sym mb i)))
+  where
+    place : behind (head_of h) (scope_of s) ≡ scope_of s3
+    place = (λ i. behind (head_of h) (sym (sv ∙ sh) i)) ∙ sym sb
+
+pub row_first : (b : Bind) (s s1 : Names) (e : Stop) → Went head_of (sized_pattern (names b.sizes.now) (source_pattern b.pat.now)) s s1 (Err e) → Entered row_of (row_part b (scope_of s) (made_of s)) s1 (Err e)
+unfolding row_part after row_after
+row_first b s s1 _ (refused gh) = not_entered (ap (λ r. after r (λ h m. after (headed_value (heads_of b.heads.now) (source_of b.value.now) (scope_of s) m) (λ v m. row_after b (scope_of s) h v m))) gh)
+row_first b s s1 _ no_memory = no_memory_entered
+
+pub row_second : (b : Bind) (s s1 s2 : Names) (h : Head) (e : Stop) → Went head_of (sized_pattern (names b.sizes.now) (source_pattern b.pat.now)) s s1 (Ok h)
+    → Went valued_of (headed_value (heads_of b.heads.now) (source_of b.value.now)) s1 s2 (Err e) → Entered row_of (row_part b (scope_of s) (made_of s)) s2 (Err e)
+unfolding row_part after row_after
+row_second b s s1 s2 h _ (went gh sh) (refused gv) = not_entered (
+    ap (λ r. after r (λ h m. after (headed_value (heads_of b.heads.now) (source_of b.value.now) (scope_of s) m) (λ v m. row_after b (scope_of s) h v m))) gh
+    ∙ (λ i. after (headed_value (heads_of b.heads.now) (source_of b.value.now) (sym sh i) (made_of s1)) (λ v m. row_after b (scope_of s) (head_of h) v m))
+    ∙ ap (λ r. after r (λ v m. row_after b (scope_of s) (head_of h) v m)) gv)
+row_second b s s1 s2 h _ (went gh sh) no_memory = no_memory_entered
+
+pub row_third : {A R : Type 0} {view : R → A} (does : Numbered (A × Scope)) (h : Headed) (s t u : Names) (e : Stop) → Behind h s t (Err e) → Entered view does u (Err e)
+row_third does h s t u _ not_behind = no_memory_entered
+
+pub ruleset row_rules = (row_made, row_first, row_second, row_third)
+
+-- ---- rows
+
+finish : List LetTree → Numbered (List Row × Scope) → Numbered (List Row × Scope)
+finish done r = after r (λ rs m. Ok ((map row_of done ++ rs.0, rs.1), m))
+
+pub rows_start : (bs : List Bind) (s : Names) → Doing_rows bs s bs [] s
+unfolding after
+rows_start bs s = doing_rows (sym (at_start (each_row bs (scope_of s) (made_of s))))
+  where
+    at_start : (r : Numbered (List Row × Scope)) → after r (λ rs m. Ok ((map row_of [] ++ rs.0, rs.1), m)) ≡ r
+    at_start (Ok (r, m)) = refl
+    at_start (Err e) = refl
+
+pub rows_next : (bs : List Bind) (s t u : Names) (i : ℕ) (b : Bind) (done : List LetTree) (l : LetTree) → i < length bs → b ≡ get_or bs i b → Entered row_of (row_part b (scope_of t) (made_of t)) u (Ok l)
+    → Doing_rows bs s (drop i bs) done t → Doing_rows bs s (drop (i + 1) bs) (done ++ l ∷ []) u
+unfolding each_row after finish
+rows_next bs s t u i b done l k is (entered g) (doing_rows so) = doing_rows (
+    so
+    ∙ ap (λ xs. finish done (each_row xs (scope_of t) (made_of t))) (from_here bs i b k is)
+    ∙ ap (λ r. finish done (after r (λ r m. after (each_row (drop (i + 1) bs) r.1 m) (λ rs m. Ok ((r.0 ∷ rs.0, rs.1), m))))) g
+    ∙ at_rest (each_row (drop (i + 1) bs) (scope_of u) (made_of u)))
+  where
+    at_rest : (r : Numbered (List Row × Scope)) → finish done (after r (λ rs m. Ok ((row_of l ∷ rs.0, rs.1), m))) ≡ after r (λ rs m. Ok ((map row_of (done ++ l ∷ []) ++ rs.0, rs.1), m))
+    at_rest (Ok (rs, m)) = λ j. Ok ((sym (ap (λ xs. xs ++ rs.0) (map-append row_of done (l ∷ [])) ∙ append_assoc (map row_of done) (row_of l ∷ []) rs.0) j, rs.1), m)
+    at_rest (Err e) = refl
+
+pub rows_stop : {Q : Type 0} {view : Q → List Row} (bs : List Bind) (s t u : Names) (i : ℕ) (b : Bind) (done : List LetTree) (e : Stop) → i < length bs → b ≡ get_or bs i b → Entered row_of (row_part b (scope_of t) (made_of t)) u (Err e)
+    → Doing_rows bs s (drop i bs) done t → Entered view (each_row bs (scope_of s) (made_of s)) u (Err e)
+unfolding each_row after finish
+rows_stop bs s t u i b done _ k is (not_entered g) (doing_rows so) = not_entered (
+    so
+    ∙ ap (λ xs. finish done (each_row xs (scope_of t) (made_of t))) (from_here bs i b k is)
+    ∙ ap (λ r. finish done (after r (λ r m. after (each_row (drop (i + 1) bs) r.1 m) (λ rs m. Ok ((r.0 ∷ rs.0, rs.1), m))))) g)
+rows_stop bs s t u i b done _ k is no_memory_entered d = no_memory_entered
+
+pub rows_end : (bs : List Bind) (s t : Names) (i : ℕ) (done : List LetTree) (r : Bor (List LetTree)) → length bs ≤ i → r.now ≡ done → Doing_rows bs s (drop i bs) done t
+    → Entered (λ (ls : Bor (List LetTree)). map row_of ls.now) (each_row bs (scope_of s) (made_of s)) t (Ok r)
+unfolding each_row after finish
+rows_end bs s t i done r k is (doing_rows so) = entered (
+    so
+    ∙ ap (λ xs. finish done (each_row xs (scope_of t) (made_of t))) (drop_of_length-le bs k)
+    ∙ λ j. Ok (((append-nil (map row_of done) ∙ ap (map row_of) (sym is)) j, scope_of t), made_of t))
+
+pub ruleset row_list_rules = (rows_start, rows_next, rows_stop, rows_end, no_memory_entered)
+
+-- ---- a row before its body
+
+-- numbers do not depend on places
+places : (at to : Place) (xs : List Text) (m : List Text) → number_sizes (labels at xs) m ≡ number_sizes (labels to xs) m
+unfolding number_sizes
+places at to [] m = refl
+places at to (x ∷ xs) m = ap (and_size (next m) x) (places at to xs (with_text m x))
+
+pub sizes_anywhere : (at : Place) (xs : List Text) (sc : Scope) (m : List Text) → Ok (number_sizes (labels at xs) m) ≡ sizes_numbered xs sc m
+unfolding sizes_numbered
+sizes_anywhere at xs sc m = ap Ok (places at (record { file = 0; line = 0; column = 0 }) xs m)
+
+abbrev row_of_parts : Bound (List BindId) → List (Parameter BindId) → Bool → FlatPattern → Binding Ref BindId
+row_of_parts s hs f p = record { sizes = s.0; parameters = hs; is_function = f; pattern = p }
+
+one_row : (b : Bind) (s : Bound (List BindId)) (r : Numbered (Bound FlatPattern)) (N : List Text → Bound (List (Parameter BindId)) × List Text) (v rest : Scope → List Text → Numbered FlatTerm) (sc : Scope)
+    → after r (λ p m. after (Ok (N m)) (λ h m. after (v (enter h.1 sc) m) (λ v m. after (rest (enter p.1 (enter s.1 sc)) m) (λ e m. Ok (Let (row_of_parts s h.0 b.is_function p.0) v e, m)))))
+    ≡ after (after (after r (λ p m. Ok ((s, p), m))) (λ h m. after (after (Ok (N m)) (λ h m. after (v (enter h.1 sc) m) (λ v m. Ok ((h.0, v), m)))) (λ v m. row_after b sc h v m))) (λ r m. after (rest r.1 m) (λ e m. Ok (Let r.0.0 r.0.1 e, m)))
+unfolding after row_after behind
+one_row b s (Err e) N v rest sc = refl
+one_row b s (Ok (p, m)) N v rest sc = at_value (v (enter (N m).0.1 sc) (N m).1)
+  where
+    at_value : (r : Numbered FlatTerm) → after r (λ v m'. after (rest (enter p.1 (enter s.1 sc)) m') (λ e k. Ok (Let (row_of_parts s (N m).0.0 b.is_function p.0) v e, k)))
+        ≡ after (after (after r (λ v m'. Ok (((N m).0.0, v), m'))) (λ v m. row_after b sc (s, p) v m)) (λ r m. after (rest r.1 m) (λ e m. Ok (Let r.0.0 r.0.1 e, m)))
+    at_value (Ok (v, m')) = refl
+    at_value (Err e) = refl
+
+row_first_of : (b : Bind) (rest : SourceTerm) (sc : Scope) (m : List Text) → resolve (source.lets (sources.row_of (bind_of b) ∷ []) rest) sc m ≡ after (row_part b sc m) (λ r m. after (resolve rest r.1 m) (λ e m. Ok (Let r.0.0 r.0.1 e, m)))
+unfolding resolve source.lets row_part sized_pattern headed_value heads_numbered source_of after sizes_numbered resolve_pattern enter row_after
+row_first_of b rest sc m =
+    ap (λ r. resolve (source.lets (r ∷ []) rest) sc m) (sources.row_is (bind_of b))
+    ∙ (λ i. after (sizes_anywhere (bind_of b).pat.place (names b.sizes.now) sc m i) (λ s m. after (resolve_pattern (source_pattern b.pat.now) (enter s.1 sc) m) (λ p m. after (Ok (number_heads (source_parameters (heads_of b.heads.now)) m)) (λ h m. after (resolve (source_term b.value.now) (enter h.1 sc) m) (λ v m. after (resolve rest (enter p.1 (enter s.1 sc)) m) (λ e m. Ok (Let (row_of_parts s h.0 b.is_function p.0) v e, m)))))))
+    ∙ one_row b (number_sizes (labels (record { file = 0; line = 0; column = 0 }) (names b.sizes.now)) m).0 (resolve_pattern (source_pattern b.pat.now) (enter (number_sizes (labels (record { file = 0; line = 0; column = 0 }) (names b.sizes.now)) m).0.1 sc) (number_sizes (labels (record { file = 0; line = 0; column = 0 }) (names b.sizes.now)) m).1) (λ m. number_heads (source_parameters (heads_of b.heads.now)) m) (resolve (source_term b.value.now)) (resolve rest) sc
+
+at_end : (r : Numbered FlatTerm) → r ≡ after r (λ e m. Ok (e, m))
+unfolding after
+at_end (Ok (e, m)) = refl
+at_end (Err e) = refl
+
+rows_then : SourceTerm → List Row × Scope → List Text → Numbered FlatTerm
+rows_then e rs m = after (resolve e rs.1 m) (λ e m. Ok (lets rs.0 e, m))
+
+row_onto : Row × Scope → List Row × Scope → List Text → Numbered (List Row × Scope)
+row_onto r rs m = Ok ((r.0 ∷ rs.0, rs.1), m)
+
+let_onto : Row × Scope → FlatTerm → List Text → Numbered FlatTerm
+let_onto r e m = Ok (Let r.0.0 r.0.1 e, m)
+
+row_more : (bs : List Bind) (e : SourceTerm) (r : Row × Scope) (m : List Text) → resolve (source.lets (map sources.row_of (binds_of bs)) e) r.1 m ≡ after (each_row bs r.1 m) (rows_then e)
+    → after (resolve (source.lets (map sources.row_of (binds_of bs)) e) r.1 m) (let_onto r) ≡ after (after (each_row bs r.1 m) (row_onto r)) (rows_then e)
+unfolding after lets rows_then row_onto let_onto
+row_more bs e r m ih =
+    ap (λ q. after q (let_onto r)) ih
+    ∙ after_assoc (each_row bs r.1 m) (rows_then e) (let_onto r)
+    ∙ (λ i. after (each_row bs r.1 m) (λ rs m. after_assoc (resolve e rs.1 m) (λ e m. Ok (lets rs.0 e, m)) (let_onto r) i))
+    ∙ sym (after_assoc (each_row bs r.1 m) (row_onto r) (rows_then e))
+
+pub lets_each : (bs : List Bind) (e : SourceTerm) (sc : Scope) (m : List Text) → resolve (source.lets (map sources.row_of (binds_of bs)) e) sc m ≡ after (each_row bs sc m) (λ rs m. after (resolve e rs.1 m) (λ e m. Ok (lets rs.0 e, m)))
+unfolding each_row after lets source.lets rows_then row_onto let_onto
+lets_each [] e sc m = at_end (resolve e sc m)
+lets_each (b ∷ bs) e sc m =
+    row_first_of b (source.lets (map sources.row_of (binds_of bs)) e) sc m
+    ∙ (λ i. after (row_part b sc m) (λ r m. row_more bs e r m (lets_each bs e r.1 m) i))
+    ∙ sym (after_assoc (row_part b sc m) (λ r m. after (each_row bs r.1 m) (row_onto r)) (rows_then e))
+
+pub behind_above : (h : Headed) (sc : Scope) → Above sc (behind h sc)
+unfolding behind
+behind_above h sc = above_all (enter_above h.0.1 sc) (enter_above h.1.1 (enter h.0.1 sc))
+
+row_rises : (b : Bind) (sc : Scope) (m : List Text) → Rises sc (row_part b sc m)
+unfolding row_part
+row_rises b sc m = rises_behind _ _ (λ h m. rises_behind _ _ (λ v m. rises (behind_above h sc)))
+
+rows_rise : (bs : List Bind) (sc : Scope) (m : List Text) → Rises sc (each_row bs sc m)
+unfolding each_row
+rows_rise [] sc m = rises (same_scope sc)
+rows_rise (b ∷ bs) sc m = rises_then (λ r m. after (each_row bs r.1 m) (λ rs m. Ok ((r.0 ∷ rs.0, rs.1), m))) (row_rises b sc m) (λ r t m up. higher (λ (rs : List Row). r ∷ rs) up (rows_rise bs t m))
+
+pub lets_went : (bs : List Bind) (e : SourceTerm) (s s1 s2 u : Names) (h : ℕ) (a : Result (Bor (List LetTree)) Stop) (b : Result Flat Stop) (d : Result Flat Stop)
+    → Entered (λ (ls : Bor (List LetTree)). map row_of ls.now) (each_row bs (scope_of s) (made_of s)) s1 a → Went term_of (resolve e) s1 s2 b → h ≡ length (scope_of s) → scope_of u ≡ outside h (scope_of s2) → made_of u ≡ made_of s2
+    → Built2 (λ (ls : Bor (List LetTree)) e x. term_of x ≡ lets (map row_of ls.now) (term_of e)) a b d → Went term_of (resolve (source.lets (map sources.row_of (binds_of bs)) e)) s u d
+lets_went bs e s s1 s2 u h a b d rows w hs out mk q = by_same (lets_each bs e) (scoped (each_row bs) (resolve e) lets s s1 s2 u h a b d hs (rows_rise bs (scope_of s) (made_of s)) rows w out mk q)

@@ -1,0 +1,5 @@
+pub mod Plain
+pub mod Parts
+pub mod Lists
+pub mod Heads
+pub mod Groups

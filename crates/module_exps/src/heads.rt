@@ -1,0 +1,72 @@
+// Size names with a pattern, and what they bring.
+ghost use Rattle.std.specs.Prelude.{◌≡◌};
+ghost use Rattle.fut_flat.specs.Sources.{source_pattern};
+ghost use Rattle.fut_tree.specs.Names.{names as texts_of};
+ghost use Rattle.module_scopes.specs.Answers.{Went};
+ghost use Rattle.module_types.specs.Bindings.{bound_pattern_of};
+ghost use Rattle.module_exps.specs.Heads.{Behind, head_of};
+ghost use Rattle.module_exps.specs.Parts.{inside_pattern, sized_pattern};
+
+use bumpalo::Bump;
+use fut_flat as flat;
+use fut_tree::Pat;
+use module_scopes::{Names, Stop};
+use module_types::{Bound, Sizes, bring, numbered_sizes, resolved_pattern};
+
+/// Size names, and a pattern that sees them.
+#[derive(Clone, Copy)]
+pub struct Head<'a> {
+    pub sizes: Sizes<'a>,
+    pub pat: Bound<'a>,
+}
+
+/// Size and type parameters, and the value that sees them.
+#[derive(Clone, Copy)]
+pub struct Valued<'a> {
+    pub heads: &'a [flat::Head],
+    pub value: flat::Exp<'a>,
+}
+
+/// Size names and a pattern, numbered and resolved. They are not in scope behind it.
+#[tactic(auto, using(crate::proofs::HeadLaws::head_rules))]
+pub fn sized_pattern<'a>(
+    sizes: &'a [&'a str],
+    pat: &'a Pat<'a>,
+    bump: &'a Bump,
+    names: &mut Names<'a>,
+) -> Result<Head<'a>, Stop<'a>>
+    ensures { Went head_of (sized_pattern (texts_of sizes.now) (source_pattern pat.now)) names.old names.new result }
+{
+    let height = names.height();
+    let sizes = numbered_sizes(sizes, bump, names)?;
+    bring(sizes.names, names)?;
+    let pat = resolved_pattern(pat, bump, names)?;
+    names.leave(height);
+    Ok(Head { sizes, pat })
+}
+
+/// Brings the size names and the names of a pattern in scope.
+#[tactic(auto, using(crate::proofs::HeadLaws::bring_rules))]
+pub fn bring_head<'a>(head: &Head<'a>, names: &mut Names<'a>) -> Result<(), Stop<'a>>
+    ensures { Behind (head_of head.now) names.old names.new result }
+{
+    bring(head.sizes.names, names)?;
+    bring(head.pat.names, names)
+}
+
+/// The pattern of a loop over an array, which sees what the loop's own pattern binds.
+#[tactic(auto, using(crate::proofs::HeadLaws::element_rules))]
+pub fn element_pattern<'a>(
+    pat: &'a Pat<'a>,
+    head: &Head<'a>,
+    bump: &'a Bump,
+    names: &mut Names<'a>,
+) -> Result<Bound<'a>, Stop<'a>>
+    ensures { Went bound_pattern_of (inside_pattern (source_pattern pat.now) (head_of head.now)) names.old names.new result }
+{
+    let height = names.height();
+    bring_head(head, names)?;
+    let pat = resolved_pattern(pat, bump, names)?;
+    names.leave(height);
+    Ok(pat)
+}

@@ -1,0 +1,60 @@
+// Names that are used, and operators.
+ghost use Rattle.std.specs.Prelude.{◌≡◌};
+ghost use Rattle.fut_flat.specs.Erased.{operation_of, term_of};
+ghost use Rattle.fut_flat.specs.Sources.{names_before, negated, spelled};
+ghost use Rattle.fut_flat.specs.Terms.{Use};
+ghost use Rattle.fut_tree.specs.Names.{names as texts_of};
+ghost use Rattle.module_scopes.specs.Answers.{Went};
+ghost use Rattle.module_scopes.specs.Resolve.{resolve};
+ghost use Rattle.module_exps.specs.Lists.{operation_in};
+ghost use Rattle.module_exps.specs.Plain.{Plain};
+
+use bumpalo::Bump;
+use fut_ast::Oper;
+use fut_flat::{Act, Exp};
+use fut_scalar::{BinOp, Place};
+use module_nodes::uses;
+use module_scopes::{Names, Stop, value_of};
+
+/// A name that is used, and the fields that are left of its path.
+#[tactic(auto, using(crate::proofs::UseLaws::use_rules))]
+pub fn used<'a>(
+    path: &'a [&'a str],
+    at: Place,
+    bump: &'a Bump,
+    names: &Names<'a>,
+) -> Result<Exp<'a>, Stop<'a>>
+    ensures { Went term_of (resolve (Use (spelled (texts_of path.now) at) at (names_before (texts_of path.now)))) names.now names.now result }
+{
+    match value_of(names, path, at) {
+        Ok(found) => uses::path(bump, at, found.names, found.modules, found.fields),
+        Err(refusal) => Err(Stop::Refused(refusal)),
+    }
+}
+
+/// The operation of an operator between two operands, and nothing for a composition of functions.
+pub fn operation(op: Oper) -> Option<BinOp>
+    ensures { result ≡ operation_in op }
+{
+    match op {
+        Oper::Bin(op) => Some(op),
+        Oper::Neg => None,
+        Oper::Not => None,
+        Oper::Then => None,
+        Oper::After => None,
+    }
+}
+
+/// An operator before its operand.
+#[tactic(auto, using(crate::proofs::StrictLaws::plain_rules))]
+pub fn negation<'a>(op: Oper) -> Act<'a>
+    ensures { Plain (negated op) (operation_of result) }
+{
+    match op {
+        Oper::Neg => Act::Negate,
+        Oper::Not => Act::Complement,
+        Oper::Bin(_) => Act::Complement,
+        Oper::Then => Act::Complement,
+        Oper::After => Act::Complement,
+    }
+}

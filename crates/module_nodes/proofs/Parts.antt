@@ -1,0 +1,154 @@
+-- Nodes that are made of other builders' nodes.
+use Rattle.std.proofs.Common.{◌≡◌, ℕ, zero, ◌+◌, ◌<◌, ◌≤◌, List, [], ◌∷◌, map, length, drop, get_or, Bool, true, false, refl, sym, ◌∙◌, ap, Result, Ok, Err}
+use Rattle.std.proofs.Math.ListN.{drop_of_length-le}
+use Rattle.std.proofs.lemmas.List.{drop_more}
+use Rattle.std.specs.Borrow.{Bor}
+use Rattle.fut_scalar.specs.declared.place.BindId.{BindId}
+use Rattle.fut_scalar.specs.declared.place.Place.{Place}
+use Rattle.fut_ast.specs.Sorts.{Text}
+use Rattle.fut_flat.specs.declared.act.Act.{Act}
+use Rattle.fut_flat.specs.declared.act.Act.TheVariants as act
+use Rattle.fut_flat.specs.declared.exp.Exp.{Exp}
+use Rattle.fut_flat.specs.declared.exp.Form.TheVariants as form
+use Rattle.fut_flat.specs.declared.exp.Let.{Let as LetTree}
+use Rattle.fut_flat.specs.declared.exp.Loop.{Loop as LoopTree}
+use Rattle.fut_flat.specs.declared.pat.Pat.{Pat}
+use Rattle.fut_flat.specs.declared.pat.PatForm.TheVariants as pat_form
+use Rattle.fut_flat.specs.declared.prim.Ref.{Ref}
+use Rattle.fut_flat.specs.declared.ty.TypeExp.{TypeExp}
+use Rattle.fut_flat.specs.Terms.{Operation, Project, Ascribe, Coerce, Declared, Use, Strict, Lambda, Apply, Loop, Bound_pattern, pattern_and, no_pattern, term_and, no_term}
+use Rattle.fut_flat.specs.Erased.{FlatTerm, lets, operation_of, parameters, patterns, pattern_of, term_of, terms, texts, type_of}
+use Rattle.fut_flat.proofs.ErasedForms.{loop_of, row_of, turns_of, row_is, loop_is, term_use, term_lambda, term_lets, term_loop}
+use Rattle.fut_flat.proofs.ErasedPatterns.{pattern_bound}
+use Rattle.module_scopes.specs.declared.refusal.Stop.{Stop}
+use Rattle.module_scopes.specs.Resolve.{projected}
+use Rattle.module_scopes.proofs.Walking.{from_here}
+use Rattle.module_nodes.specs.Built.{Built0, built0, no_memory0, Built1, built1, stops1, no_memory1, Built2, built2, first_of_two, second_of_two, no_memory2, Built4, built4, first_of_four, second_of_four, third_of_four, fourth_of_four, no_memory4}
+use Rattle.module_nodes.specs.Composed.{composition, name_alone, ordered, twice_applied, use_at}
+use Rattle.module_nodes.specs.declared.rows.Functions.{Functions}
+use Rattle.module_nodes.specs.Paths.{Projects, projects, projects_not}
+
+strict_one : (a : Act) (mark : Place) (e x : Exp) (es : Bor (List Exp)) → es.now ≡ e ∷ [] → term_of x ≡ Strict (operation_of a) mark (terms (map term_of es.now)) → term_of x ≡ Strict (operation_of a) mark (term_and (term_of e) no_term)
+unfolding terms
+strict_one a mark e x es is at = at ∙ ap (λ l. Strict (operation_of a) mark (terms (map term_of l))) is
+
+-- ---- operations on one part
+
+pub field_made : (at : Place) (f : Bor Text) (r : Result Exp Stop) (b : Result (Bor (List Exp)) Stop) (c : Result Exp Stop)
+    → Built1 (λ e es. es.now ≡ e ∷ []) r b → Built1 (λ es x. term_of x ≡ Strict (Project f.now) at (terms (map term_of es.now))) b c
+    → Built1 (λ e x. term_of x ≡ Strict (Project f.now) at (term_and (term_of e) no_term)) r c
+field_made at f _ _ _ (built1 {c = es} is) (built1 eq) = built1 (strict_one (act.Project f) at _ _ es is eq)
+field_made at f _ _ _ (built1 is) no_memory1 = no_memory1
+field_made at f _ _ _ stops1 stops1 = stops1
+field_made at f _ _ _ stops1 no_memory1 = no_memory1
+field_made at f _ _ _ no_memory1 stops1 = no_memory1
+field_made at f _ _ _ no_memory1 no_memory1 = no_memory1
+
+pub ascribed_made : (mark : Place) (t : Bor TypeExp) (e : Exp) (b : Result (Bor (List Exp)) Stop) (c : Result Exp Stop)
+    → Built1 (λ e es. es.now ≡ e ∷ []) (Ok e) b → Built1 (λ es x. term_of x ≡ Strict (Ascribe (type_of t.now)) mark (terms (map term_of es.now))) b c
+    → Built2 (λ e (t : Bor TypeExp) x. term_of x ≡ Strict (Ascribe (type_of t.now)) mark (term_and (term_of e) no_term)) (Ok e) (Ok t) c
+ascribed_made mark t e _ _ (built1 {c = es} is) (built1 eq) = built2 (strict_one (act.Ascribe t) mark _ _ es is eq)
+ascribed_made mark t e _ _ (built1 is) no_memory1 = no_memory2
+ascribed_made mark t e _ _ no_memory1 stops1 = no_memory2
+ascribed_made mark t e _ _ no_memory1 no_memory1 = no_memory2
+
+pub coerced_made : (mark : Place) (t : Bor TypeExp) (e : Exp) (b : Result (Bor (List Exp)) Stop) (c : Result Exp Stop)
+    → Built1 (λ e es. es.now ≡ e ∷ []) (Ok e) b → Built1 (λ es x. term_of x ≡ Strict (Coerce (type_of t.now)) mark (terms (map term_of es.now))) b c
+    → Built2 (λ e (t : Bor TypeExp) x. term_of x ≡ Strict (Coerce (type_of t.now)) mark (term_and (term_of e) no_term)) (Ok e) (Ok t) c
+coerced_made mark t e _ _ (built1 {c = es} is) (built1 eq) = built2 (strict_one (act.Coerce t) mark _ _ es is eq)
+coerced_made mark t e _ _ (built1 is) no_memory1 = no_memory2
+coerced_made mark t e _ _ no_memory1 stops1 = no_memory2
+coerced_made mark t e _ _ no_memory1 no_memory1 = no_memory2
+
+pub declared_made : (mark : Place) (t : Bor TypeExp) (e : Exp) (b : Result (Bor (List Exp)) Stop) (c : Result Exp Stop)
+    → Built1 (λ e es. es.now ≡ e ∷ []) (Ok e) b → Built1 (λ es x. term_of x ≡ Strict (Declared (type_of t.now)) mark (terms (map term_of es.now))) b c
+    → Built2 (λ (t : Bor TypeExp) e x. term_of x ≡ Strict (Declared (type_of t.now)) mark (term_and (term_of e) no_term)) (Ok t) (Ok e) c
+declared_made mark t e _ _ (built1 {c = es} is) (built1 eq) = built2 (strict_one (act.Declared t) mark _ _ es is eq)
+declared_made mark t e _ _ (built1 is) no_memory1 = no_memory2
+declared_made mark t e _ _ no_memory1 stops1 = no_memory2
+declared_made mark t e _ _ no_memory1 no_memory1 = no_memory2
+
+pub ruleset parts = (field_made, ascribed_made, coerced_made, declared_made, first_of_two, second_of_two, no_memory2)
+
+-- ---- paths
+
+pub path_start : (at : Place) (fs : List (Bor Text)) (e : Exp) (r : Ref) (k : ℕ) → e.place ≡ at → e.form ≡ form.Use r k → Projects at (projected at (Use r at k) (texts fs)) fs (Ok e)
+path_start at fs e r k p is = projects (ap (λ t. projected at t (texts fs)) (term_use e r k is ∙ ap (λ p. Use r p k) p))
+
+pub path_next : (at : Place) (all : FlatTerm) (fs : List (Bor Text)) (i : ℕ) (f : Bor Text) (r c : Result Exp Stop) → i < length fs → f ≡ get_or fs i f → Projects at all (drop i fs) r
+    → Built1 (λ e x. term_of x ≡ Strict (Project f.now) at (term_and (term_of e) no_term)) r c → Projects at all (drop (i + 1) fs) c
+unfolding projected
+path_next at all fs i f _ _ k is (projects {x = x} so) (built1 eq) = projects (ap (λ t. projected at t (texts (drop (i + 1) fs))) eq ∙ sym (ap (λ l. projected at (term_of x) (texts l)) (from_here fs i f k is)) ∙ so)
+path_next at all fs i f _ _ k is (projects so) no_memory1 = projects_not
+path_next at all fs i f _ _ k is projects_not stops1 = projects_not
+path_next at all fs i f _ _ k is projects_not no_memory1 = projects_not
+
+pub path_next_at : (at : Place) (all : FlatTerm) (fs : List (Bor Text)) (i : ℕ) (d : Bor Text) (r c : Result Exp Stop) → i < length fs → Projects at all (drop i fs) r
+    → Built1 (λ e x. term_of x ≡ Strict (Project ((get_or fs i d).now)) at (term_and (term_of e) no_term)) r c → Projects at all (drop (i + 1) fs) c
+path_next_at at all fs i d r c k p b = path_next at all fs i (get_or fs i d) r c k (ap (λ l. get_or l 0 d) (sym (drop_more fs i d k) ∙ drop_more fs i (get_or fs i d) k)) p b
+
+pub path_end : (at : Place) (all : FlatTerm) (fs : List (Bor Text)) (i : ℕ) (r : Result Exp Stop) → length fs ≤ i → Projects at all (drop i fs) r → Built0 (λ x. term_of x ≡ all) r
+unfolding projected
+path_end at all fs i _ k (projects {x = x} so) = built0 (sym (ap (λ l. projected at (term_of x) (texts l)) (drop_of_length-le fs k)) ∙ so)
+path_end at all fs i _ k projects_not = no_memory0
+
+pub ruleset paths = (path_start, path_next, path_next_at, path_end)
+
+-- ---- loops
+
+loop_made : (x : Exp) (l : Bor LoopTree) (y : LoopTree) → x.form ≡ form.Loop l → l.now ≡ y → term_of x ≡ Loop y.mark y.sizes.now (pattern_of y.pat) (term_of y.first) (turns_of y.form) (term_of y.body)
+loop_made x l y is eq = term_loop x l is ∙ ap loop_of eq ∙ loop_is y
+
+pub loop_memory : {A B C D : Type 0} {P : Bor LoopTree → Type 0} {Q : A → B → C → D → Exp → Type 0} {a : Result A Stop} {b : Result B Stop} {c : Result C Stop} {d : Result D Stop} (e : Stop) → Built0 P (Err e) → Built4 Q a b c d (Err e)
+loop_memory _ no_memory0 = no_memory4
+
+pub loop_at : (x : Exp) (l : Bor LoopTree) (y : LoopTree) → x.form ≡ form.Loop l → Built0 (λ (l : Bor LoopTree). l.now ≡ y) (Ok l) → term_of x ≡ Loop y.mark y.sizes.now (pattern_of y.pat) (term_of y.first) (turns_of y.form) (term_of y.body)
+loop_at x l y is (built0 eq) = loop_made x l y is eq
+
+pub ruleset loops = (loop_at, loop_memory, built0, no_memory0, built4, first_of_four, second_of_four, third_of_four, fourth_of_four, no_memory4)
+
+-- ---- compositions
+
+pub twice_made : (at : Place) (outer inner x : BindId) (o i a : Exp) (r c : Result Exp Stop)
+    → Built2 (λ f e y. term_of y ≡ Apply (term_of f) (term_of e)) (Ok o) r c → Built2 (λ f e y. term_of y ≡ Apply (term_of f) (term_of e)) (Ok i) (Ok a) r
+    → term_of o ≡ use_at at outer → term_of i ≡ use_at at inner → term_of a ≡ use_at at x → Built0 (λ y. term_of y ≡ twice_applied at outer inner x) c
+twice_made at outer inner x o i a _ _ (built2 q) (built2 p) oo ii aa = built0 (q ∙ λ j. Apply (oo j) ((p ∙ λ k. Apply (ii k) (aa k)) j))
+twice_made at outer inner x o i a _ _ no_memory2 (built2 p) oo ii aa = no_memory0
+twice_made at outer inner x o i a _ _ second_of_two no_memory2 oo ii aa = no_memory0
+twice_made at outer inner x o i a _ _ no_memory2 no_memory2 oo ii aa = no_memory0
+
+pub left_first_made : (at : Place) (left_first : Bool) (left right x : BindId) (c : Result Exp Stop) → left_first ≡ true → Built0 (λ y. term_of y ≡ twice_applied at right left x) c → Built0 (λ y. term_of y ≡ ordered at left_first left right x) c
+left_first_made at left_first left right x c is b = rw is b
+
+pub right_first_made : (at : Place) (left_first : Bool) (left right x : BindId) (c : Result Exp Stop) → left_first ≡ false → Built0 (λ y. term_of y ≡ twice_applied at left right x) c → Built0 (λ y. term_of y ≡ ordered at left_first left right x) c
+right_first_made at left_first left right x c is b = rw is b
+
+pub name_made : (at : Place) (b : BindId) (ps : Bor (List Pat)) (p : Pat) (r c : Result Exp Stop) → ps.now ≡ p ∷ [] → p.form ≡ pat_form.Bound b
+    → Built2 (λ (ps : Bor (List Pat)) e x. term_of x ≡ Lambda (patterns (map pattern_of ps.now)) (term_of e)) (Ok ps) r c
+    → Built1 (λ e x. term_of x ≡ Lambda (pattern_and (Bound_pattern b) no_pattern) (term_of e)) r c
+unfolding patterns
+name_made at b ps p _ _ is form (built2 {b = e} eq) = built1 (eq ∙ ap (λ l. Lambda (patterns (map pattern_of l)) (term_of e)) is ∙ ap (λ q. Lambda (pattern_and q no_pattern) (term_of e)) (pattern_bound p b form))
+name_made at b ps p _ _ is form second_of_two = stops1
+name_made at b ps p _ _ is form no_memory2 = no_memory1
+
+pub value_made : (l : LetTree) (b : BindId) → l.sizes.now ≡ [] → l.heads.now ≡ [] → l.is_function ≡ false → l.pat.form ≡ pat_form.Bound b → row_of l ≡ (name_alone b, term_of l.value)
+value_made l b none no_heads plain is = row_is l ∙ λ i. (record { sizes = none i; parameters = parameters (no_heads i); is_function = plain i; pattern = pattern_bound l.pat b is i }, term_of l.value)
+
+pub composed_made : (at : Place) (left_first : Bool) (F : Functions) (a b c : Result Exp Stop) (ls : Bor (List LetTree)) (l m : LetTree)
+    → Built0 (λ y. term_of y ≡ ordered at left_first F.left F.right F.argument) a
+    → Built1 (λ e y. term_of y ≡ Lambda (pattern_and (Bound_pattern F.argument) no_pattern) (term_of e)) a b
+    → row_of l ≡ (name_alone F.left, term_of F.left_function) → row_of m ≡ (name_alone F.right, term_of F.right_function) → ls.now ≡ l ∷ m ∷ []
+    → Built2 (λ (ls : Bor (List LetTree)) e x. term_of x ≡ lets (map row_of ls.now) (term_of e)) (Ok ls) b c
+    → Built1 (λ (f : Functions) y. term_of y ≡ composition at left_first f.left (term_of f.left_function) f.right (term_of f.right_function) f.argument) (Ok F) c
+unfolding lets
+composed_made at left_first F _ _ _ ls l m (built0 o) (built1 p) fl gl is (built2 q) =
+    built1 (q ∙ (λ j. lets (map row_of (is j)) ((p ∙ ap (λ t. Lambda (pattern_and (Bound_pattern F.argument) no_pattern) t) o) j)) ∙ λ j. lets (fl j ∷ gl j ∷ []) (Lambda (pattern_and (Bound_pattern F.argument) no_pattern) (ordered at left_first F.left F.right F.argument)))
+composed_made at left_first F _ _ _ ls l m (built0 o) (built1 p) fl gl is no_memory2 = no_memory1
+composed_made at left_first F _ _ _ ls l m (built0 o) no_memory1 fl gl is second_of_two = no_memory1
+composed_made at left_first F _ _ _ ls l m (built0 o) no_memory1 fl gl is no_memory2 = no_memory1
+composed_made at left_first F _ _ _ ls l m no_memory0 stops1 fl gl is second_of_two = no_memory1
+composed_made at left_first F _ _ _ ls l m no_memory0 stops1 fl gl is no_memory2 = no_memory1
+composed_made at left_first F _ _ _ ls l m no_memory0 no_memory1 fl gl is second_of_two = no_memory1
+composed_made at left_first F _ _ _ ls l m no_memory0 no_memory1 fl gl is no_memory2 = no_memory1
+
+pub ruleset compositions = (twice_made, left_first_made, right_first_made, name_made, value_made, composed_made, stops1, no_memory1, no_memory0)

@@ -1,0 +1,46 @@
+// Names that are used, and what stands around them.
+ghost use Rattle.std.specs.Prelude.{◌≡◌};
+ghost use Rattle.fut_flat.specs.Erased.{term_of, texts};
+ghost use Rattle.fut_flat.specs.Terms.{Project, Strict, Use, no_term, term_and};
+ghost use Rattle.module_nodes.specs.Built.{Built0, Built1};
+ghost use Rattle.module_scopes.specs.Resolve.{projected};
+
+use crate::exps::{one, strict};
+use bumpalo::Bump;
+use fut_flat::{Act, Exp, Form, Ref};
+use fut_scalar::Place;
+use module_scopes::Stop;
+
+/// A field of a record.
+#[tactic(auto, using(crate::proofs::Parts::parts))]
+pub fn field<'a>(
+    bump: &'a Bump,
+    at: Place,
+    part: Result<Exp<'a>, Stop<'a>>,
+    name: &'a str,
+) -> Result<Exp<'a>, Stop<'a>>
+    ensures { Built1 (λ e x. term_of x ≡ Strict (Project name.now) at (term_and (term_of e) no_term)) part.entry result }
+{
+    strict(at, at, Act::Project(name), one(bump, part))
+}
+
+/// A name, and the fields that follow it in a path.
+#[tactic(auto, using(crate::proofs::Parts::paths))]
+pub fn path<'a>(
+    bump: &'a Bump,
+    at: Place,
+    of: Ref,
+    modules: u32,
+    fields: &'a [&'a str],
+) -> Result<Exp<'a>, Stop<'a>>
+    ensures { Built0 (λ x. term_of x ≡ projected at (Use of at modules) (texts fields.now)) result }
+{
+    let mut made = Ok(Exp {
+        place: at,
+        form: Form::Use(of, modules),
+    });
+    for name in fields {
+        made = field(bump, at, made, *name);
+    }
+    made
+}
