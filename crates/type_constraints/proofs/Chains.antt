@@ -1,7 +1,6 @@
 -- Numbers in a row that have one type.
 use Rattle.std.proofs.Common.{◌≡◌, ℕ, ◌<◌, List, [], ◌∷◌, refl, sym, ◌∙◌}
 use Rattle.fut_types.specs.declared.shapes.ShapeTable.{ShapeTable}
-use Rattle.fut_types.specs.Types.{Sub}
 use Rattle.type_graph.specs.Graph.{Each}
 use Rattle.type_rules.specs.Demands.{IsDemand, Are_demands, Met, All_met, Allows, All_allow, Say, Always_allowed}
 use Rattle.type_rows.specs.Lists.{all_same}

@@ -31,16 +31,16 @@ use Rattle.type_constraints.specs.Parts.{Term_claim, Term_homes, Constrained, Un
 use Rattle.type_constraints.proofs.Depending.{depends_term}
 
 -- patterns in a row, split at one
-no_numbers : all_pattern_numbers (patterns []) ≡ 0
+pub no_numbers : all_pattern_numbers (patterns []) ≡ 0
 unfolding patterns
 no_numbers = refl
 
-numbers_split : (qs : List FlatPattern) (p : FlatPattern) (rs : List FlatPattern) → all_pattern_numbers (patterns (qs ++ p ∷ rs)) ≡ all_pattern_numbers (patterns qs) + (pattern_numbers p + all_pattern_numbers (patterns rs))
+pub numbers_split : (qs : List FlatPattern) (p : FlatPattern) (rs : List FlatPattern) → all_pattern_numbers (patterns (qs ++ p ∷ rs)) ≡ all_pattern_numbers (patterns qs) + (pattern_numbers p + all_pattern_numbers (patterns rs))
 unfolding patterns
 numbers_split [] p rs = omega arith
 numbers_split (q ∷ qs) p rs = let e = numbers_split qs p rs in omega (arith, e)
 
-starts_more : (qs : List FlatPattern) (p : FlatPattern) (lo : ℕ) → pattern_starts (patterns (qs ++ p ∷ [])) lo ≡ pattern_starts (patterns qs) lo ++ (lo + all_pattern_numbers (patterns qs)) ∷ []
+pub starts_more : (qs : List FlatPattern) (p : FlatPattern) (lo : ℕ) → pattern_starts (patterns (qs ++ p ∷ [])) lo ≡ pattern_starts (patterns qs) lo ++ (lo + all_pattern_numbers (patterns qs)) ∷ []
 unfolding patterns pattern_starts
 starts_more [] p lo = λ k. (let e : lo ≡ lo + 0 = omega arith in e k) ∷ []
 starts_more (q ∷ qs) p lo = ap (λ l. lo ∷ l) (starts_more qs p (lo + pattern_numbers q) ∙ (λ k. pattern_starts (patterns qs) (lo + pattern_numbers q) ++ (let e : lo + pattern_numbers q + all_pattern_numbers (patterns qs) ≡ lo + (pattern_numbers q + all_pattern_numbers (patterns qs)) = omega arith in e k) ∷ []))
@@ -72,7 +72,7 @@ pub record Row_open (places : Kind) (base d lo at : ℕ) (qs : List FlatPattern)
   pub noted : begins' ≡ begins ++ pattern_starts (patterns qs) lo
   pub opened : Opened places base d lo (lo + all_pattern_numbers (patterns qs)) (Parameters_claim places (patterns qs) lo) (λ home. At_home home d lo (all_pattern_numbers (patterns qs))) (env_patterns (patterns qs) lo) i i'
 
-append_none : (xs : List ℕ) → xs ++ [] ≡ xs
+pub append_none : (xs : List ℕ) → xs ++ [] ≡ xs
 append_none [] = refl
 append_none (x ∷ xs) = ap (λ l. x ∷ l) (append_none xs)
 
@@ -136,7 +136,7 @@ unfolding pattern_starts
 starts_below base no_pattern lo h = tt
 starts_below base (pattern_and p ps) lo h = let z : 0 < pattern_numbers p = pattern_some p in (omega arith, starts_below base ps (lo + pattern_numbers p) (omega arith))
 
-types_are : (a : Sub) (ps : Patterns Ref BindId) (lo : ℕ) → types_of a (pattern_starts ps lo) ≡ pattern_types a ps lo
+pub types_are : (a : Sub) (ps : Patterns Ref BindId) (lo : ℕ) → types_of a (pattern_starts ps lo) ≡ pattern_types a ps lo
 unfolding types_of pattern_starts
 types_are a no_pattern lo = refl
 types_are a (pattern_and p ps) lo = ap (λ us. more (a lo) us) (types_are a ps (lo + pattern_numbers p))

@@ -13,6 +13,6 @@ use Rattle.type_scopes.specs.Scopes.{Reads, Claim, Homes, Refused}
 pub refused_graph : (places : Kind) (base d lo : ℕ) (P : Claim) (H : Homes) (i : Inference) (nodes : List Node) (entries : List Entry) → ((T : Tables) → Told i.table entries T → Told i.table i.entries T)
     → ((N : Names) (T : Tables) (E : Env) → Told i.table entries T → Nowhere T base (P N (scope_of N places E)) i.nodes) → Refused places base d lo P H i (record i { nodes = nodes; entries = entries })
 refused_graph places base d lo P H i nodes entries before un = record {
-  reads = λ N T r. record { names = r.names; shapes = r.shapes; told = before T r.told };
+  reads = λ N T r. record { names = r.names; labelled = r.labelled; shapes = r.shapes; told = before T r.told };
   nowhere = λ N T home born E r rd h. un N T E r.told;
 }

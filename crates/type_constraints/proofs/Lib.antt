@@ -5,6 +5,10 @@ pub mod Functions
 pub mod Values
 pub mod Lets
 pub mod Using
-pub mod Chains
 pub mod Graphs
 pub mod Ruling
+pub mod Labelling
+pub mod Chains
+pub mod Loops
+pub mod Tuples
+pub mod Overs

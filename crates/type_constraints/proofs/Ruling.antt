@@ -67,6 +67,15 @@ three_parts (x ∷ y ∷ []) e = absurd (omega arith)
 three_parts (x ∷ y ∷ z ∷ []) e = refl
 three_parts (x ∷ y ∷ z ∷ w ∷ l) e = absurd (omega arith)
 
+-- their types
+pub types_one : (a : Sub) (l : List ℕ) → length l ≡ 1 → types_of a l ≡ more (a (slice_index_or l 0 0)) none
+unfolding types_of
+types_one a l e = ap (λ x. types_of a x) (one_part l e)
+
+pub types_two : (a : Sub) (l : List ℕ) → length l ≡ 2 → types_of a l ≡ more (a (slice_index_or l 0 0)) (more (a (slice_index_or l 1 0)) none)
+unfolding types_of
+types_two a l e = ap (λ x. types_of a x) (two_parts l e)
+
 -- what demands say of few parts
 abbrev pub Say_of : Kind → Operation Ref BindId → ℕ → (Sub → Tys) → List Demand → Type 0
 Say_of places o lo ts ds = (N : Names) (K : Kinds) (a : Sub) → (All_met N.shapes K a ds → Rule N places K o (a lo) (a (operand o lo)) (ts a)) × (Rule N places K o (a lo) (a (operand o lo)) (ts a) → All_met N.shapes K a ds)

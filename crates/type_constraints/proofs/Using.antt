@@ -112,7 +112,7 @@ module _ (places : Kind) (base d lo name : ℕ) (i i' : Inference) (inn : name <
   pub definition_err : (first count : ℕ) → known_at i.names name ≡ known.Definition first count → (nodes : List Node) (entries : List Entry) → ((T : Tables) → Told i.table entries T → Nowhere T base (Instanced T base i.nodes i.store first count lo) i.nodes)
       → ((T : Tables) → Told i.table entries T → Told i.table i.entries T) → Refused places base d lo uses anywhere i (record i { nodes = nodes; entries = entries })
   definition_err first count is nodes entries un before = record {
-    reads = λ N T r. record { names = r.names; shapes = r.shapes; told = before T r.told };
+    reads = λ N T r. record { names = r.names; labelled = r.labelled; shapes = r.shapes; told = before T r.told };
     nowhere = λ N T home born E r rd h pl K a p u. un T r.told pl K a p ((instance_says first count is N T home born E rd K a p).0 u);
   }
 

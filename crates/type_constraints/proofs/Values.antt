@@ -61,7 +61,7 @@ module _ (places : Kind) (base d lo from : ℕ) (sizes : List BindId) (p : FlatP
     depends_wider places (Term_claim places v (1 + lo + pattern_numbers p)) (1 + lo + pattern_numbers p) end lo end (omega arith) (omega arith) (depends_term places v (1 + lo + pattern_numbers p) end refl) N E K a b same h.1,
   )
 
-  depends_row : Depends places row_claim lo end
+  pub depends_row : Depends places row_claim lo end
   depends_row N E K a b same h = let z : 0 < pattern_numbers p = pattern_some p in let y : 0 < numbers v = numbers_some v in
       let at : (n : ℕ) → lo ≤ n → n < end → a n ≡ b n = λ n x u. same n (inr (x, u)) in
       let w = depends_bound N E K a b same (h.0.0, h.0.1) in ((w.0, w.1), sym (at (1 + lo) (omega arith) (omega arith)) ∙ h.1 ∙ at (1 + lo + pattern_numbers p) (omega arith) (omega arith))
@@ -115,22 +115,24 @@ module _ (places : Kind) (base d lo from : ℕ) (sizes : List BindId) (p : FlatP
       pub value_err3 : (i5 : Inference) → ((places : Kind) (d lo' : ℕ) → Refused places base d lo' (λ N scope K a. All_met N.shapes K a ds) (λ home. All_allow home ds) i4 i5) → Refused places base d lo row_claim row_homes i0 i5
       value_err3 i5 r = refused_then places base d lo end bound rule row_claim row_homes anywhere row_homes i0 i4 i5 s (omega arith) depends_bound split (λ home h. (h, tt)) both (unruled places base d end ds (λ K a. a (1 + lo) ≡ a from) say allowed i4 i5 (r places d end))
 
-      module _ (i5 i6 i7 : Inference) (r : (places : Kind) (d lo' : ℕ) → Claimed places base d lo' (λ N scope K a. All_met N.shapes K a ds) (λ home. All_allow home ds) i4 i5) (y : (lo : ℕ) → Binds base lo 0 (env_sizes sizes) i5 i6) (z : Binds base (1 + lo) (pattern_numbers p) (env_pattern p (1 + lo)) i6 i7) where
-        row : Claimed places base d lo row_claim row_homes i0 i5
+      module _ (i5 : Inference) (r : (places : Kind) (d lo' : ℕ) → Claimed places base d lo' (λ N scope K a. All_met N.shapes K a ds) (λ home. All_allow home ds) i4 i5) where
+        pub row : Claimed places base d lo row_claim row_homes i0 i5
         row = claimed_then places base d lo end bound rule row_claim row_homes anywhere row_homes i0 i4 i5 s (omega arith) depends_bound split (λ home h. (h, tt)) both
             (λ N E K a p q. (p, subst (λ m. a (1 + lo) ≡ a m) eq q)) (ruled places base d end ds (λ K a. a (1 + lo) ≡ a from) say allowed i4 i5 (r places d end))
 
-        names : Binds base (1 + lo) (pattern_numbers p) (env_row (value_row sizes p v) lo) i5 i7
-        names = binds_within base (1 + lo + 0) (1 + lo) (pattern_numbers p) (pattern_numbers p) (λ E. env_pattern p (1 + lo) (env_sizes sizes E)) (env_row (value_row sizes p v) lo) i5 i7 (omega arith) (omega arith) refl
-            (subst (λ m. Binds base m (pattern_numbers p) (λ E. env_pattern p (1 + lo) (env_sizes sizes E)) i5 i7) (let e : 1 + lo ≡ 1 + lo + 0 = omega arith in e) (binds_all y z))
-          where
-            binds_all : ((lo : ℕ) → Binds base lo 0 (env_sizes sizes) i5 i6) → Binds base (1 + lo) (pattern_numbers p) (env_pattern p (1 + lo)) i6 i7 → Binds base (1 + lo) (pattern_numbers p) (λ E. env_pattern p (1 + lo) (env_sizes sizes E)) i5 i7
-            binds_all y z = binds_within base (1 + lo) (1 + lo) (0 + pattern_numbers p) (pattern_numbers p) (λ E. env_pattern p (1 + lo) (env_sizes sizes E)) (λ E. env_pattern p (1 + lo) (env_sizes sizes E)) i5 i7 (omega arith) (omega arith) refl
-                (binds_then base (1 + lo) 0 (pattern_numbers p) (env_sizes sizes) (env_pattern p (1 + lo)) i5 i6 i7 (y (1 + lo)) (subst (λ m. Binds base m (pattern_numbers p) (env_pattern p (1 + lo)) i6 i7) (let e : 1 + lo ≡ 1 + lo + 0 = omega arith in e) z))
+  -- what it binds
+  module _ (i5 i6 i7 : Inference) (y : (lo : ℕ) → Binds base lo 0 (env_sizes sizes) i5 i6) (z : Binds base (1 + lo) (pattern_numbers p) (env_pattern p (1 + lo)) i6 i7) where
+    pub names : Binds base (1 + lo) (pattern_numbers p) (env_row (value_row sizes p v) lo) i5 i7
+    names = binds_within base (1 + lo + 0) (1 + lo) (pattern_numbers p) (pattern_numbers p) (λ E. env_pattern p (1 + lo) (env_sizes sizes E)) (env_row (value_row sizes p v) lo) i5 i7 (omega arith) (omega arith) refl
+        (subst (λ m. Binds base m (pattern_numbers p) (λ E. env_pattern p (1 + lo) (env_sizes sizes E)) i5 i7) (let e : 1 + lo ≡ 1 + lo + 0 = omega arith in e) (binds_all y z))
+      where
+        binds_all : ((lo : ℕ) → Binds base lo 0 (env_sizes sizes) i5 i6) → Binds base (1 + lo) (pattern_numbers p) (env_pattern p (1 + lo)) i6 i7 → Binds base (1 + lo) (pattern_numbers p) (λ E. env_pattern p (1 + lo) (env_sizes sizes E)) i5 i7
+        binds_all y z = binds_within base (1 + lo) (1 + lo) (0 + pattern_numbers p) (pattern_numbers p) (λ E. env_pattern p (1 + lo) (env_sizes sizes E)) (λ E. env_pattern p (1 + lo) (env_sizes sizes E)) i5 i7 (omega arith) (omega arith) refl
+            (binds_then base (1 + lo) 0 (pattern_numbers p) (env_sizes sizes) (env_pattern p (1 + lo)) i5 i6 i7 (y (1 + lo)) (subst (λ m. Binds base m (pattern_numbers p) (env_pattern p (1 + lo)) i6 i7) (let e : 1 + lo ≡ 1 + lo + 0 = omega arith in e) z))
 
-        pub value_ok : Opened places base d lo end row_claim row_homes (env_row (value_row sizes p v) lo) i0 i7
-        value_ok = then_opened places base d lo end end row_claim nothing_claimed row_claim row_homes homes_p row_homes (env_row (value_row sizes p v) lo) i0 i5 i7 s (omega arith) depends_row (λ home h. (h, (homes_of home h).0)) row (λ N E K a h. (h, tt)) (λ N E K a x y. x)
-            (names places d end (omega arith))
+    pub value_ok : (i0 : Inference) → Safe base i0 → Claimed places base d lo row_claim row_homes i0 i5 → Opened places base d lo end row_claim row_homes (env_row (value_row sizes p v) lo) i0 i7
+    value_ok i0 s gone = then_opened places base d lo end end row_claim nothing_claimed row_claim row_homes homes_p row_homes (env_row (value_row sizes p v) lo) i0 i5 i7 s (omega arith) depends_row (λ home h. (h, (homes_of home h).0)) gone (λ N E K a h. (h, tt)) (λ N E K a x y. x)
+        (names places d end (omega arith))
 
 -- that two numbers have one type
 pub same_within : (table : ShapeTable) (base i j : ℕ) → i < base → j < base → Are_demands table base (demand.Same i j ∷ [])

@@ -5,15 +5,16 @@ use Rattle.fut_scalar.specs.declared.place.Place.{Place}
 use Rattle.fut_types.specs.declared.Kind.{Kind}
 use Rattle.fut_flat.specs.declared.prim.Ref.{Ref}
 use Rattle.fut_flat.specs.Terms.{Patterns, no_pattern, pattern_and, Operation, Use, Terms, no_term, term_and}
-use Rattle.fut_flat.specs.Numbers.{pattern_numbers, own_numbers, numbers}
-use Rattle.fut_flat.specs.Erased.{FlatTerm, FlatPattern, Row}
+use Rattle.fut_flat.specs.Numbers.{pattern_numbers, own_numbers, numbers, turn_numbers}
+use Rattle.fut_flat.specs.Erased.{FlatTerm, FlatPattern, FlatTurns, Row}
 use Rattle.fut_types.specs.Types.{Sub}
 use Rattle.fut_typing.specs.Rules.{Rule, Written}
 use Rattle.fut_typing.specs.Free.{differs}
-use Rattle.fut_typing.specs.Homes.{Env, env_bound, At_home, home_in, Homed, All_homed}
+use Rattle.fut_typing.specs.Homes.{Env, env_bound, env_pattern, env_sizes, env_turns, At_home, home_in, Homed, All_homed, Turns_homed}
+use Rattle.fut_typing.specs.Scopes.{with_sizes, the_one}
 use Rattle.fut_typing.specs.Rows.{behind, row_scheme, with_row, Row_homed, Rows_homed}
-use Rattle.fut_typing.specs.Patterns.{Pattern_typed, Parameters_typed}
-use Rattle.fut_typing.specs.Typing.{operand, Function_name, Let_typed, Typed, All_typed}
+use Rattle.fut_typing.specs.Patterns.{with_pattern, Pattern_typed, Patterns_typed, Parameters_typed}
+use Rattle.fut_typing.specs.Typing.{operand, Function_name, Let_typed, Typed, All_typed, Turns_typed}
 use Rattle.type_claims.specs.Claims.{types_of}
 use Rattle.type_scopes.specs.declared.Inference.{Inference}
 use Rattle.type_scopes.specs.Scopes.{Claim, Homes, Claimed, Refused}
@@ -57,6 +58,9 @@ Rule_homes d o lo home = (w : ℕ) × At_home home (home_in (differs o) d w) lo 
 
 abbrev pub Pattern_claim : Kind → FlatPattern → ℕ → Claim
 Pattern_claim places p lo N scope K a = Pattern_typed N places K a p lo scope
+
+abbrev pub Patterns_claim : Kind → Patterns Ref BindId → ℕ → Claim
+Patterns_claim places ps lo N scope K a = Patterns_typed N places K a ps lo scope
 
 -- each parameter sees the names of those before it
 abbrev pub Parameters_claim : Kind → Patterns Ref BindId → ℕ → Claim
@@ -103,3 +107,21 @@ first_of (n ∷ ns) last = n
 unfoldable pub Chained : Sub → List ℕ → ℕ → Type 0
 Chained a [] last = Unit {0}
 Chained a (n ∷ ns) last = (a n ≡ a (first_of ns last)) × Chained a ns last
+
+-- a loop's pattern with its first value is as a let is
+abbrev pub behind_first : FlatPattern → FlatTerm → ℕ → ℕ
+behind_first p first lo = 1 + lo + pattern_numbers p + numbers first
+
+abbrev pub behind_head : FlatPattern → FlatTerm → FlatTurns → ℕ → ℕ
+behind_head p first turns lo = behind_first p first lo + turn_numbers turns
+
+-- what a loop says of its pattern, its first value and its turns
+abbrev pub Head_claim : Kind → List BindId → FlatPattern → FlatTerm → FlatTurns → ℕ → Claim
+Head_claim places sizes p first turns lo N scope K a = Row_claim places (value_row sizes p first) lo N scope K a × Turns_typed N places turns (behind_first p first lo) scope (with_pattern the_one p (1 + lo) (with_sizes sizes scope)) K a
+
+abbrev pub Head_homes : ℕ → List BindId → FlatPattern → FlatTerm → FlatTurns → ℕ → Homes
+Head_homes d sizes p first turns lo home = (w : ℕ) × (Row_homed home d w (value_row sizes p first) lo × Turns_homed home d w turns (behind_first p first lo))
+
+-- what stands in scope in the body of a loop
+abbrev pub env_head : List BindId → FlatPattern → FlatTerm → FlatTurns → ℕ → Env → Env
+env_head sizes p first turns lo E = env_turns turns (behind_first p first lo) (env_pattern p (1 + lo) (env_sizes sizes E))

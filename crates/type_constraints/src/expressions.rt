@@ -1,35 +1,37 @@
 // Expressions.
 ghost use Rattle.std.specs.Prelude.{◌≡◌, ◌≤◌, ◌<◌, ◌+◌, ◌++◌, ℕ, map, OnOk, IfOk, IfErr};
-ghost use Rattle.fut_flat.specs.Terms.{Apply, If, Lambda, Strict};
+ghost use Rattle.fut_flat.specs.Terms.{Apply, Counted, If, Lambda, Over, Strict, While};
 ghost use Rattle.fut_flat.specs.Numbers.{all_numbers, numbers};
 ghost use Rattle.fut_flat.specs.Erased.{lets as lets_term, operation_of, pattern_of, patterns, term_of, terms};
-ghost use Rattle.fut_flat.proofs.ErasedForms.{row_of};
+ghost use Rattle.fut_flat.proofs.ErasedForms.{loop_of, row_of, turns_of};
 ghost use Rattle.fut_typing.specs.Rows.{behind, behind_all, env_rows};
 ghost use Rattle.type_graph.specs.Graph.{Each, Tells};
 ghost use Rattle.type_scopes.specs.Scopes.{Claimed, Opened, Refused, Safe};
-ghost use Rattle.type_constraints.specs.Parts.{Constrained, Row_claim, Row_homes, Rows_claim, Rows_homes, Terms_claim, Terms_homes, Unconstrained, env_row, row_starts, starts, use_term, value_row};
+ghost use Rattle.type_constraints.specs.Parts.{Constrained, Head_claim, Head_homes, Row_claim, Row_homes, Rows_claim, Rows_homes, Terms_claim, Terms_homes, Unconstrained, behind_head, env_head, env_row, row_starts, starts, use_term, value_row};
 
 use crate::operations::{constrain_rule, own_numbers_of};
 use crate::patterns::{constrain_arrows, constrain_chain, constrain_parameters, constrain_pattern};
 use crate::uses::use_name;
-use fut_flat::{Act, Exp, Form, Let, Pat, Ref};
-use fut_scalar::{BindId, List, Place};
+use fut_flat::{Act, Exp, Form, Let, Loop, LoopForm, Pat, Ref};
+use fut_scalar::{BindId, List, Place, ScalarType};
 use fut_types::Kind;
 use std::alloc::Global;
 use type_graph::UnifyErr;
-use type_rules::{Demand, application, choice};
-use type_scopes::{Inference, demand, enter_pattern, enter_sizes, mark_of, take_back};
+use type_rules::{Demand, application, carried, choice, counted, gone_over};
+use type_scopes::{
+    Inference, Known, demand, enter, enter_pattern, enter_sizes, mark_of, take_back,
+};
 
 /// Asks for the rules of all numbers of an expression, which begin at `lo`. The answer is where they end.
 #[cycle(constrain)]
-pub fn constrain(
+pub fn constrain<'a>(
     alloc: Global,
     places: Kind,
     base: u32,
-    exp: &Exp<'_>,
+    exp: &Exp<'a>,
     depth: u32,
     lo: u32,
-    inference: &mut Inference,
+    inference: &mut Inference<'a>,
 ) -> Result<u32, UnifyErr>
     requires safe { Safe base inference.old }
     requires room { lo + numbers (term_of exp.now) ≤ base }
@@ -58,7 +60,7 @@ pub fn constrain(
         Form::If(test, yes, no) => {
             constrain_if(alloc, places, base, test, yes, no, depth, lo, inference)
         }
-        Form::Loop(_) => Err(UnifyErr::Memory),
+        Form::Loop(whole) => constrain_loop(alloc, places, base, whole, depth, lo, inference),
     }
 }
 
@@ -90,16 +92,16 @@ fn constrain_use(
 
 // Parts from left to right, and an operation on them.
 #[cycle(constrain)]
-fn constrain_strict(
+fn constrain_strict<'a>(
     alloc: Global,
     places: Kind,
     base: u32,
-    act: &Act<'_>,
+    act: &Act<'a>,
     mark: Place,
-    parts: &[Exp<'_>],
+    parts: &[Exp<'a>],
     depth: u32,
     lo: u32,
-    inference: &mut Inference,
+    inference: &mut Inference<'a>,
 ) -> Result<u32, UnifyErr>
     requires safe { Safe base inference.old }
     requires room { lo + numbers (Strict (operation_of act.now) mark (terms (map term_of parts.now))) ≤ base }
@@ -140,15 +142,15 @@ fn constrain_strict(
 
 // Expressions in a row. Where the numbers of each begin is noted.
 #[cycle(constrain)]
-fn constrain_parts(
+fn constrain_parts<'a>(
     alloc: Global,
     places: Kind,
     base: u32,
-    parts: &[Exp<'_>],
+    parts: &[Exp<'a>],
     depth: u32,
     lo: u32,
     begins: &mut List<u32>,
-    inference: &mut Inference,
+    inference: &mut Inference<'a>,
 ) -> Result<u32, UnifyErr>
     requires safe { Safe base inference.old }
     requires room { lo + all_numbers (terms (map term_of parts.now)) ≤ base }
@@ -173,15 +175,15 @@ fn constrain_parts(
 
 // A function and its argument.
 #[cycle(constrain)]
-fn constrain_apply(
+fn constrain_apply<'a>(
     alloc: Global,
     places: Kind,
     base: u32,
-    function: &Exp<'_>,
-    argument: &Exp<'_>,
+    function: &Exp<'a>,
+    argument: &Exp<'a>,
     depth: u32,
     lo: u32,
-    inference: &mut Inference,
+    inference: &mut Inference<'a>,
 ) -> Result<u32, UnifyErr>
     requires safe { Safe base inference.old }
     requires room { lo + numbers (Apply (term_of function.now) (term_of argument.now)) ≤ base }
@@ -205,16 +207,16 @@ fn constrain_apply(
 
 // A condition and two branches.
 #[cycle(constrain)]
-fn constrain_if(
+fn constrain_if<'a>(
     alloc: Global,
     places: Kind,
     base: u32,
-    test: &Exp<'_>,
-    yes: &Exp<'_>,
-    no: &Exp<'_>,
+    test: &Exp<'a>,
+    yes: &Exp<'a>,
+    no: &Exp<'a>,
     depth: u32,
     lo: u32,
-    inference: &mut Inference,
+    inference: &mut Inference<'a>,
 ) -> Result<u32, UnifyErr>
     requires safe { Safe base inference.old }
     requires room { lo + numbers (If (term_of test.now) (term_of yes.now) (term_of no.now)) ≤ base }
@@ -247,15 +249,15 @@ fn constrain_if(
 
 // A function of parameters. Its body sees their names.
 #[cycle(constrain)]
-fn constrain_lambda(
+fn constrain_lambda<'a>(
     alloc: Global,
     places: Kind,
     base: u32,
-    params: &[Pat<'_>],
-    body: &Exp<'_>,
+    params: &[Pat<'a>],
+    body: &Exp<'a>,
     depth: u32,
     lo: u32,
-    inference: &mut Inference,
+    inference: &mut Inference<'a>,
 ) -> Result<u32, UnifyErr>
     requires safe { Safe base inference.old }
     requires room { lo + numbers (Lambda (patterns (map pattern_of params.now)) (term_of body.now)) ≤ base }
@@ -291,15 +293,15 @@ fn constrain_lambda(
 
 // A row of lets, and the body behind it. Elaboration makes no row without a let.
 #[cycle(constrain)]
-fn constrain_lets(
+fn constrain_lets<'a>(
     alloc: Global,
     places: Kind,
     base: u32,
-    lets: &[Let<'_>],
-    body: &Exp<'_>,
+    lets: &[Let<'a>],
+    body: &Exp<'a>,
     depth: u32,
     lo: u32,
-    inference: &mut Inference,
+    inference: &mut Inference<'a>,
 ) -> Result<u32, UnifyErr>
     requires safe { Safe base inference.old }
     requires room { lo + numbers (lets_term (map row_of lets.now) (term_of body.now)) ≤ base }
@@ -330,15 +332,15 @@ fn constrain_lets(
 
 // Lets in a row, each of which sees the names of those before it. Where the numbers of each begin is noted.
 #[cycle(constrain)]
-fn constrain_rows(
+fn constrain_rows<'a>(
     alloc: Global,
     places: Kind,
     base: u32,
-    lets: &[Let<'_>],
+    lets: &[Let<'a>],
     depth: u32,
     lo: u32,
     begins: &mut List<u32>,
-    inference: &mut Inference,
+    inference: &mut Inference<'a>,
 ) -> Result<u32, UnifyErr>
     requires safe { Safe base inference.old }
     requires room { behind_all (map row_of lets.now) lo ≤ base }
@@ -363,14 +365,14 @@ fn constrain_rows(
 
 // A let.
 #[cycle(constrain)]
-fn constrain_row(
+fn constrain_row<'a>(
     alloc: Global,
     places: Kind,
     base: u32,
-    one: &Let<'_>,
+    one: &Let<'a>,
     depth: u32,
     lo: u32,
-    inference: &mut Inference,
+    inference: &mut Inference<'a>,
 ) -> Result<u32, UnifyErr>
     requires safe { Safe base inference.old }
     requires room { behind (row_of one.now) lo ≤ base }
@@ -389,23 +391,56 @@ fn constrain_row(
     )
 }
 
-// A let that is not written as a function. Its pattern sees its size names, its value does not.
+// A let that is not written as a function.
 #[cycle(constrain)]
-fn constrain_value(
+fn constrain_value<'a>(
     alloc: Global,
     places: Kind,
     base: u32,
     sizes: &[BindId],
-    pat: &Pat<'_>,
-    value: &Exp<'_>,
+    pat: &Pat<'a>,
+    value: &Exp<'a>,
     depth: u32,
     lo: u32,
-    inference: &mut Inference,
+    inference: &mut Inference<'a>,
 ) -> Result<u32, UnifyErr>
     requires safe { Safe base inference.old }
     requires room { behind (value_row sizes.now (pattern_of pat.now) (term_of value.now)) lo ≤ base }
     ensures next { IfOk result (λ next. next ≡ behind (value_row sizes.now (pattern_of pat.now) (term_of value.now)) lo) }
     ensures ok { OnOk result (Opened places base depth lo (behind (value_row sizes.now (pattern_of pat.now) (term_of value.now)) lo) (Row_claim places (value_row sizes.now (pattern_of pat.now) (term_of value.now)) lo) (Row_homes depth (value_row sizes.now (pattern_of pat.now) (term_of value.now)) lo) (env_row (value_row sizes.now (pattern_of pat.now) (term_of value.now)) lo) inference.old inference.new) }
+    ensures err { IfErr result (Tells (Refused places base depth lo (Row_claim places (value_row sizes.now (pattern_of pat.now) (term_of value.now)) lo) (Row_homes depth (value_row sizes.now (pattern_of pat.now) (term_of value.now)) lo) inference.old inference.new)) }
+{
+    let next = match constrain_bound(alloc, places, base, sizes, pat, value, depth, lo, inference) {
+        Ok(next) => next,
+        Err(error) => return Err(error),
+    };
+    match enter_sizes(base, sizes, inference) {
+        Ok(()) => {}
+        Err(_) => return Err(UnifyErr::Memory),
+    }
+    match enter_pattern(base, pat, 1 + lo, inference) {
+        Ok(_) => Ok(next),
+        Err(_) => Err(UnifyErr::Memory),
+    }
+}
+
+// A pattern and the value that it is bound to. The pattern sees its size names, the value does not.
+#[cycle(constrain)]
+fn constrain_bound<'a>(
+    alloc: Global,
+    places: Kind,
+    base: u32,
+    sizes: &[BindId],
+    pat: &Pat<'a>,
+    value: &Exp<'a>,
+    depth: u32,
+    lo: u32,
+    inference: &mut Inference<'a>,
+) -> Result<u32, UnifyErr>
+    requires safe { Safe base inference.old }
+    requires room { behind (value_row sizes.now (pattern_of pat.now) (term_of value.now)) lo ≤ base }
+    ensures next { IfOk result (λ next. next ≡ behind (value_row sizes.now (pattern_of pat.now) (term_of value.now)) lo) }
+    ensures ok { OnOk result (Claimed places base depth lo (Row_claim places (value_row sizes.now (pattern_of pat.now) (term_of value.now)) lo) (Row_homes depth (value_row sizes.now (pattern_of pat.now) (term_of value.now)) lo) inference.old inference.new) }
     ensures err { IfErr result (Tells (Refused places base depth lo (Row_claim places (value_row sizes.now (pattern_of pat.now) (term_of value.now)) lo) (Row_homes depth (value_row sizes.now (pattern_of pat.now) (term_of value.now)) lo) inference.old inference.new)) }
 {
     let mark = mark_of(inference);
@@ -423,6 +458,173 @@ fn constrain_value(
         Err(error) => return Err(error),
     };
     match demand(alloc, base, inference, &[Demand::Same(1 + lo, from)]) {
+        Ok(()) => Ok(next),
+        Err(error) => Err(error),
+    }
+}
+
+// A loop: what it carries and its turns, and its body.
+#[cycle(constrain)]
+fn constrain_loop<'a>(
+    alloc: Global,
+    places: Kind,
+    base: u32,
+    whole: &Loop<'a>,
+    depth: u32,
+    lo: u32,
+    inference: &mut Inference<'a>,
+) -> Result<u32, UnifyErr>
+    requires safe { Safe base inference.old }
+    requires room { lo + numbers (loop_of whole.now) ≤ base }
+    ensures next { IfOk result (λ next. next ≡ lo + numbers (loop_of whole.now)) }
+    ensures ok { OnOk result (Constrained places base depth lo (loop_of whole.now) inference.old inference.new) }
+    ensures err { IfErr result (Tells (Unconstrained places base depth lo (loop_of whole.now) inference.old inference.new)) }
+{
+    let mark = mark_of(inference);
+    let from = match constrain_head(alloc, places, base, whole, depth, lo, inference) {
+        Ok(next) => next,
+        Err(error) => return Err(error),
+    };
+    let next = match constrain(alloc, places, base, &whole.body, depth, from, inference) {
+        Ok(next) => next,
+        Err(error) => return Err(error),
+    };
+    match demand(alloc, base, inference, &carried(lo, 1 + lo, from, places)) {
+        Ok(()) => {}
+        Err(error) => return Err(error),
+    }
+    take_back(inference, mark);
+    Ok(next)
+}
+
+// What a loop carries, and its turns.
+#[cycle(constrain)]
+fn constrain_head<'a>(
+    alloc: Global,
+    places: Kind,
+    base: u32,
+    whole: &Loop<'a>,
+    depth: u32,
+    lo: u32,
+    inference: &mut Inference<'a>,
+) -> Result<u32, UnifyErr>
+    requires safe { Safe base inference.old }
+    requires room { behind_head (pattern_of whole.now.pat) (term_of whole.now.first) (turns_of whole.now.form) lo ≤ base }
+    ensures next { IfOk result (λ next. next ≡ behind_head (pattern_of whole.now.pat) (term_of whole.now.first) (turns_of whole.now.form) lo) }
+    ensures ok { OnOk result (Opened places base depth lo (behind_head (pattern_of whole.now.pat) (term_of whole.now.first) (turns_of whole.now.form) lo) (Head_claim places whole.now.sizes.now (pattern_of whole.now.pat) (term_of whole.now.first) (turns_of whole.now.form) lo) (Head_homes depth whole.now.sizes.now (pattern_of whole.now.pat) (term_of whole.now.first) (turns_of whole.now.form) lo) (env_head whole.now.sizes.now (pattern_of whole.now.pat) (term_of whole.now.first) (turns_of whole.now.form) lo) inference.old inference.new) }
+    ensures err { IfErr result (Tells (Refused places base depth lo (Head_claim places whole.now.sizes.now (pattern_of whole.now.pat) (term_of whole.now.first) (turns_of whole.now.form) lo) (Head_homes depth whole.now.sizes.now (pattern_of whole.now.pat) (term_of whole.now.first) (turns_of whole.now.form) lo) inference.old inference.new)) }
+{
+    match whole.form {
+        LoopForm::While(ref test) => constrain_while(
+            alloc,
+            places,
+            base,
+            whole.sizes,
+            &whole.pat,
+            &whole.first,
+            test,
+            depth,
+            lo,
+            inference,
+        ),
+        LoopForm::For(name, ref bound) => constrain_counted(
+            alloc,
+            places,
+            base,
+            whole.sizes,
+            &whole.pat,
+            &whole.first,
+            name,
+            bound,
+            depth,
+            lo,
+            inference,
+        ),
+        LoopForm::ForIn(ref part, ref array) => constrain_over(
+            alloc,
+            places,
+            base,
+            whole.sizes,
+            &whole.pat,
+            &whole.first,
+            part,
+            array,
+            depth,
+            lo,
+            inference,
+        ),
+    }
+}
+
+// A loop with a condition, which sees the names that the loop carries.
+#[cycle(constrain)]
+fn constrain_while<'a>(
+    alloc: Global,
+    places: Kind,
+    base: u32,
+    sizes: &[BindId],
+    pat: &Pat<'a>,
+    first: &Exp<'a>,
+    test: &Exp<'a>,
+    depth: u32,
+    lo: u32,
+    inference: &mut Inference<'a>,
+) -> Result<u32, UnifyErr>
+    requires safe { Safe base inference.old }
+    requires room { behind_head (pattern_of pat.now) (term_of first.now) (While (term_of test.now)) lo ≤ base }
+    ensures next { IfOk result (λ next. next ≡ behind_head (pattern_of pat.now) (term_of first.now) (While (term_of test.now)) lo) }
+    ensures ok { OnOk result (Opened places base depth lo (behind_head (pattern_of pat.now) (term_of first.now) (While (term_of test.now)) lo) (Head_claim places sizes.now (pattern_of pat.now) (term_of first.now) (While (term_of test.now)) lo) (Head_homes depth sizes.now (pattern_of pat.now) (term_of first.now) (While (term_of test.now)) lo) (env_head sizes.now (pattern_of pat.now) (term_of first.now) (While (term_of test.now)) lo) inference.old inference.new) }
+    ensures err { IfErr result (Tells (Refused places base depth lo (Head_claim places sizes.now (pattern_of pat.now) (term_of first.now) (While (term_of test.now)) lo) (Head_homes depth sizes.now (pattern_of pat.now) (term_of first.now) (While (term_of test.now)) lo) inference.old inference.new)) }
+{
+    let from = match constrain_value(alloc, places, base, sizes, pat, first, depth, lo, inference) {
+        Ok(next) => next,
+        Err(error) => return Err(error),
+    };
+    let next = match constrain(alloc, places, base, test, depth, from, inference) {
+        Ok(next) => next,
+        Err(error) => return Err(error),
+    };
+    match demand(
+        alloc,
+        base,
+        inference,
+        &[Demand::Is(from, ScalarType::Bool)],
+    ) {
+        Ok(()) => Ok(next),
+        Err(error) => Err(error),
+    }
+}
+
+// A loop that counts its turns. Their number does not see the names that the loop carries.
+#[cycle(constrain)]
+fn constrain_counted<'a>(
+    alloc: Global,
+    places: Kind,
+    base: u32,
+    sizes: &[BindId],
+    pat: &Pat<'a>,
+    first: &Exp<'a>,
+    name: BindId,
+    bound: &Exp<'a>,
+    depth: u32,
+    lo: u32,
+    inference: &mut Inference<'a>,
+) -> Result<u32, UnifyErr>
+    requires safe { Safe base inference.old }
+    requires room { behind_head (pattern_of pat.now) (term_of first.now) (Counted name (term_of bound.now)) lo ≤ base }
+    ensures next { IfOk result (λ next. next ≡ behind_head (pattern_of pat.now) (term_of first.now) (Counted name (term_of bound.now)) lo) }
+    ensures ok { OnOk result (Opened places base depth lo (behind_head (pattern_of pat.now) (term_of first.now) (Counted name (term_of bound.now)) lo) (Head_claim places sizes.now (pattern_of pat.now) (term_of first.now) (Counted name (term_of bound.now)) lo) (Head_homes depth sizes.now (pattern_of pat.now) (term_of first.now) (Counted name (term_of bound.now)) lo) (env_head sizes.now (pattern_of pat.now) (term_of first.now) (Counted name (term_of bound.now)) lo) inference.old inference.new) }
+    ensures err { IfErr result (Tells (Refused places base depth lo (Head_claim places sizes.now (pattern_of pat.now) (term_of first.now) (Counted name (term_of bound.now)) lo) (Head_homes depth sizes.now (pattern_of pat.now) (term_of first.now) (Counted name (term_of bound.now)) lo) inference.old inference.new)) }
+{
+    let from = match constrain_bound(alloc, places, base, sizes, pat, first, depth, lo, inference) {
+        Ok(next) => next,
+        Err(error) => return Err(error),
+    };
+    let next = match constrain(alloc, places, base, bound, depth, 1 + from, inference) {
+        Ok(next) => next,
+        Err(error) => return Err(error),
+    };
+    match demand(alloc, base, inference, &counted(from, 1 + from)) {
         Ok(()) => {}
         Err(error) => return Err(error),
     }
@@ -431,6 +633,63 @@ fn constrain_value(
         Err(_) => return Err(UnifyErr::Memory),
     }
     match enter_pattern(base, pat, 1 + lo, inference) {
+        Ok(_) => {}
+        Err(_) => return Err(UnifyErr::Memory),
+    }
+    match enter(inference, name.0, Known::Number(from)) {
+        Ok(()) => Ok(next),
+        Err(_) => Err(UnifyErr::Memory),
+    }
+}
+
+// A loop over an array. Its pattern sees the names that the loop carries, the array does not.
+#[cycle(constrain)]
+fn constrain_over<'a>(
+    alloc: Global,
+    places: Kind,
+    base: u32,
+    sizes: &[BindId],
+    pat: &Pat<'a>,
+    first: &Exp<'a>,
+    part: &Pat<'a>,
+    array: &Exp<'a>,
+    depth: u32,
+    lo: u32,
+    inference: &mut Inference<'a>,
+) -> Result<u32, UnifyErr>
+    requires safe { Safe base inference.old }
+    requires room { behind_head (pattern_of pat.now) (term_of first.now) (Over (pattern_of part.now) (term_of array.now)) lo ≤ base }
+    ensures next { IfOk result (λ next. next ≡ behind_head (pattern_of pat.now) (term_of first.now) (Over (pattern_of part.now) (term_of array.now)) lo) }
+    ensures ok { OnOk result (Opened places base depth lo (behind_head (pattern_of pat.now) (term_of first.now) (Over (pattern_of part.now) (term_of array.now)) lo) (Head_claim places sizes.now (pattern_of pat.now) (term_of first.now) (Over (pattern_of part.now) (term_of array.now)) lo) (Head_homes depth sizes.now (pattern_of pat.now) (term_of first.now) (Over (pattern_of part.now) (term_of array.now)) lo) (env_head sizes.now (pattern_of pat.now) (term_of first.now) (Over (pattern_of part.now) (term_of array.now)) lo) inference.old inference.new) }
+    ensures err { IfErr result (Tells (Refused places base depth lo (Head_claim places sizes.now (pattern_of pat.now) (term_of first.now) (Over (pattern_of part.now) (term_of array.now)) lo) (Head_homes depth sizes.now (pattern_of pat.now) (term_of first.now) (Over (pattern_of part.now) (term_of array.now)) lo) inference.old inference.new)) }
+{
+    let mark = mark_of(inference);
+    let from = match constrain_value(alloc, places, base, sizes, pat, first, depth, lo, inference) {
+        Ok(next) => next,
+        Err(error) => return Err(error),
+    };
+    let middle = match constrain_pattern(alloc, places, base, part, from, inference) {
+        Ok(next) => next,
+        Err(error) => return Err(error),
+    };
+    take_back(inference, mark);
+    let next = match constrain(alloc, places, base, array, depth, middle, inference) {
+        Ok(next) => next,
+        Err(error) => return Err(error),
+    };
+    match demand(alloc, base, inference, &gone_over(from, middle, places)) {
+        Ok(()) => {}
+        Err(error) => return Err(error),
+    }
+    match enter_sizes(base, sizes, inference) {
+        Ok(()) => {}
+        Err(_) => return Err(UnifyErr::Memory),
+    }
+    match enter_pattern(base, pat, 1 + lo, inference) {
+        Ok(_) => {}
+        Err(_) => return Err(UnifyErr::Memory),
+    }
+    match enter_pattern(base, part, from, inference) {
         Ok(_) => Ok(next),
         Err(_) => Err(UnifyErr::Memory),
     }

@@ -10,8 +10,13 @@ use fut_flat::Act;
 use fut_types::Kind;
 use std::alloc::Global;
 use type_graph::UnifyErr;
+use type_labels::label;
+use type_records::fields;
 use type_rows::{array, index, tuple, update_at};
-use type_rules::{assertion, binary, complement, literal, negation, range, range_by, truth};
+use type_rules::{
+    assertion, binary, complement, literal, negation, projection, range, range_by, replacement,
+    truth,
+};
 use type_scopes::{Inference, demand};
 
 /// How many numbers an operation has beside those of its parts.
@@ -25,15 +30,15 @@ pub fn own_numbers_of(act: &Act<'_>) -> u32
 }
 
 /// Asks for the rule of an operation on parts of these numbers.
-pub fn constrain_rule(
+pub fn constrain_rule<'a>(
     alloc: Global,
     places: Kind,
     base: u32,
-    act: &Act<'_>,
+    act: &Act<'a>,
     depth: u32,
     lo: u32,
     parts: &[u32],
-    inference: &mut Inference,
+    inference: &mut Inference<'a>,
 ) -> Result<(), UnifyErr>
     requires safe { Safe base inference.old }
     requires room { lo + own_numbers (operation_of act.now) ≤ base }
@@ -56,6 +61,9 @@ pub fn constrain_rule(
             alloc, places, base, act, lo, parts, inference,
         ),
         Act::Range { .. } => constrain_range(alloc, places, base, act, lo, parts, inference),
+        Act::Record(_) => constrain_record(alloc, places, base, act, lo, parts, inference),
+        Act::Project(_) => constrain_project(alloc, places, base, act, lo, parts, inference),
+        Act::Replace(_) => constrain_replace(alloc, places, base, act, lo, parts, inference),
         _ => Err(UnifyErr::Memory),
     }
 }
@@ -195,6 +203,104 @@ fn constrain_range(
                 return demand(alloc, base, inference, &range(lo, parts[0], parts[1]));
             }
             Err(UnifyErr::Memory)
+        }
+        _ => Err(UnifyErr::Memory),
+    }
+}
+
+// A record. The table may get new names.
+fn constrain_record<'a>(
+    alloc: Global,
+    places: Kind,
+    base: u32,
+    act: &Act<'a>,
+    lo: u32,
+    parts: &[u32],
+    inference: &mut Inference<'a>,
+) -> Result<(), UnifyErr>
+    requires safe { Safe base inference.old }
+    requires room { lo + own_numbers (operation_of act.now) ≤ base }
+    requires parts { Each (λ part. part < base) parts.now }
+    ensures ok { OnOk result ((depth from : ℕ) → Claimed places base depth from (Rule_claim places (operation_of act.now) lo parts.now) (Rule_homes depth (operation_of act.now) lo) inference.old inference.new) }
+    ensures err { IfErr result (Tells ((depth from : ℕ) → Refused places base depth from (Rule_claim places (operation_of act.now) lo parts.now) (Rule_homes depth (operation_of act.now) lo) inference.old inference.new)) }
+{
+    let labels = &mut inference.labels;
+    let table = &mut inference.table;
+    let nodes = &mut inference.nodes;
+    let entries = &mut inference.entries;
+    match *act {
+        Act::Record(names) => fields(alloc, labels, table, base, nodes, entries, lo, names, parts),
+        _ => Err(UnifyErr::Memory),
+    }
+}
+
+// A field access. Its name may be new in the table.
+fn constrain_project<'a>(
+    alloc: Global,
+    places: Kind,
+    base: u32,
+    act: &Act<'a>,
+    lo: u32,
+    parts: &[u32],
+    inference: &mut Inference<'a>,
+) -> Result<(), UnifyErr>
+    requires safe { Safe base inference.old }
+    requires room { lo + own_numbers (operation_of act.now) ≤ base }
+    requires parts { Each (λ part. part < base) parts.now }
+    ensures ok { OnOk result ((depth from : ℕ) → Claimed places base depth from (Rule_claim places (operation_of act.now) lo parts.now) (Rule_homes depth (operation_of act.now) lo) inference.old inference.new) }
+    ensures err { IfErr result (Tells ((depth from : ℕ) → Refused places base depth from (Rule_claim places (operation_of act.now) lo parts.now) (Rule_homes depth (operation_of act.now) lo) inference.old inference.new)) }
+{
+    if parts.len() != 1 {
+        return Err(UnifyErr::Memory);
+    }
+    match *act {
+        Act::Project(text) => {
+            let number = match label(&mut inference.labels, &mut inference.table, text) {
+                Ok(number) => number,
+                Err(_) => return Err(UnifyErr::Memory),
+            };
+            demand(
+                alloc,
+                base,
+                inference,
+                &projection(lo, 1 + lo, parts[0], number),
+            )
+        }
+        _ => Err(UnifyErr::Memory),
+    }
+}
+
+// A replacement. Its name may be new in the table.
+fn constrain_replace<'a>(
+    alloc: Global,
+    places: Kind,
+    base: u32,
+    act: &Act<'a>,
+    lo: u32,
+    parts: &[u32],
+    inference: &mut Inference<'a>,
+) -> Result<(), UnifyErr>
+    requires safe { Safe base inference.old }
+    requires room { lo + own_numbers (operation_of act.now) ≤ base }
+    requires parts { Each (λ part. part < base) parts.now }
+    ensures ok { OnOk result ((depth from : ℕ) → Claimed places base depth from (Rule_claim places (operation_of act.now) lo parts.now) (Rule_homes depth (operation_of act.now) lo) inference.old inference.new) }
+    ensures err { IfErr result (Tells ((depth from : ℕ) → Refused places base depth from (Rule_claim places (operation_of act.now) lo parts.now) (Rule_homes depth (operation_of act.now) lo) inference.old inference.new)) }
+{
+    if parts.len() != 2 {
+        return Err(UnifyErr::Memory);
+    }
+    match *act {
+        Act::Replace(text) => {
+            let number = match label(&mut inference.labels, &mut inference.table, text) {
+                Ok(number) => number,
+                Err(_) => return Err(UnifyErr::Memory),
+            };
+            demand(
+                alloc,
+                base,
+                inference,
+                &replacement(lo, parts[0], parts[1], number),
+            )
         }
         _ => Err(UnifyErr::Memory),
     }

@@ -2,23 +2,27 @@
 ghost use Rattle.std.specs.Prelude.{◌≡◌, ◌≤◌, ◌<◌, ◌+◌, ◌++◌, ℕ, map, OnOk, IfOk, IfErr};
 ghost use Rattle.fut_flat.specs.Numbers.{all_pattern_numbers, pattern_numbers};
 ghost use Rattle.fut_flat.specs.Erased.{pattern_of, patterns};
+ghost use Rattle.fut_flat.specs.Terms.{Tuple_pattern};
+ghost use Rattle.fut_types.specs.Types.{Made};
+ghost use Rattle.fut_types.specs.declared.Head.TheVariants as head;
 ghost use Rattle.fut_types.specs.declared.Kind.{Kind as AnyKind};
 ghost use Rattle.fut_typing.specs.Homes.{At_home, env_patterns};
 ghost use Rattle.fut_typing.specs.Patterns.{arrows};
 ghost use Rattle.type_graph.specs.Graph.{Each, Tells};
 ghost use Rattle.type_claims.specs.Claims.{types_of};
 ghost use Rattle.type_scopes.specs.Scopes.{Claimed, Opened, Refused, Safe};
-ghost use Rattle.type_constraints.specs.Parts.{Chained, Parameters_claim, Pattern_claim, pattern_starts};
+ghost use Rattle.type_constraints.specs.Parts.{Chained, Parameters_claim, Pattern_claim, Patterns_claim, pattern_starts};
 
-use fut_flat::Pat;
+use fut_flat::{Pat, PatForm};
 use fut_scalar::List;
 use fut_types::Kind;
 use std::alloc::Global;
 use type_graph::UnifyErr;
-use type_rows::{function, push_same};
+use type_rows::{function, push_same, tuple};
 use type_scopes::{Inference, demand, enter_pattern};
 
 /// Asks that the numbers of a pattern, which begin at `lo`, have types of its form.
+#[cycle(pattern)]
 pub fn constrain_pattern(
     alloc: Global,
     places: Kind,
@@ -33,13 +37,105 @@ pub fn constrain_pattern(
     ensures ok { OnOk result ((d : ℕ) → Claimed places base d lo (Pattern_claim places (pattern_of pat.now) lo) (λ home. At_home home d lo (pattern_numbers (pattern_of pat.now))) inference.old inference.new) }
     ensures err { IfErr result (Tells ((d : ℕ) → Refused places base d lo (Pattern_claim places (pattern_of pat.now) lo) (λ home. At_home home d lo (pattern_numbers (pattern_of pat.now))) inference.old inference.new)) }
 {
-    let _alloc = alloc;
-    let _places = places;
-    let _base = base;
-    let _pat = pat;
-    let _lo = lo;
-    let _inference = inference;
-    Err(UnifyErr::Memory)
+    match pat.form {
+        PatForm::Bound(_) => Ok(1 + lo),
+        PatForm::Wild => Ok(1 + lo),
+        PatForm::Tuple(parts) => constrain_tuple(alloc, places, base, parts, lo, inference),
+        PatForm::Record(_) => Err(UnifyErr::Memory),
+        PatForm::Typed(_, _) => Err(UnifyErr::Memory),
+    }
+}
+
+// A tuple's pattern: its type is made of those of its parts.
+#[cycle(pattern)]
+fn constrain_tuple(
+    alloc: Global,
+    places: Kind,
+    base: u32,
+    parts: &[Pat<'_>],
+    lo: u32,
+    inference: &mut Inference,
+) -> Result<u32, UnifyErr>
+    requires safe { Safe base inference.old }
+    requires room { lo + pattern_numbers (Tuple_pattern (patterns (map pattern_of parts.now))) ≤ base }
+    ensures next { IfOk result (λ next. next ≡ lo + pattern_numbers (Tuple_pattern (patterns (map pattern_of parts.now)))) }
+    ensures ok { OnOk result ((d : ℕ) → Claimed places base d lo (Pattern_claim places (Tuple_pattern (patterns (map pattern_of parts.now))) lo) (λ home. At_home home d lo (pattern_numbers (Tuple_pattern (patterns (map pattern_of parts.now))))) inference.old inference.new) }
+    ensures err { IfErr result (Tells ((d : ℕ) → Refused places base d lo (Pattern_claim places (Tuple_pattern (patterns (map pattern_of parts.now))) lo) (λ home. At_home home d lo (pattern_numbers (Tuple_pattern (patterns (map pattern_of parts.now))))) inference.old inference.new)) }
+{
+    let mut begins = List::new(alloc);
+    let next = match constrain_patterns(
+        alloc,
+        places,
+        base,
+        parts,
+        1 + lo,
+        &mut begins,
+        inference,
+    ) {
+        Ok(next) => next,
+        Err(error) => return Err(error),
+    };
+    match constrain_made(alloc, base, lo, begins.as_slice(), inference) {
+        Ok(()) => Ok(next),
+        Err(error) => Err(error),
+    }
+}
+
+// Patterns in a row. Where the numbers of each begin is noted.
+#[cycle(pattern)]
+fn constrain_patterns(
+    alloc: Global,
+    places: Kind,
+    base: u32,
+    parts: &[Pat<'_>],
+    lo: u32,
+    begins: &mut List<u32>,
+    inference: &mut Inference,
+) -> Result<u32, UnifyErr>
+    requires safe { Safe base inference.old }
+    requires room { lo + all_pattern_numbers (patterns (map pattern_of parts.now)) ≤ base }
+    ensures next { IfOk result (λ next. next ≡ lo + all_pattern_numbers (patterns (map pattern_of parts.now))) }
+    ensures begins { OnOk result (begins.new ≡ begins.old ++ pattern_starts (patterns (map pattern_of parts.now)) lo) }
+    ensures ok { OnOk result ((d : ℕ) → Claimed places base d lo (Patterns_claim places (patterns (map pattern_of parts.now)) lo) (λ home. At_home home d lo (all_pattern_numbers (patterns (map pattern_of parts.now)))) inference.old inference.new) }
+    ensures err { IfErr result (Tells ((d : ℕ) → Refused places base d lo (Patterns_claim places (patterns (map pattern_of parts.now)) lo) (λ home. At_home home d lo (all_pattern_numbers (patterns (map pattern_of parts.now)))) inference.old inference.new)) }
+{
+    let mut at = lo;
+    for part in parts {
+        match begins.push(at) {
+            Ok(()) => {}
+            Err(_) => return Err(UnifyErr::Memory),
+        }
+        at = match constrain_pattern(alloc, places, base, part, at, inference) {
+            Ok(next) => next,
+            Err(error) => return Err(error),
+        };
+    }
+    Ok(at)
+}
+
+// A number has the type of tuples of parts of these numbers.
+fn constrain_made(
+    alloc: Global,
+    base: u32,
+    number: u32,
+    parts: &[u32],
+    inference: &mut Inference,
+) -> Result<(), UnifyErr>
+    requires safe { Safe base inference.old }
+    requires number { number < base }
+    requires parts { Each (λ part. part < base) parts.now }
+    ensures ok { OnOk result ((places : AnyKind) (d lo : ℕ) → Claimed places base d lo (λ N scope K a. a number ≡ Made head.Tuple (types_of a parts.now)) (λ home. Unit {0}) inference.old inference.new) }
+    ensures err { IfErr result (Tells ((places : AnyKind) (d lo : ℕ) → Refused places base d lo (λ N scope K a. a number ≡ Made head.Tuple (types_of a parts.now)) (λ home. Unit {0}) inference.old inference.new)) }
+{
+    tuple(
+        alloc,
+        &inference.table,
+        base,
+        &mut inference.nodes,
+        &mut inference.entries,
+        number,
+        parts,
+    )
 }
 
 /// Asks the same of parameters in a row, and lets their names stand for values of the types of their numbers. Where the

@@ -126,12 +126,13 @@ same_then i0 i1 i2 x y = record { names = y.names ∙ x.names; past = y.past ∙
 -- a larger graph
 module _ (base : ℕ) (i : Inference) (nodes : List Node) (entries : List Entry) (s : Safe base i) (x : MoreNodes i.table i.nodes i.entries nodes entries) where
   pub reads_less : (N : Names) (T : Tables) → Reads (record i { nodes = nodes; entries = entries }) N T → Reads i N T
-  reads_less N T r = record { names = r.names; shapes = r.shapes; told = x.told T r.told }
+  reads_less N T r = record { names = r.names; labelled = r.labelled; shapes = r.shapes; told = x.told T r.told }
 
   pub later_graph : Later base i (record i { nodes = nodes; entries = entries })
   later_graph = record {
     safe = record {
       table = s.table;
+      labels = s.labels;
       sound = x.sound;
       inside = let a : base ≤ length i.nodes = s.inside in let b : length i.nodes ≤ length nodes = x.longer in omega arith;
       short = s.short;

@@ -111,19 +111,20 @@ module _ (places : Kind) (base d lo hi : ℕ) where
         later = record {
           safe = record {
             table = l.safe.table;
+            labels = l.safe.labels;
             sound = l.safe.sound;
             inside = l.safe.inside;
             short = l.safe.short;
             stored = λ b lt. stored_more base (length i0.nodes) (length i1.nodes) i0.table i1.table i0.store i1.store (known_at i0.names b) l.longer l.wider l.store l.safe.short (s.stored b lt);
           };
-          reads = λ N T r. l.reads N T (record { names = r.names; shapes = r.shapes; told = r.told });
+          reads = λ N T r. l.reads N T (record { names = r.names; labelled = r.labelled; shapes = r.shapes; told = r.told });
           longer = l.longer;
           store = l.store;
           names = refl;
           wider = l.wider;
         };
         same = record { names = refl; past = refl };
-        adds = λ N T home born E r rd h. adds N T home born E (record { names = r.names; shapes = r.shapes; told = r.told }) rd h;
+        adds = λ N T home born E r rd h. adds N T home born E (record { names = r.names; labelled = r.labelled; shapes = r.shapes; told = r.told }) rd h;
       })
 
   pub closed : (R : Claim) (I : Homes) (into : Env → Env) (i0 i1 i2 : Inference) → Safe base i0 → Opened places base d lo hi R I into i0 i1
@@ -139,6 +140,7 @@ module _ (places : Kind) (base d lo hi : ℕ) where
 pub safe_with : (base : ℕ) (i : Inference) (b : ℕ) (k : Known) (past : List Past) → b < length i.names → Safe base i → Stored base (length i.nodes) i.table i.store k → Safe base (record i { names = with_known i.names b k; past = past })
 safe_with base i b k past inn s st = record {
   table = s.table;
+  labels = s.labels;
   sound = s.sound;
   inside = s.inside;
   short = s.short;
@@ -160,7 +162,7 @@ module _ (places : Kind) (base d hi : ℕ) (i : Inference) (b : ℕ) (s : Safe b
   later_entered : (k : Known) → Stored base (length i.nodes) i.table i.store k → Later base i (entered i b k)
   later_entered k st = record {
     safe = safe_with base i b k (i.past ++ record { name = b; known = known_at i.names b } ∷ []) inn s st;
-    reads = λ N T r. record { names = r.names; shapes = r.shapes; told = r.told };
+    reads = λ N T r. record { names = r.names; labelled = r.labelled; shapes = r.shapes; told = r.told };
     longer = omega arith;
     store = extends_none i.store;
     names = long_with i.names b k;

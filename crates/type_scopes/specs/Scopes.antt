@@ -16,6 +16,7 @@ use Rattle.type_graph.specs.Graph.{far, Tables, Told, Plain, Solves, Meeting}
 use Rattle.type_graph.specs.declared.Node.{Node}
 use Rattle.type_graph.specs.State.{State, Backed}
 use Rattle.type_claims.specs.Claims.{Sound, Possible}
+use Rattle.type_labels.specs.Labels.{IsLabels, Labelled}
 use Rattle.type_schemes.specs.declared.Part.{Part}
 use Rattle.type_schemes.specs.Schemes.{Extends, Region, Known as KnownHeads, Instance}
 use Rattle.type_scopes.specs.declared.names.Known.{Known}
@@ -36,14 +37,16 @@ Stored base n table store (known.Definition first count) = Region n store first 
 -- well-formed, whatever the program means
 pub record Safe (base : ℕ) (i : Inference) : Type 0 where
   pub table : IsTable i.table
+  pub labels : IsLabels i.labels i.table
   pub sound : Sound i.table i.nodes i.entries
   pub inside : base ≤ length i.nodes
   pub short : length i.store < 4294967295
   pub stored : (b : ℕ) → b < length i.names → Stored base (length i.nodes) i.table i.store (known_at i.names b)
 
--- N gives names their numbers, and T is as the tables in hand say
+-- N gives names their numbers, and N and T are as the tables in hand say
 pub record Reads (i : Inference) (N : Names) (T : Tables) : Type 0 where
   pub names : AreNames N
+  pub labelled : Labelled i.labels i.table N
   pub shapes : T.shapes ≡ N.shapes
   pub told : Told i.table i.entries T
 

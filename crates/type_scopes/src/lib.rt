@@ -14,11 +14,14 @@ pub use names::{Known, Past, enter, known_of, mark_of, take_back};
 pub use patterns::{enter_pattern, enter_patterns, enter_sizes};
 pub use steps::demand;
 use type_graph::{Entry, Node};
+use type_labels::Labels;
 use type_schemes::Part;
 
 /// What inference works on. It grows while a program is gone over.
 #[derive(Drop)]
-pub struct Inference {
+pub struct Inference<'a> {
+    /// The numbers of the program's names of fields, and of its records.
+    pub labels: Labels<'a>,
     /// The program's records and labels.
     pub table: ShapeTable,
     /// The graph of types. The program's numbers stand first.

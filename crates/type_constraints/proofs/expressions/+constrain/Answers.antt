@@ -18,9 +18,15 @@ use Rattle.type_scopes.specs.Scopes.{Opened}
 use Rattle.type_scopes.proofs.Binding.{take_all}
 use Rattle.type_constraints.specs.Parts.{Rows_claim, Rows_homes, row_starts}
 use Rattle.type_constraints.proofs.Lets.{Lets_open, lets_none, lets_more, lets_refused, lets_err1, lets_err2, lets_err3, lets_ok, numbers_lets, behind_from, some_rows, row_starts_below, row_falls, row_room, row_split, row_more, value_is}
-use Rattle.type_constraints.proofs.Values.{pattern_claimed, value_err1, value_err2, value_err3, value_ok, same_within, same_says, same_allowed}
+use Rattle.type_constraints.proofs.Values.{pattern_claimed, value_err1, value_err2, value_err3, row, value_ok, same_within, same_says, same_allowed}
 use Rattle.type_rules.specs.declared.demand.Demand.TheVariants as demand
 use Rattle.fut_flat.specs.Numbers.{pattern_numbers}
+use Rattle.fut_flat.specs.Numbers.{turn_numbers}
+use Rattle.fut_flat.specs.Erased.{FlatTurns}
+use Rattle.fut_flat.proofs.ErasedForms.{loop_is, turns_of, turns_counted, turns_over, turns_while, term_loop}
+use Rattle.type_constraints.specs.Parts.{behind_first, behind_head, Constrained, Unconstrained}
+use Rattle.type_constraints.proofs.Loops.{loop_ok, loop_err1, loop_err2, loop_err3, while_ok, while_err1, while_err2, while_err3, truth_within, counted_ok, counted_err1, counted_err2, counted_err3}
+use Rattle.type_constraints.proofs.Overs.{two_claimed, over_ok, over_err1, over_err2, over_err3, over_err4}
 use Rattle.type_constraints.proofs.expressions.+constrain.Goals as goal
 
 pub constrain-constrain_use-requires-clause-room : goal.constrain-constrain_use-requires-clause-room
@@ -236,23 +242,176 @@ constrain_row-returns-clause-ok t c = rw (value_is c.args.one.now c.if-one.false
 pub constrain_row-returns-clause-err : goal.constrain_row-returns-clause-err
 constrain_row-returns-clause-err t c = rw (value_is c.args.one.now c.if-one.false (omega (arith, c.if-one-gt0.false))) c.constrain_value.ensures.err
 
-pub constrain_value-returns-in-Err-constrain_pattern-clause-err : goal.constrain_value-returns-in-Err-constrain_pattern-clause-err
-constrain_value-returns-in-Err-constrain_pattern-clause-err t c = tells c.in-Err-constrain_pattern.error (value_err1 c.args.places c.args.base c.args.depth c.args.lo (1 + c.args.lo + pattern_numbers (pattern_of c.args.pat.now)) c.args.sizes.now (pattern_of c.args.pat.now) (term_of c.args.value.now) refl c.args.inference.now c.enter_sizes.new.inference (c.in-Ok.ensures.ok (1 + c.args.lo)) c.constrain_pattern.new.inference) c.in-Err-constrain_pattern.ensures.err
+pub constrain_bound-returns-in-Err-constrain_pattern-clause-err : goal.constrain_bound-returns-in-Err-constrain_pattern-clause-err
+constrain_bound-returns-in-Err-constrain_pattern-clause-err t c = tells c.in-Err-constrain_pattern.error (value_err1 c.args.places c.args.base c.args.depth c.args.lo (1 + c.args.lo + pattern_numbers (pattern_of c.args.pat.now)) c.args.sizes.now (pattern_of c.args.pat.now) (term_of c.args.value.now) refl c.args.inference.now c.enter_sizes.new.inference (c.in-Ok.ensures.ok (1 + c.args.lo)) c.constrain_pattern.new.inference) c.in-Err-constrain_pattern.ensures.err
 
-pub constrain_value-constrain-requires : goal.constrain_value-constrain-requires
-constrain_value-constrain-requires t c = (omega arith, ((pattern_claimed c.args.places c.args.base c.args.depth c.args.lo c.in-Ok-constrain_pattern.next c.args.sizes.now (pattern_of c.args.pat.now) (term_of c.args.value.now) c.in-Ok-constrain_pattern.ensures.next c.args.inference.now c.enter_sizes.new.inference (c.in-Ok.ensures.ok (1 + c.args.lo)) c.constrain_pattern.new.inference c.take_back.new.inference c.requires.safe c.in-Ok-constrain_pattern.ensures.ok (λ before added e l. c.take_back.ensures before added e (l ∙ sym c.mark_of-mark.ensures))).later.safe, omega (arith, c.requires.room, c.in-Ok-constrain_pattern.ensures.next)))
+pub constrain_bound-constrain-requires : goal.constrain_bound-constrain-requires
+constrain_bound-constrain-requires t c = (omega arith, ((pattern_claimed c.args.places c.args.base c.args.depth c.args.lo c.in-Ok-constrain_pattern.next c.args.sizes.now (pattern_of c.args.pat.now) (term_of c.args.value.now) c.in-Ok-constrain_pattern.ensures.next c.args.inference.now c.enter_sizes.new.inference (c.in-Ok.ensures.ok (1 + c.args.lo)) c.constrain_pattern.new.inference c.take_back.new.inference c.requires.safe c.in-Ok-constrain_pattern.ensures.ok (λ before added e l. c.take_back.ensures before added e (l ∙ sym c.mark_of-mark.ensures))).later.safe, omega (arith, c.requires.room, c.in-Ok-constrain_pattern.ensures.next)))
 
-pub constrain_value-returns-in-Err-constrain-clause-err : goal.constrain_value-returns-in-Err-constrain-clause-err
-constrain_value-returns-in-Err-constrain-clause-err t c = tells c.in-Err-constrain.error (value_err2 c.args.places c.args.base c.args.depth c.args.lo c.in-Ok-constrain_pattern.next c.args.sizes.now (pattern_of c.args.pat.now) (term_of c.args.value.now) c.in-Ok-constrain_pattern.ensures.next c.args.inference.now c.take_back.new.inference c.requires.safe (pattern_claimed c.args.places c.args.base c.args.depth c.args.lo c.in-Ok-constrain_pattern.next c.args.sizes.now (pattern_of c.args.pat.now) (term_of c.args.value.now) c.in-Ok-constrain_pattern.ensures.next c.args.inference.now c.enter_sizes.new.inference (c.in-Ok.ensures.ok (1 + c.args.lo)) c.constrain_pattern.new.inference c.take_back.new.inference c.requires.safe c.in-Ok-constrain_pattern.ensures.ok (λ before added e l. c.take_back.ensures before added e (l ∙ sym c.mark_of-mark.ensures))) c.constrain.new.inference) c.in-Err-constrain.ensures.err
+pub constrain_bound-returns-in-Err-constrain-clause-err : goal.constrain_bound-returns-in-Err-constrain-clause-err
+constrain_bound-returns-in-Err-constrain-clause-err t c = tells c.in-Err-constrain.error (value_err2 c.args.places c.args.base c.args.depth c.args.lo c.in-Ok-constrain_pattern.next c.args.sizes.now (pattern_of c.args.pat.now) (term_of c.args.value.now) c.in-Ok-constrain_pattern.ensures.next c.args.inference.now c.take_back.new.inference c.requires.safe (pattern_claimed c.args.places c.args.base c.args.depth c.args.lo c.in-Ok-constrain_pattern.next c.args.sizes.now (pattern_of c.args.pat.now) (term_of c.args.value.now) c.in-Ok-constrain_pattern.ensures.next c.args.inference.now c.enter_sizes.new.inference (c.in-Ok.ensures.ok (1 + c.args.lo)) c.constrain_pattern.new.inference c.take_back.new.inference c.requires.safe c.in-Ok-constrain_pattern.ensures.ok (λ before added e l. c.take_back.ensures before added e (l ∙ sym c.mark_of-mark.ensures))) c.constrain.new.inference) c.in-Err-constrain.ensures.err
 
-pub constrain_value-demand-requires-clause-within : goal.constrain_value-demand-requires-clause-within
-constrain_value-demand-requires-clause-within t c = same_within c.constrain.new.inference.table c.args.base (1 + c.args.lo) c.in-Ok-constrain_pattern.next (omega (arith, c.requires.room, c.in-Ok-constrain_pattern.ensures.next, numbers_some (term_of c.args.value.now))) (omega (arith, c.requires.room, c.in-Ok-constrain_pattern.ensures.next, numbers_some (term_of c.args.value.now)))
+pub constrain_bound-demand-requires-clause-within : goal.constrain_bound-demand-requires-clause-within
+constrain_bound-demand-requires-clause-within t c = same_within c.constrain.new.inference.table c.args.base (1 + c.args.lo) c.in-Ok-constrain_pattern.next (omega (arith, c.requires.room, c.in-Ok-constrain_pattern.ensures.next, numbers_some (term_of c.args.value.now))) (omega (arith, c.requires.room, c.in-Ok-constrain_pattern.ensures.next, numbers_some (term_of c.args.value.now)))
 
-pub constrain_value-returns-in-Err-demand-clause-err : goal.constrain_value-returns-in-Err-demand-clause-err
-constrain_value-returns-in-Err-demand-clause-err t c = tells c.in-Err-demand.error (value_err3 c.args.places c.args.base c.args.depth c.args.lo c.in-Ok-constrain_pattern.next c.args.sizes.now (pattern_of c.args.pat.now) (term_of c.args.value.now) c.in-Ok-constrain_pattern.ensures.next c.args.inference.now c.take_back.new.inference c.requires.safe (pattern_claimed c.args.places c.args.base c.args.depth c.args.lo c.in-Ok-constrain_pattern.next c.args.sizes.now (pattern_of c.args.pat.now) (term_of c.args.value.now) c.in-Ok-constrain_pattern.ensures.next c.args.inference.now c.enter_sizes.new.inference (c.in-Ok.ensures.ok (1 + c.args.lo)) c.constrain_pattern.new.inference c.take_back.new.inference c.requires.safe c.in-Ok-constrain_pattern.ensures.ok (λ before added e l. c.take_back.ensures before added e (l ∙ sym c.mark_of-mark.ensures))) c.constrain.new.inference c.in-Ok-constrain.ensures.ok (demand.Same (1 + c.args.lo) c.in-Ok-constrain_pattern.next ∷ []) (same_says (1 + c.args.lo) c.in-Ok-constrain_pattern.next) (same_allowed (1 + c.args.lo) c.in-Ok-constrain_pattern.next) c.demand.new.inference) c.in-Err-demand.ensures.err
+pub constrain_bound-returns-in-Err-demand-clause-err : goal.constrain_bound-returns-in-Err-demand-clause-err
+constrain_bound-returns-in-Err-demand-clause-err t c = tells c.in-Err-demand.error (value_err3 c.args.places c.args.base c.args.depth c.args.lo c.in-Ok-constrain_pattern.next c.args.sizes.now (pattern_of c.args.pat.now) (term_of c.args.value.now) c.in-Ok-constrain_pattern.ensures.next c.args.inference.now c.take_back.new.inference c.requires.safe (pattern_claimed c.args.places c.args.base c.args.depth c.args.lo c.in-Ok-constrain_pattern.next c.args.sizes.now (pattern_of c.args.pat.now) (term_of c.args.value.now) c.in-Ok-constrain_pattern.ensures.next c.args.inference.now c.enter_sizes.new.inference (c.in-Ok.ensures.ok (1 + c.args.lo)) c.constrain_pattern.new.inference c.take_back.new.inference c.requires.safe c.in-Ok-constrain_pattern.ensures.ok (λ before added e l. c.take_back.ensures before added e (l ∙ sym c.mark_of-mark.ensures))) c.constrain.new.inference c.in-Ok-constrain.ensures.ok (demand.Same (1 + c.args.lo) c.in-Ok-constrain_pattern.next ∷ []) (same_says (1 + c.args.lo) c.in-Ok-constrain_pattern.next) (same_allowed (1 + c.args.lo) c.in-Ok-constrain_pattern.next) c.demand.new.inference) c.in-Err-demand.ensures.err
 
-pub constrain_value-enter_sizes-requires-2 : goal.constrain_value-enter_sizes-requires-2
-constrain_value-enter_sizes-requires-2 t c = record { safe = (c.in-Ok-demand.ensures.ok c.args.places 0 0).later.safe }
+pub constrain_bound-returns-in-Ok-demand-clause-ok : goal.constrain_bound-returns-in-Ok-demand-clause-ok
+constrain_bound-returns-in-Ok-demand-clause-ok t c = row c.args.places c.args.base c.args.depth c.args.lo c.in-Ok-constrain_pattern.next c.args.sizes.now (pattern_of c.args.pat.now) (term_of c.args.value.now) c.in-Ok-constrain_pattern.ensures.next c.args.inference.now c.take_back.new.inference c.requires.safe (pattern_claimed c.args.places c.args.base c.args.depth c.args.lo c.in-Ok-constrain_pattern.next c.args.sizes.now (pattern_of c.args.pat.now) (term_of c.args.value.now) c.in-Ok-constrain_pattern.ensures.next c.args.inference.now c.enter_sizes.new.inference (c.in-Ok.ensures.ok (1 + c.args.lo)) c.constrain_pattern.new.inference c.take_back.new.inference c.requires.safe c.in-Ok-constrain_pattern.ensures.ok (λ before added e l. c.take_back.ensures before added e (l ∙ sym c.mark_of-mark.ensures))) c.constrain.new.inference c.in-Ok-constrain.ensures.ok (demand.Same (1 + c.args.lo) c.in-Ok-constrain_pattern.next ∷ []) (same_says (1 + c.args.lo) c.in-Ok-constrain_pattern.next) (same_allowed (1 + c.args.lo) c.in-Ok-constrain_pattern.next) c.demand.new.inference c.in-Ok-demand.ensures.ok
+
+pub constrain_value-constrain_bound-requires : goal.constrain_value-constrain_bound-requires
+constrain_value-constrain_bound-requires t c = (omega arith, (c.requires.safe, omega (arith, c.requires.room)))
 
 pub constrain_value-returns-in-Ok-enter_pattern-clause-ok : goal.constrain_value-returns-in-Ok-enter_pattern-clause-ok
-constrain_value-returns-in-Ok-enter_pattern-clause-ok t c = value_ok c.args.places c.args.base c.args.depth c.args.lo c.in-Ok-constrain_pattern.next c.args.sizes.now (pattern_of c.args.pat.now) (term_of c.args.value.now) c.in-Ok-constrain_pattern.ensures.next c.args.inference.now c.take_back.new.inference c.requires.safe (pattern_claimed c.args.places c.args.base c.args.depth c.args.lo c.in-Ok-constrain_pattern.next c.args.sizes.now (pattern_of c.args.pat.now) (term_of c.args.value.now) c.in-Ok-constrain_pattern.ensures.next c.args.inference.now c.enter_sizes.new.inference (c.in-Ok.ensures.ok (1 + c.args.lo)) c.constrain_pattern.new.inference c.take_back.new.inference c.requires.safe c.in-Ok-constrain_pattern.ensures.ok (λ before added e l. c.take_back.ensures before added e (l ∙ sym c.mark_of-mark.ensures))) c.constrain.new.inference c.in-Ok-constrain.ensures.ok (demand.Same (1 + c.args.lo) c.in-Ok-constrain_pattern.next ∷ []) (same_says (1 + c.args.lo) c.in-Ok-constrain_pattern.next) (same_allowed (1 + c.args.lo) c.in-Ok-constrain_pattern.next) c.demand.new.inference c.enter_sizes-2.new.inference c.enter_pattern.new.inference c.in-Ok-demand.ensures.ok c.in-Ok-enter_sizes.ensures.ok c.in-Ok-enter_pattern.ensures.ok
+constrain_value-returns-in-Ok-enter_pattern-clause-ok t c = value_ok c.args.places c.args.base c.args.depth c.args.lo (1 + c.args.lo + pattern_numbers (pattern_of c.args.pat.now)) c.args.sizes.now (pattern_of c.args.pat.now) (term_of c.args.value.now) refl c.constrain_bound.new.inference c.enter_sizes.new.inference c.enter_pattern.new.inference c.in-Ok-enter_sizes.ensures.ok c.in-Ok-enter_pattern.ensures.ok c.args.inference.now c.requires.safe c.in-Ok.ensures.ok
+
+pub constrain-constrain_loop-requires : goal.constrain-constrain_loop-requires
+constrain-constrain_loop-requires t c = let e = ap (λ (x : FlatTerm). numbers x) (term_loop c.args.exp.now c.in-Loop.whole c.in-Loop.is) in (omega (arith, e), (c.requires.safe, subst (λ (x : FlatTerm). c.args.lo + numbers x ≤ c.args.base) (term_loop c.args.exp.now c.in-Loop.whole c.in-Loop.is) c.requires.room))
+
+pub constrain-returns-in-Loop-clause-next : goal.constrain-returns-in-Loop-clause-next
+constrain-returns-in-Loop-clause-next t c = rw (term_loop c.args.exp.now c.in-Loop.whole c.in-Loop.is) c.constrain_loop.ensures.next
+
+pub constrain-returns-in-Loop-clause-ok : goal.constrain-returns-in-Loop-clause-ok
+constrain-returns-in-Loop-clause-ok t c = rw (term_loop c.args.exp.now c.in-Loop.whole c.in-Loop.is) c.constrain_loop.ensures.ok
+
+pub constrain-returns-in-Loop-clause-err : goal.constrain-returns-in-Loop-clause-err
+constrain-returns-in-Loop-clause-err t c = rw (term_loop c.args.exp.now c.in-Loop.whole c.in-Loop.is) c.constrain_loop.ensures.err
+
+pub constrain_loop-constrain_head-requires : goal.constrain_loop-constrain_head-requires
+constrain_loop-constrain_head-requires t c = let e = (ap (λ (x : FlatTerm). numbers x) (loop_is c.args.whole.now)) in (omega (arith, e, numbers_some (term_of c.args.whole.now.body)), (c.requires.safe, omega (arith, e, c.requires.room)))
+
+pub constrain_loop-returns-in-Err-clause-err : goal.constrain_loop-returns-in-Err-clause-err
+constrain_loop-returns-in-Err-clause-err t c = tells c.in-Err.error (λ r. subst (λ (x : FlatTerm). Unconstrained c.args.places c.args.base c.args.depth c.args.lo x c.args.inference.now c.constrain_head.new.inference) (sym (loop_is c.args.whole.now)) (loop_err1 c.args.places c.args.base c.args.depth c.args.lo (behind_head (pattern_of c.args.whole.now.pat) (term_of c.args.whole.now.first) (turns_of c.args.whole.now.form) c.args.lo) c.args.whole.now.mark c.args.whole.now.sizes.now (pattern_of c.args.whole.now.pat) (term_of c.args.whole.now.first) (turns_of c.args.whole.now.form) (term_of c.args.whole.now.body) refl c.args.inference.now c.constrain_head.new.inference r)) c.in-Err.ensures.err
+
+pub constrain_loop-constrain-requires : goal.constrain_loop-constrain-requires
+constrain_loop-constrain-requires t c = let e = (ap (λ (x : FlatTerm). numbers x) (loop_is c.args.whole.now)) in (omega (arith, e, numbers_some (term_of c.args.whole.now.first)), (c.in-Ok.ensures.ok.later.safe, omega (arith, e, c.requires.room, c.in-Ok.ensures.next)))
+
+pub constrain_loop-returns-in-Err-constrain-clause-err : goal.constrain_loop-returns-in-Err-constrain-clause-err
+constrain_loop-returns-in-Err-constrain-clause-err t c = tells c.in-Err-constrain.error (λ r. subst (λ (x : FlatTerm). Unconstrained c.args.places c.args.base c.args.depth c.args.lo x c.args.inference.now c.constrain.new.inference) (sym (loop_is c.args.whole.now)) (loop_err2 c.args.places c.args.base c.args.depth c.args.lo c.in-Ok.next c.args.whole.now.mark c.args.whole.now.sizes.now (pattern_of c.args.whole.now.pat) (term_of c.args.whole.now.first) (turns_of c.args.whole.now.form) (term_of c.args.whole.now.body) c.in-Ok.ensures.next c.args.inference.now c.constrain_head.new.inference c.in-Ok.ensures.ok c.constrain.new.inference r)) c.in-Err-constrain.ensures.err
+
+pub constrain_loop-demand-requires-clause-within : goal.constrain_loop-demand-requires-clause-within
+constrain_loop-demand-requires-clause-within t c = let e = (ap (λ (x : FlatTerm). numbers x) (loop_is c.args.whole.now)) in c.carried.ensures.within _ c.args.base (below_two c.args.base _ _ _ (omega (arith, e, c.requires.room)) (omega (arith, e, c.requires.room, numbers_some (term_of c.args.whole.now.body))) (omega (arith, e, c.requires.room, c.in-Ok.ensures.next, numbers_some (term_of c.args.whole.now.body))))
+
+pub constrain_loop-returns-in-Err-demand-clause-err : goal.constrain_loop-returns-in-Err-demand-clause-err
+constrain_loop-returns-in-Err-demand-clause-err t c = tells c.in-Err-demand.error (λ r. subst (λ (x : FlatTerm). Unconstrained c.args.places c.args.base c.args.depth c.args.lo x c.args.inference.now c.demand.new.inference) (sym (loop_is c.args.whole.now)) (loop_err3 c.args.places c.args.base c.args.depth c.args.lo c.in-Ok.next c.args.whole.now.mark c.args.whole.now.sizes.now (pattern_of c.args.whole.now.pat) (term_of c.args.whole.now.first) (turns_of c.args.whole.now.form) (term_of c.args.whole.now.body) c.in-Ok.ensures.next c.args.inference.now c.constrain_head.new.inference c.in-Ok.ensures.ok c.constrain.new.inference c.demand.new.inference c.in-Ok-constrain.ensures.ok c.carried.result c.carried.ensures.says c.carried.ensures.allowed r)) c.in-Err-demand.ensures.err
+
+pub constrain_loop-returns-clause-next : goal.constrain_loop-returns-clause-next
+constrain_loop-returns-clause-next t c = let e = (ap (λ (x : FlatTerm). numbers x) (loop_is c.args.whole.now)) in omega (arith, e, c.in-Ok.ensures.next, c.in-Ok-constrain.ensures.next)
+
+pub constrain_loop-returns-clause-ok : goal.constrain_loop-returns-clause-ok
+constrain_loop-returns-clause-ok t c = subst (λ (x : FlatTerm). Constrained c.args.places c.args.base c.args.depth c.args.lo x c.args.inference.now c.take_back.new.inference) (sym (loop_is c.args.whole.now)) (loop_ok c.args.places c.args.base c.args.depth c.args.lo c.in-Ok.next c.args.whole.now.mark c.args.whole.now.sizes.now (pattern_of c.args.whole.now.pat) (term_of c.args.whole.now.first) (turns_of c.args.whole.now.form) (term_of c.args.whole.now.body) c.in-Ok.ensures.next c.args.inference.now c.constrain_head.new.inference c.in-Ok.ensures.ok c.constrain.new.inference c.demand.new.inference c.in-Ok-constrain.ensures.ok c.carried.result c.carried.ensures.says c.carried.ensures.allowed c.take_back.new.inference c.requires.safe c.in-Ok-demand.ensures.ok (λ before added e l. c.take_back.ensures before added e (l ∙ sym c.mark_of-mark.ensures)))
+
+pub constrain_while-returns-in-Err-clause-err : goal.constrain_while-returns-in-Err-clause-err
+constrain_while-returns-in-Err-clause-err t c = tells c.in-Err.error (while_err1 c.args.places c.args.base c.args.depth c.args.lo (behind_first (pattern_of c.args.pat.now) (term_of c.args.first.now) c.args.lo) c.args.sizes.now (pattern_of c.args.pat.now) (term_of c.args.first.now) (term_of c.args.test.now) refl c.args.inference.now c.constrain_value.new.inference) c.in-Err.ensures.err
+
+pub constrain_while-constrain-requires : goal.constrain_while-constrain-requires
+constrain_while-constrain-requires t c = (omega (arith, numbers_some (term_of c.args.first.now)), (c.in-Ok.ensures.ok.later.safe, omega (arith, c.requires.room, c.in-Ok.ensures.next)))
+
+pub constrain_while-returns-in-Err-constrain-clause-err : goal.constrain_while-returns-in-Err-constrain-clause-err
+constrain_while-returns-in-Err-constrain-clause-err t c = tells c.in-Err-constrain.error (while_err2 c.args.places c.args.base c.args.depth c.args.lo c.in-Ok.next c.args.sizes.now (pattern_of c.args.pat.now) (term_of c.args.first.now) (term_of c.args.test.now) c.in-Ok.ensures.next c.args.inference.now c.constrain_value.new.inference c.in-Ok.ensures.ok c.constrain.new.inference) c.in-Err-constrain.ensures.err
+
+pub constrain_while-demand-requires-clause-within : goal.constrain_while-demand-requires-clause-within
+constrain_while-demand-requires-clause-within t c = truth_within _ c.args.base c.in-Ok.next (omega (arith, c.requires.room, c.in-Ok.ensures.next, numbers_some (term_of c.args.test.now)))
+
+pub constrain_while-returns-in-Ok-demand-clause-ok : goal.constrain_while-returns-in-Ok-demand-clause-ok
+constrain_while-returns-in-Ok-demand-clause-ok t c = while_ok c.args.places c.args.base c.args.depth c.args.lo c.in-Ok.next c.args.sizes.now (pattern_of c.args.pat.now) (term_of c.args.first.now) (term_of c.args.test.now) c.in-Ok.ensures.next c.args.inference.now c.constrain_value.new.inference c.in-Ok.ensures.ok c.constrain.new.inference c.demand.new.inference c.in-Ok-constrain.ensures.ok c.in-Ok-demand.ensures.ok
+
+pub constrain_while-returns-in-Err-demand-clause-err : goal.constrain_while-returns-in-Err-demand-clause-err
+constrain_while-returns-in-Err-demand-clause-err t c = tells c.in-Err-demand.error (while_err3 c.args.places c.args.base c.args.depth c.args.lo c.in-Ok.next c.args.sizes.now (pattern_of c.args.pat.now) (term_of c.args.first.now) (term_of c.args.test.now) c.in-Ok.ensures.next c.args.inference.now c.constrain_value.new.inference c.in-Ok.ensures.ok c.constrain.new.inference c.demand.new.inference c.in-Ok-constrain.ensures.ok) c.in-Err-demand.ensures.err
+
+pub constrain_while-constrain_value-requires : goal.constrain_while-constrain_value-requires
+constrain_while-constrain_value-requires t c = (omega (arith, numbers_some (term_of c.args.test.now)), (c.requires.safe, omega (arith, c.requires.room)))
+
+pub constrain_head-constrain_while-requires : goal.constrain_head-constrain_while-requires
+constrain_head-constrain_while-requires t c = let e = ap (λ (x : FlatTurns). turn_numbers x) (ap turns_of c.in-While.is ∙ turns_while c.in-While.test) in (omega (arith, e), (c.requires.safe, omega (arith, e, c.requires.room)))
+
+pub constrain_head-returns-in-While-clause-next : goal.constrain_head-returns-in-While-clause-next
+constrain_head-returns-in-While-clause-next t c = rw (ap turns_of c.in-While.is ∙ turns_while c.in-While.test) c.constrain_while.ensures.next
+
+pub constrain_head-returns-in-While-clause-ok : goal.constrain_head-returns-in-While-clause-ok
+constrain_head-returns-in-While-clause-ok t c = rw (ap turns_of c.in-While.is ∙ turns_while c.in-While.test) c.constrain_while.ensures.ok
+
+pub constrain_head-returns-in-While-clause-err : goal.constrain_head-returns-in-While-clause-err
+constrain_head-returns-in-While-clause-err t c = rw (ap turns_of c.in-While.is ∙ turns_while c.in-While.test) c.constrain_while.ensures.err
+
+pub constrain_head-constrain_counted-requires : goal.constrain_head-constrain_counted-requires
+constrain_head-constrain_counted-requires t c = let e = ap (λ (x : FlatTurns). turn_numbers x) (ap turns_of c.in-For.is ∙ turns_counted c.in-For.name c.in-For.bound) in (omega (arith, e), (c.requires.safe, omega (arith, e, c.requires.room)))
+
+pub constrain_head-returns-in-For-clause-next : goal.constrain_head-returns-in-For-clause-next
+constrain_head-returns-in-For-clause-next t c = rw (ap turns_of c.in-For.is ∙ turns_counted c.in-For.name c.in-For.bound) c.constrain_counted.ensures.next
+
+pub constrain_head-returns-in-For-clause-ok : goal.constrain_head-returns-in-For-clause-ok
+constrain_head-returns-in-For-clause-ok t c = rw (ap turns_of c.in-For.is ∙ turns_counted c.in-For.name c.in-For.bound) c.constrain_counted.ensures.ok
+
+pub constrain_head-returns-in-For-clause-err : goal.constrain_head-returns-in-For-clause-err
+constrain_head-returns-in-For-clause-err t c = rw (ap turns_of c.in-For.is ∙ turns_counted c.in-For.name c.in-For.bound) c.constrain_counted.ensures.err
+
+pub constrain_counted-constrain_bound-requires : goal.constrain_counted-constrain_bound-requires
+constrain_counted-constrain_bound-requires t c = (omega arith, (c.requires.safe, omega (arith, c.requires.room)))
+
+pub constrain_counted-returns-in-Err-clause-err : goal.constrain_counted-returns-in-Err-clause-err
+constrain_counted-returns-in-Err-clause-err t c = tells c.in-Err.error (counted_err1 c.args.places c.args.base c.args.depth c.args.lo (behind_first (pattern_of c.args.pat.now) (term_of c.args.first.now) c.args.lo) c.args.sizes.now (pattern_of c.args.pat.now) (term_of c.args.first.now) (term_of c.args.bound.now) c.args.name refl c.args.inference.now c.constrain_bound.new.inference) c.in-Err.ensures.err
+
+pub constrain_counted-constrain-requires : goal.constrain_counted-constrain-requires
+constrain_counted-constrain-requires t c = (omega arith, (c.in-Ok.ensures.ok.later.safe, omega (arith, c.requires.room, c.in-Ok.ensures.next)))
+
+pub constrain_counted-returns-in-Err-constrain-clause-err : goal.constrain_counted-returns-in-Err-constrain-clause-err
+constrain_counted-returns-in-Err-constrain-clause-err t c = tells c.in-Err-constrain.error (counted_err2 c.args.places c.args.base c.args.depth c.args.lo c.in-Ok.next c.args.sizes.now (pattern_of c.args.pat.now) (term_of c.args.first.now) (term_of c.args.bound.now) c.args.name c.in-Ok.ensures.next c.args.inference.now c.constrain_bound.new.inference c.constrain.new.inference c.requires.safe c.in-Ok.ensures.ok) c.in-Err-constrain.ensures.err
+
+pub constrain_counted-demand-requires-clause-within : goal.constrain_counted-demand-requires-clause-within
+constrain_counted-demand-requires-clause-within t c = c.counted.ensures.within _ c.args.base (omega (arith, c.requires.room, c.in-Ok.ensures.next), (omega (arith, c.requires.room, c.in-Ok.ensures.next, numbers_some (term_of c.args.bound.now)), tt))
+
+pub constrain_counted-returns-in-Err-demand-clause-err : goal.constrain_counted-returns-in-Err-demand-clause-err
+constrain_counted-returns-in-Err-demand-clause-err t c = tells c.in-Err-demand.error (counted_err3 c.args.places c.args.base c.args.depth c.args.lo c.in-Ok.next c.args.sizes.now (pattern_of c.args.pat.now) (term_of c.args.first.now) (term_of c.args.bound.now) c.args.name c.in-Ok.ensures.next c.args.inference.now c.constrain_bound.new.inference c.constrain.new.inference c.requires.safe c.in-Ok.ensures.ok c.demand.new.inference c.in-Ok-constrain.ensures.ok c.counted.result c.counted.ensures.says c.counted.ensures.allowed) c.in-Err-demand.ensures.err
+
+pub constrain_counted-enter_sizes-requires : goal.constrain_counted-enter_sizes-requires
+constrain_counted-enter_sizes-requires t c = record { safe = (c.in-Ok-demand.ensures.ok c.args.places 0 0).later.safe }
+
+pub constrain_counted-returns-in-Ok-enter-clause-ok : goal.constrain_counted-returns-in-Ok-enter-clause-ok
+constrain_counted-returns-in-Ok-enter-clause-ok t c = counted_ok c.args.places c.args.base c.args.depth c.args.lo c.in-Ok.next c.args.sizes.now (pattern_of c.args.pat.now) (term_of c.args.first.now) (term_of c.args.bound.now) c.args.name c.in-Ok.ensures.next c.args.inference.now c.constrain_bound.new.inference c.constrain.new.inference c.requires.safe c.in-Ok.ensures.ok c.demand.new.inference c.in-Ok-constrain.ensures.ok c.counted.result c.counted.ensures.says c.counted.ensures.allowed c.in-Ok-demand.ensures.ok c.enter_sizes.new.inference c.enter_pattern.new.inference c.enter.new.inference c.in-Ok-enter_sizes.ensures.ok c.in-Ok-enter_pattern.ensures.ok c.in-Ok-enter_pattern.ensures.safe (omega (arith, c.requires.room, c.in-Ok.ensures.next)) c.in-Ok-enter.ensures.within c.in-Ok-enter.ensures.ok
+
+pub constrain_head-constrain_over-requires : goal.constrain_head-constrain_over-requires
+constrain_head-constrain_over-requires t c = let e = ap (λ (x : FlatTurns). turn_numbers x) (ap turns_of c.in-ForIn.is ∙ turns_over c.in-ForIn.part c.in-ForIn.array) in (omega (arith, e), (c.requires.safe, omega (arith, e, c.requires.room)))
+
+pub constrain_head-returns-in-ForIn-clause-next : goal.constrain_head-returns-in-ForIn-clause-next
+constrain_head-returns-in-ForIn-clause-next t c = rw (ap turns_of c.in-ForIn.is ∙ turns_over c.in-ForIn.part c.in-ForIn.array) c.constrain_over.ensures.next
+
+pub constrain_head-returns-in-ForIn-clause-ok : goal.constrain_head-returns-in-ForIn-clause-ok
+constrain_head-returns-in-ForIn-clause-ok t c = rw (ap turns_of c.in-ForIn.is ∙ turns_over c.in-ForIn.part c.in-ForIn.array) c.constrain_over.ensures.ok
+
+pub constrain_head-returns-in-ForIn-clause-err : goal.constrain_head-returns-in-ForIn-clause-err
+constrain_head-returns-in-ForIn-clause-err t c = rw (ap turns_of c.in-ForIn.is ∙ turns_over c.in-ForIn.part c.in-ForIn.array) c.constrain_over.ensures.err
+
+pub constrain_over-constrain_value-requires : goal.constrain_over-constrain_value-requires
+constrain_over-constrain_value-requires t c = (omega (arith, numbers_some (term_of c.args.array.now)), (c.requires.safe, omega (arith, c.requires.room)))
+
+pub constrain_over-returns-in-Err-clause-err : goal.constrain_over-returns-in-Err-clause-err
+constrain_over-returns-in-Err-clause-err t c = tells c.in-Err.error (over_err1 c.args.places c.args.base c.args.depth c.args.lo (behind_first (pattern_of c.args.pat.now) (term_of c.args.first.now) c.args.lo) ((behind_first (pattern_of c.args.pat.now) (term_of c.args.first.now) c.args.lo) + pattern_numbers (pattern_of c.args.part.now)) c.args.sizes.now (pattern_of c.args.pat.now) (term_of c.args.first.now) (pattern_of c.args.part.now) (term_of c.args.array.now) refl refl c.args.inference.now c.constrain_value.new.inference) c.in-Err.ensures.err
+
+pub constrain_over-constrain_pattern-requires-clause-safe : goal.constrain_over-constrain_pattern-requires-clause-safe
+constrain_over-constrain_pattern-requires-clause-safe t c = c.in-Ok.ensures.ok.later.safe
+
+pub constrain_over-constrain_pattern-requires-clause-room : goal.constrain_over-constrain_pattern-requires-clause-room
+constrain_over-constrain_pattern-requires-clause-room t c = omega (arith, c.requires.room, c.in-Ok.ensures.next)
+
+pub constrain_over-returns-in-Err-constrain_pattern-clause-err : goal.constrain_over-returns-in-Err-constrain_pattern-clause-err
+constrain_over-returns-in-Err-constrain_pattern-clause-err t c = tells c.in-Err-constrain_pattern.error (over_err2 c.args.places c.args.base c.args.depth c.args.lo c.in-Ok.next (c.in-Ok.next + pattern_numbers (pattern_of c.args.part.now)) c.args.sizes.now (pattern_of c.args.pat.now) (term_of c.args.first.now) (pattern_of c.args.part.now) (term_of c.args.array.now) c.in-Ok.ensures.next refl c.args.inference.now c.constrain_value.new.inference c.in-Ok.ensures.ok c.constrain_pattern.new.inference) c.in-Err-constrain_pattern.ensures.err
+
+pub constrain_over-constrain-requires : goal.constrain_over-constrain-requires
+constrain_over-constrain-requires t c = (omega (arith, numbers_some (term_of c.args.first.now)), ((two_claimed c.args.places c.args.base c.args.depth c.args.lo c.in-Ok.next c.in-Ok-constrain_pattern.next c.args.sizes.now (pattern_of c.args.pat.now) (term_of c.args.first.now) (pattern_of c.args.part.now) (term_of c.args.array.now) c.in-Ok.ensures.next c.in-Ok-constrain_pattern.ensures.next c.args.inference.now c.constrain_value.new.inference c.in-Ok.ensures.ok c.constrain_pattern.new.inference c.take_back.new.inference c.requires.safe c.in-Ok-constrain_pattern.ensures.ok (λ before added e l. c.take_back.ensures before added e (l ∙ sym c.mark_of-mark.ensures))).later.safe, omega (arith, c.requires.room, c.in-Ok.ensures.next, c.in-Ok-constrain_pattern.ensures.next)))
+
+pub constrain_over-returns-in-Err-constrain-clause-err : goal.constrain_over-returns-in-Err-constrain-clause-err
+constrain_over-returns-in-Err-constrain-clause-err t c = tells c.in-Err-constrain.error (over_err3 c.args.places c.args.base c.args.depth c.args.lo c.in-Ok.next c.in-Ok-constrain_pattern.next c.args.sizes.now (pattern_of c.args.pat.now) (term_of c.args.first.now) (pattern_of c.args.part.now) (term_of c.args.array.now) c.in-Ok.ensures.next c.in-Ok-constrain_pattern.ensures.next c.args.inference.now c.take_back.new.inference c.constrain.new.inference c.requires.safe (two_claimed c.args.places c.args.base c.args.depth c.args.lo c.in-Ok.next c.in-Ok-constrain_pattern.next c.args.sizes.now (pattern_of c.args.pat.now) (term_of c.args.first.now) (pattern_of c.args.part.now) (term_of c.args.array.now) c.in-Ok.ensures.next c.in-Ok-constrain_pattern.ensures.next c.args.inference.now c.constrain_value.new.inference c.in-Ok.ensures.ok c.constrain_pattern.new.inference c.take_back.new.inference c.requires.safe c.in-Ok-constrain_pattern.ensures.ok (λ before added e l. c.take_back.ensures before added e (l ∙ sym c.mark_of-mark.ensures)))) c.in-Err-constrain.ensures.err
+
+pub constrain_over-demand-requires-clause-within : goal.constrain_over-demand-requires-clause-within
+constrain_over-demand-requires-clause-within t c = c.gone_over.ensures.within _ c.args.base (omega (arith, c.requires.room, c.in-Ok.ensures.next, numbers_some (term_of c.args.array.now)), (omega (arith, c.requires.room, c.in-Ok.ensures.next, c.in-Ok-constrain_pattern.ensures.next, numbers_some (term_of c.args.array.now)), tt))
+
+pub constrain_over-returns-in-Err-demand-clause-err : goal.constrain_over-returns-in-Err-demand-clause-err
+constrain_over-returns-in-Err-demand-clause-err t c = tells c.in-Err-demand.error (over_err4 c.args.places c.args.base c.args.depth c.args.lo c.in-Ok.next c.in-Ok-constrain_pattern.next c.args.sizes.now (pattern_of c.args.pat.now) (term_of c.args.first.now) (pattern_of c.args.part.now) (term_of c.args.array.now) c.in-Ok.ensures.next c.in-Ok-constrain_pattern.ensures.next c.args.inference.now c.take_back.new.inference c.constrain.new.inference c.requires.safe (two_claimed c.args.places c.args.base c.args.depth c.args.lo c.in-Ok.next c.in-Ok-constrain_pattern.next c.args.sizes.now (pattern_of c.args.pat.now) (term_of c.args.first.now) (pattern_of c.args.part.now) (term_of c.args.array.now) c.in-Ok.ensures.next c.in-Ok-constrain_pattern.ensures.next c.args.inference.now c.constrain_value.new.inference c.in-Ok.ensures.ok c.constrain_pattern.new.inference c.take_back.new.inference c.requires.safe c.in-Ok-constrain_pattern.ensures.ok (λ before added e l. c.take_back.ensures before added e (l ∙ sym c.mark_of-mark.ensures))) c.demand.new.inference c.in-Ok-constrain.ensures.ok c.gone_over.result c.gone_over.ensures.says c.gone_over.ensures.allowed) c.in-Err-demand.ensures.err
+
+pub constrain_over-enter_sizes-requires : goal.constrain_over-enter_sizes-requires
+constrain_over-enter_sizes-requires t c = record { safe = (c.in-Ok-demand.ensures.ok c.args.places 0 0).later.safe }
+
+pub constrain_over-returns-in-Ok-enter_pattern-2-clause-ok : goal.constrain_over-returns-in-Ok-enter_pattern-2-clause-ok
+constrain_over-returns-in-Ok-enter_pattern-2-clause-ok t c = over_ok c.args.places c.args.base c.args.depth c.args.lo c.in-Ok.next c.in-Ok-constrain_pattern.next c.args.sizes.now (pattern_of c.args.pat.now) (term_of c.args.first.now) (pattern_of c.args.part.now) (term_of c.args.array.now) c.in-Ok.ensures.next c.in-Ok-constrain_pattern.ensures.next c.args.inference.now c.take_back.new.inference c.constrain.new.inference c.requires.safe (two_claimed c.args.places c.args.base c.args.depth c.args.lo c.in-Ok.next c.in-Ok-constrain_pattern.next c.args.sizes.now (pattern_of c.args.pat.now) (term_of c.args.first.now) (pattern_of c.args.part.now) (term_of c.args.array.now) c.in-Ok.ensures.next c.in-Ok-constrain_pattern.ensures.next c.args.inference.now c.constrain_value.new.inference c.in-Ok.ensures.ok c.constrain_pattern.new.inference c.take_back.new.inference c.requires.safe c.in-Ok-constrain_pattern.ensures.ok (λ before added e l. c.take_back.ensures before added e (l ∙ sym c.mark_of-mark.ensures))) c.demand.new.inference c.in-Ok-constrain.ensures.ok c.gone_over.result c.gone_over.ensures.says c.gone_over.ensures.allowed c.enter_sizes.new.inference c.enter_pattern.new.inference c.enter_pattern-2.new.inference c.in-Ok-demand.ensures.ok c.in-Ok-enter_sizes.ensures.ok c.in-Ok-enter_pattern.ensures.ok c.in-Ok-enter_pattern-2.ensures.ok

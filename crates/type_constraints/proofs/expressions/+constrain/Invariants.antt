@@ -1,8 +1,8 @@
 use Rattle.std.proofs.Common.{◌+◌, ◌*◌, map, take}
 use Rattle.fut_flat.specs.Terms.{Apply, If, Lambda, Strict}
-use Rattle.fut_flat.specs.Numbers.{all_numbers, numbers}
+use Rattle.fut_flat.specs.Numbers.{all_numbers, numbers, pattern_numbers, turn_numbers}
 use Rattle.fut_flat.specs.Erased.{lets, operation_of, pattern_of, patterns, term_of, terms}
-use Rattle.fut_flat.proofs.ErasedForms.{row_of}
+use Rattle.fut_flat.proofs.ErasedForms.{loop_of, row_of, turns_of}
 use Rattle.fut_typing.specs.Rows.{behind, behind_all}
 use Rattle.type_constraints.specs.Parts.{value_row}
 use Rattle.type_constraints.proofs.Lets.{Lets_open}
@@ -44,3 +44,21 @@ decreases-constrain_value l = 3 * behind (value_row l.sizes.now (pattern_of l.pa
 
 abbrev pub invariant-constrain_rows-loop-one : goal.invariant-constrain_rows-loop-one
 invariant-constrain_rows-loop-one l = Lets_open l.places l.base l.depth l.lo l.at (map row_of (take l.one-index l.lets)) l.fn.begins l.begins l.fn.inference l.inference
+
+abbrev pub decreases-constrain_loop : goal.decreases-constrain_loop
+decreases-constrain_loop l = 3 * numbers (loop_of l.whole.now)
+
+abbrev pub decreases-constrain_head : goal.decreases-constrain_head
+decreases-constrain_head l = 3 * (pattern_numbers (pattern_of l.whole.now.pat) + numbers (term_of l.whole.now.first) + turn_numbers (turns_of l.whole.now.form)) + 2
+
+abbrev pub decreases-constrain_while : goal.decreases-constrain_while
+decreases-constrain_while l = 3 * (pattern_numbers (pattern_of l.pat.now) + numbers (term_of l.first.now) + numbers (term_of l.test.now)) + 1
+
+abbrev pub decreases-constrain_bound : goal.decreases-constrain_bound
+decreases-constrain_bound l = 3 * (pattern_numbers (pattern_of l.pat.now) + numbers (term_of l.value.now)) + 2
+
+abbrev pub decreases-constrain_counted : goal.decreases-constrain_counted
+decreases-constrain_counted l = 3 * (pattern_numbers (pattern_of l.pat.now) + numbers (term_of l.first.now) + (1 + numbers (term_of l.bound.now))) + 1
+
+abbrev pub decreases-constrain_over : goal.decreases-constrain_over
+decreases-constrain_over l = 3 * (pattern_numbers (pattern_of l.pat.now) + numbers (term_of l.first.now) + (pattern_numbers (pattern_of l.part.now) + numbers (term_of l.array.now))) + 1

@@ -15,3 +15,12 @@ returns-in-Binary-clause-ok c = on_ok c.constrain_two.result (λ f from lt. f c.
 
 pub returns-in-Range-clause-ok : goal.returns-in-Range-clause-ok
 returns-in-Range-clause-ok c = on_ok c.constrain_range.result (λ f from lt. f c.args.depth from) c.constrain_range.ensures.ok
+
+pub returns-in-Record-clause-ok : goal.returns-in-Record-clause-ok
+returns-in-Record-clause-ok c = on_ok c.constrain_record.result (λ f from lt. f c.args.depth from) c.constrain_record.ensures.ok
+
+pub returns-in-Project-clause-ok : goal.returns-in-Project-clause-ok
+returns-in-Project-clause-ok c = on_ok c.constrain_project.result (λ f from lt. f c.args.depth from) c.constrain_project.ensures.ok
+
+pub returns-in-Replace-clause-ok : goal.returns-in-Replace-clause-ok
+returns-in-Replace-clause-ok c = on_ok c.constrain_replace.result (λ f from lt. f c.args.depth from) c.constrain_replace.ensures.ok

@@ -11,6 +11,6 @@ returns-clause-ok c = ok_both c.function.result (λ x f places d lo. claimed_gra
 
 pub returns-clause-err : goal.returns-clause-err
 returns-clause-err c = err_both c.function.result (λ un before places d lo. record {
-  reads = λ N T r. record { names = r.names; shapes = r.shapes; told = before T r.told };
+  reads = λ N T r. record { names = r.names; labelled = r.labelled; shapes = r.shapes; told = before T r.told };
   nowhere = λ N T home born E r rd h. un T r.told;
 }) c.function.ensures.err c.function.ensures.before

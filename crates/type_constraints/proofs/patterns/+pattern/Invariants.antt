@@ -1,0 +1,17 @@
+use Rattle.std.proofs.Common.{◌+◌, ◌*◌, map, take}
+use Rattle.fut_flat.specs.Erased.{pattern_of, patterns}
+use Rattle.type_scopes.proofs.Binding.{weigh, weigh_all}
+use Rattle.type_constraints.proofs.Tuples.{Row_claimed}
+use Rattle.type_constraints.proofs.patterns.+pattern.Given as goal
+
+abbrev pub invariant-constrain_patterns-loop-part : goal.invariant-constrain_patterns-loop-part
+invariant-constrain_patterns-loop-part l = Row_claimed l.places l.base l.lo l.at (map pattern_of (take l.part-index l.parts)) l.fn.begins l.begins l.fn.inference l.inference
+
+abbrev pub decreases-constrain_pattern : goal.decreases-constrain_pattern
+decreases-constrain_pattern l = 3 * weigh (pattern_of l.pat.now)
+
+abbrev pub decreases-constrain_tuple : goal.decreases-constrain_tuple
+decreases-constrain_tuple l = 3 * weigh_all (patterns (map pattern_of l.parts.now)) + 2
+
+abbrev pub decreases-constrain_patterns : goal.decreases-constrain_patterns
+decreases-constrain_patterns l = 3 * weigh_all (patterns (map pattern_of l.parts.now)) + 1
