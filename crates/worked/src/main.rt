@@ -1,11 +1,13 @@
-//! Worked examples of the whole product as rows of data: runs, trees, tokens, operations on scalars, and texts that are
-//! drawn. The files are named as arguments; the head of each says what its rows are, and `README` how they are written.
+//! Worked examples of the whole product as rows of data: runs, trees, flat programs, tokens, operations on scalars, and
+//! texts that are drawn. The files are named as arguments; the head of each says what its rows are, and `README` how they are written.
 //!
 //! A line tells of each file how many rows hold, or how many differ and what came of the first of these.
 #![tactic(auto)]
 
 mod draws;
+mod elaborated;
 mod fault;
+mod flat;
 mod parts;
 mod rows;
 mod runs;
@@ -19,6 +21,7 @@ mod tokens;
 mod trees;
 
 use crate::draws::Draws;
+use crate::elaborated::Elaborated;
 use crate::fault::{Fault, Wrong};
 use crate::parts::cut;
 use crate::rows::Rows;
@@ -39,6 +42,7 @@ fn check_rows(alloc: Global, text: &[u8], tally: &mut Tally) {
     match str::from_utf8(head).unwrap_or("") {
         "rows of runs" => check_runs(alloc, rest, tally),
         "rows of trees" => rows.check(&mut Trees::new(alloc), rest, tally),
+        "rows of names" => rows.check(&mut Elaborated::new(alloc), rest, tally),
         "rows of tokens" => rows.check(&mut Tokens::new(alloc), rest, tally),
         "rows of scalars" => rows.check(&mut Scalars, rest, tally),
         "rows of draws" => rows.check(&mut Draws::new(alloc), rest, tally),

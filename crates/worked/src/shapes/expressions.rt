@@ -8,7 +8,7 @@ use fut_ast::{End, Oper};
 use fut_scalar::BinOp;
 use fut_tree::{Bind, Exp, ExpField, Form, Held, Ix, LoopForm};
 
-fn bin_text(op: BinOp) -> &'static str {
+pub fn bin_text(op: BinOp) -> &'static str {
     match op {
         BinOp::Add => "(+ ",
         BinOp::Sub => "(- ",
@@ -44,7 +44,7 @@ fn oper_text(oper: Oper) -> &'static str {
     }
 }
 
-fn end_text(end: End) -> &'static str {
+pub fn end_text(end: End) -> &'static str {
     match end {
         End::Below => "(..< ",
         End::Above => "(..> ",

@@ -1,0 +1,140 @@
+// Texts and their flat programs. A line `frame prelude` says that each text stands behind the prelude, `frame alone` that it
+// stands behind no text.
+use crate::flat::programs::show_flat;
+use crate::parts::behind_word;
+use crate::rows::Answers;
+use crate::shown::Shown;
+use crate::tokens::MOST_BYTES;
+use bumpalo::Bump;
+use fut_lexer::{Token, lex};
+use fut_parser::parse;
+use fut_scalar::Place;
+use fut_tree::{Held, Program};
+use module_elab::{ModErr, PRELUDE, PRELUDE_PATH, SourceSet, elaborate};
+use std::alloc::Global;
+
+/// Answers a text with its flat program.
+#[derive(Drop)]
+pub struct Elaborated {
+    alloc: Global,
+    has_prelude: bool,
+}
+
+impl Elaborated {
+    pub fn new(alloc: Global) -> Elaborated {
+        Elaborated {
+            alloc,
+            has_prelude: false,
+        }
+    }
+}
+
+impl Answers for Elaborated {
+    fn takes_heading(&mut self, line: &[u8]) -> bool {
+        match behind_word(line, b"frame") {
+            Some(b"alone") => self.has_prelude = false,
+            Some(b"prelude") => self.has_prelude = true,
+            _ => return false,
+        }
+        true
+    }
+
+    fn answer(&mut self, text: &[u8], shown: &mut Shown) -> (&'static [u8], &'static [u8]) {
+        shown.begin(false);
+        let before = if self.has_prelude { PRELUDE } else { "" };
+        show_text(self.alloc, before.as_bytes(), text, shown);
+        (b"", b"")
+    }
+}
+
+/// Shows the flat program of a text, or why there is none.
+fn show_text(alloc: Global, before: &[u8], text: &[u8], shown: &mut Shown) {
+    if text.len() > MOST_BYTES || before.len() > MOST_BYTES {
+        return shown.push("! too many bytes");
+    }
+    let Ok(first) = lex(alloc, 0, before) else {
+        return shown.push("! no prelude");
+    };
+    match lex(alloc, 1, text) {
+        Err(_) => shown.push("! no tokens"),
+        Ok(second) => {
+            let bump = Bump::new(alloc);
+            show_tokens(alloc, &bump, first.as_slice(), second.as_slice(), shown)
+        }
+    }
+}
+
+/// The tree of a file, held by the arena.
+fn tree<'a>(bump: &'a Bump, file: u32, tokens: &'a [Token]) -> Option<&'a Program<'a>> {
+    match parse(bump, file, tokens) {
+        Ok(program) => match bump.try_alloc(program) {
+            Ok(held) => Some(held),
+            Err(_) => None,
+        },
+        Err(_) => None,
+    }
+}
+
+/// The paths of the files.
+const PATHS: [&str; 2] = [PRELUDE_PATH, "text"];
+
+/// The files of a set, held by the arena.
+fn source_set<'a>(
+    bump: &'a Bump,
+    prelude: &'a Program<'a>,
+    program: &'a Program<'a>,
+) -> Option<SourceSet<'a>> {
+    match bump.try_alloc_slice_copy(&[Held { at: prelude }, Held { at: program }]) {
+        Ok(programs) => Some(SourceSet {
+            names: &PATHS,
+            programs,
+        }),
+        Err(_) => None,
+    }
+}
+
+fn show_tokens<'a>(
+    alloc: Global,
+    bump: &'a Bump,
+    first: &'a [Token],
+    second: &'a [Token],
+    shown: &mut Shown,
+) {
+    let Some(prelude) = tree(bump, 0, first) else {
+        return shown.push("! no prelude");
+    };
+    let Some(program) = tree(bump, 1, second) else {
+        return shown.push("! no tree");
+    };
+    match source_set(bump, prelude, program) {
+        Some(set) => show_elaborated(alloc, bump, &set, shown),
+        None => shown.push("! memory"),
+    }
+}
+
+fn show_elaborated<'a>(alloc: Global, bump: &'a Bump, set: &SourceSet<'a>, shown: &mut Shown) {
+    match elaborate(alloc, bump, set) {
+        Ok(flat) => {
+            shown.push("=");
+            show_flat(&flat, shown);
+        }
+        Err(refusal) => show_refusal(&refusal, shown),
+    }
+}
+
+fn show_named(kind: &str, name: &str, at: Place, shown: &mut Shown) {
+    shown.push(kind);
+    shown.push(name);
+    shown.push(" ");
+    shown.place(at);
+}
+
+fn show_refusal(refusal: &ModErr<'_>, shown: &mut Shown) {
+    match refusal {
+        ModErr::Unbound { name, at } => show_named("! unbound ", *name, *at, shown),
+        ModErr::Twice { name, at } => show_named("! twice ", *name, *at, shown),
+        ModErr::NoMember { name, at } => show_named("! no member ", *name, *at, shown),
+        ModErr::NotYet { at } => show_named("! not yet", "", *at, shown),
+        ModErr::Memory => shown.push("! memory"),
+    }
+}
