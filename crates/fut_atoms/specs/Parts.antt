@@ -62,11 +62,15 @@ maybe_found = found_as maybe
 unfoldable pub reversal_at : List Token → Result (List Token) Fault
 reversal_at ts = expect fixed.Colon ts >>= λ us. look_at going_back us >>= λ u. expect fixed.Colon us >>= λ vs. expect fixed.Minus vs >>= λ ws. one_at ws
 
+-- the value of a field, behind which no "=" stands
+abbrev pub field_end : Text → Read SourceExp → Read (Text × SourceExp)
+field_end x read = read >>= λ e. if starts fixed.Equal e.2 then Err (refuse e.2) else Ok ((x, e.0), e.1, e.2)
+
 module _ (sub : (n : Sort) → List Token → Read (Tree n)) where
   -- a name, and "=" and an expression or nothing
   unfoldable pub field_at : List Token → Read (Text × SourceExp)
   field_at ts =
-      word_at ts >>= λ x. if starts fixed.Equal x.1 then (sub Whole (tail x.1) >>= λ e. if starts fixed.Equal e.2 then Err (refuse e.2) else Ok ((x.0, e.0), e.1, e.2))
+      word_at ts >>= λ x. if starts fixed.Equal x.1 then field_end x.0 (sub Whole (tail x.1))
       else Ok ((x.0, use_of (spot_of ts).place x.0), 0, x.1)
 
   -- a part of an index, as it is written

@@ -17,9 +17,7 @@ use fut_exp_parts::exp_nodes::{field, index};
 use fut_exp_parts::exp_tokens::{goes_on_atom, starts_with_tight, take_digits};
 use fut_grammar::{Fault, Stop};
 use fut_phrases::found::Found;
-use fut_phrases::tokens::{
-    next_spot, refused, rest_of, starts_with, take, take_word, without_form,
-};
+use fut_phrases::tokens::{next_spot, refused, rest_of, starts_with, take_word, without_form};
 use fut_token::{Fixed, Token};
 use fut_tree::Exp;
 
@@ -87,7 +85,7 @@ fn suffix_behind<'a, R: ReadExp<'a>>(
     }
 }
 
-#[tactic(auto, unfolding(fut_grammar::specs::Reading::suffix_at, fut_grammar::specs::Reading::parts_at, fut_grammar::specs::Reading::has_at))]
+#[tactic(auto, unfolding(fut_grammar::specs::Reading::suffix_at, fut_grammar::specs::Reading::parts_at, fut_grammar::specs::Reading::has_at, fut_grammar::specs::Reading::expect))]
 fn index_behind<'a, R: ReadExp<'a>>(
     bump: &'a Bump,
     read: R,
@@ -109,17 +107,14 @@ fn index_behind<'a, R: ReadExp<'a>>(
     let bracket = next_spot(first.rest).place;
     match index_list(bump, read, inner, first.height, rest_of(first.rest)) {
         Ok(parts) => {
-            match take(parts.rest, Fixed::CloseBracket) {
-                Ok(rest) => match index(bump, at.place, bracket, first.tree, parts.tree) {
-                    Ok(tree) => Ok(Found {
-                        tree,
-                        height: parts.height + 1,
-                        rest,
-                    }),
-                    Err(_) => Err(Stop::Memory),
-                },
-                Err(stop) => Err(stop),
+            if !starts_with(parts.rest, Fixed::CloseBracket) {
+                return Err(Stop::Fault(refused(parts.rest)));
             }
+            made(
+                index(bump, at.place, bracket, first.tree, parts.tree),
+                parts.height + 1,
+                rest_of(parts.rest),
+            )
         }
         Err(stop) => Err(stop),
     }

@@ -9,7 +9,9 @@ ghost use Rattle.fut_grammar.specs.Reading.{Gives, commas_at, row_at};
 ghost use Rattle.fut_phrases.specs.Found.{list_found, tree_found};
 
 use crate::fields::field_list;
+use crate::items::Items;
 use crate::leaves::{no, no_elements, no_fields, number, path, yes};
+use crate::made::made;
 use crate::parens::paren_below;
 use crate::tie::{ExpSort, ReadExp};
 use bumpalo::Bump;
@@ -19,7 +21,7 @@ use fut_grammar::Stop;
 use fut_phrases::found::Found;
 use fut_phrases::lists::ReadItem;
 use fut_phrases::tokens::{
-    next_spot, rest_of, starts_with, starts_with_int, starts_with_word, take,
+    next_spot, refused, rest_of, starts_with, starts_with_int, starts_with_word,
 };
 use fut_token::{Fixed, Token};
 use fut_tree::{Exp, Held};
@@ -78,42 +80,36 @@ fn bracket_below<'a, R: ReadExp<'a>>(
     }
 }
 
-#[tactic(auto, unfolding(fut_grammar::specs::Reading::row_at, fut_grammar::specs::Reading::parts_at, fut_grammar::specs::Reading::has_at))]
+#[tactic(auto, unfolding(fut_grammar::specs::Reading::row_at, fut_grammar::specs::Reading::parts_at, fut_grammar::specs::Reading::has_at, fut_grammar::specs::Reading::expect))]
 fn elements<'a, R: ReadExp<'a>>(
     bump: &'a Bump,
     read: R,
     inner: u32,
     tokens: &'a [Token],
 ) -> Result<Found<'a, &'a Exp<'a>>, Stop>
+    requires first { starts Fixed.OpenBracket tokens.now ≡ true }
     requires law { R.reads read inner }
     requires room { inner < 1000 }
     ensures exact { Gives tree_found result (row_at (phrases (read_at inner)) (of_exp elements) tokens.now) }
     ensures low { IfOk result (λ x. x.height ≤ inner + 1) }
 {
     let place = next_spot(tokens).place;
-    let behind = match take(tokens, Fixed::OpenBracket) {
-        Ok(behind) => behind,
-        Err(stop) => return Err(stop),
-    };
-    match expressions(bump, read, inner, 0, behind) {
+    match expressions(bump, read, inner, 0, rest_of(tokens)) {
         Ok(all) => {
-            match take(all.rest, Fixed::CloseBracket) {
-                Ok(rest) => match array(bump, place, all.tree) {
-                    Ok(tree) => Ok(Found {
-                        tree,
-                        height: all.height + 1,
-                        rest,
-                    }),
-                    Err(_) => Err(Stop::Memory),
-                },
-                Err(stop) => Err(stop),
+            if !starts_with(all.rest, Fixed::CloseBracket) {
+                return Err(Stop::Fault(refused(all.rest)));
             }
+            made(
+                array(bump, place, all.tree),
+                all.height + 1,
+                rest_of(all.rest),
+            )
         }
         Err(stop) => Err(stop),
     }
 }
 
-#[tactic(auto, unfolding(fut_grammar::specs::Reading::row_at, fut_grammar::specs::Reading::parts_at, fut_grammar::specs::Reading::has_at))]
+#[tactic(auto, unfolding(fut_grammar::specs::Reading::row_at, fut_grammar::specs::Reading::parts_at, fut_grammar::specs::Reading::has_at, fut_grammar::specs::Reading::expect))]
 fn fields<'a, R: ReadExp<'a>>(
     bump: &'a Bump,
     read: R,
@@ -126,23 +122,19 @@ fn fields<'a, R: ReadExp<'a>>(
     ensures low { IfOk result (λ x. x.height ≤ inner + 1) }
 {
     let place = next_spot(tokens).place;
-    let behind = match take(tokens, Fixed::OpenBrace) {
-        Ok(behind) => behind,
-        Err(stop) => return Err(stop),
-    };
-    match field_list(bump, read, inner, behind) {
+    if !starts_with(tokens, Fixed::OpenBrace) {
+        return Err(Stop::Fault(refused(tokens)));
+    }
+    match field_list(bump, read, inner, rest_of(tokens)) {
         Ok(all) => {
-            match take(all.rest, Fixed::CloseBrace) {
-                Ok(rest) => match record(bump, place, all.tree) {
-                    Ok(tree) => Ok(Found {
-                        tree,
-                        height: all.height + 1,
-                        rest,
-                    }),
-                    Err(_) => Err(Stop::Memory),
-                },
-                Err(stop) => Err(stop),
+            if !starts_with(all.rest, Fixed::CloseBrace) {
+                return Err(Stop::Fault(refused(all.rest)));
             }
+            made(
+                record(bump, place, all.tree),
+                all.height + 1,
+                rest_of(all.rest),
+            )
         }
         Err(stop) => Err(stop),
     }
@@ -161,15 +153,10 @@ pub fn expressions<'a, R: ReadExp<'a>>(
     ensures exact { Gives list_found result (commas_at (phrases (read_at inner)) (length tokens.now) Whole first_height tokens.now) }
     ensures low { IfOk result (λ x. x.height ≤ inner) }
 {
-    commas_from(bump, ExpItems { read }, inner, first_height, tokens)
+    commas_from(bump, Items { read }, inner, first_height, tokens)
 }
 
-#[derive(Clone, Copy)]
-struct ExpItems<R> {
-    read: R,
-}
-
-impl<'a, R: ReadExp<'a>> ReadItem<'a, Held<'a, Exp<'a>>> for ExpItems<R> {
+impl<'a, R: ReadExp<'a>> ReadItem<'a, Held<'a, Exp<'a>>> for Items<R> {
     ghost sort = { Whole };
 
     ghost seen = { λ e. e.at.now };

@@ -2,9 +2,11 @@
 ghost use Rattle.std.specs.Prelude.{◌≡◌, true, ◌≤◌, ◌<◌, ◌+◌, suc, length, IfOk};
 ghost use Rattle.fut_ast.specs.ExpRows.{count, each, function, if_else, loop, while};
 ghost use Rattle.fut_ast.specs.Rows.{of_exp};
-ghost use Rattle.fut_ast.specs.Tokens.{starts};
+ghost use Rattle.fut_ast.specs.Behind.{passes};
+ghost use Rattle.fut_ast.specs.Parts.{no_counter};
+ghost use Rattle.fut_ast.specs.Tokens.{starts, tail};
 ghost use Rattle.fut_ast.specs.Sorts.{Loop_item};
-ghost use Rattle.fut_grammar.specs.Phrases.{form_at, items, loop_item_at, phrases, read_at};
+ghost use Rattle.fut_grammar.specs.Phrases.{form_at, items, phrases, read_at};
 ghost use Rattle.fut_grammar.specs.Reading.{Gives, row_at, start_at};
 ghost use Rattle.fut_atoms.specs.Tie.{ending_found};
 ghost use Rattle.fut_phrases.specs.Found.{found_as};
@@ -216,7 +218,7 @@ fn loop_start<'a, R: ReadExp<'a>>(
     }
 }
 
-#[tactic(auto, unfolding(fut_grammar::specs::Phrases::phrases, fut_grammar::specs::Phrases::bounded, fut_grammar::specs::Phrases::ended, fut_grammar::specs::Phrases::flat_at, fut_grammar::specs::Reading::refuse_sort))]
+#[tactic(auto, unfolding(fut_grammar::specs::Phrases::phrases, fut_grammar::specs::Phrases::bounded, fut_grammar::specs::Phrases::ended, fut_grammar::specs::Phrases::flat_at, fut_grammar::specs::Phrases::loop_item_at, fut_grammar::specs::Reading::refuse_sort))]
 fn loop_item<'a, R: ReadExp<'a>>(
     bump: &'a Bump,
     read: R,
@@ -228,28 +230,11 @@ fn loop_item<'a, R: ReadExp<'a>>(
     ensures exact { Gives (found_as (λ t. loop_of t.now)) result (phrases (read_at inner) Loop_item tokens.now) }
     ensures low { IfOk result (λ x. x.height ≤ inner) }
 {
-    if starts_with(tokens, Fixed::KeyFor) || starts_with(tokens, Fixed::KeyWhile) {
-        any_loop_item(bump, read, inner, tokens)
-    } else {
-        Err(Stop::Fault(refused(tokens)))
-    }
-}
-
-#[tactic(auto, unfolding(fut_grammar::specs::Phrases::loop_item_at))]
-fn any_loop_item<'a, R: ReadExp<'a>>(
-    bump: &'a Bump,
-    read: R,
-    inner: u32,
-    tokens: &'a [Token],
-) -> Result<Found<'a, &'a LoopForm<'a>>, Stop>
-    requires law { R.reads read inner }
-    requires room { inner < 1000 }
-    ensures exact { Gives (found_as (λ t. loop_of t.now)) result (loop_item_at (items (read_at inner)) tokens.now) }
-    ensures low { IfOk result (λ x. x.height ≤ inner) }
-{
     let behind = rest_of(tokens);
     if starts_with(tokens, Fixed::KeyWhile) {
         as_long(bump, read, inner, tokens)
+    } else if !starts_with(tokens, Fixed::KeyFor) {
+        Err(Stop::Fault(refused(tokens)))
     } else if starts_with_word(behind) && starts_with(rest_of(behind), Fixed::Less) {
         counted(bump, read, inner, tokens)
     } else {
@@ -283,16 +268,13 @@ fn counted<'a, R: ReadExp<'a>>(
     inner: u32,
     tokens: &'a [Token],
 ) -> Result<Found<'a, &'a LoopForm<'a>>, Stop>
+    requires first { starts Fixed.KeyFor tokens.now ≡ true }
     requires law { R.reads read inner }
     requires room { inner < 1000 }
     ensures exact { Gives (found_as (λ t. loop_of t.now)) result (row_at (items (read_at inner)) (of_exp count) tokens.now) }
     ensures low { IfOk result (λ x. x.height ≤ inner) }
 {
-    let behind = match take(tokens, Fixed::KeyFor) {
-        Ok(behind) => behind,
-        Err(stop) => return Err(stop),
-    };
-    let (name, rest) = match take_word(behind) {
+    let (name, rest) = match take_word(rest_of(tokens)) {
         Ok(word) => word,
         Err(stop) => return Err(stop),
     };
@@ -313,19 +295,14 @@ fn over_elements<'a, R: ReadExp<'a>>(
     inner: u32,
     tokens: &'a [Token],
 ) -> Result<Found<'a, &'a LoopForm<'a>>, Stop>
+    requires first { starts Fixed.KeyFor tokens.now ≡ true }
+    requires no_counter { passes no_counter (tail tokens.now) ≡ true }
     requires law { R.reads read inner }
     requires room { inner < 1000 }
     ensures exact { Gives (found_as (λ t. loop_of t.now)) result (row_at (items (read_at inner)) (of_exp each) tokens.now) }
     ensures low { IfOk result (λ x. x.height ≤ inner) }
 {
-    let rest = match take(tokens, Fixed::KeyFor) {
-        Ok(rest) => rest,
-        Err(stop) => return Err(stop),
-    };
-    if starts_with_word(rest) && starts_with(rest_of(rest), Fixed::Less) {
-        return Err(Stop::Fault(refused(rest)));
-    }
-    let pat = match whole_pattern(bump, inner, rest) {
+    let pat = match whole_pattern(bump, inner, rest_of(tokens)) {
         Ok(pat) => pat,
         Err(stop) => return Err(stop),
     };

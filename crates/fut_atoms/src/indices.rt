@@ -7,6 +7,7 @@ ghost use Rattle.fut_grammar.specs.Phrases.{items, phrases, read_at};
 ghost use Rattle.fut_grammar.specs.Reading.{Gives, commas_at, optional_at, upto_at};
 ghost use Rattle.fut_tree.specs.Exps.{ix_of};
 
+use crate::items::Items;
 use crate::tie::{ExpSort, ReadExp};
 use bumpalo::Bump;
 use fut_ast::What;
@@ -33,7 +34,7 @@ pub fn index_list<'a, R: ReadExp<'a>>(
     ensures exact { Gives indices_found result (commas_at (phrases (read_at inner)) (length tokens.now) Index_item first_height tokens.now) }
     ensures low { IfOk result (λ x. x.height ≤ inner) }
 {
-    commas_from(bump, IndexItems { read }, inner, first_height, tokens)
+    commas_from(bump, Items { read }, inner, first_height, tokens)
 }
 
 /// The same in a section.
@@ -48,15 +49,10 @@ pub fn named_list<'a, R: ReadExp<'a>>(
     ensures exact { Gives nameds_found result (commas_at (phrases (read_at inner)) (length tokens.now) Named_item 0 tokens.now) }
     ensures low { IfOk result (λ x. x.height ≤ inner) }
 {
-    commas_from(bump, NamedItems { read }, inner, 0, tokens)
+    commas_from(bump, Items { read }, inner, 0, tokens)
 }
 
-#[derive(Clone, Copy)]
-struct IndexItems<R> {
-    read: R,
-}
-
-impl<'a, R: ReadExp<'a>> ReadItem<'a, Ix<'a>> for IndexItems<R> {
+impl<'a, R: ReadExp<'a>> ReadItem<'a, Ix<'a>> for Items<R> {
     ghost sort = { Index_item };
 
     ghost seen = { ix_of };
@@ -71,7 +67,10 @@ impl<'a, R: ReadExp<'a>> ReadItem<'a, Ix<'a>> for IndexItems<R> {
         tokens: &'a [Token],
     ) -> Result<Found<'a, Ix<'a>>, Stop> {
         let _bump = bump;
-        let found = part(self.read, inner, tokens)?;
+        let found = match part(self.read, inner, tokens) {
+            Ok(found) => found,
+            Err(stop) => return Err(stop),
+        };
         Ok(Found {
             tree: index_part(found.tree),
             height: found.height,
@@ -80,12 +79,7 @@ impl<'a, R: ReadExp<'a>> ReadItem<'a, Ix<'a>> for IndexItems<R> {
     }
 }
 
-#[derive(Clone, Copy)]
-struct NamedItems<R> {
-    read: R,
-}
-
-impl<'a, R: ReadExp<'a>> ReadItem<'a, NamedPart<'a>> for NamedItems<R> {
+impl<'a, R: ReadExp<'a>> ReadItem<'a, NamedPart<'a>> for Items<R> {
     ghost sort = { Named_item };
 
     ghost seen = { named_of };
@@ -99,13 +93,18 @@ impl<'a, R: ReadExp<'a>> ReadItem<'a, NamedPart<'a>> for NamedItems<R> {
         inner: u32,
         tokens: &'a [Token],
     ) -> Result<Found<'a, NamedPart<'a>>, Stop> {
-        let found = part(self.read, inner, tokens)?;
-        let tree = named_part(bump, found.tree)?;
-        Ok(Found {
-            tree,
-            height: found.height,
-            rest: found.rest,
-        })
+        let found = match part(self.read, inner, tokens) {
+            Ok(found) => found,
+            Err(stop) => return Err(stop),
+        };
+        match named_part(bump, found.tree) {
+            Ok(tree) => Ok(Found {
+                tree,
+                height: found.height,
+                rest: found.rest,
+            }),
+            Err(_) => Err(Stop::Memory),
+        }
     }
 }
 
@@ -124,7 +123,10 @@ fn part<'a, R: ReadExp<'a>>(
     if !begins_exp_operand(tokens) && !starts_with(tokens, Fixed::Colon) {
         return Err(Stop::Fault(refused(tokens)));
     }
-    let found = any_part(read, inner, tokens)?;
+    let found = match any_part(read, inner, tokens) {
+        Ok(found) => found,
+        Err(stop) => return Err(stop),
+    };
     if starts_with(found.rest, Fixed::Colon) || begins_exp_operand(found.rest) {
         return Err(Stop::Fault(refused(found.rest)));
     }
@@ -144,7 +146,10 @@ fn any_part<'a, R: ReadExp<'a>>(
 {
     let at = next_spot(tokens);
     if starts_with(tokens, Fixed::Colon) && starts_with(rest_of(tokens), Fixed::Colon) {
-        let rest = take_reversal(tokens)?;
+        let rest = match take_reversal(tokens) {
+            Ok(rest) => rest,
+            Err(stop) => return Err(stop),
+        };
         return Ok(Found {
             tree: WrittenPart {
                 at,
@@ -155,18 +160,26 @@ fn any_part<'a, R: ReadExp<'a>>(
             rest,
         });
     }
-    let first = optional(read, inner, 0, tokens)?;
-    let upto = up_to(read, inner, first.height, first.rest)?;
-    without_form(What::Stride, upto.rest)?;
-    Ok(Found {
-        tree: WrittenPart {
-            at,
-            first: first.tree,
-            upto: upto.tree,
-        },
-        height: upto.height,
-        rest: upto.rest,
-    })
+    let first = match optional(read, inner, 0, tokens) {
+        Ok(first) => first,
+        Err(stop) => return Err(stop),
+    };
+    let upto = match up_to(read, inner, first.height, first.rest) {
+        Ok(upto) => upto,
+        Err(stop) => return Err(stop),
+    };
+    match without_form(What::Stride, upto.rest) {
+        Ok(()) => Ok(Found {
+            tree: WrittenPart {
+                at,
+                first: first.tree,
+                upto: upto.tree,
+            },
+            height: upto.height,
+            rest: upto.rest,
+        }),
+        Err(stop) => Err(stop),
+    }
 }
 
 // `::-1`, and the tokens behind it.
@@ -174,10 +187,22 @@ fn any_part<'a, R: ReadExp<'a>>(
 fn take_reversal(tokens: &[Token]) -> Result<&[Token], Stop>
     ensures { Gives (λ x. x.now) result (reversal_at tokens.now) }
 {
-    let rest = take(tokens, Fixed::Colon)?;
-    without_stride(rest)?;
-    let rest = take(rest, Fixed::Colon)?;
-    take_one(take(rest, Fixed::Minus)?)
+    let rest = match take(tokens, Fixed::Colon) {
+        Ok(rest) => rest,
+        Err(stop) => return Err(stop),
+    };
+    match without_stride(rest) {
+        Ok(()) => (),
+        Err(stop) => return Err(stop),
+    }
+    let rest = match take(rest, Fixed::Colon) {
+        Ok(rest) => rest,
+        Err(stop) => return Err(stop),
+    };
+    match take(rest, Fixed::Minus) {
+        Ok(rest) => take_one(rest),
+        Err(stop) => Err(stop),
+    }
 }
 
 // What stands behind the first expression of a part.
@@ -201,7 +226,10 @@ fn up_to<'a, R: ReadExp<'a>>(
         });
     }
     let colon = next_spot(tokens);
-    let end = optional(read, inner, first_height, rest_of(tokens))?;
+    let end = match optional(read, inner, first_height, rest_of(tokens)) {
+        Ok(end) => end,
+        Err(stop) => return Err(stop),
+    };
     Ok(Found {
         tree: Some(Upto {
             colon,
@@ -232,7 +260,10 @@ fn optional<'a, R: ReadExp<'a>>(
             rest: tokens,
         });
     }
-    let end = read.read(inner, ExpSort::Operands(1), tokens)?;
+    let end = match read.read(inner, ExpSort::Operands(1), tokens) {
+        Ok(end) => end,
+        Err(stop) => return Err(stop),
+    };
     Ok(Found {
         tree: Some(end.tree.exp),
         height: greater(first_height, end.height),

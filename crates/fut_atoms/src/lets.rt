@@ -1,5 +1,6 @@
 // Rows of lets.
-ghost use Rattle.std.specs.Prelude.{◌≡◌, ◌≤◌, ◌<◌, ◌+◌, suc, length, false, [], ◌∷◌, IfOk};
+ghost use Rattle.std.specs.Prelude.{◌≡◌, ◌≤◌, ◌<◌, ◌+◌, suc, length, false, true, [], ◌∷◌, IfOk};
+ghost use Rattle.fut_ast.specs.Behind.{is_function_let, is_update_let};
 ghost use Rattle.fut_ast.specs.ExpRows.{let_function, let_pattern, let_update};
 ghost use Rattle.fut_ast.specs.Nodes.{bound, let_one, node, use_of};
 ghost use Rattle.fut_ast.specs.Parts.{Commas, Sign, Sub};
@@ -68,7 +69,7 @@ pub fn lets<'a, R: ReadExp<'a>>(
     Err(Stop::Fault(refused(rest)))
 }
 
-#[tactic(auto, unfolding(fut_grammar::specs::Phrases::phrases, fut_grammar::specs::Phrases::bounded, fut_grammar::specs::Phrases::ended, fut_grammar::specs::Phrases::flat_at, fut_grammar::specs::Reading::refuse_sort))]
+#[tactic(auto, unfolding(fut_grammar::specs::Phrases::phrases, fut_grammar::specs::Phrases::bounded, fut_grammar::specs::Phrases::ended, fut_grammar::specs::Phrases::flat_at, fut_grammar::specs::Phrases::let_at, fut_grammar::specs::Reading::refuse_sort))]
 fn one_let_item<'a, R: ReadExp<'a>>(
     bump: &'a Bump,
     read: R,
@@ -80,26 +81,9 @@ fn one_let_item<'a, R: ReadExp<'a>>(
     ensures exact { Gives (found_as bind_of) result (phrases (read_at inner) Let_item tokens.now) }
     ensures low { IfOk result (λ x. x.height ≤ inner) }
 {
-    if begins_pattern(tokens) || starts_with(tokens, Fixed::OpenBracket) {
-        any_let(bump, read, inner, tokens)
-    } else {
+    if !begins_pattern(tokens) && !starts_with(tokens, Fixed::OpenBracket) {
         Err(Stop::Fault(refused(tokens)))
-    }
-}
-
-#[tactic(auto, unfolding(fut_grammar::specs::Phrases::let_at))]
-fn any_let<'a, R: ReadExp<'a>>(
-    bump: &'a Bump,
-    read: R,
-    inner: u32,
-    tokens: &'a [Token],
-) -> Result<Found<'a, Bind<'a>>, Stop>
-    requires law { R.reads read inner }
-    requires room { inner < 1000 }
-    ensures exact { Gives (found_as bind_of) result (let_at (items (read_at inner)) tokens.now) }
-    ensures low { IfOk result (λ x. x.height ≤ inner) }
-{
-    if begins_update(tokens) {
+    } else if begins_update(tokens) {
         let_update(bump, read, inner, tokens)
     } else if begins_function(tokens) {
         let_function(bump, read, inner, tokens)
@@ -115,14 +99,13 @@ fn let_pattern<'a, R: ReadExp<'a>>(
     inner: u32,
     tokens: &'a [Token],
 ) -> Result<Found<'a, Bind<'a>>, Stop>
+    requires no_update { is_update_let tokens.now ≡ false }
+    requires no_function { is_function_let tokens.now ≡ false }
     requires law { R.reads read inner }
     requires room { inner < 1000 }
     ensures exact { Gives (found_as bind_of) result (row_at (items (read_at inner)) (of_exp let_pattern) tokens.now) }
     ensures low { IfOk result (λ x. x.height ≤ inner) }
 {
-    if begins_update(tokens) || begins_function(tokens) {
-        return Err(Stop::Fault(refused(tokens)));
-    }
     let sizes = match size_names_inside(bump, inner, tokens) {
         Ok(sizes) => sizes,
         Err(stop) => return Err(stop),
@@ -154,14 +137,12 @@ fn let_function<'a, R: ReadExp<'a>>(
     inner: u32,
     tokens: &'a [Token],
 ) -> Result<Found<'a, Bind<'a>>, Stop>
+    requires form { is_function_let tokens.now ≡ true }
     requires law { R.reads read inner }
     requires room { inner < 1000 }
     ensures exact { Gives (found_as bind_of) result (row_at (items (read_at inner)) (of_exp let_function) tokens.now) }
     ensures low { IfOk result (λ x. x.height ≤ inner) }
 {
-    if !begins_function(tokens) {
-        return Err(Stop::Fault(refused(tokens)));
-    }
     let place = next_spot(tokens).place;
     let (name, rest) = match take_word(tokens) {
         Ok(word) => word,
@@ -204,14 +185,12 @@ fn let_update<'a, R: ReadExp<'a>>(
     inner: u32,
     tokens: &'a [Token],
 ) -> Result<Found<'a, Bind<'a>>, Stop>
+    requires form { is_update_let tokens.now ≡ true }
     requires law { R.reads read inner }
     requires room { inner < 1000 }
     ensures exact { Gives (found_as bind_of) result (row_at (items (read_at inner)) (of_exp let_update) tokens.now) }
     ensures low { IfOk result (λ x. x.height ≤ inner) }
 {
-    if !begins_update(tokens) {
-        return Err(Stop::Fault(refused(tokens)));
-    }
     let place = next_spot(tokens).place;
     let (name, rest) = take_word(tokens)?;
     if !starts_with_tight(rest) {

@@ -9,6 +9,7 @@ mod brackets;
 mod fields;
 pub mod forms;
 mod indices;
+mod items;
 mod leaves;
 pub mod lets;
 pub mod made;

@@ -4,7 +4,7 @@ ghost use Rattle.fut_ast.specs.ExpRows.{bare_fields, bare_index, bare_operator, 
 ghost use Rattle.fut_ast.specs.Operators.{any_operator};
 ghost use Rattle.fut_ast.specs.Rows.{of_exp};
 ghost use Rattle.fut_ast.specs.Tokens.{starts, tail};
-ghost use Rattle.fut_grammar.specs.Phrases.{operator_section_at, paren_at, phrases, plain_at, read_at, round_end, section_end, section_or_plain};
+ghost use Rattle.fut_grammar.specs.Phrases.{paren_at, phrases, plain_at, read_at, round_end, section_end, section_or_plain};
 ghost use Rattle.fut_grammar.specs.Reading.{Gives, row_at};
 ghost use Rattle.fut_phrases.specs.Found.{tree_found};
 
@@ -26,9 +26,7 @@ use fut_exp_parts::sections::{
 use fut_grammar::Stop;
 use fut_phrases::found::Found;
 use fut_phrases::lists::in_front;
-use fut_phrases::tokens::{
-    next_spot, refused, rest_of, starts_with, take, take_path, without_form,
-};
+use fut_phrases::tokens::{next_spot, refused, rest_of, starts_with, take_path, without_form};
 use fut_token::{Fixed, Token};
 use fut_tree::Exp;
 
@@ -60,6 +58,7 @@ pub fn paren_below<'a, R: ReadExp<'a>>(
     }
 }
 
+#[tactic(auto, unfolding(fut_grammar::specs::Phrases::operator_section_at))]
 fn section_or_round<'a, R: ReadExp<'a>>(
     bump: &'a Bump,
     read: R,
@@ -76,17 +75,19 @@ fn section_or_round<'a, R: ReadExp<'a>>(
     match next_any_operator(inside) {
         None => plain(bump, read, inner, tokens),
         Some(fixed) => {
-            if makes_section(fixed, rest_of(inside)) {
-                operator_section(bump, read, inner, fixed, tokens)
-            } else {
+            if !makes_section(fixed, rest_of(inside)) {
                 plain(bump, read, inner, tokens)
+            } else if starts_with(past_operator(fixed, rest_of(inside)), Fixed::CloseParen) {
+                operator_in_parens(bump, fixed, tokens)
+            } else {
+                operator_and_operand(bump, read, inner, fixed, tokens)
             }
         }
     }
 }
 
-#[tactic(auto, unfolding(fut_grammar::specs::Phrases::operator_section_at))]
-fn operator_section<'a, R: ReadExp<'a>>(
+#[tactic(auto, using(crate::proofs::Heights::first_height), unfolding(fut_grammar::specs::Reading::row_at, fut_grammar::specs::Reading::parts_at, fut_grammar::specs::Reading::has_at, fut_grammar::specs::Reading::sub_at, fut_grammar::specs::Phrases::phrases, fut_grammar::specs::Reading::expect))]
+fn operator_and_operand<'a, R: ReadExp<'a>>(
     bump: &'a Bump,
     read: R,
     inner: u32,
@@ -96,35 +97,11 @@ fn operator_section<'a, R: ReadExp<'a>>(
     requires first { starts Fixed.OpenParen tokens.now ≡ true }
     requires law { R.reads read inner }
     requires room { inner < 1000 }
-    ensures exact { Gives tree_found result (operator_section_at (phrases (read_at inner)) (suc inner) fixed tokens.now) }
-    ensures low { IfOk result (λ x. x.height ≤ inner + 1) }
-{
-    let behind = past_operator(fixed, rest_of(rest_of(tokens)));
-    if starts_with(behind, Fixed::CloseParen) {
-        operator_in_parens(bump, fixed, tokens)
-    } else {
-        operator_and_operand(bump, read, inner, fixed, tokens)
-    }
-}
-
-#[tactic(auto, using(crate::proofs::Heights::first_height), unfolding(fut_grammar::specs::Reading::row_at, fut_grammar::specs::Reading::parts_at, fut_grammar::specs::Reading::has_at, fut_grammar::specs::Reading::sub_at, fut_grammar::specs::Phrases::phrases))]
-fn operator_and_operand<'a, R: ReadExp<'a>>(
-    bump: &'a Bump,
-    read: R,
-    inner: u32,
-    fixed: Fixed,
-    tokens: &'a [Token],
-) -> Result<Found<'a, &'a Exp<'a>>, Stop>
-    requires law { R.reads read inner }
-    requires room { inner < 1000 }
     ensures exact { Gives tree_found result (row_at (phrases (read_at inner)) (of_exp (operator_first fixed)) tokens.now) }
     ensures low { IfOk result (λ x. x.height ≤ inner + 1) }
 {
     let paren = next_spot(tokens).place;
-    let rest = match take(tokens, Fixed::OpenParen) {
-        Ok(rest) => rest,
-        Err(stop) => return Err(stop),
-    };
+    let rest = rest_of(tokens);
     if starts_with(rest, Fixed::Minus) {
         return Err(Stop::Fault(refused(rest)));
     }
@@ -134,24 +111,14 @@ fn operator_and_operand<'a, R: ReadExp<'a>>(
     };
     match read.read(inner, ExpSort::Operands(level_of(fixed) + 1), rest) {
         Ok(operand) => {
-            match take(operand.rest, Fixed::CloseParen) {
-                Ok(rest) => match section_of_right(
-                    bump,
-                    fixed,
-                    paren,
-                    at.place,
-                    name,
-                    operand.tree.exp,
-                ) {
-                    Ok(tree) => Ok(Found {
-                        tree,
-                        height: operand.height + 1,
-                        rest,
-                    }),
-                    Err(_) => Err(Stop::Memory),
-                },
-                Err(stop) => Err(stop),
+            if !starts_with(operand.rest, Fixed::CloseParen) {
+                return Err(Stop::Fault(refused(operand.rest)));
             }
+            made(
+                section_of_right(bump, fixed, paren, at.place, name, operand.tree.exp),
+                operand.height + 1,
+                rest_of(operand.rest),
+            )
         }
         Err(stop) => Err(stop),
     }
@@ -194,7 +161,7 @@ fn plain<'a, R: ReadExp<'a>>(
     }
 }
 
-#[tactic(auto, unfolding(fut_grammar::specs::Phrases::round_end))]
+#[tactic(auto, unfolding(fut_grammar::specs::Phrases::round_end, fut_grammar::specs::Reading::expect))]
 fn round<'a, R: ReadExp<'a>>(
     bump: &'a Bump,
     read: R,
@@ -210,33 +177,28 @@ fn round<'a, R: ReadExp<'a>>(
     ensures low { IfOk result (λ x. x.height ≤ inner + 1) }
 {
     if !starts_with(tokens, Fixed::Comma) {
-        return match take(tokens, Fixed::CloseParen) {
-            Ok(rest) => Ok(Found {
-                tree: first,
-                height: first_height + 1,
-                rest,
-            }),
-            Err(stop) => Err(stop),
-        };
+        if !starts_with(tokens, Fixed::CloseParen) {
+            return Err(Stop::Fault(refused(tokens)));
+        }
+        return Ok(Found {
+            tree: first,
+            height: first_height + 1,
+            rest: rest_of(tokens),
+        });
     }
     let others = match expressions(bump, read, inner, first_height, rest_of(tokens)) {
         Ok(others) => others,
         Err(stop) => return Err(stop),
     };
+    if !starts_with(others.rest, Fixed::CloseParen) {
+        return Err(Stop::Fault(refused(others.rest)));
+    }
     match in_front(bump, first, others.tree) {
-        Ok(all) => {
-            match take(others.rest, Fixed::CloseParen) {
-                Ok(rest) => match round_of(bump, at.place, all) {
-                    Ok(tree) => Ok(Found {
-                        tree,
-                        height: others.height + 1,
-                        rest,
-                    }),
-                    Err(_) => Err(Stop::Memory),
-                },
-                Err(stop) => Err(stop),
-            }
-        }
+        Ok(all) => made(
+            round_of(bump, at.place, all),
+            others.height + 1,
+            rest_of(others.rest),
+        ),
         Err(_) => Err(Stop::Memory),
     }
 }
@@ -263,22 +225,18 @@ fn index_alone<'a, R: ReadExp<'a>>(
         Ok(parts) => parts,
         Err(stop) => return Err(stop),
     };
-    match take(parts.rest, Fixed::CloseBracket) {
-        Ok(rest) => {
-            match take(rest, Fixed::CloseParen) {
-                Ok(rest) => match section_of_index(bump, paren, bracket, parts.tree) {
-                    Ok(tree) => Ok(Found {
-                        tree,
-                        height: parts.height + 1,
-                        rest,
-                    }),
-                    Err(_) => Err(Stop::Memory),
-                },
-                Err(stop) => Err(stop),
-            }
-        }
-        Err(stop) => Err(stop),
+    if !starts_with(parts.rest, Fixed::CloseBracket) {
+        return Err(Stop::Fault(refused(parts.rest)));
     }
+    let behind = rest_of(parts.rest);
+    if !starts_with(behind, Fixed::CloseParen) {
+        return Err(Stop::Fault(refused(behind)));
+    }
+    made(
+        section_of_index(bump, paren, bracket, parts.tree),
+        parts.height + 1,
+        rest_of(behind),
+    )
 }
 
 // ---- what has no expressions in it, or has them read before

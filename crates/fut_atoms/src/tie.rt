@@ -14,7 +14,7 @@ use fut_token::{Fixed, Token};
 use fut_tree::Exp;
 
 /// The sorts of expressions that stand in productions.
-#[derive(Clone, Copy, Debug, PartialEq, Eq)]
+#[derive(Clone, Copy)]
 pub enum ExpSort {
     Atom,
     Unary,

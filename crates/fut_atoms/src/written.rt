@@ -56,15 +56,22 @@ impl<'a, R: ReadExp<'a>> ReadItem<'a, Held<'a, Exp<'a>>> for TargetItems<R> {
     ) -> Result<Found<'a, Held<'a, Exp<'a>>>, Stop> {
         let _bump = bump;
         if !begins_exp_operand(tokens) {
-            without_form(What::SliceUpdate, tokens)?;
-            return Err(Stop::Fault(refused(tokens)));
+            return match without_form(What::SliceUpdate, tokens) {
+                Ok(()) => Err(Stop::Fault(refused(tokens))),
+                Err(stop) => Err(stop),
+            };
         }
-        let part = self.read.read(inner, ExpSort::Operands(1), tokens)?;
-        without_form(What::SliceUpdate, part.rest)?;
-        Ok(Found {
-            tree: Held { at: part.tree.exp },
-            height: part.height,
-            rest: part.rest,
-        })
+        let part = match self.read.read(inner, ExpSort::Operands(1), tokens) {
+            Ok(part) => part,
+            Err(stop) => return Err(stop),
+        };
+        match without_form(What::SliceUpdate, part.rest) {
+            Ok(()) => Ok(Found {
+                tree: Held { at: part.tree.exp },
+                height: part.height,
+                rest: part.rest,
+            }),
+            Err(stop) => Err(stop),
+        }
     }
 }

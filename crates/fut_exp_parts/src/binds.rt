@@ -10,7 +10,7 @@ ghost use Rattle.fut_tree.specs.Pats.{heads_of};
 
 use crate::exp_nodes::{function, name_let, name_used, updated};
 use bumpalo::Bump;
-use bumpalo::collections::into_bump_slice;
+use fut_phrases::lists::led_by;
 use fut_phrases::pat_nodes;
 use fut_scalar::{NoMemory, Place};
 use fut_tree::{Bind, Exp, Head, Held, Pat, TypeExp};
@@ -27,15 +27,20 @@ pub fn function_bound<'a>(
 ) -> Result<Bind<'a>, NoMemory>
     ensures { IfOk result (λ b. bind_of b ≡ roll-Bind Path Text (record { sizes = []; pat = bound place name.now; is_function = true; heads = heads_of heads.now; value = exp_at place (form.Lambda (all params.now) (maybe ty.entry) body.now) })) }
 {
-    let value = function(bump, place, params, ty, body)?;
-    let pat = pat_nodes::name(bump, place, name)?;
-    Ok(Bind {
-        sizes: &[],
-        pat,
-        is_function: true,
-        heads,
-        value,
-    })
+    let value = match function(bump, place, params, ty, body) {
+        Ok(value) => value,
+        Err(none) => return Err(none),
+    };
+    match pat_nodes::name(bump, place, name) {
+        Ok(pat) => Ok(Bind {
+            sizes: &[],
+            pat,
+            is_function: true,
+            heads,
+            value,
+        }),
+        Err(none) => Err(none),
+    }
 }
 
 /// An array's name is bound to the array with another element.
@@ -49,9 +54,13 @@ pub fn update_bound<'a>(
 ) -> Result<Bind<'a>, NoMemory>
     ensures { IfOk result (λ b. bind_of b ≡ let_one (bound place name.now) (node place mark (form.Update (use_of place name.now) (all indices.now) value.now))) }
 {
-    let array = name_used(bump, place, name)?;
-    let made = updated(bump, place, mark, array, indices, value)?;
-    name_let(bump, place, name, made)
+    match name_used(bump, place, name) {
+        Ok(array) => match updated(bump, place, mark, array, indices, value) {
+            Ok(made) => name_let(bump, place, name, made),
+            Err(none) => Err(none),
+        },
+        Err(none) => Err(none),
+    }
 }
 
 /// A name before other names.
@@ -62,8 +71,8 @@ pub fn path_behind<'a>(
 ) -> Result<&'a [&'a str], NoMemory>
     ensures { IfOk result (λ all. names all.now ≡ name.now ∷ names others.now) }
 {
-    let mut all = Vec::new(bump);
-    all.push(name)?;
-    all.extend_from_slice(others)?;
-    Ok(into_bump_slice(all))
+    match led_by(bump, name, others) {
+        Ok(all) => Ok(all),
+        Err(_) => Err(NoMemory),
+    }
 }

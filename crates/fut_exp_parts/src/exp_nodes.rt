@@ -1,6 +1,7 @@
 // The nodes of expressions.
 ghost use Rattle.std.specs.Prelude.{◌≡◌, IfOk, [], ◌∷◌, None};
 ghost use Rattle.fut_ast.specs.Nodes.{bound, exp_at, held_name, let_one, node, round_exp_of, use_of};
+ghost use Rattle.fut_ast.specs.Sorts.{SourceExp};
 ghost use Rattle.fut_ast.specs.declared.exp.Form.TheVariants as form;
 ghost use Rattle.fut_tree.specs.Exps.{bind_of, binds_of, exp_fields, ixs_of};
 ghost use Rattle.fut_tree.specs.Names.{all, maybe, names};
@@ -15,7 +16,10 @@ use fut_tree::{Bind, Exp, ExpField, Form, Held, Ix, Pat, TypeExp};
 pub fn held<'a>(bump: &'a Bump, e: Exp<'a>) -> Result<&'a Exp<'a>, NoMemory>
     ensures { IfOk result (λ x. x.now ≡ e.entry) }
 {
-    Ok(bump.try_alloc(e)?)
+    match bump.try_alloc(e) {
+        Ok(made) => Ok(made),
+        Err(_) => Err(NoMemory),
+    }
 }
 
 // ---- of one token or in brackets
@@ -154,8 +158,10 @@ pub fn record<'a>(
 pub fn name_used<'a>(bump: &'a Bump, place: Place, name: &'a str) -> Result<&'a Exp<'a>, NoMemory>
     ensures { IfOk result (λ e. e.now ≡ use_of place name.now) }
 {
-    let names = bump.try_alloc_slice_copy(&[name])?;
-    path(bump, place, names)
+    match bump.try_alloc_slice_copy(&[name]) {
+        Ok(names) => path(bump, place, names),
+        Err(_) => Err(NoMemory),
+    }
 }
 
 // ---- rows of lets, functions and calls
@@ -182,7 +188,10 @@ pub fn name_let<'a>(
 ) -> Result<Bind<'a>, NoMemory>
     ensures { IfOk result (λ b. bind_of b ≡ let_one (bound place name.now) value.now) }
 {
-    Ok(one_let(pat_nodes::name(bump, place, name)?, value))
+    match pat_nodes::name(bump, place, name) {
+        Ok(pat) => Ok(one_let(pat, value)),
+        Err(none) => Err(none),
+    }
 }
 
 /// One `let` of a name before a body.
@@ -195,8 +204,30 @@ pub fn let_before<'a>(
 ) -> Result<&'a Exp<'a>, NoMemory>
     ensures { IfOk result (λ e. e.now ≡ node place mark (form.Lets (bind_of bind.entry ∷ []) body.now)) }
 {
-    let row = bump.try_alloc_slice_copy(&[bind])?;
-    lets(bump, place, mark, row, body)
+    match bump.try_alloc_slice_copy(&[bind]) {
+        Ok(row) => lets(bump, place, mark, row, body),
+        Err(_) => Err(NoMemory),
+    }
+}
+
+/// A `let` of one name before a body, if there was memory for the body.
+pub fn let_name<'a>(
+    bump: &'a Bump,
+    from: Place,
+    mark: Place,
+    name: &'a str,
+    value: &'a Exp<'a>,
+    body: Result<&'a Exp<'a>, NoMemory>,
+) -> Result<&'a Exp<'a>, NoMemory>
+    ensures { (b : SourceExp) → IfOk body.entry (λ x. x.now ≡ b) → IfOk result (λ e. e.now ≡ node from mark (form.Lets (let_one (bound mark name.now) value.now ∷ []) b)) }
+{
+    match body {
+        Ok(body) => match name_let(bump, mark, name, value) {
+            Ok(bind) => let_before(bump, from, mark, bind, body),
+            Err(none) => Err(none),
+        },
+        Err(none) => Err(none),
+    }
 }
 
 /// A row of `let`s before a body.
@@ -248,8 +279,29 @@ pub fn lambda<'a>(
 ) -> Result<&'a Exp<'a>, NoMemory>
     ensures { IfOk result (λ e. e.now ≡ exp_at place (form.Lambda (param.now ∷ []) None body.now)) }
 {
-    let params = bump.try_alloc_slice_copy(&[Held { at: param }])?;
-    function(bump, place, params, None, body)
+    match bump.try_alloc_slice_copy(&[Held { at: param }]) {
+        Ok(params) => function(bump, place, params, None, body),
+        Err(_) => Err(NoMemory),
+    }
+}
+
+/// A function of one name, if there was memory for its body.
+pub fn function_of_name<'a>(
+    bump: &'a Bump,
+    place: Place,
+    at: Place,
+    name: &'a str,
+    body: Result<&'a Exp<'a>, NoMemory>,
+) -> Result<&'a Exp<'a>, NoMemory>
+    ensures { (b : SourceExp) → IfOk body.entry (λ x. x.now ≡ b) → IfOk result (λ e. e.now ≡ exp_at place (form.Lambda (bound at name.now ∷ []) None b)) }
+{
+    match body {
+        Ok(body) => match pat_nodes::name(bump, at, name) {
+            Ok(param) => lambda(bump, place, param, body),
+            Err(none) => Err(none),
+        },
+        Err(none) => Err(none),
+    }
 }
 
 /// A function and its argument.

@@ -41,7 +41,7 @@ use fut_ast::{End, Ended, Spot, What};
 use fut_grammar::{Fault, Stop};
 use fut_phrases::tokens::{
     begins_parameter, begins_pattern, next_spot, refused, rest_of, starts_with, starts_with_int,
-    starts_with_word, take, take_number, take_word,
+    starts_with_word, take_number, take_word_before,
 };
 use fut_token::{Fixed, Token, TokenKind};
 
@@ -449,22 +449,26 @@ pub fn without_stride(tokens: &[Token]) -> Result<(), Stop>
 pub fn take_one(tokens: &[Token]) -> Result<&[Token], Stop>
     ensures { Gives (λ x. x.now) result (one_at tokens.now) }
 {
-    let (value, _, rest) = take_number(tokens)?;
-    if value == 1 {
-        Ok(rest)
-    } else {
-        Err(Stop::Fault(refused(tokens)))
+    match take_number(tokens) {
+        Ok((value, _, rest)) => {
+            if value == 1 {
+                Ok(rest)
+            } else {
+                Err(Stop::Fault(refused(tokens)))
+            }
+        }
+        Err(stop) => Err(stop),
     }
 }
 
-#[tactic(auto, unfolding(fut_grammar::specs::Reading::backtick_at))]
+#[tactic(auto, unfolding(fut_grammar::specs::Reading::backtick_at, fut_grammar::specs::Reading::expect))]
 fn quoted_operator<'a>(tokens: &'a [Token]) -> Result<((Spot, &'a str), &'a [Token]), Stop>
     ensures { Gives (λ x. ((x.0.0, x.0.1.now), x.1.now)) result (backtick_at tokens.now) }
 {
-    let at = next_spot(tokens);
-    let (name, rest) = take_word(tokens)?;
-    let rest = take(rest, Fixed::Backtick)?;
-    Ok(((at, name), rest))
+    match take_word_before(tokens, Fixed::Backtick) {
+        Ok((name, rest)) => Ok(((next_spot(tokens), name), rest)),
+        Err(stop) => Err(stop),
+    }
 }
 
 fn operator_behind<'a>(
@@ -481,17 +485,15 @@ fn operator_behind<'a>(
 }
 
 /// An operator, and the name where it is one in backticks.
-#[tactic(auto, unfolding(fut_grammar::specs::Reading::operator_taken))]
+#[tactic(auto, unfolding(fut_grammar::specs::Reading::operator_taken, fut_grammar::specs::Reading::expect))]
 pub fn take_operator<'a>(
     fixed: Fixed,
     tokens: &'a [Token],
 ) -> Result<((Spot, &'a str), &'a [Token]), Stop>
     ensures { Gives (λ x. ((x.0.0, x.0.1.now), x.1.now)) result (operator_taken fixed tokens.now) }
 {
-    let at = next_spot(tokens);
-    let rest = take(tokens, fixed)?;
-    if 1 <= level_of(fixed) {
-        operator_behind(fixed, at, rest)
+    if starts_with(tokens, fixed) && 1 <= level_of(fixed) {
+        operator_behind(fixed, next_spot(tokens), rest_of(tokens))
     } else {
         Err(Stop::Fault(refused(tokens)))
     }

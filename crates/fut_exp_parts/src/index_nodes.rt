@@ -1,5 +1,5 @@
 // The parts of an index, also in a section, where each expression gets a name.
-ghost use Rattle.std.specs.Prelude.{◌≡◌, ◌+◌, ◌%◌, ◌∷◌, [], None, IfOk, map};
+ghost use Rattle.std.specs.Prelude.{◌≡◌, ◌+◌, ◌%◌, ◌∷◌, [], None, Some, IfOk, map};
 ghost use Rattle.fut_ast.specs.Nodes.{
   behind_lets,
   bound,
@@ -15,15 +15,15 @@ ghost use Rattle.fut_ast.specs.Nodes.{
   use_of,
 };
 ghost use Rattle.fut_ast.specs.declared.exp.Form.TheVariants as form;
+ghost use Rattle.fut_ast.specs.declared.exp.Ix.TheVariants as ix;
 ghost use Rattle.fut_exp_parts.specs.Parts.{named_all, named_of, plain_part, section_end_of, section_part, upto_of, written_of};
 ghost use Rattle.fut_tree.specs.Exps.{bind_of, binds_of, ix_of, ixs_of};
 
-use crate::exp_nodes::{index, lambda, lets, name_let, name_used};
+use crate::exp_nodes::{function_of_name, index, lets, name_let, name_used};
 use crate::new_names::name_of_held;
 use bumpalo::Bump;
 use bumpalo::collections::into_bump_slice;
 use fut_ast::Spot;
-use fut_phrases::pat_nodes;
 use fut_scalar::{NoMemory, Place};
 use fut_tree::{Bind, Exp, Ix};
 
@@ -78,17 +78,20 @@ fn letter(number: u64) -> u8
 fn position_name<'a>(bump: &'a Bump, position: u64) -> Result<&'a str, NoMemory>
     ensures { IfOk result (λ n. n.now ≡ name_of_position position) }
 {
-    let letters = bump.try_alloc_slice_copy(&[
+    let letters = [
         b' ',
         letter(position),
         letter(position / 64),
         letter(position / 64 / 64),
         letter(position / 64 / 64 / 64),
         letter(position / 64 / 64 / 64 / 64),
-    ])?;
-    // It is always a text, since each letter is below 128.
-    match str::from_utf8(letters) {
-        Ok(name) => Ok(name),
+    ];
+    match bump.try_alloc_slice_copy(&letters) {
+        // It is always a text, since each letter is below 128.
+        Ok(letters) => match str::from_utf8(letters) {
+            Ok(name) => Ok(name),
+            Err(_) => Err(NoMemory),
+        },
         Err(_) => Err(NoMemory),
     }
 }
@@ -103,10 +106,17 @@ struct NamedExp<'a> {
 fn named<'a>(bump: &'a Bump, at: Spot, e: &'a Exp<'a>) -> Result<NamedExp<'a>, NoMemory>
     ensures { IfOk result (λ x. (bind_of x.bind ≡ let_named at e.now) × (x.used.now ≡ use_named at e.now)) }
 {
-    let name = position_name(bump, at.start)?;
-    let used = name_used(bump, e.place, name)?;
-    let bind = name_let(bump, at.place, name, e)?;
-    Ok(NamedExp { bind, used })
+    let name = match position_name(bump, at.start) {
+        Ok(name) => name,
+        Err(none) => return Err(none),
+    };
+    match name_used(bump, e.place, name) {
+        Ok(used) => match name_let(bump, at.place, name, e) {
+            Ok(bind) => Ok(NamedExp { bind, used }),
+            Err(none) => Err(none),
+        },
+        Err(none) => Err(none),
+    }
 }
 
 // ---- parts in a section
@@ -118,6 +128,23 @@ pub fn named_part<'a>(bump: &'a Bump, part: WrittenPart<'a>) -> Result<NamedPart
     match part.first {
         None => named_end(bump, part.upto),
         Some(e) => named_from(bump, part.at, e, part.upto),
+    }
+}
+
+// The part, with a name more, which is the only one.
+fn with_name<'a>(
+    bump: &'a Bump,
+    bind: Bind<'a>,
+    part: NamedPart<'a>,
+) -> Result<NamedPart<'a>, NoMemory>
+    ensures { IfOk result (λ p. named_of p ≡ (bind_of bind.entry ∷ [], ix_of part.entry.part)) }
+{
+    match bump.try_alloc_slice_copy(&[bind]) {
+        Ok(binds) => Ok(NamedPart {
+            binds,
+            part: part.part,
+        }),
+        Err(_) => Err(NoMemory),
     }
 }
 
@@ -139,13 +166,13 @@ fn named_end<'a>(bump: &'a Bump, upto: Option<Upto<'a>>) -> Result<NamedPart<'a>
                 colon,
                 end: Some(end),
             },
-        ) => {
-            let last = named(bump, colon, end)?;
-            Ok(NamedPart {
-                binds: bump.try_alloc_slice_copy(&[last.bind])?,
-                part: Ix::Slice(None, Some(last.used)),
-            })
-        }
+        ) => match named(bump, colon, end) {
+            Ok(NamedExp { bind, used }) => {
+                let part = Ix::Slice(None, Some(used));
+                with_name(bump, bind, NamedPart { binds: &[], part })
+            }
+            Err(none) => Err(none),
+        },
     }
 }
 
@@ -158,28 +185,45 @@ fn named_from<'a>(
 ) -> Result<NamedPart<'a>, NoMemory>
     ensures { IfOk result (λ p. named_of p ≡ named_index_of at e.now (upto_of upto.entry)) }
 {
-    let first = named(bump, at, e)?;
+    let NamedExp { bind, used } = match named(bump, at, e) {
+        Ok(first) => first,
+        Err(none) => return Err(none),
+    };
     match upto {
-        None => Ok(NamedPart {
-            binds: bump.try_alloc_slice_copy(&[first.bind])?,
-            part: Ix::At(first.used),
-        }),
-        Some(Upto { end: None, .. }) => Ok(NamedPart {
-            binds: bump.try_alloc_slice_copy(&[first.bind])?,
-            part: Ix::Slice(Some(first.used), None),
-        }),
+        None => {
+            let part = Ix::At(used);
+            with_name(bump, bind, NamedPart { binds: &[], part })
+        }
+        Some(Upto { end: None, .. }) => {
+            let part = Ix::Slice(Some(used), None);
+            with_name(bump, bind, NamedPart { binds: &[], part })
+        }
         Some(
             Upto {
                 colon,
                 end: Some(end),
             },
-        ) => {
-            let last = named(bump, colon, end)?;
-            Ok(NamedPart {
-                binds: bump.try_alloc_slice_copy(&[first.bind, last.bind])?,
-                part: Ix::Slice(Some(first.used), Some(last.used)),
-            })
-        }
+        ) => match named(bump, colon, end) {
+            Ok(last) => named_slice(bump, NamedExp { bind, used }, last),
+            Err(none) => Err(none),
+        },
+    }
+}
+
+// A part of two named expressions.
+fn named_slice<'a>(
+    bump: &'a Bump,
+    first: NamedExp<'a>,
+    last: NamedExp<'a>,
+) -> Result<NamedPart<'a>, NoMemory>
+    ensures { IfOk result (λ p. named_of p ≡ (bind_of first.entry.bind ∷ bind_of last.entry.bind ∷ [], ix.Slice (Some first.entry.used.now) (Some last.entry.used.now))) }
+{
+    match bump.try_alloc_slice_copy(&[first.bind, last.bind]) {
+        Ok(binds) => Ok(NamedPart {
+            binds,
+            part: Ix::Slice(Some(first.used), Some(last.used)),
+        }),
+        Err(_) => Err(NoMemory),
     }
 }
 
@@ -192,8 +236,17 @@ pub fn section_of_index<'a>(
 ) -> Result<&'a Exp<'a>, NoMemory>
     ensures { IfOk result (λ s. s.now ≡ index_section paren bracket (named_all parts.now)) }
 {
-    let function = function_of_array(bump, paren, bracket, indices_of(bump, parts)?)?;
-    behind_row(bump, paren, row_of(bump, parts)?, function)
+    let indices = match indices_of(bump, parts) {
+        Ok(indices) => indices,
+        Err(none) => return Err(none),
+    };
+    match row_of(bump, parts) {
+        Ok(row) => match function_of_array(bump, paren, bracket, indices) {
+            Ok(function) => behind_row(bump, paren, row, function),
+            Err(none) => Err(none),
+        },
+        Err(none) => Err(none),
+    }
 }
 
 fn behind_row<'a>(
@@ -218,10 +271,13 @@ fn function_of_array<'a>(
 ) -> Result<&'a Exp<'a>, NoMemory>
     ensures { IfOk result (λ s. s.now ≡ exp_at paren (form.Lambda (bound paren held_name ∷ []) None (node paren bracket (form.Index (use_of paren held_name) (ixs_of parts.now))))) }
 {
-    let array = name_used(bump, paren, name_of_held())?;
-    let body = index(bump, paren, bracket, array, parts)?;
-    let param = pat_nodes::name(bump, paren, name_of_held())?;
-    lambda(bump, paren, param, body)
+    match name_used(bump, paren, name_of_held()) {
+        Ok(array) => {
+            let body = index(bump, paren, bracket, array, parts);
+            function_of_name(bump, paren, paren, name_of_held(), body)
+        }
+        Err(none) => Err(none),
+    }
 }
 
 fn row_of<'a>(bump: &'a Bump, parts: &'a [NamedPart<'a>]) -> Result<&'a [Bind<'a>], NoMemory>

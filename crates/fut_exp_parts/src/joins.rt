@@ -2,7 +2,7 @@
 ghost use Rattle.std.specs.Prelude.{◌≡◌, IfOk, []};
 ghost use Rattle.fut_ast.specs.Nodes.{joined, joined_by, joined_names_by, joining, oper_of};
 
-use crate::exp_nodes::{binary, call, choice, let_before, name_let, name_used, truth};
+use crate::exp_nodes::{binary, call, choice, let_name, name_used, truth};
 use crate::new_names::name_of_piped;
 use bumpalo::Bump;
 use fut_ast::{Joining, Oper};
@@ -61,7 +61,10 @@ fn both<'a>(
 ) -> Result<&'a Exp<'a>, NoMemory>
     ensures { IfOk result (λ e. e.now ≡ joined_by Joining.Both from mark [] a.now b.now) }
 {
-    choice(bump, from, mark, a, b, truth(bump, mark, false)?)
+    match truth(bump, mark, false) {
+        Ok(no) => choice(bump, from, mark, a, b, no),
+        Err(none) => Err(none),
+    }
 }
 
 fn either<'a>(
@@ -73,7 +76,10 @@ fn either<'a>(
 ) -> Result<&'a Exp<'a>, NoMemory>
     ensures { IfOk result (λ e. e.now ≡ joined_by Joining.Either from mark [] a.now b.now) }
 {
-    choice(bump, from, mark, a, truth(bump, mark, true)?, b)
+    match truth(bump, mark, true) {
+        Ok(yes) => choice(bump, from, mark, a, yes, b),
+        Err(none) => Err(none),
+    }
 }
 
 fn piped<'a>(
@@ -85,10 +91,13 @@ fn piped<'a>(
 ) -> Result<&'a Exp<'a>, NoMemory>
     ensures { IfOk result (λ e. e.now ≡ joined_by Joining.Piped from mark [] a.now b.now) }
 {
-    let value = name_used(bump, a.place, name_of_piped())?;
-    let called = call(bump, b.place, mark, b, value)?;
-    let bind = name_let(bump, mark, name_of_piped(), a)?;
-    let_before(bump, from, mark, bind, called)
+    match name_used(bump, a.place, name_of_piped()) {
+        Ok(value) => {
+            let called = call(bump, b.place, mark, b, value);
+            let_name(bump, from, mark, name_of_piped(), a, called)
+        }
+        Err(none) => Err(none),
+    }
 }
 
 fn named_call<'a>(
@@ -101,9 +110,13 @@ fn named_call<'a>(
 ) -> Result<&'a Exp<'a>, NoMemory>
     ensures { IfOk result (λ e. e.now ≡ joined_by Joining.Named from mark name.now a.now b.now) }
 {
-    let function = name_used(bump, mark, name)?;
-    let first = call(bump, from, mark, function, a)?;
-    call(bump, from, mark, first, b)
+    match name_used(bump, mark, name) {
+        Ok(function) => match call(bump, from, mark, function, a) {
+            Ok(first) => call(bump, from, mark, first, b),
+            Err(none) => Err(none),
+        },
+        Err(none) => Err(none),
+    }
 }
 
 fn joined_as<'a>(

@@ -37,7 +37,10 @@ pub fn looping<'a>(
 pub fn while_loop<'a>(bump: &'a Bump, test: &'a Exp<'a>) -> Result<&'a LoopForm<'a>, NoMemory>
     ensures { IfOk result (λ o. loop_of o.now ≡ loop_form.While test.now) }
 {
-    Ok(bump.try_alloc(LoopForm::While(test))?)
+    match bump.try_alloc(LoopForm::While(test)) {
+        Ok(made) => Ok(made),
+        Err(_) => Err(NoMemory),
+    }
 }
 
 /// A counter below a bound.
@@ -48,7 +51,10 @@ pub fn for_loop<'a>(
 ) -> Result<&'a LoopForm<'a>, NoMemory>
     ensures { IfOk result (λ o. loop_of o.now ≡ loop_form.For name.now bound.now) }
 {
-    Ok(bump.try_alloc(LoopForm::For(name, bound))?)
+    match bump.try_alloc(LoopForm::For(name, bound)) {
+        Ok(made) => Ok(made),
+        Err(_) => Err(NoMemory),
+    }
 }
 
 /// The elements of an array.
@@ -59,5 +65,8 @@ pub fn for_in_loop<'a>(
 ) -> Result<&'a LoopForm<'a>, NoMemory>
     ensures { IfOk result (λ o. loop_of o.now ≡ loop_form.ForIn pat.now array.now) }
 {
-    Ok(bump.try_alloc(LoopForm::ForIn(pat, array))?)
+    match bump.try_alloc(LoopForm::ForIn(pat, array)) {
+        Ok(made) => Ok(made),
+        Err(_) => Err(NoMemory),
+    }
 }

@@ -4,7 +4,7 @@ ghost use Rattle.fut_ast.specs.Nodes.{bound, exp_at, held_name, let_one, replace
 ghost use Rattle.fut_ast.specs.declared.exp.Form.TheVariants as form;
 ghost use Rattle.fut_tree.specs.Names.{names};
 
-use crate::exp_nodes::{let_before, name_let, name_used, path, replace};
+use crate::exp_nodes::{let_name, name_used, path, replace};
 use crate::new_names::name_of_held;
 use bumpalo::Bump;
 use fut_scalar::{NoMemory, Place};
@@ -43,9 +43,14 @@ fn field_replaced<'a>(
     match fields {
         [] => replace(bump, from, holder, field, e),
         [_, ..] => {
-            let inner = field_used(bump, from, field)?;
-            let value = with_field_replaced(bump, from, inner, fields, e)?;
-            inside_replaced(bump, from, holder, field, value)
+            let inner = match field_used(bump, from, field) {
+                Ok(inner) => inner,
+                Err(none) => return Err(none),
+            };
+            match with_field_replaced(bump, from, inner, fields, e) {
+                Ok(value) => inside_replaced(bump, from, holder, field, value),
+                Err(none) => Err(none),
+            }
         }
     }
 }
@@ -53,8 +58,10 @@ fn field_replaced<'a>(
 fn field_used<'a>(bump: &'a Bump, from: Place, field: &'a str) -> Result<&'a Exp<'a>, NoMemory>
     ensures { IfOk result (λ e. e.now ≡ exp_at from (form.Path (held_name ∷ field.now ∷ []))) }
 {
-    let names = bump.try_alloc_slice_copy(&[name_of_held(), field])?;
-    path(bump, from, names)
+    match bump.try_alloc_slice_copy(&[name_of_held(), field]) {
+        Ok(names) => path(bump, from, names),
+        Err(_) => Err(NoMemory),
+    }
 }
 
 // The record has a name, since its field is used in its new value.
@@ -67,8 +74,11 @@ fn inside_replaced<'a>(
 ) -> Result<&'a Exp<'a>, NoMemory>
     ensures { IfOk result (λ s. s.now ≡ exp_at from (form.Lets (let_one (bound from held_name) holder.now ∷ []) (exp_at from (form.Replace (use_of from held_name) field.now value.now)))) }
 {
-    let record = name_used(bump, from, name_of_held())?;
-    let body = replace(bump, from, record, field, value)?;
-    let bind = name_let(bump, from, name_of_held(), holder)?;
-    let_before(bump, from, from, bind, body)
+    match name_used(bump, from, name_of_held()) {
+        Ok(record) => {
+            let body = replace(bump, from, record, field, value);
+            let_name(bump, from, from, name_of_held(), holder, body)
+        }
+        Err(none) => Err(none),
+    }
 }

@@ -1,12 +1,14 @@
 // Expressions: the one function that reads what stands in productions.
-ghost use Rattle.std.specs.Prelude.{◌≡◌, ◌≤◌, ◌<◌, ◌+◌, suc, Err, IfOk};
+ghost use Rattle.std.specs.Prelude.{◌≡◌, ◌≤◌, ◌<◌, ◌+◌, suc, Err, IfOk, Option, ℕ};
 ghost use Rattle.fut_ast.specs.Behind.{begins, continues};
-ghost use Rattle.fut_ast.specs.Sorts.{Whole};
-ghost use Rattle.fut_atoms.specs.Tie.{Law, Reads, seen, sort_of};
+ghost use Rattle.fut_ast.specs.Sorts.{Ending as PlainEnding, Path, SourceExp, Whole};
+ghost use Rattle.fut_atoms.specs.Tie.{Law, Reads, ending_found, inside_found, replacing_found, seen, sort_of};
 ghost use Rattle.fut_expressions.specs.Steps.{Steps};
 ghost use Rattle.fut_grammar.specs.Phrases.{read_at};
-ghost use Rattle.fut_grammar.specs.Reading.{Gives};
-ghost use Rattle.fut_phrases.specs.Found.{tree_found};
+ghost use Rattle.fut_grammar.specs.Reading.{Gives, Read};
+ghost use Rattle.fut_phrases.specs.Found.{found_as, tree_found};
+ghost use Rattle.fut_token.specs.declared.token.Fixed.{Fixed};
+ghost use Rattle.fut_tree.specs.Names.{names};
 
 use crate::insides::inside_below;
 use crate::operators::unary_below;
@@ -68,74 +70,82 @@ fn nothing_below(sort: ExpSort, tokens: &[Token]) -> Fault
 }
 
 // What was read, of a sort that is an expression alone.
-fn alone<'a>(found: Found<'a, &'a Exp<'a>>) -> Found<'a, AnyExp<'a>>
-    ensures tree { result.tree.exp.now ≡ found.entry.tree.now }
-    ensures height { result.height ≡ found.entry.height }
-    ensures rest { result.rest.now ≡ found.entry.rest.now }
+fn alone<'a>(read: Result<Found<'a, &'a Exp<'a>>, Stop>) -> ExpAnswer<'a>
+    ensures exact { (what : Read SourceExp) → Gives tree_found read.entry what → Gives (found_as (λ t. t.exp.now)) result what }
+    ensures low { (k : ℕ) → IfOk read.entry (λ x. x.height ≤ k) → IfOk result (λ x. x.height ≤ k) }
 {
-    Found {
-        tree: AnyExp {
-            exp: found.tree,
-            ended: Ended::Type,
-            section: None,
-            path: &[],
-        },
-        height: found.height,
-        rest: found.rest,
+    match read {
+        Ok(found) => Ok(Found {
+            tree: AnyExp {
+                exp: found.tree,
+                ended: Ended::Type,
+                section: None,
+                path: &[],
+            },
+            height: found.height,
+            rest: found.rest,
+        }),
+        Err(stop) => Err(stop),
     }
 }
 
 // The same with how it ended.
-fn with_ending<'a>(found: Found<'a, Ending<'a>>) -> Found<'a, AnyExp<'a>>
-    ensures tree { (result.tree.exp.now ≡ found.entry.tree.exp.now) × (result.tree.ended ≡ found.entry.tree.ended) }
-    ensures height { result.height ≡ found.entry.height }
-    ensures rest { result.rest.now ≡ found.entry.rest.now }
+fn with_ending<'a>(read: Result<Found<'a, Ending<'a>>, Stop>) -> ExpAnswer<'a>
+    ensures exact { (what : Read PlainEnding) → Gives ending_found read.entry what → Gives (found_as (λ t. (t.exp.now, t.ended))) result what }
+    ensures low { (k : ℕ) → IfOk read.entry (λ x. x.height ≤ k) → IfOk result (λ x. x.height ≤ k) }
 {
-    Found {
-        tree: AnyExp {
-            exp: found.tree.exp,
-            ended: found.tree.ended,
-            section: None,
-            path: &[],
-        },
-        height: found.height,
-        rest: found.rest,
+    match read {
+        Ok(found) => Ok(Found {
+            tree: AnyExp {
+                exp: found.tree.exp,
+                ended: found.tree.ended,
+                section: None,
+                path: &[],
+            },
+            height: found.height,
+            rest: found.rest,
+        }),
+        Err(stop) => Err(stop),
     }
 }
 
 // The same with the operator of a section.
-fn with_section<'a>(found: Found<'a, FirstInside<'a>>) -> Found<'a, AnyExp<'a>>
-    ensures tree { (result.tree.exp.now ≡ found.entry.tree.exp.now) × (result.tree.section ≡ found.entry.tree.section) }
-    ensures height { result.height ≡ found.entry.height }
-    ensures rest { result.rest.now ≡ found.entry.rest.now }
+fn with_section<'a>(read: Result<Found<'a, FirstInside<'a>>, Stop>) -> ExpAnswer<'a>
+    ensures exact { (what : Read (SourceExp × Option Fixed)) → Gives inside_found read.entry what → Gives (found_as (λ t. (t.exp.now, t.section))) result what }
+    ensures low { (k : ℕ) → IfOk read.entry (λ x. x.height ≤ k) → IfOk result (λ x. x.height ≤ k) }
 {
-    Found {
-        tree: AnyExp {
-            exp: found.tree.exp,
-            ended: Ended::Type,
-            section: found.tree.section,
-            path: &[],
-        },
-        height: found.height,
-        rest: found.rest,
+    match read {
+        Ok(found) => Ok(Found {
+            tree: AnyExp {
+                exp: found.tree.exp,
+                ended: Ended::Type,
+                section: found.tree.section,
+                path: &[],
+            },
+            height: found.height,
+            rest: found.rest,
+        }),
+        Err(stop) => Err(stop),
     }
 }
 
 // The same with the names of a field.
-fn with_path<'a>(found: Found<'a, Replacement<'a>>) -> Found<'a, AnyExp<'a>>
-    ensures tree { (result.tree.exp.now ≡ found.entry.tree.exp.now) × (result.tree.path.now ≡ found.entry.tree.path.now) }
-    ensures height { result.height ≡ found.entry.height }
-    ensures rest { result.rest.now ≡ found.entry.rest.now }
+fn with_path<'a>(read: Result<Found<'a, Replacement<'a>>, Stop>) -> ExpAnswer<'a>
+    ensures exact { (what : Read (Path × SourceExp)) → Gives replacing_found read.entry what → Gives (found_as (λ t. (names t.path.now, t.exp.now))) result what }
+    ensures low { (k : ℕ) → IfOk read.entry (λ x. x.height ≤ k) → IfOk result (λ x. x.height ≤ k) }
 {
-    Found {
-        tree: AnyExp {
-            exp: found.tree.exp,
-            ended: Ended::Type,
-            section: None,
-            path: found.tree.path,
-        },
-        height: found.height,
-        rest: found.rest,
+    match read {
+        Ok(found) => Ok(Found {
+            tree: AnyExp {
+                exp: found.tree.exp,
+                ended: Ended::Type,
+                section: None,
+                path: found.tree.path,
+            },
+            height: found.height,
+            rest: found.rest,
+        }),
+        Err(stop) => Err(stop),
     }
 }
 
@@ -154,15 +164,15 @@ fn below<'a, R: ReadExp<'a>>(
     ensures low { IfOk result (λ x. x.height ≤ inner + 1) }
 {
     match sort {
-        ExpSort::Atom => Ok(alone(atom_below(bump, read, inner, tokens)?)),
-        ExpSort::Unary => Ok(alone(unary_below(bump, read, inner, tokens)?)),
-        ExpSort::Operands(least) => Ok(alone(operands_below(bump, read, inner, least, tokens)?)),
-        ExpSort::Operand(least) => Ok(alone(operand_below(bump, read, inner, least, tokens)?)),
-        ExpSort::Right => Ok(alone(right_below(bump, read, inner, tokens)?)),
-        ExpSort::Whole => Ok(alone(whole_below(bump, read, inner, tokens)?)),
-        ExpSort::Last => Ok(with_ending(last_below(bump, read, inner, tokens)?)),
-        ExpSort::Inside => Ok(with_section(inside_below(bump, read, inner, tokens)?)),
-        ExpSort::Replacing => Ok(with_path(replacing_below(bump, read, inner, tokens)?)),
+        ExpSort::Atom => alone(atom_below(bump, read, inner, tokens)),
+        ExpSort::Unary => alone(unary_below(bump, read, inner, tokens)),
+        ExpSort::Operands(least) => alone(operands_below(bump, read, inner, least, tokens)),
+        ExpSort::Operand(least) => alone(operand_below(bump, read, inner, least, tokens)),
+        ExpSort::Right => alone(right_below(bump, read, inner, tokens)),
+        ExpSort::Whole => alone(whole_below(bump, read, inner, tokens)),
+        ExpSort::Last => with_ending(last_below(bump, read, inner, tokens)),
+        ExpSort::Inside => with_section(inside_below(bump, read, inner, tokens)),
+        ExpSort::Replacing => with_path(replacing_below(bump, read, inner, tokens)),
     }
 }
 

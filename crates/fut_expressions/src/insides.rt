@@ -1,10 +1,11 @@
 // What stands first in parentheses: any expression, or the operand of a section.
-ghost use Rattle.std.specs.Prelude.{◌≡◌, ◌≤◌, ◌<◌, ◌+◌, suc, IfOk};
+ghost use Rattle.std.specs.Prelude.{◌≡◌, ◌≤◌, ◌<◌, ◌+◌, suc, IfOk, ℕ};
+ghost use Rattle.fut_ast.specs.Sorts.{Ending as PlainEnding};
 ghost use Rattle.fut_ast.specs.Operators.{fitting_from, level, section_at};
 ghost use Rattle.fut_ast.specs.Tokens.{spot_of};
-ghost use Rattle.fut_atoms.specs.Tie.{inside_found};
+ghost use Rattle.fut_atoms.specs.Tie.{ending_found, inside_found};
 ghost use Rattle.fut_grammar.specs.Phrases.{big_at, by_operator, inside_at, inside_operand, inside_whole, phrases, read_at, typed_behind};
-ghost use Rattle.fut_grammar.specs.Reading.{Gives};
+ghost use Rattle.fut_grammar.specs.Reading.{Gives, Read};
 
 use crate::operators::graded;
 use crate::typed::all_behind;
@@ -41,40 +42,38 @@ pub fn inside_below<'a, R: ReadExp<'a>>(
         };
         inside_behind(bump, read, inner, first, tokens)
     } else {
-        inside_big(bump, read, inner, tokens)
+        whole_inside(tokens, big_below(bump, read, inner, tokens))
     }
 }
 
+// Any expression first in parentheses, read from there on, where nothing goes on with it.
 #[tactic(auto, unfolding(fut_grammar::specs::Phrases::inside_whole, fut_grammar::specs::Phrases::bounded, fut_grammar::specs::Phrases::far_at, fut_grammar::specs::Phrases::ended, fut_grammar::specs::Reading::refuse_sort))]
-fn inside_big<'a, R: ReadExp<'a>>(
-    bump: &'a Bump,
-    read: R,
-    inner: u32,
-    tokens: &'a [Token],
+fn whole_inside<'a>(
+    start: &'a [Token],
+    read: Result<Found<'a, Ending<'a>>, Stop>,
 ) -> Result<Found<'a, FirstInside<'a>>, Stop>
-    requires law { R.reads read inner }
-    requires room { inner < 1000 }
-    ensures exact { Gives inside_found result (inside_whole (phrases (read_at inner)) (suc inner) tokens.now (big_at (phrases (read_at inner)) (suc inner) tokens.now)) }
-    ensures low { IfOk result (λ x. x.height ≤ inner + 1) }
+    ensures exact { (inner : ℕ) (what : Read PlainEnding) → Gives ending_found read.entry what → Gives inside_found result (inside_whole (phrases (read_at inner)) (suc inner) start.now what) }
+    ensures low { (k : ℕ) → IfOk read.entry (λ x. x.height ≤ k) → IfOk result (λ x. x.height ≤ k) }
 {
-    if !begins_exp_operand(tokens) && !begins_exp_big(tokens) {
-        return Err(Stop::Fault(refused(tokens)));
+    if !begins_exp_operand(start) && !begins_exp_big(start) {
+        return Err(Stop::Fault(refused(start)));
     }
-    let found = match big_below(bump, read, inner, tokens) {
-        Ok(found) => found,
-        Err(stop) => return Err(stop),
-    };
-    if goes_on_typed(found.tree.ended, found.rest) {
-        return Err(Stop::Fault(refused(found.rest)));
+    match read {
+        Ok(found) => {
+            if goes_on_typed(found.tree.ended, found.rest) {
+                return Err(Stop::Fault(refused(found.rest)));
+            }
+            Ok(Found {
+                tree: FirstInside {
+                    exp: found.tree.exp,
+                    section: None,
+                },
+                height: found.height,
+                rest: found.rest,
+            })
+        }
+        Err(stop) => Err(stop),
     }
-    Ok(Found {
-        tree: FirstInside {
-            exp: found.tree.exp,
-            section: None,
-        },
-        height: found.height,
-        rest: found.rest,
-    })
 }
 
 // Behind the operands.
@@ -91,7 +90,10 @@ fn inside_behind<'a, R: ReadExp<'a>>(
     ensures low { IfOk result (λ x. x.height ≤ inner + 1) }
 {
     match fitting_section(first.tree.ended, first.rest) {
-        None => inside_typed(bump, read, inner, first, start),
+        None => whole_inside(
+            start,
+            all_behind(bump, read, inner, next_spot(start), first),
+        ),
         Some(fixed) => inside_section(inner, fixed, first, start),
     }
 }
@@ -110,39 +112,6 @@ fn fitting_section(ended: Ended, tokens: &[Token]) -> Option<Fixed>
         }
         None => None,
     }
-}
-
-#[tactic(auto, unfolding(fut_grammar::specs::Phrases::inside_whole, fut_grammar::specs::Phrases::bounded, fut_grammar::specs::Phrases::far_at, fut_grammar::specs::Phrases::ended, fut_grammar::specs::Reading::refuse_sort))]
-fn inside_typed<'a, R: ReadExp<'a>>(
-    bump: &'a Bump,
-    read: R,
-    inner: u32,
-    first: Found<'a, Ending<'a>>,
-    start: &'a [Token],
-) -> Result<Found<'a, FirstInside<'a>>, Stop>
-    requires law { R.reads read inner }
-    requires room { (inner < 1000) × (first.height ≤ inner + 1) }
-    ensures exact { Gives inside_found result (inside_whole (phrases (read_at inner)) (suc inner) start.now (typed_behind (phrases (read_at inner)) (suc inner) (spot_of start.now) (first.entry.tree.exp.now, first.entry.tree.ended) first.entry.height first.entry.rest.now)) }
-    ensures low { IfOk result (λ x. x.height ≤ inner + 1) }
-{
-    if !begins_exp_operand(start) && !begins_exp_big(start) {
-        return Err(Stop::Fault(refused(start)));
-    }
-    let found = match all_behind(bump, read, inner, next_spot(start), first) {
-        Ok(found) => found,
-        Err(stop) => return Err(stop),
-    };
-    if goes_on_typed(found.tree.ended, found.rest) {
-        return Err(Stop::Fault(refused(found.rest)));
-    }
-    Ok(Found {
-        tree: FirstInside {
-            exp: found.tree.exp,
-            section: None,
-        },
-        height: found.height,
-        rest: found.rest,
-    })
 }
 
 // ---- what has no expressions in it

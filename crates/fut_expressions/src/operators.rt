@@ -1,22 +1,25 @@
 // Operands, applications and operators.
-ghost use Rattle.std.specs.Prelude.{◌≡◌, ◌≤◌, ◌<◌, ◌+◌, suc, true, length, if◌then◌else◌, Err, IfOk, List, ℕ};
+ghost use Rattle.std.specs.Prelude.{◌≡◌, ◌≤◌, ◌<◌, ◌+◌, suc, true, length, if◌then◌else◌, [], ◌∷◌, Err, IfOk, List, ℕ};
 ghost use Rattle.fut_ast.specs.Behind.{begins_argument, behind_app};
-ghost use Rattle.fut_ast.specs.ExpRows.{assertion, complement, negation};
+ghost use Rattle.fut_ast.specs.ExpRows.{assertion};
+ghost use Rattle.fut_ast.specs.Nodes.{exp_at};
+ghost use Rattle.fut_ast.specs.Parts.{Sign, Sub};
 ghost use Rattle.fut_token.specs.declared.token.Token.{Token};
-ghost use Rattle.fut_ast.specs.Sorts.{SourceExp};
+ghost use Rattle.fut_ast.specs.Sorts.{SourceExp, Unary};
+ghost use Rattle.fut_ast.specs.declared.exp.Form.TheVariants as form;
 ghost use Rattle.fut_ast.specs.declared.node.Ended.{Ended};
-ghost use Rattle.fut_ast.specs.Tokens.{starts};
+ghost use Rattle.fut_ast.specs.Tokens.{spot_of, starts};
 ghost use Rattle.fut_ast.specs.Rows.{applied, of_exp};
 ghost use Rattle.fut_atoms.specs.Tie.{ending_found};
 ghost use Rattle.fut_phrases.specs.Found.{tree_found};
 ghost use Rattle.fut_grammar.specs.Phrases.{again_at, app_at, chain_at, graded_at, operand_too_deep, operation_at, operators_at, phrases, read_at, unary_at};
-ghost use Rattle.fut_grammar.specs.Reading.{Fails, Gives, refuse, row_at, suffix_at};
+ghost use Rattle.fut_grammar.specs.Reading.{Fails, Gives, parts_at, refuse, row_at, suffix_at};
 
 use crate::behind::too_high;
 use bumpalo::Bump;
 use fut_ast::{Ended, Oper, Spot};
 use fut_atoms::atoms::atom_below;
-use fut_atoms::made::ending_made;
+use fut_atoms::made::{ending_made, made};
 use fut_atoms::tie::{Ending, ExpSort, ReadExp, read_behind};
 use fut_exp_parts::exp_nodes::{assertion, call, unary as unary_node};
 use fut_exp_parts::exp_tokens::{
@@ -31,7 +34,7 @@ use fut_token::{Fixed, Token};
 use fut_tree::Exp;
 
 /// An operand of an operator.
-#[tactic(auto, unfolding(fut_grammar::specs::Phrases::unary_at))]
+#[tactic(auto, unfolding(fut_grammar::specs::Phrases::unary_at, fut_grammar::specs::Reading::row_at))]
 pub fn unary_below<'a, R: ReadExp<'a>>(
     bump: &'a Bump,
     read: R,
@@ -46,64 +49,38 @@ pub fn unary_below<'a, R: ReadExp<'a>>(
     if begins_exp_atom(tokens) {
         app_below(bump, read, inner, tokens)
     } else if starts_with(tokens, Fixed::Minus) {
-        negated(bump, read, inner, tokens)
+        prefixed(bump, read, inner, Fixed::Minus, Oper::Neg, tokens)
     } else if starts_with(tokens, Fixed::Bang) {
-        complemented(bump, read, inner, tokens)
+        prefixed(bump, read, inner, Fixed::Bang, Oper::Not, tokens)
     } else {
         asserted(bump, read, inner, tokens)
     }
 }
 
-#[tactic(auto, unfolding(fut_grammar::specs::Reading::row_at, fut_grammar::specs::Reading::parts_at, fut_grammar::specs::Reading::has_at, fut_grammar::specs::Reading::sub_at, fut_grammar::specs::Phrases::phrases, fut_grammar::specs::Reading::expect))]
-fn negated<'a, R: ReadExp<'a>>(
+// An operator before its operand.
+#[tactic(auto, unfolding(fut_grammar::specs::Reading::parts_at, fut_grammar::specs::Reading::has_at, fut_grammar::specs::Reading::sub_at, fut_grammar::specs::Phrases::phrases, fut_grammar::specs::Reading::expect))]
+fn prefixed<'a, R: ReadExp<'a>>(
     bump: &'a Bump,
     read: R,
     inner: u32,
+    word: Fixed,
+    oper: Oper,
     tokens: &'a [Token],
 ) -> Result<Found<'a, &'a Exp<'a>>, Stop>
-    requires first { starts Fixed.Minus tokens.now ≡ true }
+    requires first { starts word tokens.now ≡ true }
     requires law { R.reads read inner }
     requires room { inner < 1000 }
-    ensures exact { Gives tree_found result (row_at (phrases (read_at inner)) (of_exp negation) tokens.now) }
+    ensures exact { Gives tree_found result (parts_at (phrases (read_at inner)) true Unary (Sign word ∷ Sub Unary ∷ []) (λ sign e. exp_at (spot_of tokens.now).place (form.Unary oper e)) 0 tokens.now) }
     ensures low { IfOk result (λ x. x.height ≤ inner + 1) }
 {
+    let _word = word;
     let place = next_spot(tokens).place;
     match read.read(inner, ExpSort::Unary, rest_of(tokens)) {
-        Ok(found) => match unary_node(bump, place, Oper::Neg, found.tree.exp) {
-            Ok(tree) => Ok(Found {
-                tree,
-                height: found.height + 1,
-                rest: found.rest,
-            }),
-            Err(_) => Err(Stop::Memory),
-        },
-        Err(stop) => Err(stop),
-    }
-}
-
-#[tactic(auto, unfolding(fut_grammar::specs::Reading::row_at, fut_grammar::specs::Reading::parts_at, fut_grammar::specs::Reading::has_at, fut_grammar::specs::Reading::sub_at, fut_grammar::specs::Phrases::phrases, fut_grammar::specs::Reading::expect))]
-fn complemented<'a, R: ReadExp<'a>>(
-    bump: &'a Bump,
-    read: R,
-    inner: u32,
-    tokens: &'a [Token],
-) -> Result<Found<'a, &'a Exp<'a>>, Stop>
-    requires first { starts Fixed.Bang tokens.now ≡ true }
-    requires law { R.reads read inner }
-    requires room { inner < 1000 }
-    ensures exact { Gives tree_found result (row_at (phrases (read_at inner)) (of_exp complement) tokens.now) }
-    ensures low { IfOk result (λ x. x.height ≤ inner + 1) }
-{
-    let place = next_spot(tokens).place;
-    match read.read(inner, ExpSort::Unary, rest_of(tokens)) {
-        Ok(found) => match unary_node(bump, place, Oper::Not, found.tree.exp) {
-            Ok(tree) => Ok(Found {
-                tree,
-                height: found.height + 1,
-                rest: found.rest,
-            }),
-            Err(_) => Err(Stop::Memory),
-        },
+        Ok(found) => made(
+            unary_node(bump, place, oper, found.tree.exp),
+            found.height + 1,
+            found.rest,
+        ),
         Err(stop) => Err(stop),
     }
 }
@@ -129,14 +106,11 @@ fn asserted<'a, R: ReadExp<'a>>(
         return Err(Stop::Fault(refused(test.rest)));
     }
     match read.read(inner, ExpSort::Atom, test.rest) {
-        Ok(value) => match assertion(bump, place, test.tree.exp, value.tree.exp) {
-            Ok(tree) => Ok(Found {
-                tree,
-                height: greater(test.height, value.height) + 1,
-                rest: value.rest,
-            }),
-            Err(_) => Err(Stop::Memory),
-        },
+        Ok(value) => made(
+            assertion(bump, place, test.tree.exp, value.tree.exp),
+            greater(test.height, value.height) + 1,
+            value.rest,
+        ),
         Err(stop) => Err(stop),
     }
 }
@@ -179,7 +153,10 @@ fn arguments_behind<'a, R: ReadExp<'a>>(
             return Err(Stop::Fault(too_high(goes_on_atom(found.rest), found.rest)));
         }
         turns -= 1;
-        found = argument_behind(bump, read, inner, at, found)?;
+        found = match argument_behind(bump, read, inner, at, found) {
+            Ok(longer) => longer,
+            Err(stop) => return Err(stop),
+        };
     }
     Ok(found)
 }
@@ -208,14 +185,11 @@ fn argument_behind<'a, R: ReadExp<'a>>(
         return Err(Stop::Fault(refused(tokens)));
     }
     match read.read(inner, ExpSort::Atom, tokens) {
-        Ok(value) => match call(bump, at.place, at.place, first.tree, value.tree.exp) {
-            Ok(tree) => Ok(Found {
-                tree,
-                height: greater(first.height, value.height) + 1,
-                rest: value.rest,
-            }),
-            Err(_) => Err(Stop::Memory),
-        },
+        Ok(value) => made(
+            call(bump, at.place, at.place, first.tree, value.tree.exp),
+            greater(first.height, value.height) + 1,
+            value.rest,
+        ),
         Err(stop) => Err(stop),
     }
 }

@@ -88,7 +88,10 @@ fn types_again<'a>(
             )));
         }
         turns -= 1;
-        found = type_behind(bump, inner, at, found)?;
+        found = match type_behind(bump, inner, at, found) {
+            Ok(longer) => longer,
+            Err(stop) => return Err(stop),
+        };
     }
     Ok(found)
 }

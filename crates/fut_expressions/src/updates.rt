@@ -48,7 +48,10 @@ pub fn updates_again<'a, R: ReadExp<'a>>(
             )));
         }
         turns -= 1;
-        found = update_behind(bump, read, inner, at, found)?;
+        found = match update_behind(bump, read, inner, at, found) {
+            Ok(longer) => longer,
+            Err(stop) => return Err(stop),
+        };
     }
     Ok(found)
 }
@@ -61,6 +64,7 @@ fn update_behind<'a, R: ReadExp<'a>>(
     at: Spot,
     first: Found<'a, Ending<'a>>,
 ) -> Result<Found<'a, Ending<'a>>, Stop>
+    requires first { starts Fixed.KeyWith first.rest.now ≡ true }
     requires law { R.reads read inner }
     requires room { (inner < 1000) × (first.height ≤ inner + 1) }
     ensures exact { Gives ending_found result (suffix_at (phrases (read_at inner)) (with_suffix first.entry.rest.now) (suc inner) at (first.entry.tree.exp.now, first.entry.tree.ended) first.entry.height first.entry.rest.now) }
@@ -91,15 +95,13 @@ fn index_replaced<'a, R: ReadExp<'a>>(
     at: Spot,
     first: Found<'a, Ending<'a>>,
 ) -> Result<Found<'a, Ending<'a>>, Stop>
+    requires first { starts Fixed.KeyWith first.rest.now ≡ true }
     requires law { R.reads read inner }
     requires room { (inner < 1000) × (first.height ≤ inner) }
     ensures exact { Gives ending_found result (parts_at (phrases (read_at inner)) true Updated (suffix_parts with_index) (suffix_tree with_index at (spot_of first.entry.rest.now) (first.entry.tree.exp.now, first.entry.tree.ended)) first.entry.height first.entry.rest.now) }
     ensures low { IfOk result (λ x. x.height ≤ inner + 1) }
 {
-    let behind = match take(first.rest, Fixed::KeyWith) {
-        Ok(behind) => behind,
-        Err(stop) => return Err(stop),
-    };
+    let behind = rest_of(first.rest);
     let mark = next_spot(behind).place;
     let rest = match take(behind, Fixed::OpenBracket) {
         Ok(rest) => rest,
@@ -123,17 +125,8 @@ fn index_replaced<'a, R: ReadExp<'a>>(
                 indices.tree,
                 value.tree.exp,
             );
-            match node {
-                Ok(exp) => Ok(Found {
-                    tree: Ending {
-                        exp,
-                        ended: Ended::Update,
-                    },
-                    height: greater(indices.height, value.height) + 1,
-                    rest: value.rest,
-                }),
-                Err(_) => Err(Stop::Memory),
-            }
+            let height = greater(indices.height, value.height);
+            ending_made(node, Ended::Update, height + 1, value.rest)
         }
         Err(stop) => Err(stop),
     }
@@ -147,15 +140,13 @@ fn field_replaced<'a, R: ReadExp<'a>>(
     at: Spot,
     first: Found<'a, Ending<'a>>,
 ) -> Result<Found<'a, Ending<'a>>, Stop>
+    requires first { starts Fixed.KeyWith first.rest.now ≡ true }
     requires law { R.reads read inner }
     requires room { (inner < 1000) × (first.height ≤ inner) }
     ensures exact { Gives ending_found result (parts_at (phrases (read_at inner)) true Updated (suffix_parts with_field) (suffix_tree with_field at (spot_of first.entry.rest.now) (first.entry.tree.exp.now, first.entry.tree.ended)) first.entry.height first.entry.rest.now) }
     ensures low { IfOk result (λ x. x.height ≤ inner + 1) }
 {
-    let behind = match take(first.rest, Fixed::KeyWith) {
-        Ok(behind) => behind,
-        Err(stop) => return Err(stop),
-    };
+    let behind = rest_of(first.rest);
     let (name, rest) = match take_word(behind) {
         Ok(word) => word,
         Err(stop) => return Err(stop),
@@ -182,15 +173,13 @@ fn path_replaced<'a, R: ReadExp<'a>>(
     at: Spot,
     first: Found<'a, Ending<'a>>,
 ) -> Result<Found<'a, Ending<'a>>, Stop>
+    requires first { starts Fixed.KeyWith first.rest.now ≡ true }
     requires law { R.reads read inner }
     requires room { (inner < 1000) × (first.height ≤ inner) }
     ensures exact { Gives ending_found result (parts_at (phrases (read_at inner)) true Updated (suffix_parts with_path) (suffix_tree with_path at (spot_of first.entry.rest.now) (first.entry.tree.exp.now, first.entry.tree.ended)) first.entry.height first.entry.rest.now) }
     ensures low { IfOk result (λ x. x.height ≤ inner + 1) }
 {
-    let behind = match take(first.rest, Fixed::KeyWith) {
-        Ok(behind) => behind,
-        Err(stop) => return Err(stop),
-    };
+    let behind = rest_of(first.rest);
     let (name, rest) = match take_word(behind) {
         Ok(word) => word,
         Err(stop) => return Err(stop),

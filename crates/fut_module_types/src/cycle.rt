@@ -8,7 +8,7 @@ ghost use Rattle.fut_module_types.specs.MtypeTie.{Law, Mtype_law};
 ghost use Rattle.fut_phrases.specs.Found.{tree_found};
 
 use crate::members::member_below;
-use crate::tie::{MemberAnswer, ModTypeAnswer};
+use crate::tie::{MemberAnswer, ModTypeAnswer, ReadModType};
 use crate::types::{parameter, whole_below};
 use bumpalo::Bump;
 use fut_grammar::{Fault, Stop};
@@ -84,29 +84,21 @@ pub fn module_parameter<'a>(
     ensures exact { Gives param_found result (phrases (read_at inner) Mod_param tokens.now) }
     ensures low { IfOk result (λ x. x.height ≤ inner) }
 {
-    parameter_by(
-        &|next, behind| -> Result<Found<&ModType>, Stop>
-            requires { inner ≤ 1000 }
-            ensures exact { Gives tree_found result (read_at inner (Whole_mtype next) behind.now) }
-            ensures low { IfOk result (λ x. x.height ≤ inner) }
-        { module_type(bump, inner, next, behind) },
-        inner,
-        tokens,
-    )
+    parameter(ModTypes { bump }, inner, tokens)
 }
 
-fn parameter_by<'a, F: Fn(bool, &'a [Token]) -> ModTypeAnswer<'a>>(
-    read: &F,
-    inner: u32,
-    tokens: &'a [Token],
-) -> Result<Found<'a, Param<'a>>, Stop>
-    requires callable { F.IsAlwaysCallable read.now }
-    requires law { Mtype_law (F.post read.now) inner }
-    requires room { inner < 1000 }
-    ensures exact { Gives param_found result (phrases (read_at inner) Mod_param tokens.now) }
-    ensures low { IfOk result (λ x. x.height ≤ inner) }
-{
-    parameter(read, inner, tokens)
+/// Module types of any height, each made in the arena.
+#[derive(Clone, Copy)]
+struct ModTypes<'a> {
+    bump: &'a Bump,
+}
+
+impl<'a> ReadModType<'a> for ModTypes<'a> {
+    ghost reads = { λ s d. d ≤ 1000 };
+
+    fn whole(self, inner: u32, arrows: bool, tokens: &'a [Token]) -> ModTypeAnswer<'a> {
+        module_type(self.bump, inner, arrows, tokens)
+    }
 }
 
 // Where nothing may stand below, a token that begins a module type is too deep.
@@ -158,7 +150,10 @@ fn whole_node<
     if !begins_module_type(tokens) {
         return Err(Stop::Fault(refused(tokens)));
     }
-    let found = whole_below(bump, read, read_member, inner, arrows, tokens)?;
+    let found = match whole_below(bump, read, read_member, inner, arrows, tokens) {
+        Ok(found) => found,
+        Err(stop) => return Err(stop),
+    };
     if starts_with(found.rest, Fixed::KeyWith) {
         return Err(Stop::Fault(refused(found.rest)));
     }

@@ -11,7 +11,7 @@ ghost use Rattle.fut_phrases.specs.Found.{found_as};
 ghost use Rattle.fut_tree.specs.ModTypes.{spec_of};
 ghost use Rattle.fut_tree.specs.Names.{maybe};
 
-use crate::tie::{MemberAnswer, ReadMember, ReadModType};
+use crate::tie::{MemberAnswer, ReadMember, ReadModType, whole_behind};
 use bumpalo::Bump;
 use fut_ast::What;
 use fut_grammar::Stop;
@@ -85,9 +85,14 @@ fn module<'a, R: ReadModType<'a>>(read: R, inner: u32, tokens: &'a [Token]) -> M
 {
     let rest = rest_of(tokens);
     let place = next_spot(rest).place;
-    let (name, rest) = take_word(rest)?;
-    let rest = take(rest, Fixed::Colon)?;
-    let bound = read.whole(inner, true, rest)?;
+    let (name, rest) = match take_word(rest) {
+        Ok(found) => found,
+        Err(stop) => return Err(stop),
+    };
+    let bound = match whole_behind(read, inner, Fixed::Colon, true, rest) {
+        Ok(bound) => bound,
+        Err(stop) => return Err(stop),
+    };
     Ok(Found {
         tree: Spec {
             place: next_spot(tokens).place,
@@ -98,15 +103,17 @@ fn module<'a, R: ReadModType<'a>>(read: R, inner: u32, tokens: &'a [Token]) -> M
     })
 }
 
-#[tactic(auto, unfolding(fut_grammar::specs::Reading::row_at, fut_grammar::specs::Reading::parts_at, fut_grammar::specs::Reading::has_at, fut_grammar::specs::Reading::sub_at, fut_grammar::specs::Phrases::phrases))]
+#[tactic(auto, unfolding(fut_grammar::specs::Reading::row_at, fut_grammar::specs::Reading::parts_at, fut_grammar::specs::Reading::has_at, fut_grammar::specs::Reading::sub_at, fut_grammar::specs::Phrases::phrases, fut_grammar::specs::Reading::expect))]
 fn include<'a, R: ReadModType<'a>>(read: R, inner: u32, tokens: &'a [Token]) -> MemberAnswer<'a>
     requires law { R.reads read inner }
     requires room { inner < 1000 }
     ensures exact { Gives spec_found result (row_at (phrases (read_at inner)) (of_mod spec_include) tokens.now) }
     ensures low { IfOk result (λ x. x.height ≤ inner + 1) }
 {
-    let rest = take(tokens, Fixed::KeyInclude)?;
-    let found = read.whole(inner, true, rest)?;
+    let found = match whole_behind(read, inner, Fixed::KeyInclude, true, tokens) {
+        Ok(found) => found,
+        Err(stop) => return Err(stop),
+    };
     Ok(Found {
         tree: Spec {
             place: next_spot(tokens).place,
@@ -129,10 +136,22 @@ fn value<'a>(bump: &'a Bump, inner: u32, tokens: &'a [Token]) -> MemberAnswer<'a
     let rest = rest_of(tokens);
     without_form(What::OperatorDefinition, rest)?;
     let place = next_spot(rest).place;
-    let (name, rest) = take_word(rest)?;
-    let heads = heads(bump, inner, rest)?;
-    let rest = take(heads.rest, Fixed::Colon)?;
-    let ty = whole_type(bump, inner, rest)?;
+    let (name, rest) = match take_word(rest) {
+        Ok(found) => found,
+        Err(stop) => return Err(stop),
+    };
+    let heads = match heads(bump, inner, rest) {
+        Ok(heads) => heads,
+        Err(stop) => return Err(stop),
+    };
+    let rest = match take(heads.rest, Fixed::Colon) {
+        Ok(rest) => rest,
+        Err(stop) => return Err(stop),
+    };
+    let ty = match whole_type(bump, inner, rest) {
+        Ok(ty) => ty,
+        Err(stop) => return Err(stop),
+    };
     Ok(Found {
         tree: Spec {
             place: next_spot(tokens).place,
@@ -153,8 +172,14 @@ fn type_name<'a>(bump: &'a Bump, inner: u32, tokens: &'a [Token]) -> MemberAnswe
     let rest = rest_of(tokens);
     without_form(What::LiftedType, rest)?;
     let place = next_spot(rest).place;
-    let (name, rest) = take_word(rest)?;
-    let ty = maybe_type(bump, inner, rest)?;
+    let (name, rest) = match take_word(rest) {
+        Ok(found) => found,
+        Err(stop) => return Err(stop),
+    };
+    let ty = match maybe_type(bump, inner, rest) {
+        Ok(ty) => ty,
+        Err(stop) => return Err(stop),
+    };
     Ok(Found {
         tree: Spec {
             place: next_spot(tokens).place,
@@ -183,7 +208,10 @@ fn maybe_type<'a>(
             rest: tokens,
         });
     }
-    let ty = whole_type(bump, inner, rest_of(tokens))?;
+    let ty = match whole_type(bump, inner, rest_of(tokens)) {
+        Ok(ty) => ty,
+        Err(stop) => return Err(stop),
+    };
     Ok(Found {
         tree: Some(ty.tree),
         height: ty.height,

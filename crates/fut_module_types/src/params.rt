@@ -77,7 +77,10 @@ pub fn maybe_module_type<'a>(
             rest: tokens,
         });
     }
-    let ty = module_type(bump, inner, arrows, rest_of(tokens))?;
+    let ty = match module_type(bump, inner, arrows, rest_of(tokens)) {
+        Ok(ty) => ty,
+        Err(stop) => return Err(stop),
+    };
     Ok(Found {
         tree: Some(ty.tree),
         height: greater(first_height, ty.height),

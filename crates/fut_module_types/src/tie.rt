@@ -1,15 +1,17 @@
 // What reads the module types and members in a production is handed over to the function that reads the production.
-ghost use Rattle.std.specs.Prelude.{◌≤◌, ℕ, IfOk};
+ghost use Rattle.std.specs.Prelude.{◌≡◌, ◌≤◌, true, if◌then◌else◌, Err, ℕ, IfOk};
+ghost use Rattle.fut_ast.specs.Tokens.{starts, tail};
 ghost use Rattle.fut_ast.specs.Sorts.{Spec_item, Whole_mtype};
 ghost use Rattle.fut_grammar.specs.Phrases.{read_at};
-ghost use Rattle.fut_grammar.specs.Reading.{Gives};
+ghost use Rattle.fut_grammar.specs.Reading.{Gives, refuse};
 ghost use Rattle.fut_module_types.specs.MtypeFound.{spec_found};
 ghost use Rattle.fut_module_types.specs.MtypeTie.{Law, Mtype_law};
 ghost use Rattle.fut_phrases.specs.Found.{tree_found};
 
 use fut_grammar::Stop;
 use fut_phrases::found::Found;
-use fut_token::Token;
+use fut_phrases::tokens::{refused, rest_of, starts_with};
+use fut_token::{Fixed, Token};
 use fut_tree::{ModType, Spec};
 
 /// What is read as a module type.
@@ -37,6 +39,25 @@ impl<'a, F: Fn(bool, &'a [Token]) -> ModTypeAnswer<'a>> ReadModType<'a> for &F {
         let _inner = inner;
         self(arrows, tokens)
     }
+}
+
+/// A module type behind a keyword or symbol, where types behind its `with` may have arrows or not.
+pub fn whole_behind<'a, R: ReadModType<'a>>(
+    read: R,
+    inner: u32,
+    fixed: Fixed,
+    arrows: bool,
+    tokens: &'a [Token],
+) -> ModTypeAnswer<'a>
+    requires law { R.reads read inner }
+    ensures sign { IfOk result (λ x. starts fixed tokens.now ≡ true) }
+    ensures exact { Gives tree_found result (if starts fixed tokens.now then read_at inner (Whole_mtype arrows) (tail tokens.now) else Err (refuse tokens.now)) }
+    ensures low { IfOk result (λ x. x.height ≤ inner) }
+{
+    if !starts_with(tokens, fixed) {
+        return Err(Stop::Fault(refused(tokens)));
+    }
+    read.whole(inner, arrows, rest_of(tokens))
 }
 
 /// What reads the members in a production.

@@ -1,5 +1,5 @@
 // Module types: each production over what reads the module types and members in it.
-ghost use Rattle.std.specs.Prelude.{◌≡◌, ◌≤◌, ◌<◌, ◌+◌, suc, length, true, IfOk, Ok};
+ghost use Rattle.std.specs.Prelude.{◌≡◌, ◌≤◌, ◌<◌, ◌+◌, suc, length, false, true, IfOk, Ok};
 ghost use Rattle.fut_ast.specs.ModRows.{mod_param, mtype_arrow, mtype_path, mtype_specs, round_mtype, with_item};
 ghost use Rattle.fut_ast.specs.Rows.{far_mtype, of_mod, with_types};
 ghost use Rattle.fut_ast.specs.Sorts.{Mod_param, With_item};
@@ -12,13 +12,12 @@ ghost use Rattle.fut_tree.specs.ModTypes.{with_of};
 ghost use Rattle.fut_tree.specs.Names.{names};
 
 use crate::members::Members;
-use crate::tie::{ModTypeAnswer, ReadMember, ReadModType};
+use crate::tie::{ModTypeAnswer, ReadMember, ReadModType, whole_behind};
 use bumpalo::Bump;
-use bumpalo::collections::into_bump_slice;
 use fut_ast::Spot;
 use fut_grammar::{Fault, Stop};
 use fut_phrases::found::Found;
-use fut_phrases::lists::many;
+use fut_phrases::lists::{BeginItem, ReadItem, many, several};
 use fut_phrases::tokens::{
     begins_name_and_colon, greater, next_spot, refused, rest_of, starts_with, starts_with_word,
     take, take_path, take_word,
@@ -44,7 +43,10 @@ pub fn whole_below<'a, R: ReadModType<'a>, S: ReadMember<'a>>(
     ensures exact { Gives tree_found result (whole_mtype_at (phrases (read_at inner)) (suc inner) arrows tokens.now) }
     ensures low { IfOk result (λ x. x.height ≤ inner + 1) }
 {
-    let first = atomic_below(bump, read, read_member, inner, arrows, tokens)?;
+    let first = match atomic_below(bump, read, read_member, inner, arrows, tokens) {
+        Ok(first) => first,
+        Err(stop) => return Err(stop),
+    };
     withs_behind(
         bump,
         inner,
@@ -95,14 +97,17 @@ fn far_arrow<'a, R: ReadModType<'a>>(
     ensures exact { Gives tree_found result (far_at (far_mtype arrows) (row_at (phrases (read_at inner)) (of_mod (mtype_arrow arrows)) tokens.now)) }
     ensures low { IfOk result (λ x. x.height ≤ inner + 1) }
 {
-    let found = arrow(bump, read, inner, arrows, tokens)?;
+    let found = match arrow(bump, read, inner, arrows, tokens) {
+        Ok(found) => found,
+        Err(stop) => return Err(stop),
+    };
     if starts_with(found.rest, Fixed::KeyWith) {
         return Err(Stop::Fault(refused(found.rest)));
     }
     Ok(found)
 }
 
-#[tactic(auto, unfolding(fut_grammar::specs::Reading::row_at, fut_grammar::specs::Reading::parts_at, fut_grammar::specs::Reading::has_at, fut_grammar::specs::Reading::sub_at, fut_grammar::specs::Phrases::phrases))]
+#[tactic(auto, unfolding(fut_grammar::specs::Reading::row_at, fut_grammar::specs::Reading::parts_at, fut_grammar::specs::Reading::has_at, fut_grammar::specs::Reading::sub_at, fut_grammar::specs::Phrases::phrases, fut_grammar::specs::Reading::expect))]
 fn arrow<'a, R: ReadModType<'a>>(
     bump: &'a Bump,
     read: R,
@@ -116,9 +121,14 @@ fn arrow<'a, R: ReadModType<'a>>(
     ensures low { IfOk result (λ x. x.height ≤ inner + 1) }
 {
     let place = next_spot(tokens).place;
-    let param = parameter(read, inner, tokens)?;
-    let rest = take(param.rest, Fixed::Arrow)?;
-    let to = read.whole(inner, arrows, rest)?;
+    let param = match parameter(read, inner, tokens) {
+        Ok(param) => param,
+        Err(stop) => return Err(stop),
+    };
+    let to = match whole_behind(read, inner, Fixed::Arrow, arrows, param.rest) {
+        Ok(to) => to,
+        Err(stop) => return Err(stop),
+    };
     let form = ModTypeForm::Arrow(param.tree.label, param.tree.bound, to.tree);
     made(
         bump,
@@ -160,10 +170,18 @@ fn any_parameter<'a, R: ReadModType<'a>>(
 {
     let rest = rest_of(tokens);
     let place = next_spot(rest).place;
-    let (name, rest) = take_word(rest)?;
-    let rest = take(rest, Fixed::Colon)?;
-    let bound = read.whole(inner, true, rest)?;
-    let rest = take(bound.rest, Fixed::CloseParen)?;
+    let (name, rest) = match take_word(rest) {
+        Ok(found) => found,
+        Err(stop) => return Err(stop),
+    };
+    let bound = match whole_behind(read, inner, Fixed::Colon, true, rest) {
+        Ok(bound) => bound,
+        Err(stop) => return Err(stop),
+    };
+    let rest = match take(bound.rest, Fixed::CloseParen) {
+        Ok(rest) => rest,
+        Err(stop) => return Err(stop),
+    };
     Ok(Found {
         tree: Param {
             label: Label { name, place },
@@ -187,11 +205,17 @@ fn round<'a, R: ReadModType<'a>>(
     ensures low { IfOk result (λ x. x.height ≤ inner + 1) }
 {
     let _arrows = arrows;
-    let rest = take(tokens, Fixed::OpenParen)?;
+    let rest = match take(tokens, Fixed::OpenParen) {
+        Ok(rest) => rest,
+        Err(stop) => return Err(stop),
+    };
     if begins_name_and_colon(rest) {
         return Err(Stop::Fault(refused(rest)));
     }
-    let found = read.whole(inner, true, rest)?;
+    let found = match read.whole(inner, true, rest) {
+        Ok(found) => found,
+        Err(stop) => return Err(stop),
+    };
     Ok(Found {
         tree: found.tree,
         height: found.height + 1,
@@ -214,11 +238,19 @@ fn members_in_braces<'a, S: ReadMember<'a>>(
 {
     let _arrows = arrows;
     let place = next_spot(tokens).place;
-    let rest = take(tokens, Fixed::OpenBrace)?;
-    let all = many(bump, Members { read: read_member }, inner, 0, rest)?;
-    let rest = take(all.rest, Fixed::CloseBrace)?;
+    let rest = match take(tokens, Fixed::OpenBrace) {
+        Ok(rest) => rest,
+        Err(stop) => return Err(stop),
+    };
+    let all = match many(bump, Members { read: read_member }, inner, 0, rest) {
+        Ok(all) => all,
+        Err(stop) => return Err(stop),
+    };
     let form = ModTypeForm::Specs(all.tree);
-    made(bump, ModType { place, form }, all.height + 1, rest)
+    match take(all.rest, Fixed::CloseBrace) {
+        Ok(rest) => made(bump, ModType { place, form }, all.height + 1, rest),
+        Err(stop) => Err(stop),
+    }
 }
 
 // ---- what has no module types in it
@@ -232,7 +264,10 @@ fn path<'a>(bump: &'a Bump, inner: u32, arrows: bool, tokens: &'a [Token]) -> Mo
     let _inner = inner;
     let _arrows = arrows;
     let place = next_spot(tokens).place;
-    let (names, rest) = take_path(bump, tokens)?;
+    let (names, rest) = match take_path(bump, tokens) {
+        Ok(found) => found,
+        Err(stop) => return Err(stop),
+    };
     let form = ModTypeForm::Path(names);
     made(bump, ModType { place, form }, 1, rest)
 }
@@ -264,13 +299,15 @@ fn withs_behind<'a>(
     if first_height > inner {
         return Err(Stop::Fault(Fault::TooDeep(tokens.len())));
     }
-    let withs = withs(bump, inner, arrows, first_height, tokens)?;
+    let withs = match withs(bump, inner, arrows, first_height, tokens) {
+        Ok(withs) => withs,
+        Err(stop) => return Err(stop),
+    };
     let place = at.place;
     let form = ModTypeForm::With(first, withs.tree);
     made(bump, ModType { place, form }, withs.height + 1, withs.rest)
 }
 
-#[tactic(auto, unfolding(fut_grammar::specs::Reading::several_at))]
 fn withs<'a>(
     bump: &'a Bump,
     inner: u32,
@@ -282,32 +319,65 @@ fn withs<'a>(
     ensures exact { Gives withs_found result (several_at (phrases (read_at inner)) (With_item arrows) first_height tokens.now) }
     ensures low { IfOk result (λ x. x.height ≤ inner) }
 {
-    let first = with(bump, inner, arrows, tokens)?;
-    let mut all = Vec::new(bump);
-    all.push(first.tree)?;
-    let mut height = greater(first_height, first.height);
-    let mut rest = first.rest;
-    'items: for _turn in 0..first.rest.len() {
-        if !starts_with(rest, Fixed::KeyWith) {
-            return Ok(Found {
-                tree: into_bump_slice(all),
-                height,
-                rest,
-            });
-        }
-        let item = with(bump, inner, arrows, rest)?;
-        all.push(item.tree)?;
-        height = greater(height, item.height);
-        rest = item.rest;
+    if arrows {
+        several(bump, WithTypes, inner, first_height, tokens)
+    } else {
+        several(bump, WithAppliedTypes, inner, first_height, tokens)
     }
-    if starts_with(rest, Fixed::KeyWith) {
-        return Err(Stop::Fault(refused(rest)));
+}
+
+/// `with .. = ..`, where the type may have an arrow at its top.
+#[derive(Clone, Copy)]
+struct WithTypes;
+
+impl<'a> ReadItem<'a, With<'a>> for WithTypes {
+    ghost sort = { With_item true };
+
+    ghost seen = { with_of };
+
+    ghost reads = { λ s d. d < 1000 };
+
+    fn item(
+        self,
+        bump: &'a Bump,
+        inner: u32,
+        tokens: &'a [Token],
+    ) -> Result<Found<'a, With<'a>>, Stop> {
+        with(bump, inner, true, tokens)
     }
-    Ok(Found {
-        tree: into_bump_slice(all),
-        height,
-        rest,
-    })
+}
+
+impl<'a> BeginItem<'a, With<'a>> for WithTypes {
+    fn begins(self, tokens: &'a [Token]) -> bool {
+        starts_with(tokens, Fixed::KeyWith)
+    }
+}
+
+/// `with .. = ..`, where the type has no arrow at its top.
+#[derive(Clone, Copy)]
+struct WithAppliedTypes;
+
+impl<'a> ReadItem<'a, With<'a>> for WithAppliedTypes {
+    ghost sort = { With_item false };
+
+    ghost seen = { with_of };
+
+    ghost reads = { λ s d. d < 1000 };
+
+    fn item(
+        self,
+        bump: &'a Bump,
+        inner: u32,
+        tokens: &'a [Token],
+    ) -> Result<Found<'a, With<'a>>, Stop> {
+        with(bump, inner, false, tokens)
+    }
+}
+
+impl<'a> BeginItem<'a, With<'a>> for WithAppliedTypes {
+    fn begins(self, tokens: &'a [Token]) -> bool {
+        starts_with(tokens, Fixed::KeyWith)
+    }
 }
 
 #[tactic(auto, unfolding(fut_grammar::specs::Phrases::phrases, fut_grammar::specs::Phrases::bounded, fut_grammar::specs::Phrases::ended, fut_grammar::specs::Phrases::flat_at, fut_grammar::specs::Reading::refuse_sort))]

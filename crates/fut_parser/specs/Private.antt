@@ -3,3 +3,4 @@
 pub mod ModFound
 pub mod ModTie
 pub mod Answers
+pub mod Decs

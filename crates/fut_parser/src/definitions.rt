@@ -24,26 +24,51 @@ use fut_tree::{DecForm, Label};
 /// What is read as a declaration without its `local`.
 pub type DecFormAnswer<'a> = Result<Found<'a, DecForm<'a>>, Stop>;
 
-// What stands behind the word of a definition.
-#[tactic(auto, unfolding(fut_grammar::specs::Reading::parts_at, fut_grammar::specs::Reading::has_at, fut_grammar::specs::Reading::sub_at, fut_grammar::specs::Phrases::items))]
-fn definition_behind<'a>(
+/// `def`, `let` or `entry`, and a definition.
+#[tactic(auto, unfolding(fut_grammar::specs::Reading::parts_at, fut_grammar::specs::Reading::has_at, fut_grammar::specs::Reading::expect, fut_grammar::specs::Reading::sub_at, fut_grammar::specs::Phrases::items))]
+pub fn definition<'a>(
     bump: &'a Bump,
     inner: u32,
+    word: Fixed,
     entry: bool,
     tokens: &'a [Token],
 ) -> DecFormAnswer<'a>
-    requires { inner < 1000 }
-    ensures exact { Gives dec_form_found result (parts_at (items (read_at inner)) false Dec_rest definition_parts (definition entry) 0 tokens.now) }
+    requires room { inner < 1000 }
+    requires first { starts word tokens.now ≡ true }
+    ensures exact { Gives dec_form_found result (parts_at (items (read_at inner)) false Dec_rest (Sign word ∷ definition_parts) (λ at. definition entry) 0 tokens.now) }
     ensures low { IfOk result (λ x. x.height ≤ inner) }
 {
-    without_form(What::OperatorDefinition, tokens)?;
-    let place = next_spot(tokens).place;
-    let (name, rest) = take_word(tokens)?;
-    let heads = heads_inside(bump, inner, rest)?;
-    let params = patterns_inside(bump, inner, heads.height, heads.rest)?;
-    let ty = maybe_type_inside(bump, inner, params.height, params.rest)?;
-    let rest = take(ty.rest, Fixed::Equal)?;
-    let value = whole_expression(bump, inner, rest)?;
+    let _word = word;
+    let behind = rest_of(tokens);
+    match without_form(What::OperatorDefinition, behind) {
+        Ok(()) => (),
+        Err(stop) => return Err(stop),
+    }
+    let place = next_spot(behind).place;
+    let (name, rest) = match take_word(behind) {
+        Ok(found) => found,
+        Err(stop) => return Err(stop),
+    };
+    let heads = match heads_inside(bump, inner, rest) {
+        Ok(heads) => heads,
+        Err(stop) => return Err(stop),
+    };
+    let params = match patterns_inside(bump, inner, heads.height, heads.rest) {
+        Ok(params) => params,
+        Err(stop) => return Err(stop),
+    };
+    let ty = match maybe_type_inside(bump, inner, params.height, params.rest) {
+        Ok(ty) => ty,
+        Err(stop) => return Err(stop),
+    };
+    let rest = match take(ty.rest, Fixed::Equal) {
+        Ok(rest) => rest,
+        Err(stop) => return Err(stop),
+    };
+    let value = match whole_expression(bump, inner, rest) {
+        Ok(value) => value,
+        Err(stop) => return Err(stop),
+    };
     Ok(Found {
         tree: DecForm::Def {
             entry,
@@ -58,24 +83,6 @@ fn definition_behind<'a>(
     })
 }
 
-/// `def`, `let` or `entry`, and a definition.
-#[tactic(auto, unfolding(fut_grammar::specs::Reading::parts_at, fut_grammar::specs::Reading::has_at, fut_grammar::specs::Reading::expect))]
-pub fn definition<'a>(
-    bump: &'a Bump,
-    inner: u32,
-    word: Fixed,
-    entry: bool,
-    tokens: &'a [Token],
-) -> DecFormAnswer<'a>
-    requires room { inner < 1000 }
-    requires first { starts word tokens.now ≡ true }
-    ensures exact { Gives dec_form_found result (parts_at (items (read_at inner)) false Dec_rest (Sign word ∷ definition_parts) (λ at. definition entry) 0 tokens.now) }
-    ensures low { IfOk result (λ x. x.height ≤ inner) }
-{
-    let _word = word;
-    definition_behind(bump, inner, entry, rest_of(tokens))
-}
-
 /// `type`, a name, its parameters and a type.
 #[tactic(auto, unfolding(fut_grammar::specs::Reading::row_at, fut_grammar::specs::Reading::parts_at, fut_grammar::specs::Reading::has_at, fut_grammar::specs::Reading::expect, fut_grammar::specs::Reading::sub_at, fut_grammar::specs::Phrases::items))]
 pub fn type_name<'a>(bump: &'a Bump, inner: u32, tokens: &'a [Token]) -> DecFormAnswer<'a>
@@ -85,12 +92,27 @@ pub fn type_name<'a>(bump: &'a Bump, inner: u32, tokens: &'a [Token]) -> DecForm
     ensures low { IfOk result (λ x. x.height ≤ inner) }
 {
     let rest = rest_of(tokens);
-    without_form(What::LiftedType, rest)?;
+    match without_form(What::LiftedType, rest) {
+        Ok(()) => (),
+        Err(stop) => return Err(stop),
+    }
     let place = next_spot(rest).place;
-    let (name, rest) = take_word(rest)?;
-    let heads = heads_inside(bump, inner, rest)?;
-    let rest = take(heads.rest, Fixed::Equal)?;
-    let ty = whole_type(bump, inner, rest)?;
+    let (name, rest) = match take_word(rest) {
+        Ok(found) => found,
+        Err(stop) => return Err(stop),
+    };
+    let heads = match heads_inside(bump, inner, rest) {
+        Ok(heads) => heads,
+        Err(stop) => return Err(stop),
+    };
+    let rest = match take(heads.rest, Fixed::Equal) {
+        Ok(rest) => rest,
+        Err(stop) => return Err(stop),
+    };
+    let ty = match whole_type(bump, inner, rest) {
+        Ok(ty) => ty,
+        Err(stop) => return Err(stop),
+    };
     Ok(Found {
         tree: DecForm::TypeName(Label { name, place }, heads.tree, ty.tree),
         height: greater(heads.height, ty.height),
@@ -108,11 +130,23 @@ pub fn module_type_name<'a>(bump: &'a Bump, inner: u32, tokens: &'a [Token]) -> 
     ensures low { IfOk result (λ x. x.height ≤ inner) }
 {
     let rest = rest_of(rest_of(tokens));
-    without_form(What::LiftedType, rest)?;
+    match without_form(What::LiftedType, rest) {
+        Ok(()) => (),
+        Err(stop) => return Err(stop),
+    }
     let place = next_spot(rest).place;
-    let (name, rest) = take_word(rest)?;
-    let rest = take(rest, Fixed::Equal)?;
-    let ty = module_type(bump, inner, true, rest)?;
+    let (name, rest) = match take_word(rest) {
+        Ok(found) => found,
+        Err(stop) => return Err(stop),
+    };
+    let rest = match take(rest, Fixed::Equal) {
+        Ok(rest) => rest,
+        Err(stop) => return Err(stop),
+    };
+    let ty = match module_type(bump, inner, true, rest) {
+        Ok(ty) => ty,
+        Err(stop) => return Err(stop),
+    };
     Ok(Found {
         tree: DecForm::ModType(Label { name, place }, ty.tree),
         height: ty.height,
@@ -128,8 +162,14 @@ pub fn imported<'a>(inner: u32, tokens: &'a [Token]) -> DecFormAnswer<'a>
     ensures low { IfOk result (λ x. x.height ≤ inner) }
 {
     let _inner = inner;
-    let rest = take(tokens, Fixed::KeyImport)?;
-    let (file, rest) = take_text(rest)?;
+    let rest = match take(tokens, Fixed::KeyImport) {
+        Ok(rest) => rest,
+        Err(stop) => return Err(stop),
+    };
+    let (file, rest) = match take_text(rest) {
+        Ok(found) => found,
+        Err(stop) => return Err(stop),
+    };
     Ok(Found {
         tree: DecForm::Import(file),
         height: 0,

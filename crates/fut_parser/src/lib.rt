@@ -3,6 +3,7 @@
 
 mod declarations;
 mod definitions;
+mod items;
 mod mod_nodes;
 mod mod_tokens;
 mod module_cycle;

@@ -40,7 +40,10 @@ fn last_node<'a, M: ReadModule<'a>, D: ReadDeclaration<'a>>(
     if !begins_module(tokens) {
         return Err(Stop::Fault(refused(tokens)));
     }
-    let found = last_below(bump, read, read_dec, inner, tokens)?;
+    let found = match last_below(bump, read, read_dec, inner, tokens) {
+        Ok(found) => found,
+        Err(stop) => return Err(stop),
+    };
     if goes_on_module(found.tree.is_sealed, found.rest) {
         return Err(Stop::Fault(refused(found.rest)));
     }
@@ -64,7 +67,10 @@ fn argument_node<'a, M: ReadModule<'a>, D: ReadDeclaration<'a>>(
     if !begins_module_argument(tokens) {
         return Err(Stop::Fault(refused(tokens)));
     }
-    let found = argument_below(bump, read, read_dec, inner, tokens)?;
+    let found = match argument_below(bump, read, read_dec, inner, tokens) {
+        Ok(found) => found,
+        Err(stop) => return Err(stop),
+    };
     Ok(Found {
         tree: ModEnding {
             module: found.tree,

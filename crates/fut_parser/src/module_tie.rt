@@ -1,6 +1,6 @@
 // What reads the modules and declarations in a production is handed over to the function that reads the production.
 ghost use Rattle.std.specs.Prelude.{◌≤◌, ℕ, IfOk};
-ghost use Rattle.fut_ast.specs.Sorts.{Atomic_mod, Dec_item, Last_mod, Whole_mod};
+ghost use Rattle.fut_ast.specs.Sorts.{Dec_item, Last_mod, Whole_mod};
 ghost use Rattle.fut_grammar.specs.Phrases.{read_at};
 ghost use Rattle.fut_grammar.specs.Reading.{Gives};
 ghost use Rattle.fut_parser.specs.Private.ModFound.{dec_found, ending_found};
@@ -14,7 +14,7 @@ use fut_token::Token;
 use fut_tree::{Dec, ModExp};
 
 /// The sorts of module expressions that stand in productions.
-#[derive(Clone, Copy, Debug, PartialEq, Eq)]
+#[derive(Clone, Copy)]
 pub enum ModSort {
     Whole,
     /// An argument of a parametric module.
@@ -67,25 +67,10 @@ pub fn whole_module<'a, M: ReadModule<'a>>(
     ensures exact { Gives tree_found result (read_at inner Whole_mod tokens.now) }
     ensures low { IfOk result (λ x. x.height ≤ inner) }
 {
-    let found = read.read(inner, ModSort::Whole, tokens)?;
-    Ok(Found {
-        tree: found.tree.module,
-        height: found.height,
-        rest: found.rest,
-    })
-}
-
-/// An argument of a parametric module.
-pub fn argument<'a, M: ReadModule<'a>>(
-    read: M,
-    inner: u32,
-    tokens: &'a [Token],
-) -> Result<Found<'a, &'a ModExp<'a>>, Stop>
-    requires law { M.reads read inner }
-    ensures exact { Gives tree_found result (read_at inner Atomic_mod tokens.now) }
-    ensures low { IfOk result (λ x. x.height ≤ inner) }
-{
-    let found = read.read(inner, ModSort::Argument, tokens)?;
+    let found = match read.read(inner, ModSort::Whole, tokens) {
+        Ok(found) => found,
+        Err(stop) => return Err(stop),
+    };
     Ok(Found {
         tree: found.tree.module,
         height: found.height,

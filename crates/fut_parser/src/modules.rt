@@ -7,17 +7,17 @@ ghost use Rattle.fut_ast.specs.Rows.{applied_mod, far_mod, of_mod, sealed};
 ghost use Rattle.fut_ast.specs.Sorts.{Atomic_mod, Far_mod, Last_mod, Whole_mtype};
 ghost use Rattle.fut_ast.specs.declared.module.ModForm.TheVariants.{Lambda};
 ghost use Rattle.fut_ast.specs.Tokens.{starts};
-ghost use Rattle.fut_grammar.specs.Phrases.{applied_mod_at, atomic_mod_at, far_at, first_mod_at, last_mod_at, once_at, phrases, read_at};
+ghost use Rattle.fut_grammar.specs.Phrases.{atomic_mod_at, far_at, first_mod_at, last_mod_at, once_at, phrases, read_at};
 ghost use Rattle.fut_grammar.specs.Reading.{Gives, parts_at, row_at};
 ghost use Rattle.fut_parser.specs.Private.ModFound.{ending_found};
 ghost use Rattle.fut_phrases.specs.Found.{tree_found};
 ghost use Rattle.fut_tree.specs.ModTypes.{label_of};
 
-use crate::declarations::Declarations;
+use crate::items::Items;
 use crate::mod_nodes as node;
 use crate::mod_tokens::{begins_module_argument, goes_on_module};
 use crate::module_tie::{
-    ModAnswer, ModEnding, ReadDeclaration, ReadModule, argument, last_module, whole_module,
+    ModAnswer, ModEnding, ModSort, ReadDeclaration, ReadModule, last_module, whole_module,
 };
 use bumpalo::Bump;
 use fut_ast::Spot;
@@ -36,7 +36,7 @@ use fut_tree::{Held, ModExp, ModForm, Param};
 type Module<'a> = Result<Found<'a, &'a ModExp<'a>>, Stop>;
 
 /// Any module expression as the last part of a form.
-#[tactic(auto, unfolding(fut_grammar::specs::Phrases::last_mod_at))]
+#[tactic(auto, unfolding(fut_grammar::specs::Phrases::last_mod_at, fut_grammar::specs::Phrases::applied_mod_at))]
 pub fn last_below<'a, M: ReadModule<'a>, D: ReadDeclaration<'a>>(
     bump: &'a Bump,
     read: M,
@@ -50,41 +50,15 @@ pub fn last_below<'a, M: ReadModule<'a>, D: ReadDeclaration<'a>>(
     ensures exact { Gives ending_found result (last_mod_at (phrases (read_at inner)) (suc inner) tokens.now) }
     ensures low { IfOk result (λ x. x.height ≤ inner + 1) }
 {
-    let first = applied_below(bump, read, read_dec, inner, tokens)?;
-    seal_behind(
-        bump,
-        inner,
-        next_spot(tokens),
-        first.tree,
-        first.height,
-        first.rest,
-    )
-}
-
-#[tactic(auto, unfolding(fut_grammar::specs::Phrases::applied_mod_at))]
-fn applied_below<'a, M: ReadModule<'a>, D: ReadDeclaration<'a>>(
-    bump: &'a Bump,
-    read: M,
-    read_dec: D,
-    inner: u32,
-    tokens: &'a [Token],
-) -> Module<'a>
-    requires law { M.reads read inner }
-    requires law_dec { D.reads read_dec inner }
-    requires room { inner < 1000 }
-    ensures exact { Gives tree_found result (applied_mod_at (phrases (read_at inner)) (suc inner) tokens.now) }
-    ensures low { IfOk result (λ x. x.height ≤ inner + 1) }
-{
-    let first = first_below(bump, read, read_dec, inner, tokens)?;
-    arguments_behind(
-        bump,
-        read,
-        inner,
-        next_spot(tokens),
-        first.tree,
-        first.height,
-        first.rest,
-    )
+    let at = next_spot(tokens);
+    let first = match first_below(bump, read, read_dec, inner, tokens) {
+        Ok(first) => first,
+        Err(stop) => return Err(stop),
+    };
+    match arguments_behind(bump, read, inner, at, first.tree, first.height, first.rest) {
+        Ok(applied) => seal_behind(bump, inner, at, applied.tree, applied.height, applied.rest),
+        Err(stop) => Err(stop),
+    }
 }
 
 #[tactic(auto, unfolding(fut_grammar::specs::Phrases::first_mod_at))]
@@ -146,7 +120,10 @@ fn far_function<'a, M: ReadModule<'a>>(
     ensures exact { Gives tree_found result (far_at far_mod (row_at (phrases (read_at inner)) (of_mod mod_function) tokens.now)) }
     ensures low { IfOk result (λ x. x.height ≤ inner + 1) }
 {
-    let found = function(bump, read, inner, tokens)?;
+    let found = match function(bump, read, inner, tokens) {
+        Ok(found) => found,
+        Err(stop) => return Err(stop),
+    };
     if goes_on_module(found.tree.is_sealed, found.rest) {
         return Err(Stop::Fault(refused(found.rest)));
     }
@@ -198,9 +175,18 @@ fn body_behind<'a, M: ReadModule<'a>>(
     ensures exact { Gives ending_found result (parts_at (phrases (read_at inner)) true Far_mod (Maybe Fixed.Colon (Whole_mtype false) ∷ Sign Fixed.Arrow ∷ Sub Last_mod ∷ []) (λ ty arrow m. (mod_at place (Lambda (label_of param.entry.label) param.entry.bound.now ty m.0), m.1)) param_height tokens.now) }
     ensures low { IfOk result (λ x. x.height ≤ inner + 1) }
 {
-    let ty = maybe_module_type(bump, inner, false, param_height, tokens)?;
-    let rest = take(ty.rest, Fixed::Arrow)?;
-    let body = last_module(read, inner, rest)?;
+    let ty = match maybe_module_type(bump, inner, false, param_height, tokens) {
+        Ok(ty) => ty,
+        Err(stop) => return Err(stop),
+    };
+    let rest = match take(ty.rest, Fixed::Arrow) {
+        Ok(rest) => rest,
+        Err(stop) => return Err(stop),
+    };
+    let body = match last_module(read, inner, rest) {
+        Ok(body) => body,
+        Err(stop) => return Err(stop),
+    };
     let form = ModForm::Lambda(param.label, param.bound, ty.tree, body.tree.module);
     node::ended(
         bump,
@@ -211,19 +197,25 @@ fn body_behind<'a, M: ReadModule<'a>>(
     )
 }
 
-#[tactic(auto, unfolding(fut_grammar::specs::Reading::row_at, fut_grammar::specs::Reading::parts_at, fut_grammar::specs::Reading::has_at, fut_grammar::specs::Reading::sub_at, fut_grammar::specs::Phrases::phrases))]
+#[tactic(auto, unfolding(fut_grammar::specs::Reading::row_at, fut_grammar::specs::Reading::parts_at, fut_grammar::specs::Reading::has_at, fut_grammar::specs::Reading::sub_at, fut_grammar::specs::Phrases::phrases, fut_grammar::specs::Reading::expect))]
 fn round<'a, M: ReadModule<'a>>(read: M, inner: u32, tokens: &'a [Token]) -> Module<'a>
+    requires first { starts Fixed.OpenParen tokens.now ≡ true }
     requires law { M.reads read inner }
     requires room { inner < 1000 }
     ensures exact { Gives tree_found result (row_at (phrases (read_at inner)) (of_mod round_mod) tokens.now) }
     ensures low { IfOk result (λ x. x.height ≤ inner + 1) }
 {
-    let rest = take(tokens, Fixed::OpenParen)?;
-    let found = whole_module(read, inner, rest)?;
+    let found = match whole_module(read, inner, rest_of(tokens)) {
+        Ok(found) => found,
+        Err(stop) => return Err(stop),
+    };
+    if !starts_with(found.rest, Fixed::CloseParen) {
+        return Err(Stop::Fault(refused(found.rest)));
+    }
     Ok(Found {
         tree: found.tree,
         height: found.height + 1,
-        rest: take(found.rest, Fixed::CloseParen)?,
+        rest: rest_of(found.rest),
     })
 }
 
@@ -240,11 +232,19 @@ fn in_braces<'a, D: ReadDeclaration<'a>>(
     ensures low { IfOk result (λ x. x.height ≤ inner + 1) }
 {
     let place = next_spot(tokens).place;
-    let rest = take(tokens, Fixed::OpenBrace)?;
-    let all = many(bump, Declarations { read: read_dec }, inner, 0, rest)?;
-    let rest = take(all.rest, Fixed::CloseBrace)?;
+    let rest = match take(tokens, Fixed::OpenBrace) {
+        Ok(rest) => rest,
+        Err(stop) => return Err(stop),
+    };
+    let all = match many(bump, Items { read: read_dec }, inner, 0, rest) {
+        Ok(all) => all,
+        Err(stop) => return Err(stop),
+    };
     let form = ModForm::Decs(all.tree);
-    node::made(bump, ModExp { place, form }, all.height + 1, rest)
+    match take(all.rest, Fixed::CloseBrace) {
+        Ok(rest) => node::made(bump, ModExp { place, form }, all.height + 1, rest),
+        Err(stop) => Err(stop),
+    }
 }
 
 // ---- what has no modules in it
@@ -258,7 +258,10 @@ fn imported<'a>(bump: &'a Bump, inner: u32, tokens: &'a [Token]) -> Module<'a>
 {
     let _inner = inner;
     let place = next_spot(tokens).place;
-    let (file, rest) = take_text(rest_of(tokens))?;
+    let (file, rest) = match take_text(rest_of(tokens)) {
+        Ok(found) => found,
+        Err(stop) => return Err(stop),
+    };
     let form = ModForm::Import(file);
     node::made(bump, ModExp { place, form }, 1, rest)
 }
@@ -271,7 +274,10 @@ fn path<'a>(bump: &'a Bump, inner: u32, tokens: &'a [Token]) -> Module<'a>
 {
     let _inner = inner;
     let place = next_spot(tokens).place;
-    let (names, rest) = take_path(bump, tokens)?;
+    let (names, rest) = match take_path(bump, tokens) {
+        Ok(found) => found,
+        Err(stop) => return Err(stop),
+    };
     let form = ModForm::Path(names);
     node::made(bump, ModExp { place, form }, 1, rest)
 }
@@ -304,19 +310,16 @@ fn arguments_behind<'a, M: ReadModule<'a>>(
     if first_height > inner {
         return Err(Stop::Fault(Fault::TooDeep(tokens.len())));
     }
-    let all = several(bump, Arguments { read }, inner, first_height, tokens)?;
+    let all = match several(bump, Items { read }, inner, first_height, tokens) {
+        Ok(all) => all,
+        Err(stop) => return Err(stop),
+    };
     let place = at.place;
     let form = ModForm::Apply(first, all.tree);
     node::made(bump, ModExp { place, form }, all.height + 1, all.rest)
 }
 
-/// Arguments of a parametric module, each read by what reads one.
-#[derive(Clone, Copy)]
-struct Arguments<M> {
-    read: M,
-}
-
-impl<'a, M: ReadModule<'a>> ReadItem<'a, Held<'a, ModExp<'a>>> for Arguments<M> {
+impl<'a, M: ReadModule<'a>> ReadItem<'a, Held<'a, ModExp<'a>>> for Items<M> {
     ghost sort = { Atomic_mod };
 
     ghost seen = { λ m. m.at.now };
@@ -331,16 +334,21 @@ impl<'a, M: ReadModule<'a>> ReadItem<'a, Held<'a, ModExp<'a>>> for Arguments<M> 
         tokens: &'a [Token],
     ) -> Result<Found<'a, Held<'a, ModExp<'a>>>, Stop> {
         let _bump = bump;
-        let found = argument(self.read, inner, tokens)?;
+        let found = match self.read.read(inner, ModSort::Argument, tokens) {
+            Ok(found) => found,
+            Err(stop) => return Err(stop),
+        };
         Ok(Found {
-            tree: Held { at: found.tree },
+            tree: Held {
+                at: found.tree.module,
+            },
             height: found.height,
             rest: found.rest,
         })
     }
 }
 
-impl<'a, M: ReadModule<'a>> BeginItem<'a, Held<'a, ModExp<'a>>> for Arguments<M> {
+impl<'a, M: ReadModule<'a>> BeginItem<'a, Held<'a, ModExp<'a>>> for Items<M> {
     fn begins(self, tokens: &'a [Token]) -> bool {
         begins_module_argument(tokens)
     }
@@ -376,7 +384,10 @@ fn seal_behind<'a>(
     if first_height > inner {
         return Err(Stop::Fault(Fault::TooDeep(tokens.len())));
     }
-    let ty = module_type(bump, inner, true, rest_of(tokens))?;
+    let ty = match module_type(bump, inner, true, rest_of(tokens)) {
+        Ok(ty) => ty,
+        Err(stop) => return Err(stop),
+    };
     let place = at.place;
     let form = ModForm::Seal(first, ty.tree);
     node::ended(

@@ -6,18 +6,17 @@ ghost use Rattle.fut_ast.specs.Nesting.{Too_deep};
 ghost use Rattle.fut_ast.specs.Sorts.{Dec_item};
 ghost use Rattle.fut_ast.specs.declared.module.Program.{Program as PlainProgram};
 ghost use Rattle.fut_ast.specs.declared.node.What.{What};
-ghost use Rattle.fut_grammar.specs.Phrases.{nodes, phrases, program_at, read_at};
+ghost use Rattle.fut_grammar.specs.Phrases.{nodes, program_at, read_at};
 ghost use Rattle.fut_grammar.specs.Reading.{Gives, many_at};
 ghost use Rattle.fut_parser.specs.Private.Answers.{ExplainsParse, ReadsTokens, answer_of, place_left};
-ghost use Rattle.fut_parser.specs.Private.ModFound.{dec_found, decs_found};
-ghost use Rattle.fut_module_types.specs.MtypeTie.{Law};
+ghost use Rattle.fut_parser.specs.Private.ModFound.{decs_found};
 ghost use Rattle.fut_parser.specs.Places.{Ends, place_of};
 ghost use Rattle.fut_scalar.specs.declared.place.Place.{Place};
 ghost use Rattle.fut_token.specs.declared.token.Token.{Token};
 
-use crate::declarations::Declarations;
+use crate::items::Items;
 use crate::module_cycle::declaration;
-use crate::module_tie::DecAnswer;
+use crate::module_tie::{DecAnswer, ReadDeclaration};
 use bumpalo::Bump;
 use fut_ast::What;
 use fut_grammar::{Fault, Stop};
@@ -42,20 +41,18 @@ pub enum ParseErr {
     Memory,
 }
 
-// The closure's types are known from this bound alone.
-fn declarations_by<'a, F: Fn(&'a [Token]) -> DecAnswer<'a>>(
+/// Declarations of any height, each made in the arena.
+#[derive(Clone, Copy)]
+struct AnyDeclaration<'a> {
     bump: &'a Bump,
-    read: &F,
-    inner: u32,
-    tokens: &'a [Token],
-) -> Result<Found<'a, &'a [Dec<'a>]>, Stop>
-    requires callable { F.IsAlwaysCallable read.now }
-    requires law { Law Dec_item dec_found (F.post read.now) inner }
-    requires room { inner < 1000 }
-    ensures exact { Gives decs_found result (many_at (phrases (read_at inner)) (length tokens.now) Dec_item 0 tokens.now) }
-    ensures low { IfOk result (λ x. x.height ≤ inner) }
-{
-    many(bump, Declarations { read }, inner, 0, tokens)
+}
+
+impl<'a> ReadDeclaration<'a> for AnyDeclaration<'a> {
+    ghost reads = { λ s d. d ≤ 1000 };
+
+    fn declaration(self, inner: u32, tokens: &'a [Token]) -> DecAnswer<'a> {
+        declaration(self.bump, inner, tokens)
+    }
 }
 
 // The declarations of a file.
@@ -66,15 +63,8 @@ fn all_declarations<'a>(
     ensures exact { Gives decs_found result (many_at (nodes (read_at 201)) (length tokens.now) Dec_item 0 tokens.now) }
     ensures low { IfOk result (λ x. x.height ≤ 201) }
 {
-    declarations_by(
-        bump,
-        &|behind| -> Result<Found<Dec>, Stop>
-            ensures exact { Gives dec_found result (read_at 201 Dec_item behind.now) }
-            ensures low { IfOk result (λ x. x.height ≤ 201) }
-        { declaration(bump, 201, behind) },
-        201,
-        tokens,
-    )
+    let read = AnyDeclaration { bump };
+    many(bump, Items { read }, 201, 0, tokens)
 }
 
 #[tactic(auto, unfolding(fut_grammar::specs::Phrases::program_at))]
@@ -82,7 +72,10 @@ fn program<'a>(bump: &'a Bump, tokens: &'a [Token]) -> Result<(Program<'a>, u32)
     ensures exact { Gives (λ x. (x.0, x.1)) result (program_at tokens.now) }
     ensures low { IfOk result (λ x. x.1 ≤ 201) }
 {
-    let found = all_declarations(bump, tokens)?;
+    let found = match all_declarations(bump, tokens) {
+        Ok(found) => found,
+        Err(stop) => return Err(stop),
+    };
     if found.rest.len() == 0 {
         Ok((Program { decs: found.tree }, found.height))
     } else {

@@ -2,9 +2,11 @@
 use Rattle.std.specs.Prelude.{◌≤◌, ℕ, List, Result, IfOk}
 use Rattle.std.specs.Borrow.{Bor}
 use Rattle.fut_token.specs.declared.token.Token.{Token}
-use Rattle.fut_ast.specs.Sorts.{Sort, Tree, Whole_type, Applied_type, Atomic_type}
+use Rattle.fut_ast.specs.Sorts.{Sort, Tree, Whole_type, Applied_type, Atomic_type, Whole_pat, Atomic_pat}
 use Rattle.fut_grammar.specs.declared.fault.Stop.{Stop}
 use Rattle.fut_phrases.specs.declared.found.Found.{Found}
+use Rattle.fut_phrases.specs.declared.patterns.PatSort.{PatSort}
+use Rattle.fut_phrases.specs.declared.patterns.PatSort.TheVariants as pat_sort
 use Rattle.fut_phrases.specs.declared.types.TypeSort.{TypeSort}
 use Rattle.fut_phrases.specs.declared.types.TypeSort.TheVariants as sort
 use Rattle.fut_phrases.specs.Found.{tree_found}
@@ -31,3 +33,8 @@ ReadsType sort.Atomic d ts r = Reads Atomic_type d ts r
 
 abbrev pub TypeLaw : (TypeSort → Bor (List Token) → Answer Whole_type → Type 0) → ℕ → Type 0
 TypeLaw post d = (n : TypeSort) (ts : Bor (List Token)) (r : Answer Whole_type) → post n ts r → ReadsType n d ts.now r
+
+-- patterns of two sorts are read by one function
+abbrev pub ReadsPat : PatSort → ℕ → List Token → Answer Whole_pat → Type 0
+ReadsPat pat_sort.Whole d ts r = Reads Whole_pat d ts r
+ReadsPat pat_sort.Atomic d ts r = Reads Atomic_pat d ts r

@@ -1,2 +1,3 @@
 pub mod Found
 pub mod Handed
+pub mod Signs

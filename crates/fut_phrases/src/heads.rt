@@ -12,8 +12,7 @@ ghost use Rattle.fut_tree.specs.Pats.{head_of};
 use crate::found::Found;
 use crate::lists::{BeginItem, ReadItem, many};
 use crate::tokens::{
-    begins_parameter, greater, next_spot, refused, rest_of, starts_with, take, take_variable,
-    take_word,
+    begins_parameter, next_spot, refused, rest_of, starts_with, take_variable, take_word_before,
 };
 use bumpalo::Bump;
 use bumpalo::collections::into_bump_slice;
@@ -84,15 +83,18 @@ fn size<'a>(tokens: &'a [Token]) -> Result<Found<'a, Head<'a>>, Stop>
     ensures exact { (inner : ℕ) → Gives (found_as head_of) result (row_at (items (read_at inner)) (of_pat size_head) tokens.now) }
     ensures low { IfOk result (λ x. x.height ≡ 0) }
 {
-    let place = next_spot(tokens).place;
-    let (name, rest) = take_word(rest_of(tokens))?;
-    let rest = take(rest, Fixed::CloseBracket)?;
-    let form = HeadForm::Size(name);
-    Ok(Found {
-        tree: Head { place, form },
-        height: 0,
-        rest,
-    })
+    match take_word_before(rest_of(tokens), Fixed::CloseBracket) {
+        Ok((name, rest)) => {
+            let place = next_spot(tokens).place;
+            let form = HeadForm::Size(name);
+            Ok(Found {
+                tree: Head { place, form },
+                height: 0,
+                rest,
+            })
+        }
+        Err(stop) => Err(stop),
+    }
 }
 
 #[tactic(auto, unfolding(fut_grammar::specs::Reading::row_at, fut_grammar::specs::Reading::parts_at, fut_grammar::specs::Reading::has_at))]
@@ -100,10 +102,12 @@ fn variable<'a>(tokens: &'a [Token]) -> Result<Found<'a, Head<'a>>, Stop>
     ensures exact { (inner : ℕ) → Gives (found_as head_of) result (row_at (items (read_at inner)) (of_pat variable_head) tokens.now) }
     ensures low { IfOk result (λ x. x.height ≡ 0) }
 {
-    let (head, rest) = take_variable(tokens)?;
-    Ok(Found {
-        tree: head,
-        height: 0,
-        rest,
-    })
+    match take_variable(tokens) {
+        Ok((tree, rest)) => Ok(Found {
+            tree,
+            height: 0,
+            rest,
+        }),
+        Err(stop) => Err(stop),
+    }
 }

@@ -5,6 +5,7 @@ ghost use Rattle.fut_ast.specs.Sorts.{Sort, Tree};
 ghost use Rattle.fut_grammar.specs.Phrases.{phrases, read_at};
 ghost use Rattle.fut_grammar.specs.Reading.{Gives, commas_at, many_at, several_at};
 ghost use Rattle.fut_phrases.specs.Found.{found_as};
+ghost use Rattle.fut_phrases.specs.Signs.{enclosed_at};
 ghost use Rattle.fut_tree.specs.Names.{all};
 
 use crate::found::Found;
@@ -41,20 +42,21 @@ pub trait BeginItem<'a, T>: ReadItem<'a, T> {
         ensures { result ≡ begins Self.sort tokens.now };
 }
 
-/// One or more items with commas between.
-pub fn commas<'a, T: Copy, R: ReadItem<'a, T>>(
+/// One or more items with commas between, in a tree that is as high as given without them.
+pub fn commas_from<'a, T: Copy, R: ReadItem<'a, T>>(
     bump: &'a Bump,
     read: R,
     inner: u32,
+    first_height: u32,
     tokens: &'a [Token],
 ) -> Result<Found<'a, &'a [T]>, Stop>
     requires law { R.reads read inner }
-    requires room { inner < 1000 }
-    ensures exact { Gives (found_as (λ t. map R.seen t.now)) result (commas_at (phrases (read_at inner)) (length tokens.now) R.sort 0 tokens.now) }
+    requires room { (inner < 1000) × (first_height ≤ inner) }
+    ensures exact { Gives (found_as (λ t. map R.seen t.now)) result (commas_at (phrases (read_at inner)) (length tokens.now) R.sort first_height tokens.now) }
     ensures low { IfOk result (λ x. x.height ≤ inner) }
 {
     let mut made = Vec::new(bump);
-    let mut height = 0;
+    let mut height = first_height;
     let mut rest = tokens;
     'items: for _turn in 0..tokens.len() {
         let item = read.item(bump, inner, rest)?;
@@ -70,6 +72,39 @@ pub fn commas<'a, T: Copy, R: ReadItem<'a, T>>(
         rest = rest_of(item.rest);
     }
     Err(Stop::Fault(refused(rest)))
+}
+
+/// One or more items with commas between, and two symbols around them.
+pub fn enclosed<'a, T: Copy, R: ReadItem<'a, T>>(
+    bump: &'a Bump,
+    read: R,
+    inner: u32,
+    opening: Fixed,
+    closing: Fixed,
+    tokens: &'a [Token],
+) -> Result<Found<'a, &'a [T]>, Stop>
+    requires law { R.reads read inner }
+    requires room { inner < 1000 }
+    ensures exact { Gives (found_as (λ t. map R.seen t.now)) result (enclosed_at (phrases (read_at inner)) opening closing R.sort tokens.now) }
+    ensures low { IfOk result (λ x. x.height ≤ inner) }
+{
+    if !starts_with(tokens, opening) {
+        return Err(Stop::Fault(refused(tokens)));
+    }
+    match commas_from(bump, read, inner, 0, rest_of(tokens)) {
+        Ok(Found { tree, height, rest }) => {
+            if starts_with(rest, closing) {
+                Ok(Found {
+                    tree,
+                    height,
+                    rest: rest_of(rest),
+                })
+            } else {
+                Err(Stop::Fault(refused(rest)))
+            }
+        }
+        Err(stop) => Err(stop),
+    }
 }
 
 /// Items, as many as stand there, in a tree that is as high as given without them.
@@ -125,22 +160,23 @@ pub fn several<'a, T: Copy, R: BeginItem<'a, T>>(
     ensures exact { Gives (found_as (λ t. map R.seen t.now)) result (several_at (phrases (read_at inner)) R.sort first_height tokens.now) }
     ensures low { IfOk result (λ x. x.height ≤ inner) }
 {
-    let first = read.item(bump, inner, tokens)?;
-    let others = many(
-        bump,
-        read,
-        inner,
-        greater(first_height, first.height),
-        first.rest,
-    )?;
-    Ok(Found {
-        tree: led_by(bump, first.tree, others.tree)?,
-        height: others.height,
-        rest: others.rest,
-    })
+    let first = match read.item(bump, inner, tokens) {
+        Ok(first) => first,
+        Err(stop) => return Err(stop),
+    };
+    let height = greater(first_height, first.height);
+    match many(bump, read, inner, height, first.rest) {
+        Ok(others) => Ok(Found {
+            tree: led_by(bump, first.tree, others.tree)?,
+            height: others.height,
+            rest: others.rest,
+        }),
+        Err(stop) => Err(stop),
+    }
 }
 
-fn led_by<'a, T: Copy>(bump: &'a Bump, first: T, others: &'a [T]) -> Result<&'a [T], AllocError>
+/// Another list with one item in front.
+pub fn led_by<'a, T: Copy>(bump: &'a Bump, first: T, others: &'a [T]) -> Result<&'a [T], AllocError>
     ensures { IfOk result (λ list. list.now ≡ first ∷ others.now) }
 {
     let mut made = Vec::new(bump);
@@ -160,11 +196,5 @@ pub fn in_front<'a, T>(
 ) -> Result<&'a [Held<'a, T>], AllocError>
     ensures { IfOk result (λ list. all list.now ≡ first.now ∷ all others.now) }
 {
-    let mut made = Vec::new(bump);
-    match made.push(Held { at: first }) {
-        Ok(()) => (),
-        Err(_) => return Err(AllocError),
-    }
-    made.extend_from_slice(others)?;
-    Ok(into_bump_slice(made))
+    led_by(bump, Held { at: first }, others)
 }

@@ -9,11 +9,11 @@ ghost use Rattle.fut_grammar.specs.Reading.{Gives, many_at, maybe_at, row_at, se
 ghost use Rattle.fut_phrases.specs.Found.{found_as, heads_found, list_found, names_found, tree_found};
 ghost use Rattle.fut_tree.specs.Names.{maybe};
 
-use crate::found::Found;
+use crate::found::{Found, part};
 use crate::heads::heads;
 use crate::lists::{BeginItem, ReadItem, many, several};
 use crate::patterns::atomic_pattern;
-use crate::tokens::{begins_pattern, greater, refused, rest_of, starts_with, take, take_word};
+use crate::tokens::{begins_pattern, greater, refused, rest_of, starts_with, take_word_before};
 use crate::types::{applied_type, whole_type};
 use bumpalo::Bump;
 use bumpalo::collections::into_bump_slice;
@@ -72,13 +72,14 @@ fn any_size<'a>(tokens: &'a [Token]) -> Result<Found<'a, &'a str>, Stop>
     ensures exact { (inner : ℕ) → Gives tree_found result (row_at (items (read_at inner)) (of_pat size_name) tokens.now) }
     ensures low { IfOk result (λ x. x.height ≡ 0) }
 {
-    let (name, rest) = take_word(rest_of(tokens))?;
-    let rest = take(rest, Fixed::CloseBracket)?;
-    Ok(Found {
-        tree: name,
-        height: 0,
-        rest,
-    })
+    match take_word_before(rest_of(tokens), Fixed::CloseBracket) {
+        Ok((tree, rest)) => Ok(Found {
+            tree,
+            height: 0,
+            rest,
+        }),
+        Err(stop) => Err(stop),
+    }
 }
 
 /// Parameters of a function.
@@ -99,12 +100,7 @@ impl<'a> ReadItem<'a, Held<'a, Pat<'a>>> for Patterns {
         inner: u32,
         tokens: &'a [Token],
     ) -> Result<Found<'a, Held<'a, Pat<'a>>>, Stop> {
-        let found = atomic_pattern(bump, inner, tokens)?;
-        Ok(Found {
-            tree: Held { at: found.tree },
-            height: found.height,
-            rest: found.rest,
-        })
+        part(atomic_pattern(bump, inner, tokens))
     }
 }
 
@@ -161,12 +157,14 @@ pub fn maybe_applied_type<'a>(
             rest: tokens,
         });
     }
-    let ty = applied_type(bump, inner, rest_of(tokens))?;
-    Ok(Found {
-        tree: Some(ty.tree),
-        height: greater(first_height, ty.height),
-        rest: ty.rest,
-    })
+    match applied_type(bump, inner, rest_of(tokens)) {
+        Ok(Found { tree, height, rest }) => Ok(Found {
+            tree: Some(tree),
+            height: greater(first_height, height),
+            rest,
+        }),
+        Err(stop) => Err(stop),
+    }
 }
 
 // ---- the same in what is no node
@@ -244,10 +242,12 @@ pub fn maybe_type_inside<'a>(
             rest: tokens,
         });
     }
-    let ty = whole_type(bump, inner, rest_of(tokens))?;
-    Ok(Found {
-        tree: Some(ty.tree),
-        height: greater(first_height, ty.height),
-        rest: ty.rest,
-    })
+    match whole_type(bump, inner, rest_of(tokens)) {
+        Ok(Found { tree, height, rest }) => Ok(Found {
+            tree: Some(tree),
+            height: greater(first_height, height),
+            rest,
+        }),
+        Err(stop) => Err(stop),
+    }
 }

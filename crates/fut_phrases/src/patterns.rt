@@ -3,19 +3,18 @@ ghost use Rattle.std.specs.Prelude.{Err, ◌≡◌, ◌≤◌, ◌<◌, ◌+◌,
 ghost use Rattle.fut_ast.specs.PatRows.{fields_pat, no_fields_pat, pat_name, round_pat, set_field, short_field, unit_pat, wild};
 ghost use Rattle.fut_ast.specs.Rows.{of_pat, pat_type};
 ghost use Rattle.fut_ast.specs.Sorts.{Atomic_pat, Pat_field, Whole_pat};
-ghost use Rattle.fut_ast.specs.Tokens.{starts, tail};
-ghost use Rattle.fut_phrases.specs.Handed.{Law};
+ghost use Rattle.fut_ast.specs.Tokens.{is_word, starts, tail};
+ghost use Rattle.fut_phrases.specs.Handed.{Law, ReadsPat};
 ghost use Rattle.fut_grammar.specs.Phrases.{atomic_pat_at, items, once_at, pat_field_at, phrases, read_at, whole_pat_at};
 ghost use Rattle.fut_grammar.specs.Reading.{Gives, commas_at, row_at};
 ghost use Rattle.fut_phrases.specs.Found.{found_as, list_found, tree_found};
 ghost use Rattle.fut_tree.specs.Pats.{pat_fields};
 
-use crate::found::Found;
-use crate::lists::{ReadItem, commas};
+use crate::found::{Found, part};
+use crate::lists::{ReadItem, enclosed};
 use crate::pat_nodes as node;
 use crate::tokens::{
-    begins_pattern, greater, next_spot, refused, rest_of, starts_with, starts_with_word, take,
-    take_word,
+    begins_pattern, greater, next_spot, next_word, refused, rest_of, starts_with, starts_with_word,
 };
 use crate::types::whole_type;
 use bumpalo::Bump;
@@ -24,6 +23,14 @@ use fut_ast::Spot;
 use fut_grammar::{Fault, Stop};
 use fut_token::{Fixed, Token};
 use fut_tree::{Held, Pat, PatField, PatForm};
+
+/// The sorts of patterns that stand in productions.
+#[derive(Clone, Copy)]
+pub enum PatSort {
+    Whole,
+    /// Without a type at its top.
+    Atomic,
+}
 
 /// What is read as a pattern, its height, and the tokens behind it.
 pub type PatAnswer<'a> = Result<Found<'a, &'a Pat<'a>>, Stop>;
@@ -50,26 +57,12 @@ impl<'a, F: Fn(&'a [Token]) -> PatAnswer<'a>> ReadPat<'a> for &F {
 }
 
 /// A pattern of a height up to the depth.
-#[cycle(patterns)]
 pub fn whole_pattern<'a>(bump: &'a Bump, depth: u32, tokens: &'a [Token]) -> PatAnswer<'a>
     requires { depth ≤ 1000 }
     ensures exact { Gives tree_found result (read_at depth Whole_pat tokens.now) }
     ensures low { IfOk result (λ x. x.height ≤ depth) }
 {
-    if depth == 0 {
-        return Err(Stop::Fault(nothing_below(tokens)));
-    }
-    let inner = depth - 1;
-    whole_node(
-        bump,
-        &|behind: &[Token]| -> PatAnswer<'_>
-            requires { inner ≤ 1000 }
-            ensures exact { Gives tree_found result (read_at inner Whole_pat behind.now) }
-            ensures low { IfOk result (λ x. x.height ≤ inner) }
-        { whole_pattern(bump, inner, behind) },
-        inner,
-        tokens,
-    )
+    pattern_of(bump, depth, PatSort::Whole, tokens)
 }
 
 /// A pattern without a type at its top.
@@ -78,44 +71,72 @@ pub fn atomic_pattern<'a>(bump: &'a Bump, depth: u32, tokens: &'a [Token]) -> Pa
     ensures exact { Gives tree_found result (read_at depth Atomic_pat tokens.now) }
     ensures low { IfOk result (λ x. x.height ≤ depth) }
 {
+    pattern_of(bump, depth, PatSort::Atomic, tokens)
+}
+
+// A pattern of the sort, of a height up to the depth.
+#[cycle(patterns)]
+fn pattern_of<'a>(bump: &'a Bump, depth: u32, sort: PatSort, tokens: &'a [Token]) -> PatAnswer<'a>
+    requires { depth ≤ 1000 }
+    ensures { ReadsPat sort depth tokens.now result }
+{
     if depth == 0 {
-        return Err(Stop::Fault(nothing_below(tokens)));
+        return Err(Stop::Fault(nothing_below(sort, tokens)));
     }
     let inner = depth - 1;
-    atomic_node(
+    pattern_node(
         bump,
         &|behind: &[Token]| -> PatAnswer<'_>
             requires { inner ≤ 1000 }
-            ensures exact { Gives tree_found result (read_at inner Whole_pat behind.now) }
-            ensures low { IfOk result (λ x. x.height ≤ inner) }
-        { whole_pattern(bump, inner, behind) },
+            ensures { ReadsPat PatSort.Whole inner behind.now result }
+        { pattern_of(bump, inner, PatSort::Whole, behind) },
         inner,
+        sort,
         tokens,
     )
 }
 
 // Where nothing may stand below, a token that begins a pattern is too deep.
 #[tactic(auto, unfolding(fut_grammar::specs::Phrases::read_at, fut_grammar::specs::Reading::refuse_sort))]
-fn nothing_below(tokens: &[Token]) -> Fault
-    ensures whole { read_at 0 Whole_pat tokens.now ≡ Err result }
-    ensures atomic { read_at 0 Atomic_pat tokens.now ≡ Err result }
+fn nothing_below(sort: PatSort, tokens: &[Token]) -> Fault
+    ensures { ReadsPat sort 0 tokens.now (Err (Stop.Fault result)) }
 {
-    if begins_pattern(tokens) {
+    let begins = match sort {
+        PatSort::Whole | PatSort::Atomic => begins_pattern(tokens),
+    };
+    if begins {
         Fault::TooDeep(tokens.len())
     } else {
         refused(tokens)
     }
 }
 
-#[tactic(auto, unfolding(fut_grammar::specs::Phrases::read_at, fut_grammar::specs::Phrases::bounded, fut_grammar::specs::Phrases::ended, fut_grammar::specs::Phrases::step, fut_grammar::specs::Reading::refuse_sort))]
-fn whole_node<'a, F: Fn(&'a [Token]) -> PatAnswer<'a>>(
+fn pattern_node<'a, F: Fn(&'a [Token]) -> PatAnswer<'a>>(
     bump: &'a Bump,
     read: &F,
     inner: u32,
+    sort: PatSort,
     tokens: &'a [Token],
 ) -> PatAnswer<'a>
     requires callable { F.IsAlwaysCallable read.now }
     requires law { Law Whole_pat (F.post read.now) inner }
+    requires room { inner < 1000 }
+    ensures { ReadsPat sort (suc inner) tokens.now result }
+{
+    match sort {
+        PatSort::Whole => whole_node(bump, read, inner, tokens),
+        PatSort::Atomic => atomic_node(bump, read, inner, tokens),
+    }
+}
+
+#[tactic(auto, unfolding(fut_grammar::specs::Phrases::read_at, fut_grammar::specs::Phrases::bounded, fut_grammar::specs::Phrases::ended, fut_grammar::specs::Phrases::step, fut_grammar::specs::Reading::refuse_sort))]
+fn whole_node<'a, R: ReadPat<'a>>(
+    bump: &'a Bump,
+    read: R,
+    inner: u32,
+    tokens: &'a [Token],
+) -> PatAnswer<'a>
+    requires law { R.reads read inner }
     requires room { inner < 1000 }
     ensures exact { Gives tree_found result (read_at (suc inner) Whole_pat tokens.now) }
     ensures low { IfOk result (λ x. x.height ≤ inner + 1) }
@@ -123,22 +144,25 @@ fn whole_node<'a, F: Fn(&'a [Token]) -> PatAnswer<'a>>(
     if !begins_pattern(tokens) {
         return Err(Stop::Fault(refused(tokens)));
     }
-    let found = whole_below(bump, read, inner, tokens)?;
-    if starts_with(found.rest, Fixed::Colon) {
-        return Err(Stop::Fault(refused(found.rest)));
+    match whole_below(bump, read, inner, tokens) {
+        Ok(found) => {
+            if starts_with(found.rest, Fixed::Colon) {
+                return Err(Stop::Fault(refused(found.rest)));
+            }
+            Ok(found)
+        }
+        Err(stop) => Err(stop),
     }
-    Ok(found)
 }
 
 #[tactic(auto, unfolding(fut_grammar::specs::Phrases::read_at, fut_grammar::specs::Phrases::bounded, fut_grammar::specs::Phrases::ended, fut_grammar::specs::Phrases::step, fut_grammar::specs::Reading::refuse_sort))]
-fn atomic_node<'a, F: Fn(&'a [Token]) -> PatAnswer<'a>>(
+fn atomic_node<'a, R: ReadPat<'a>>(
     bump: &'a Bump,
-    read: &F,
+    read: R,
     inner: u32,
     tokens: &'a [Token],
 ) -> PatAnswer<'a>
-    requires callable { F.IsAlwaysCallable read.now }
-    requires law { Law Whole_pat (F.post read.now) inner }
+    requires law { R.reads read inner }
     requires room { inner < 1000 }
     ensures exact { Gives tree_found result (read_at (suc inner) Atomic_pat tokens.now) }
     ensures low { IfOk result (λ x. x.height ≤ inner + 1) }
@@ -161,8 +185,10 @@ fn whole_below<'a, R: ReadPat<'a>>(
     ensures exact { Gives tree_found result (whole_pat_at (phrases (read_at inner)) (suc inner) tokens.now) }
     ensures low { IfOk result (λ x. x.height ≤ inner + 1) }
 {
-    let pattern = atomic_below(bump, read, inner, tokens)?;
-    type_behind(bump, inner, next_spot(tokens), pattern)
+    match atomic_below(bump, read, inner, tokens) {
+        Ok(pattern) => type_behind(bump, inner, next_spot(tokens), pattern),
+        Err(stop) => Err(stop),
+    }
 }
 
 #[tactic(auto, unfolding(fut_grammar::specs::Phrases::atomic_pat_at))]
@@ -195,7 +221,7 @@ fn atomic_below<'a, R: ReadPat<'a>>(
     }
 }
 
-#[tactic(auto, unfolding(fut_grammar::specs::Reading::row_at, fut_grammar::specs::Reading::parts_at, fut_grammar::specs::Reading::has_at, fut_grammar::specs::Reading::sub_at, fut_grammar::specs::Phrases::phrases))]
+#[tactic(auto, unfolding(fut_grammar::specs::Reading::row_at, fut_grammar::specs::Reading::parts_at, fut_grammar::specs::Reading::has_at, fut_grammar::specs::Reading::expect, fut_grammar::specs::Reading::sub_at, fut_grammar::specs::Phrases::phrases))]
 fn round<'a, R: ReadPat<'a>>(
     bump: &'a Bump,
     read: R,
@@ -207,14 +233,23 @@ fn round<'a, R: ReadPat<'a>>(
     ensures exact { Gives tree_found result (row_at (phrases (read_at inner)) (of_pat round_pat) tokens.now) }
     ensures low { IfOk result (λ x. x.height ≤ inner + 1) }
 {
-    let place = next_spot(tokens).place;
-    let rest = take(tokens, Fixed::OpenParen)?;
-    let found = commas(bump, read, inner, rest)?;
-    let rest = take(found.rest, Fixed::CloseParen)?;
-    node::round_found(bump, place, found.tree, found.height + 1, rest)
+    match enclosed(
+        bump,
+        read,
+        inner,
+        Fixed::OpenParen,
+        Fixed::CloseParen,
+        tokens,
+    ) {
+        Ok(found) => {
+            let place = next_spot(tokens).place;
+            node::round_found(bump, place, found.tree, found.height + 1, found.rest)
+        }
+        Err(stop) => Err(stop),
+    }
 }
 
-#[tactic(auto, unfolding(fut_grammar::specs::Reading::row_at, fut_grammar::specs::Reading::parts_at, fut_grammar::specs::Reading::has_at, fut_grammar::specs::Reading::sub_at, fut_grammar::specs::Phrases::phrases))]
+#[tactic(auto, unfolding(fut_grammar::specs::Reading::row_at, fut_grammar::specs::Reading::parts_at, fut_grammar::specs::Reading::has_at, fut_grammar::specs::Reading::expect, fut_grammar::specs::Reading::sub_at, fut_grammar::specs::Phrases::phrases))]
 fn fields<'a, R: ReadPat<'a>>(
     bump: &'a Bump,
     read: R,
@@ -226,12 +261,21 @@ fn fields<'a, R: ReadPat<'a>>(
     ensures exact { Gives tree_found result (row_at (phrases (read_at inner)) (of_pat fields_pat) tokens.now) }
     ensures low { IfOk result (λ x. x.height ≤ inner + 1) }
 {
-    let place = next_spot(tokens).place;
-    let rest = take(tokens, Fixed::OpenBrace)?;
-    let found = commas(bump, read, inner, rest)?;
-    let rest = take(found.rest, Fixed::CloseBrace)?;
-    let form = PatForm::Record(found.tree);
-    node::made(bump, Pat { place, form }, found.height + 1, rest)
+    match enclosed(
+        bump,
+        read,
+        inner,
+        Fixed::OpenBrace,
+        Fixed::CloseBrace,
+        tokens,
+    ) {
+        Ok(found) => {
+            let place = next_spot(tokens).place;
+            let form = PatForm::Record(found.tree);
+            node::made(bump, Pat { place, form }, found.height + 1, found.rest)
+        }
+        Err(stop) => Err(stop),
+    }
 }
 
 // ---- lists of patterns
@@ -252,12 +296,7 @@ impl<'a, R: ReadPat<'a>> ReadItem<'a, Held<'a, Pat<'a>>> for R {
         tokens: &'a [Token],
     ) -> Result<Found<'a, Held<'a, Pat<'a>>>, Stop> {
         let _bump = bump;
-        let found = self.whole(inner, tokens)?;
-        Ok(Found {
-            tree: Held { at: found.tree },
-            height: found.height,
-            rest: found.rest,
-        })
+        part(self.whole(inner, tokens))
     }
 }
 
@@ -279,11 +318,15 @@ impl<'a, R: ReadPat<'a>> ReadItem<'a, PatField<'a>> for R {
         if !starts_with_word(tokens) {
             return Err(Stop::Fault(refused(tokens)));
         }
-        let found = any_field(bump, self, inner, tokens)?;
-        if starts_with(found.rest, Fixed::Equal) {
-            return Err(Stop::Fault(refused(found.rest)));
+        match any_field(bump, self, inner, tokens) {
+            Ok(found) => {
+                if starts_with(found.rest, Fixed::Equal) {
+                    return Err(Stop::Fault(refused(found.rest)));
+                }
+                Ok(found)
+            }
+            Err(stop) => Err(stop),
         }
-        Ok(found)
     }
 }
 
@@ -295,6 +338,7 @@ fn any_field<'a, R: ReadPat<'a>>(
     tokens: &'a [Token],
 ) -> Result<Found<'a, PatField<'a>>, Stop>
     requires law { R.reads read inner }
+    requires word { is_word tokens.now ≡ true }
     requires room { inner < 1000 }
     ensures exact { Gives (found_as (λ f. (f.name.now, f.pat.now))) result (pat_field_at (items (read_at inner)) tokens.now) }
     ensures low { IfOk result (λ x. x.height ≤ inner) }
@@ -306,28 +350,28 @@ fn any_field<'a, R: ReadPat<'a>>(
     }
 }
 
-#[tactic(auto, unfolding(fut_grammar::specs::Reading::row_at, fut_grammar::specs::Reading::parts_at, fut_grammar::specs::Reading::has_at, fut_grammar::specs::Reading::sub_at, fut_grammar::specs::Phrases::items))]
+#[tactic(auto, unfolding(fut_grammar::specs::Reading::row_at, fut_grammar::specs::Reading::parts_at, fut_grammar::specs::Reading::has_at, fut_grammar::specs::Reading::expect, fut_grammar::specs::Reading::sub_at, fut_grammar::specs::Phrases::items))]
 fn set_field<'a, R: ReadPat<'a>>(
     read: R,
     inner: u32,
     tokens: &'a [Token],
 ) -> Result<Found<'a, PatField<'a>>, Stop>
     requires law { R.reads read inner }
+    requires word { is_word tokens.now ≡ true }
+    requires equal { starts Fixed.Equal (tail tokens.now) ≡ true }
     requires room { inner < 1000 }
     ensures exact { Gives (found_as (λ f. (f.name.now, f.pat.now))) result (row_at (items (read_at inner)) (of_pat set_field) tokens.now) }
     ensures low { IfOk result (λ x. x.height ≤ inner) }
 {
-    let (name, rest) = take_word(tokens)?;
-    let rest = take(rest, Fixed::Equal)?;
-    let found = read.whole(inner, rest)?;
-    Ok(Found {
-        tree: PatField {
-            name,
-            pat: found.tree,
-        },
-        height: found.height,
-        rest: found.rest,
-    })
+    let name = next_word(tokens);
+    match read.whole(inner, rest_of(rest_of(tokens))) {
+        Ok(Found { tree, height, rest }) => Ok(Found {
+            tree: PatField { name, pat: tree },
+            height,
+            rest,
+        }),
+        Err(stop) => Err(stop),
+    }
 }
 
 // ---- what has no patterns in it
@@ -349,26 +393,26 @@ fn type_behind<'a>(
     if pattern.height > inner {
         return Err(Stop::Fault(Fault::TooDeep(pattern.rest.len())));
     }
-    let ty = whole_type(bump, inner, rest_of(pattern.rest))?;
-    let place = at.place;
-    let form = PatForm::Ascribe(pattern.tree, ty.tree);
-    node::made(
-        bump,
-        Pat { place, form },
-        greater(pattern.height, ty.height) + 1,
-        ty.rest,
-    )
+    match whole_type(bump, inner, rest_of(pattern.rest)) {
+        Ok(ty) => {
+            let place = at.place;
+            let form = PatForm::Ascribe(pattern.tree, ty.tree);
+            let height = greater(pattern.height, ty.height) + 1;
+            node::made(bump, Pat { place, form }, height, ty.rest)
+        }
+        Err(stop) => Err(stop),
+    }
 }
 
 #[tactic(auto, unfolding(fut_grammar::specs::Reading::row_at, fut_grammar::specs::Reading::parts_at, fut_grammar::specs::Reading::has_at))]
 fn name<'a>(bump: &'a Bump, tokens: &'a [Token]) -> PatAnswer<'a>
+    requires { is_word tokens.now ≡ true }
     ensures exact { (inner : ℕ) → Gives tree_found result (row_at (phrases (read_at inner)) (of_pat pat_name) tokens.now) }
     ensures low { IfOk result (λ x. x.height ≡ 1) }
 {
     let place = next_spot(tokens).place;
-    let (name, rest) = take_word(tokens)?;
-    let form = PatForm::Var(name);
-    node::made(bump, Pat { place, form }, 1, rest)
+    let form = PatForm::Var(next_word(tokens));
+    node::made(bump, Pat { place, form }, 1, rest_of(tokens))
 }
 
 #[tactic(auto, unfolding(fut_grammar::specs::Reading::row_at, fut_grammar::specs::Reading::parts_at, fut_grammar::specs::Reading::has_at, fut_grammar::specs::Reading::expect))]
@@ -394,31 +438,33 @@ fn unit<'a>(bump: &'a Bump, tokens: &'a [Token]) -> PatAnswer<'a>
     node::made(bump, Pat { place, form }, 1, rest_of(rest_of(tokens)))
 }
 
-#[tactic(auto, unfolding(fut_grammar::specs::Reading::row_at, fut_grammar::specs::Reading::parts_at, fut_grammar::specs::Reading::has_at))]
+#[tactic(auto, unfolding(fut_grammar::specs::Reading::row_at, fut_grammar::specs::Reading::parts_at, fut_grammar::specs::Reading::has_at, fut_grammar::specs::Reading::expect))]
 fn no_fields<'a>(bump: &'a Bump, tokens: &'a [Token]) -> PatAnswer<'a>
+    requires close { starts Fixed.CloseBrace (tail tokens.now) ≡ true }
     ensures exact { (inner : ℕ) → Gives tree_found result (row_at (phrases (read_at inner)) (of_pat no_fields_pat) tokens.now) }
     ensures low { IfOk result (λ x. x.height ≡ 1) }
 {
+    if !starts_with(tokens, Fixed::OpenBrace) {
+        return Err(Stop::Fault(refused(tokens)));
+    }
     let place = next_spot(tokens).place;
-    let rest = take(tokens, Fixed::OpenBrace)?;
-    let rest = take(rest, Fixed::CloseBrace)?;
     let form = PatForm::Record(&[]);
-    node::made(bump, Pat { place, form }, 1, rest)
+    node::made(bump, Pat { place, form }, 1, rest_of(rest_of(tokens)))
 }
 
 #[tactic(auto, unfolding(fut_grammar::specs::Reading::row_at, fut_grammar::specs::Reading::parts_at, fut_grammar::specs::Reading::has_at))]
 fn short_field<'a>(bump: &'a Bump, tokens: &'a [Token]) -> Result<Found<'a, PatField<'a>>, Stop>
+    requires { is_word tokens.now ≡ true }
     ensures exact { (inner : ℕ) → Gives (found_as (λ f. (f.name.now, f.pat.now))) result (row_at (items (read_at inner)) (of_pat short_field) tokens.now) }
     ensures low { IfOk result (λ x. x.height ≡ 0) }
 {
-    let place = next_spot(tokens).place;
-    let (name, rest) = take_word(tokens)?;
-    Ok(Found {
-        tree: PatField {
-            name,
-            pat: node::name(bump, place, name)?,
-        },
-        height: 0,
-        rest,
-    })
+    let name = next_word(tokens);
+    match node::name(bump, next_spot(tokens).place, name) {
+        Ok(pat) => Ok(Found {
+            tree: PatField { name, pat },
+            height: 0,
+            rest: rest_of(tokens),
+        }),
+        Err(_) => Err(Stop::Memory),
+    }
 }

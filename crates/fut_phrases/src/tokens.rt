@@ -1,5 +1,5 @@
 // What stands next among the tokens, and taking it.
-ghost use Rattle.std.specs.Prelude.{◌≡◌, ◌&&◌, max, length};
+ghost use Rattle.std.specs.Prelude.{◌≡◌, ◌&&◌, IfOk, Ok, max, length, true};
 ghost use Rattle.fut_ast.specs.Behind.{begins, begins_atomic_type, begins_mtype, begins_named, begins_pat, begins_spec, begins_type_argument};
 ghost use Rattle.fut_ast.specs.Grammar.{is_lifted};
 ghost use Rattle.fut_ast.specs.Sorts.{Applied_type, Atomic_type, Head_item, Whole_type};
@@ -18,6 +18,7 @@ ghost use Rattle.fut_ast.specs.Tokens.{
   tail,
 };
 ghost use Rattle.fut_grammar.specs.Reading.{Fails, Gives, closed_size, expect, look_at, names_at, number_at, path_at, refuse, refuse_as, refuse_sort, size_at, size_left_out, text_at, variable_at, word_at};
+ghost use Rattle.fut_phrases.specs.Signs.{word_before};
 ghost use Rattle.fut_tree.specs.Names.{names};
 ghost use Rattle.fut_tree.specs.Pats.{head_of};
 ghost use Rattle.fut_tree.specs.Types.{maybe_size_of, size_of};
@@ -229,6 +230,40 @@ pub fn take_word<'a>(tokens: &'a [Token]) -> Result<(&'a str, &'a [Token]), Stop
     }
 }
 
+/// The name that stands next.
+#[tactic(auto, unfolding(fut_grammar::specs::Reading::word_at))]
+pub fn next_word<'a>(tokens: &'a [Token]) -> &'a str
+    requires { is_word tokens.now ≡ true }
+    ensures { word_at tokens.now ≡ Ok (result.now, tail tokens.now) }
+{
+    match tokens {
+        [token, ..] => match &token.kind {
+            TokenKind::Name(name) => name.as_str(),
+            _ => "",
+        },
+        [] => "",
+    }
+}
+
+/// A name, and the tokens behind this keyword or symbol, which stands behind the name.
+pub fn take_word_before<'a>(
+    tokens: &'a [Token],
+    fixed: Fixed,
+) -> Result<(&'a str, &'a [Token]), Stop>
+    ensures { Gives (λ x. (x.0.now, x.1.now)) result (word_before fixed tokens.now) }
+{
+    match take_word(tokens) {
+        Ok((name, rest)) => {
+            if starts_with(rest, fixed) {
+                Ok((name, rest_of(rest)))
+            } else {
+                Err(Stop::Fault(refused(rest)))
+            }
+        }
+        Err(stop) => Err(stop),
+    }
+}
+
 /// The greater of two heights.
 pub fn greater(a: u32, b: u32) -> u32
     ensures { result ≡ max a b }
@@ -361,13 +396,6 @@ pub fn begins_name_and_colon(tokens: &[Token]) -> bool
     starts_with_word(tokens) && starts_with(rest_of(tokens), Fixed::Colon)
 }
 
-/// Whether a parenthesis, a name and a colon stand next.
-pub fn begins_named_parameter(tokens: &[Token]) -> bool
-    ensures { result ≡ (starts Fixed.OpenParen tokens.now && begins_named (tail tokens.now)) }
-{
-    starts_with(tokens, Fixed::OpenParen) && begins_name_and_colon(rest_of(tokens))
-}
-
 // Names with points between, as many as stand there.
 fn names<'a>(bump: &'a Bump, tokens: &'a [Token]) -> Result<(&'a [&'a str], &'a [Token]), Stop>
     ensures { Gives (λ x. (names x.0.now, x.1.now)) result (names_at (length tokens.now) tokens.now) }
@@ -431,7 +459,8 @@ fn closed<'a>(
     size: SizeExp<'a>,
     tokens: &'a [Token],
 ) -> Result<(Option<SizeExp<'a>>, &'a [Token]), Stop>
-    ensures { Gives (λ x. (maybe_size_of x.0, x.1.now)) result (closed_size (size_of size.entry) tokens.now) }
+    ensures exact { Gives (λ x. (maybe_size_of x.0, x.1.now)) result (closed_size (size_of size.entry) tokens.now) }
+    ensures close { IfOk result (λ x. starts Fixed.CloseBracket x.1.now ≡ true) }
 {
     if starts_with(tokens, Fixed::CloseBracket) {
         Ok((Some(size), tokens))
@@ -460,29 +489,28 @@ pub fn take_size<'a>(
     bump: &'a Bump,
     tokens: &'a [Token],
 ) -> Result<(Option<SizeExp<'a>>, &'a [Token]), Stop>
-    ensures { Gives (λ x. (maybe_size_of x.0, x.1.now)) result (size_at tokens.now) }
+    ensures exact { Gives (λ x. (maybe_size_of x.0, x.1.now)) result (size_at tokens.now) }
+    ensures close { IfOk result (λ x. starts Fixed.CloseBracket x.1.now ≡ true) }
 {
     let place = next_spot(tokens).place;
     if starts_with(tokens, Fixed::CloseBracket) {
         Ok((None, tokens))
     } else if starts_with_word(tokens) {
-        let (path, rest) = take_path(bump, tokens)?;
-        closed(
-            SizeExp {
-                place,
-                form: SizeForm::Path(path),
-            },
-            rest,
-        )
+        match take_path(bump, tokens) {
+            Ok((path, rest)) => {
+                let form = SizeForm::Path(path);
+                closed(SizeExp { place, form }, rest)
+            }
+            Err(stop) => Err(stop),
+        }
     } else if starts_with_int(tokens) {
-        let (value, _, rest) = take_number(tokens)?;
-        closed(
-            SizeExp {
-                place,
-                form: SizeForm::Const(value),
-            },
-            rest,
-        )
+        match take_number(tokens) {
+            Ok((value, _, rest)) => {
+                let form = SizeForm::Const(value);
+                closed(SizeExp { place, form }, rest)
+            }
+            Err(stop) => Err(stop),
+        }
     } else {
         Err(Stop::Fault(left_out_size(tokens)))
     }

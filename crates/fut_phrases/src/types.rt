@@ -24,6 +24,7 @@ ghost use Rattle.fut_ast.specs.TypeRows.{
   unit_type,
   unique,
 };
+ghost use Rattle.fut_ast.specs.Behind.{begins_named};
 ghost use Rattle.fut_phrases.specs.Handed.{ReadsType, TypeLaw};
 ghost use Rattle.fut_grammar.specs.Phrases.{
   applied_type_at,
@@ -39,12 +40,12 @@ ghost use Rattle.fut_grammar.specs.Reading.{Gives, commas_at, many_at, row_at};
 ghost use Rattle.fut_phrases.specs.Found.{found_as, list_found, tree_found};
 ghost use Rattle.fut_tree.specs.Types.{arg_of, args_of, type_fields};
 
-use crate::found::Found;
-use crate::lists::{BeginItem, ReadItem, commas, many};
+use crate::found::{Found, part};
+use crate::lists::{BeginItem, ReadItem, enclosed, many};
 use crate::tokens::{
-    begins_argument_of_type, begins_bracket_type, begins_named_parameter, begins_type, greater,
-    next_spot, refused, refused_type, rest_of, starts_with, starts_with_word, take, take_path,
-    take_size, take_word, without_form,
+    begins_argument_of_type, begins_bracket_type, begins_name_and_colon, begins_type, greater,
+    next_spot, next_word, refused, refused_type, rest_of, starts_with, starts_with_word, take_path,
+    take_size, without_form,
 };
 use crate::type_nodes as node;
 use bumpalo::Bump;
@@ -200,11 +201,15 @@ fn whole_node<'a, R: ReadType<'a>>(
     if !begins_type(tokens) {
         return Err(Stop::Fault(refused_type(tokens)));
     }
-    let found = whole_type_below(bump, read, inner, tokens)?;
-    if starts_with(found.rest, Fixed::Arrow) {
-        return Err(Stop::Fault(refused(found.rest)));
+    match whole_type_below(bump, read, inner, tokens) {
+        Ok(found) => {
+            if starts_with(found.rest, Fixed::Arrow) {
+                return Err(Stop::Fault(refused(found.rest)));
+            }
+            Ok(found)
+        }
+        Err(stop) => Err(stop),
     }
-    Ok(found)
 }
 
 #[tactic(auto, unfolding(fut_grammar::specs::Phrases::read_at, fut_grammar::specs::Phrases::bounded, fut_grammar::specs::Phrases::ended, fut_grammar::specs::Phrases::step, fut_grammar::specs::Reading::refuse_sort))]
@@ -256,10 +261,14 @@ fn type_name<'a>(bump: &'a Bump, depth: u32, tokens: &'a [Token]) -> TypeAnswer<
     if depth == 0 {
         return Err(Stop::Fault(Fault::TooDeep(tokens.len())));
     }
-    let place = next_spot(tokens).place;
-    let (path, rest) = take_path(bump, tokens)?;
-    let form = TypeForm::Path(path, &[]);
-    node::made(bump, TypeExp { place, form }, 1, rest)
+    match take_path(bump, tokens) {
+        Ok((path, rest)) => {
+            let place = next_spot(tokens).place;
+            let form = TypeForm::Path(path, &[]);
+            node::made(bump, TypeExp { place, form }, 1, rest)
+        }
+        Err(stop) => Err(stop),
+    }
 }
 
 #[tactic(auto, unfolding(fut_grammar::specs::Phrases::whole_type_at))]
@@ -274,11 +283,13 @@ fn whole_type_below<'a, R: ReadType<'a>>(
     ensures exact { Gives tree_found result (whole_type_at (phrases (read_at inner)) (suc inner) tokens.now) }
     ensures low { IfOk result (λ x. x.height ≤ inner + 1) }
 {
-    if begins_named_parameter(tokens) {
+    if starts_with(tokens, Fixed::OpenParen) && begins_name_and_colon(rest_of(tokens)) {
         return named_arrow(bump, read, inner, tokens);
     }
-    let from = applied_type_below(bump, read, inner, tokens)?;
-    arrow_behind(bump, read, inner, next_spot(tokens), from)
+    match applied_type_below(bump, read, inner, tokens) {
+        Ok(from) => arrow_behind(bump, read, inner, next_spot(tokens), from),
+        Err(stop) => Err(stop),
+    }
 }
 
 #[tactic(auto, unfolding(fut_grammar::specs::Phrases::once_at, fut_grammar::specs::Reading::expect, fut_grammar::specs::Reading::suffix_at, fut_grammar::specs::Reading::parts_at, fut_grammar::specs::Reading::has_at, fut_grammar::specs::Reading::sub_at, fut_grammar::specs::Phrases::phrases))]
@@ -300,15 +311,15 @@ fn arrow_behind<'a, R: ReadType<'a>>(
     if from.height > inner {
         return Err(Stop::Fault(Fault::TooDeep(from.rest.len())));
     }
-    let to = read.whole(inner, rest_of(from.rest))?;
-    let place = at.place;
-    let form = TypeForm::Arrow(from.tree, to.tree);
-    node::made(
-        bump,
-        TypeExp { place, form },
-        greater(from.height, to.height) + 1,
-        to.rest,
-    )
+    match read.whole(inner, rest_of(from.rest)) {
+        Ok(to) => {
+            let place = at.place;
+            let form = TypeForm::Arrow(from.tree, to.tree);
+            let height = greater(from.height, to.height) + 1;
+            node::made(bump, TypeExp { place, form }, height, to.rest)
+        }
+        Err(stop) => Err(stop),
+    }
 }
 
 #[tactic(auto, unfolding(fut_grammar::specs::Reading::row_at, fut_grammar::specs::Reading::parts_at, fut_grammar::specs::Reading::has_at, fut_grammar::specs::Reading::expect, fut_grammar::specs::Reading::sub_at, fut_grammar::specs::Phrases::phrases))]
@@ -319,25 +330,34 @@ fn named_arrow<'a, R: ReadType<'a>>(
     tokens: &'a [Token],
 ) -> TypeAnswer<'a>
     requires law { R.reads read inner }
-    requires first { starts Fixed.OpenParen tokens.now ≡ true }
+    requires open { starts Fixed.OpenParen tokens.now ≡ true }
+    requires word { begins_named (tail tokens.now) ≡ true }
     requires room { inner < 1000 }
     ensures exact { Gives tree_found result (row_at (phrases (read_at inner)) (of_type named_arrow) tokens.now) }
     ensures low { IfOk result (λ x. x.height ≤ inner + 1) }
 {
-    let place = next_spot(tokens).place;
-    let (name, rest) = take_word(rest_of(tokens))?;
-    let rest = take(rest, Fixed::Colon)?;
-    let from = read.whole(inner, rest)?;
-    let rest = take(from.rest, Fixed::CloseParen)?;
-    let rest = take(rest, Fixed::Arrow)?;
-    let to = read.whole(inner, rest)?;
-    let form = TypeForm::Named(name, from.tree, to.tree);
-    node::made(
-        bump,
-        TypeExp { place, form },
-        greater(from.height, to.height) + 1,
-        to.rest,
-    )
+    let behind = rest_of(tokens);
+    let name = next_word(behind);
+    let from = match read.whole(inner, rest_of(rest_of(behind))) {
+        Ok(from) => from,
+        Err(stop) => return Err(stop),
+    };
+    if !starts_with(from.rest, Fixed::CloseParen) {
+        return Err(Stop::Fault(refused(from.rest)));
+    }
+    let rest = rest_of(from.rest);
+    if !starts_with(rest, Fixed::Arrow) {
+        return Err(Stop::Fault(refused(rest)));
+    }
+    match read.whole(inner, rest_of(rest)) {
+        Ok(to) => {
+            let place = next_spot(tokens).place;
+            let form = TypeForm::Named(name, from.tree, to.tree);
+            let height = greater(from.height, to.height) + 1;
+            node::made(bump, TypeExp { place, form }, height, to.rest)
+        }
+        Err(stop) => Err(stop),
+    }
 }
 
 #[tactic(auto, unfolding(fut_grammar::specs::Phrases::applied_type_at))]
@@ -376,10 +396,14 @@ fn unique<'a, R: ReadType<'a>>(
     ensures exact { Gives tree_found result (row_at (phrases (read_at inner)) (of_type unique) tokens.now) }
     ensures low { IfOk result (λ x. x.height ≤ inner + 1) }
 {
-    let place = next_spot(tokens).place;
-    let found = read.applied(inner, rest_of(tokens))?;
-    let form = TypeForm::Unique(found.tree);
-    node::made(bump, TypeExp { place, form }, found.height + 1, found.rest)
+    match read.applied(inner, rest_of(tokens)) {
+        Ok(found) => {
+            let place = next_spot(tokens).place;
+            let form = TypeForm::Unique(found.tree);
+            node::made(bump, TypeExp { place, form }, found.height + 1, found.rest)
+        }
+        Err(stop) => Err(stop),
+    }
 }
 
 #[tactic(auto, unfolding(fut_grammar::specs::Reading::row_at, fut_grammar::specs::Reading::parts_at, fut_grammar::specs::Reading::has_at, fut_grammar::specs::Reading::expect, fut_grammar::specs::Reading::sub_at, fut_grammar::specs::Phrases::phrases))]
@@ -395,12 +419,18 @@ fn array<'a, R: ReadType<'a>>(
     ensures exact { Gives tree_found result (row_at (phrases (read_at inner)) (of_type array_type) tokens.now) }
     ensures low { IfOk result (λ x. x.height ≤ inner + 1) }
 {
-    let place = next_spot(tokens).place;
-    let (size, rest) = take_size(bump, rest_of(tokens))?;
-    let rest = take(rest, Fixed::CloseBracket)?;
-    let row = read.applied(inner, rest)?;
-    let form = TypeForm::Array(size, row.tree);
-    node::made(bump, TypeExp { place, form }, row.height + 1, row.rest)
+    let (size, rest) = match take_size(bump, rest_of(tokens)) {
+        Ok(found) => found,
+        Err(stop) => return Err(stop),
+    };
+    match read.applied(inner, rest_of(rest)) {
+        Ok(row) => {
+            let place = next_spot(tokens).place;
+            let form = TypeForm::Array(size, row.tree);
+            node::made(bump, TypeExp { place, form }, row.height + 1, row.rest)
+        }
+        Err(stop) => Err(stop),
+    }
 }
 
 #[tactic(auto, unfolding(fut_grammar::specs::Reading::row_at, fut_grammar::specs::Reading::parts_at, fut_grammar::specs::Reading::has_at, fut_grammar::specs::Reading::sub_at, fut_grammar::specs::Phrases::phrases))]
@@ -415,12 +445,22 @@ fn applied_name<'a, R: ReadType<'a>>(
     ensures exact { Gives tree_found result (row_at (phrases (read_at inner)) (of_type applied_name) tokens.now) }
     ensures low { IfOk result (λ x. x.height ≤ inner + 1) }
 {
-    let place = next_spot(tokens).place;
-    let (path, rest) = take_path(bump, tokens)?;
-    let found = many(bump, read, inner, 0, rest)?;
-    without_form(What::ExistentialSize, found.rest)?;
-    let form = TypeForm::Path(path, found.tree);
-    node::made(bump, TypeExp { place, form }, found.height + 1, found.rest)
+    let (path, rest) = match take_path(bump, tokens) {
+        Ok(found) => found,
+        Err(stop) => return Err(stop),
+    };
+    let found = match many(bump, read, inner, 0, rest) {
+        Ok(found) => found,
+        Err(stop) => return Err(stop),
+    };
+    match without_form(What::ExistentialSize, found.rest) {
+        Ok(()) => {
+            let place = next_spot(tokens).place;
+            let form = TypeForm::Path(path, found.tree);
+            node::made(bump, TypeExp { place, form }, found.height + 1, found.rest)
+        }
+        Err(stop) => Err(stop),
+    }
 }
 
 #[tactic(auto, unfolding(fut_grammar::specs::Phrases::atomic_type_at))]
@@ -449,7 +489,7 @@ fn bracket_type_below<'a, R: ReadType<'a>>(
     }
 }
 
-#[tactic(auto, unfolding(fut_grammar::specs::Reading::row_at, fut_grammar::specs::Reading::parts_at, fut_grammar::specs::Reading::has_at, fut_grammar::specs::Reading::sub_at, fut_grammar::specs::Phrases::phrases))]
+#[tactic(auto, unfolding(fut_grammar::specs::Reading::row_at, fut_grammar::specs::Reading::parts_at, fut_grammar::specs::Reading::has_at, fut_grammar::specs::Reading::expect, fut_grammar::specs::Reading::sub_at, fut_grammar::specs::Phrases::phrases))]
 fn round<'a, R: ReadType<'a>>(
     bump: &'a Bump,
     read: R,
@@ -461,14 +501,23 @@ fn round<'a, R: ReadType<'a>>(
     ensures exact { Gives tree_found result (row_at (phrases (read_at inner)) (of_type round_type) tokens.now) }
     ensures low { IfOk result (λ x. x.height ≤ inner + 1) }
 {
-    let place = next_spot(tokens).place;
-    let rest = take(tokens, Fixed::OpenParen)?;
-    let found = commas(bump, read, inner, rest)?;
-    let rest = take(found.rest, Fixed::CloseParen)?;
-    node::round(bump, place, found.tree, found.height + 1, rest)
+    match enclosed(
+        bump,
+        read,
+        inner,
+        Fixed::OpenParen,
+        Fixed::CloseParen,
+        tokens,
+    ) {
+        Ok(found) => {
+            let place = next_spot(tokens).place;
+            node::round(bump, place, found.tree, found.height + 1, found.rest)
+        }
+        Err(stop) => Err(stop),
+    }
 }
 
-#[tactic(auto, unfolding(fut_grammar::specs::Reading::row_at, fut_grammar::specs::Reading::parts_at, fut_grammar::specs::Reading::has_at, fut_grammar::specs::Reading::sub_at, fut_grammar::specs::Phrases::phrases))]
+#[tactic(auto, unfolding(fut_grammar::specs::Reading::row_at, fut_grammar::specs::Reading::parts_at, fut_grammar::specs::Reading::has_at, fut_grammar::specs::Reading::expect, fut_grammar::specs::Reading::sub_at, fut_grammar::specs::Phrases::phrases))]
 fn fields<'a, R: ReadType<'a>>(
     bump: &'a Bump,
     read: R,
@@ -480,12 +529,21 @@ fn fields<'a, R: ReadType<'a>>(
     ensures exact { Gives tree_found result (row_at (phrases (read_at inner)) (of_type fields) tokens.now) }
     ensures low { IfOk result (λ x. x.height ≤ inner + 1) }
 {
-    let place = next_spot(tokens).place;
-    let rest = take(tokens, Fixed::OpenBrace)?;
-    let found = commas(bump, read, inner, rest)?;
-    let rest = take(found.rest, Fixed::CloseBrace)?;
-    let form = TypeForm::Record(found.tree);
-    node::made(bump, TypeExp { place, form }, found.height + 1, rest)
+    match enclosed(
+        bump,
+        read,
+        inner,
+        Fixed::OpenBrace,
+        Fixed::CloseBrace,
+        tokens,
+    ) {
+        Ok(found) => {
+            let place = next_spot(tokens).place;
+            let form = TypeForm::Record(found.tree);
+            node::made(bump, TypeExp { place, form }, found.height + 1, found.rest)
+        }
+        Err(stop) => Err(stop),
+    }
 }
 
 // ---- lists of types
@@ -506,12 +564,7 @@ impl<'a, R: ReadType<'a>> ReadItem<'a, Held<'a, TypeExp<'a>>> for R {
         tokens: &'a [Token],
     ) -> Result<Found<'a, Held<'a, TypeExp<'a>>>, Stop> {
         let _bump = bump;
-        let found = self.whole(inner, tokens)?;
-        Ok(Found {
-            tree: Held { at: found.tree },
-            height: found.height,
-            rest: found.rest,
-        })
+        part(self.whole(inner, tokens))
     }
 }
 
@@ -523,7 +576,7 @@ impl<'a, R: ReadType<'a>> ReadItem<'a, TypeField<'a>> for R {
 
     ghost reads = { λ s d. R.reads s d };
 
-    #[tactic(auto, unfolding(fut_grammar::specs::Reading::row_at, fut_grammar::specs::Reading::parts_at, fut_grammar::specs::Reading::has_at, fut_grammar::specs::Reading::sub_at, fut_grammar::specs::Phrases::phrases, fut_grammar::specs::Phrases::bounded, fut_grammar::specs::Phrases::ended, fut_grammar::specs::Phrases::flat_at, fut_grammar::specs::Reading::refuse_sort, fut_grammar::specs::Phrases::items))]
+    #[tactic(auto, unfolding(fut_grammar::specs::Reading::row_at, fut_grammar::specs::Reading::parts_at, fut_grammar::specs::Reading::has_at, fut_grammar::specs::Reading::expect, fut_grammar::specs::Reading::sub_at, fut_grammar::specs::Phrases::phrases, fut_grammar::specs::Phrases::bounded, fut_grammar::specs::Phrases::ended, fut_grammar::specs::Phrases::flat_at, fut_grammar::specs::Reading::refuse_sort, fut_grammar::specs::Phrases::items))]
     fn item(
         self,
         bump: &'a Bump,
@@ -534,17 +587,19 @@ impl<'a, R: ReadType<'a>> ReadItem<'a, TypeField<'a>> for R {
         if !starts_with_word(tokens) {
             return Err(Stop::Fault(refused(tokens)));
         }
-        let (name, rest) = take_word(tokens)?;
-        let rest = take(rest, Fixed::Colon)?;
-        let found = self.whole(inner, rest)?;
-        Ok(Found {
-            tree: TypeField {
-                name,
-                ty: found.tree,
-            },
-            height: found.height,
-            rest: found.rest,
-        })
+        let name = next_word(tokens);
+        let rest = rest_of(tokens);
+        if !starts_with(rest, Fixed::Colon) {
+            return Err(Stop::Fault(refused(rest)));
+        }
+        match self.whole(inner, rest_of(rest)) {
+            Ok(Found { tree, height, rest }) => Ok(Found {
+                tree: TypeField { name, ty: tree },
+                height,
+                rest,
+            }),
+            Err(stop) => Err(stop),
+        }
     }
 }
 
@@ -608,12 +663,14 @@ fn bracket_argument<'a, R: ReadType<'a>>(
     ensures exact { Gives (found_as arg_of) result (row_at (items (read_at inner)) (of_type type_argument) tokens.now) }
     ensures low { IfOk result (λ x. x.height ≤ inner) }
 {
-    let found = read.bracket(inner, tokens)?;
-    Ok(Found {
-        tree: TypeArg::Of(found.tree),
-        height: found.height,
-        rest: found.rest,
-    })
+    match read.bracket(inner, tokens) {
+        Ok(Found { tree, height, rest }) => Ok(Found {
+            tree: TypeArg::Of(tree),
+            height,
+            rest,
+        }),
+        Err(stop) => Err(stop),
+    }
 }
 
 #[tactic(auto, unfolding(fut_grammar::specs::Reading::row_at, fut_grammar::specs::Reading::parts_at, fut_grammar::specs::Reading::has_at, fut_grammar::specs::Reading::sub_at, fut_grammar::specs::Phrases::items))]
@@ -626,12 +683,14 @@ fn name_argument<'a>(
     ensures exact { Gives (found_as arg_of) result (row_at (items (read_at inner)) (of_type name_argument) tokens.now) }
     ensures low { IfOk result (λ x. x.height ≤ inner) }
 {
-    let found = type_name(bump, inner, tokens)?;
-    Ok(Found {
-        tree: TypeArg::Of(found.tree),
-        height: found.height,
-        rest: found.rest,
-    })
+    match type_name(bump, inner, tokens) {
+        Ok(Found { tree, height, rest }) => Ok(Found {
+            tree: TypeArg::Of(tree),
+            height,
+            rest,
+        }),
+        Err(stop) => Err(stop),
+    }
 }
 
 // ---- types without types in them
@@ -648,16 +707,18 @@ fn unit<'a>(bump: &'a Bump, tokens: &'a [Token]) -> TypeAnswer<'a>
     node::made(bump, TypeExp { place, form }, 1, rest_of(rest_of(tokens)))
 }
 
-#[tactic(auto, unfolding(fut_grammar::specs::Reading::row_at, fut_grammar::specs::Reading::parts_at, fut_grammar::specs::Reading::has_at))]
+#[tactic(auto, unfolding(fut_grammar::specs::Reading::row_at, fut_grammar::specs::Reading::parts_at, fut_grammar::specs::Reading::has_at, fut_grammar::specs::Reading::expect))]
 fn no_fields<'a>(bump: &'a Bump, tokens: &'a [Token]) -> TypeAnswer<'a>
+    requires close { starts Fixed.CloseBrace (tail tokens.now) ≡ true }
     ensures exact { (inner : ℕ) → Gives tree_found result (row_at (phrases (read_at inner)) (of_type no_fields) tokens.now) }
     ensures low { IfOk result (λ x. x.height ≡ 1) }
 {
+    if !starts_with(tokens, Fixed::OpenBrace) {
+        return Err(Stop::Fault(refused(tokens)));
+    }
     let place = next_spot(tokens).place;
-    let rest = take(tokens, Fixed::OpenBrace)?;
-    let rest = take(rest, Fixed::CloseBrace)?;
     let form = TypeForm::Record(&[]);
-    node::made(bump, TypeExp { place, form }, 1, rest)
+    node::made(bump, TypeExp { place, form }, 1, rest_of(rest_of(tokens)))
 }
 
 #[tactic(auto, unfolding(fut_grammar::specs::Reading::row_at, fut_grammar::specs::Reading::parts_at, fut_grammar::specs::Reading::has_at, fut_grammar::specs::Reading::expect))]
@@ -666,11 +727,12 @@ fn size_argument<'a>(bump: &'a Bump, tokens: &'a [Token]) -> Result<Found<'a, Ty
     ensures exact { (inner : ℕ) → Gives (found_as arg_of) result (row_at (items (read_at inner)) (of_type size_argument) tokens.now) }
     ensures low { IfOk result (λ x. x.height ≡ 0) }
 {
-    let (size, rest) = take_size(bump, rest_of(tokens))?;
-    let rest = take(rest, Fixed::CloseBracket)?;
-    Ok(Found {
-        tree: TypeArg::Size(size),
-        height: 0,
-        rest,
-    })
+    match take_size(bump, rest_of(tokens)) {
+        Ok((size, rest)) => Ok(Found {
+            tree: TypeArg::Size(size),
+            height: 0,
+            rest: rest_of(rest),
+        }),
+        Err(stop) => Err(stop),
+    }
 }

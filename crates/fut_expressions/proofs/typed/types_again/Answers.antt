@@ -1,6 +1,5 @@
 -- The turns of the loop are those of the reading.
 use Rattle.std.proofs.Common.{sym, ◌∙◌, arith}
-use Rattle.std.proofs.lemmas.Result.{err_from_is_err_and}
 use Rattle.fut_ast.specs.Sorts.{Typed}
 use Rattle.fut_grammar.specs.Phrases.{goes_typed, typed_suffix}
 use Rattle.fut_grammar.proofs.Loops.{again_ends, again_turns, again_fails}
@@ -13,10 +12,9 @@ returns-clause-exact c = again_ends _ _ Typed (λ us. goes_typed us) (λ us. typ
 pub returns-then-turns-eq0-clause-exact : goal.returns-then-turns-eq0-clause-exact
 returns-then-turns-eq0-clause-exact c = rw (c.too_high.ensures, c.goes_on_updated.ensures) (core_of_type c.behind.found.rest.now (c.behind.found.tree.exp.now, c.behind.found.tree.ended) (again_spent_any _ _ Typed (λ us. goes_typed us) (λ us. typed_suffix us) _ _ _ _ _ _ c.behind.invariant.0 (sym c.goes_typed_on.ensures ∙ c.behind-test.true) (omega arith)))
 
-pub returns-in_err-found-clause-exact : goal.returns-in_err-found-clause-exact
-returns-in_err-found-clause-exact c =
-    let p = err_from_is_err_and c.from_residual.result c.from_residual.ensures.1 in
-    rw (p.1, p.2) (again_fails _ _ Typed (λ us. goes_typed us) (λ us. typed_suffix us) _ _ _ _ _ _ c.behind.invariant.0 c.in_err-found.field-0.0 (sym c.goes_typed_on.ensures ∙ c.behind-test.true) (omega arith) c.in_err-found.ensures.exact)
+pub returns-in-Err-clause-exact : goal.returns-in-Err-clause-exact
+returns-in-Err-clause-exact c =
+    again_fails _ _ Typed (λ us. goes_typed us) (λ us. typed_suffix us) _ _ _ _ _ _ c.behind.invariant.0 c.in-Err.stop (sym c.goes_typed_on.ensures ∙ c.behind-test.true) (omega arith) c.in-Err.ensures.exact
 
 pub behind-preserved : goal.behind-preserved
-behind-preserved c = (again_turns _ _ Typed (λ us. goes_typed us) (λ us. typed_suffix us) _ _ _ _ _ _ c.behind.invariant.0 _ (sym c.goes_typed_on.ensures ∙ c.behind-test.true) (omega arith) c.in_ok-found.ensures.exact, omega (arith, c.in_ok-found.ensures.low))
+behind-preserved c = (again_turns _ _ Typed (λ us. goes_typed us) (λ us. typed_suffix us) _ _ _ _ _ _ c.behind.invariant.0 _ (sym c.goes_typed_on.ensures ∙ c.behind-test.true) (omega arith) c.in-Ok.ensures.exact, omega (arith, c.in-Ok.ensures.low))

@@ -1,6 +1,5 @@
 -- The turns of the loop are those of the reading.
 use Rattle.std.proofs.Common.{sym, ◌∙◌, arith}
-use Rattle.std.proofs.lemmas.Result.{err_from_is_err_and}
 use Rattle.fut_token.specs.declared.token.Fixed.TheVariants as fixed
 use Rattle.fut_ast.specs.Tokens.{starts}
 use Rattle.fut_ast.specs.Sorts.{Updated}
@@ -15,10 +14,9 @@ returns-clause-exact g c = again_ends _ _ Updated (λ us. starts fixed.KeyWith u
 pub returns-then-turns-eq0-clause-exact : goal.returns-then-turns-eq0-clause-exact
 returns-then-turns-eq0-clause-exact g c = rw (c.too_high.ensures, c.goes_on_range.ensures) (core_of_update c.behind.found.rest.now (c.behind.found.tree.exp.now, c.behind.found.tree.ended) (again_spent_any _ _ Updated (λ us. starts fixed.KeyWith us) (λ us. with_suffix us) _ _ _ _ _ _ c.behind.invariant.0 (sym c.starts_with.ensures ∙ c.behind-test.true) (omega arith)))
 
-pub returns-in_err-found-clause-exact : goal.returns-in_err-found-clause-exact
-returns-in_err-found-clause-exact g c =
-    let p = err_from_is_err_and c.from_residual.result c.from_residual.ensures.1 in
-    rw (p.1, p.2) (again_fails _ _ Updated (λ us. starts fixed.KeyWith us) (λ us. with_suffix us) _ _ _ _ _ _ c.behind.invariant.0 c.in_err-found.field-0.0 (sym c.starts_with.ensures ∙ c.behind-test.true) (omega arith) c.in_err-found.ensures.exact)
+pub returns-in-Err-clause-exact : goal.returns-in-Err-clause-exact
+returns-in-Err-clause-exact g c =
+    again_fails _ _ Updated (λ us. starts fixed.KeyWith us) (λ us. with_suffix us) _ _ _ _ _ _ c.behind.invariant.0 c.in-Err.stop (sym c.starts_with.ensures ∙ c.behind-test.true) (omega arith) c.in-Err.ensures.exact
 
 pub behind-preserved : goal.behind-preserved
-behind-preserved g c = (again_turns _ _ Updated (λ us. starts fixed.KeyWith us) (λ us. with_suffix us) _ _ _ _ _ _ c.behind.invariant.0 _ (sym c.starts_with.ensures ∙ c.behind-test.true) (omega arith) c.in_ok-found.ensures.exact, omega (arith, c.in_ok-found.ensures.low))
+behind-preserved g c = (again_turns _ _ Updated (λ us. starts fixed.KeyWith us) (λ us. with_suffix us) _ _ _ _ _ _ c.behind.invariant.0 _ (sym c.starts_with.ensures ∙ c.behind-test.true) (omega arith) c.in-Ok.ensures.exact, omega (arith, c.in-Ok.ensures.low))

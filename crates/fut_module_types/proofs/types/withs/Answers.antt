@@ -1,34 +1,17 @@
--- The turns of the loop are those of the reading.
-use Rattle.std.proofs.Common.{sym, ◌∙◌, ◌∷◌, [], length, arith}
-use Rattle.std.proofs.lemmas.List.{map-append}
-use Rattle.std.proofs.lemmas.Result.{err_from_is_err_and}
+-- Either sort of type behind the equals signs.
+use Rattle.std.proofs.Common.{Bool, sym, subst}
 use Rattle.fut_ast.specs.Sorts.{With_item}
-use Rattle.fut_grammar.specs.Reading.{several_at}
+use Rattle.fut_grammar.specs.Reading.{Gives, several_at}
 use Rattle.fut_grammar.specs.Phrases.{phrases, read_at}
-use Rattle.fut_grammar.proofs.Loops.{many_go_on, many_end_here, many_fail, many_spent}
-use Rattle.fut_tree.specs.ModTypes.{with_of, withs_of}
+use Rattle.fut_module_types.specs.MtypeFound.{withs_found}
 use Rattle.fut_module_types.proofs.types.withs.Goals as goal
 
-pub returns-then-not-starts_with-clause-exact : goal.returns-then-not-starts_with-clause-exact
-unfolding phrases
-returns-then-not-starts_with-clause-exact c = rw (c.into_bump_slice.ensures) (many_end_here (phrases (read_at c.args.inner)) (With_item c.args.arrows) (withs_of c.items.all.items) c.items.height (length c.in_ok-first.first.rest.now) c.items._turn c.items.rest.now (several_at (phrases (read_at c.args.inner)) (With_item c.args.arrows) c.args.first_height c.args.tokens.now) c.items.invariant.0 (sym c.starts_with.ensures ∙ c.if-not-starts_with.true))
+pub returns-then-arrows-clause-exact : goal.returns-then-arrows-clause-exact
+returns-then-arrows-clause-exact c =
+    let P : Bool → Type 0 = λ b. Gives withs_found c.several.result (several_at (phrases (read_at c.args.inner)) (With_item b) c.args.first_height c.args.tokens.now) in
+    subst P (sym c.if-arrows.true) c.several.ensures.exact
 
-pub returns-in_err-item-clause-exact : goal.returns-in_err-item-clause-exact
-unfolding phrases
-returns-in_err-item-clause-exact c =
-    let p = err_from_is_err_and c.from_residual-in_err-item.result c.from_residual-in_err-item.ensures.1 in
-    rw (p.1, p.2) (many_fail (phrases (read_at c.args.inner)) (With_item c.args.arrows) (withs_of c.items.all.items) c.items.height (length c.in_ok-first.first.rest.now) c.items._turn c.items.rest.now (several_at (phrases (read_at c.args.inner)) (With_item c.args.arrows) c.args.first_height c.args.tokens.now) c.items.invariant.0 c.in_err-item.field-0.0 c.items-test.true (sym c.starts_with.ensures ∙ c.if-not-starts_with.false) c.in_err-item.ensures.exact)
-
-pub items-preserved : goal.items-preserved
-unfolding phrases
-items-preserved c =
-    let r = many_go_on (phrases (read_at c.args.inner)) (With_item c.args.arrows) (withs_of c.items.all.items) c.items.height (length c.in_ok-first.first.rest.now) c.items._turn c.items.rest.now (several_at (phrases (read_at c.args.inner)) (With_item c.args.arrows) c.args.first_height c.args.tokens.now) c.items.invariant.0 (with_of c.in_ok-item.item.tree) c.in_ok-item.item.height c.in_ok-item.item.rest.now c.items-test.true (sym c.starts_with.ensures ∙ c.if-not-starts_with.false) c.in_ok-item.ensures.exact in
-    (rw (c.in_ok-push-2.ensures.items, map-append with_of c.items.all.items (c.in_ok-item.item.tree ∷ []), c.greater-height-in-items.ensures) r, omega (arith, c.in_ok-item.ensures.low))
-
-pub returns-then-starts_with-clause-exact : goal.returns-then-starts_with-clause-exact
-unfolding phrases
-returns-then-starts_with-clause-exact c = rw c.refused.ensures (many_spent (phrases (read_at c.args.inner)) (With_item c.args.arrows) (withs_of c.items.all.items) c.items.height (length c.in_ok-first.first.rest.now) c.items._turn c.items.rest.now (several_at (phrases (read_at c.args.inner)) (With_item c.args.arrows) c.args.first_height c.args.tokens.now) c.items.invariant.0 c.items-test.false (sym c.starts_with-2.ensures ∙ c.if-starts_with.true))
-
-pub returns-clause-exact : goal.returns-clause-exact
-unfolding phrases
-returns-clause-exact c = rw (c.into_bump_slice-2.ensures) (many_end_here (phrases (read_at c.args.inner)) (With_item c.args.arrows) (withs_of c.items.all.items) c.items.height (length c.in_ok-first.first.rest.now) c.items._turn c.items.rest.now (several_at (phrases (read_at c.args.inner)) (With_item c.args.arrows) c.args.first_height c.args.tokens.now) c.items.invariant.0 (sym c.starts_with-2.ensures ∙ c.if-starts_with.false))
+pub returns-else-arrows-clause-exact : goal.returns-else-arrows-clause-exact
+returns-else-arrows-clause-exact c =
+    let P : Bool → Type 0 = λ b. Gives withs_found c.several-else-arrows.result (several_at (phrases (read_at c.args.inner)) (With_item b) c.args.first_height c.args.tokens.now) in
+    subst P (sym c.if-arrows.false) c.several-else-arrows.ensures.exact

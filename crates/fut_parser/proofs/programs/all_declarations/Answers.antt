@@ -7,4 +7,4 @@ use Rattle.fut_parser.proofs.Answering.{same_declarations}
 use Rattle.fut_parser.proofs.programs.all_declarations.Goals as goal
 
 pub returns-clause-exact : goal.returns-clause-exact
-returns-clause-exact c = subst (λ (r : Read (List (Tree Dec_item))). Gives decs_found c.declarations_by.result r) (same_declarations 201 (length c.args.tokens.now) c.args.tokens.now) c.declarations_by.ensures.exact
+returns-clause-exact c = subst (λ (r : Read (List (Tree Dec_item))). Gives decs_found c.many.result r) (same_declarations 201 (length c.args.tokens.now) c.args.tokens.now) c.many.ensures.exact

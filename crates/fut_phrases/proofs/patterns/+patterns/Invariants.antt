@@ -2,8 +2,8 @@
 use Rattle.std.proofs.Common.{◌+◌, ◌*◌}
 use Rattle.fut_phrases.proofs.patterns.+patterns.Given as goal
 
-abbrev pub decreases-whole_pattern : goal.decreases-whole_pattern
-decreases-whole_pattern l = 2 * l.depth
+abbrev pub decreases-pattern_of : goal.decreases-pattern_of
+decreases-pattern_of l = 2 * l.depth
 
-abbrev pub decreases-whole_node : goal.decreases-whole_node
-decreases-whole_node l = 2 * l.inner + 1
+abbrev pub decreases-pattern_node : goal.decreases-pattern_node
+decreases-pattern_node l = 2 * l.inner + 1

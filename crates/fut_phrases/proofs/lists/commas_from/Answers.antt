@@ -5,7 +5,7 @@ use Rattle.std.proofs.lemmas.List.{map-append}
 use Rattle.fut_grammar.specs.Reading.{commas_at}
 use Rattle.fut_grammar.specs.Phrases.{phrases, read_at}
 use Rattle.fut_grammar.proofs.Loops.{commas_go_on, commas_end_here, commas_fail, commas_spent}
-use Rattle.fut_exp_parts.proofs.lists.commas_from.Goals as goal
+use Rattle.fut_phrases.proofs.lists.commas_from.Goals as goal
 
 pub returns-in_err-item-clause-exact : goal.returns-in_err-item-clause-exact
 returns-in_err-item-clause-exact g c =
