@@ -115,6 +115,6 @@ reduced_literal = refl
 
 -- let f = \x -> x in f 1: the row of lets, the function, the application, its two parts and the body; 3 of them lie inside
 -- each other
-visited : Visits empty (Let (record { sizes = []; parameters = []; is_function = true; pattern = name 0 }) (Lambda (pattern_and (name 1) no_pattern) (var 1)) (Apply (var 0) (int 1))) Data 6 3
+visited : Visits empty empty (Let (record { sizes = []; parameters = []; is_function = true; pattern = name 0 }) (Lambda (pattern_and (name 1) no_pattern) (var 1)) (Apply (var 0) (int 1))) Data 6 3
 unfolding known_use find known_bound known_result
-visited = v_lets {m = 5} {d = 2} (v_let {m = 1} {d = 1} {m' = 4} {d' = 2} v_lambda refl (v_body refl (v_apply {m = 1} {d = 1} {m1 = 1} {d1 = 1} {m2 = 1} {d2 = 1} (v_use refl) (v_strict v_none refl) (r_body refl (v_use refl)))))
+visited = v_lets {m = 5} {d = 2} (v_let {m = 1} {d = 1} {m' = 4} {d' = 2} v_lambda refl (v_body refl (v_apply {m = 1} {d = 1} {m1 = 1} {d1 = 1} {m2 = 1} {d2 = 1} (v_use refl) (v_strict refl v_none refl) (r_body refl (v_use refl)))))

@@ -55,8 +55,8 @@ WalkIsOne = (ts : List FlatTop) (entry arguments nodes nodes' depth depth' : ℕ
 -- each visit that the walk comes to is counted, and so are those before it and around it; and there is a way on
 abbrev pub VisitsAreCounted : Type 0
 VisitsAreCounted =
-    (ts : List FlatTop) (entry arguments nodes depth before around : ℕ) (sc : Scope) (t : FlatTerm)
-    → Program_visits entry arguments ts nodes depth → Program_comes entry arguments ts before around sc t → (before < nodes) × (around < depth) × (Lost sc t → ⊥)
+    (ts : List FlatTop) (entry arguments nodes depth before around : ℕ) (tops sc : Scope) (t : FlatTerm)
+    → Program_visits entry arguments ts nodes depth → Program_comes entry arguments ts before around tops sc t → (before < nodes) × (around < depth) × (Lost tops sc t → ⊥)
 
 -- what a flat program allows, the source that it stands for allows for the same arguments, with the same count
 abbrev pub FlatAddsNothing : Type 0

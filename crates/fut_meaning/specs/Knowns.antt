@@ -47,10 +47,16 @@ known_primitive (prim.Highest t) = Data
 known_primitive (prim.NumBits t) = Data
 known_primitive p = Known_primitive p known_none
 
-unfoldable pub known_use : Scope → Ref → Option Known
-known_use scope (ref.Bound b) = find scope b.0
-known_use scope (ref.Prim p) = Some (known_primitive p)
-known_use scope (ref.Scalar s) = None
+-- a local name, or else a definition
+abbrev pub or_else : Option Known → Option Known → Option Known
+or_else None other = other
+or_else (Some s) other = Some s
+
+-- what is known of a use, from the definitions and the local names
+unfoldable pub known_use : Scope → Scope → Ref → Option Known
+known_use tops scope (ref.Bound b) = or_else (find scope b.0) (find tops b.0)
+known_use tops scope (ref.Prim p) = Some (known_primitive p)
+known_use tops scope (ref.Scalar s) = None
 
 abbrev pub is_data : Known → Bool
 is_data Data = true
@@ -128,14 +134,6 @@ known_result (Declared t) (known_and s known_none) = Some s
 known_result Assert (known_and Data (known_and s known_none)) = Some s
 known_result o ss = data_of ss
 
-abbrev pub and_parts : Option Known → Option Knowns → Option Knowns
-and_parts (Some s) (Some ss) = Some (known_and s ss)
-and_parts s ss = None
-
-abbrev pub all_fields_of : List Text → Known_fields → Option Knowns
-all_fields_of [] fs = Some known_none
-all_fields_of (f ∷ names) fs = and_parts (known_field_of f fs) (all_fields_of names fs)
-
 abbrev pub with_some : {A B : Type 0} → Option A → (A → Option B) → Option B
 with_some None k = None
 with_some (Some a) k = k a
@@ -161,7 +159,7 @@ unfoldable mutual
   known_bound (Tuple_pattern ps) Data scope = Some (all_data_bound ps scope)
   known_bound (Tuple_pattern ps) (Known_tuple ss) scope = all_known_bound ps ss scope
   known_bound (Record_pattern names ps) Data scope = Some (all_data_bound ps scope)
-  known_bound (Record_pattern names ps) (Known_record fs) scope = with_some (all_fields_of names fs) (λ ss. all_known_bound ps ss scope)
+  known_bound (Record_pattern names ps) (Known_record fs) scope = fields_bound names ps fs scope
   known_bound (Typed_pattern p t) s scope = known_bound p s scope
   known_bound p s scope = None
 
@@ -169,6 +167,12 @@ unfoldable mutual
   all_known_bound no_pattern known_none scope = Some scope
   all_known_bound (pattern_and p ps) (known_and s ss) scope = with_some (known_bound p s scope) (λ inner. all_known_bound ps ss inner)
   all_known_bound ps ss scope = None
+
+  -- each pattern with the field of its name
+  pub fields_bound : List Text → Patterns Ref BindId → Known_fields → Scope → Option Scope
+  fields_bound [] no_pattern fs scope = Some scope
+  fields_bound (f ∷ names) (pattern_and p ps) fs scope = with_some (known_field_of f fs) (λ s. with_some (known_bound p s scope) (λ inner. fields_bound names ps fs inner))
+  fields_bound names ps fs scope = None
 
 abbrev pub count : Knowns → ℕ
 count known_none = 0

@@ -1,0 +1,10 @@
+pub mod Mirror
+pub mod Finding
+pub mod Uses
+pub mod Numbered
+pub mod Binding
+pub mod Parts
+pub mod Fielding
+pub mod Peeling
+pub mod Walks
+pub mod Leads

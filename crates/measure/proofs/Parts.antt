@@ -1,0 +1,299 @@
+-- What is known of operations, one part after the other.
+use Rattle.std.specs.Borrow.{Bor}
+use Rattle.std.specs.Prelude.{Result}
+use Rattle.fut_ast.specs.Sorts.{Text}
+use Rattle.fut_flat.specs.Erased.{texts}
+use Rattle.std.proofs.lemmas.List.{length-map}
+use Rattle.measure.specs.declared.stop.Stop.{Stop}
+use Rattle.std.proofs.Common.{◌≡◌, ℕ, suc, ◌+◌, ◌<◌, ◌≤◌, List, [], ◌∷◌, map, length, get_or, drop, Option, Some, None, Bool, true, false, cond, refl, sym, ap, ◌∙◌, subst, arith, Ok, Err}
+use Rattle.fut_meaning.specs.Knowns.{Known, Data, Known_tuple, Known_record, Known_function, Known_primitive, Knowns, is_data, all_data, data_of, known_tuple, known_fields, and_known, known_with, fields_data, known_part, known_part_from, known_result, with_known, known_none, known_and, Known_fields, known_no_field, known_field, some_record}
+use Rattle.std.specs.Prelude.{decimal}
+use Rattle.std.specs.Str.{bytes_eq}
+use Rattle.std.proofs.Common.{◌++◌}
+use Rattle.fut_meaning.specs.Values.{is_before}
+use Rattle.fut_scalar.specs.declared.place.BindId.{BindId}
+use Rattle.fut_flat.specs.declared.prim.Ref.{Ref}
+use Rattle.fut_flat.specs.declared.act.Act.{Act}
+use Rattle.fut_flat.specs.declared.act.Act.TheVariants as act
+use Rattle.fut_flat.specs.declared.ty.TypeExp.{TypeExp}
+use Rattle.fut_flat.specs.Erased.{operation_of, type_of}
+use Rattle.fut_flat.specs.Terms.{Operation, Ascribe, Assert, Coerce, Declared}
+use Rattle.measure.specs.declared.stop.Stop.TheVariants.{Lost}
+use Rattle.measure.specs.Answers.{one_or_data, Known_to, known_is, not_known}
+use Rattle.measure.specs.Held.{known_of, knowns}
+use Rattle.measure.specs.declared.known.Known.{Known as Held_known}
+use Rattle.measure.proofs.Binding.{one_more, drop_end}
+
+pub data_is : (s : Held_known) (k : Known) → known_of s ≡ k → is_data (known_of s) ≡ is_data k
+data_is s k e = ap is_data e
+
+pub all_step : (ss : List Held_known) (i : ℕ) (s : Held_known) → i < length ss → all_data (knowns (map known_of (drop i ss))) ≡ cond (is_data (known_of (get_or ss i s))) (all_data (knowns (map known_of (drop (i + 1) ss)))) false
+unfolding knowns
+all_step ss i s lt = ap (λ z. all_data (knowns (map known_of z))) (one_more ss i s lt)
+
+pub all_done : (ss : List Held_known) (n : ℕ) → length ss ≤ n → all_data (knowns (map known_of (drop n ss))) ≡ true
+unfolding knowns
+all_done ss n le = ap (λ z. all_data (knowns (map known_of z))) (drop_end n ss le)
+
+module _ (ss : List Held_known) (i : ℕ) (s : Held_known) (b : Bool) where
+  pub all_on : i < length ss → b ≡ all_data (knowns (map known_of (drop i ss))) → is_data (known_of (get_or ss i s)) ≡ true → b ≡ all_data (knowns (map known_of (drop (i + 1) ss)))
+  all_on lt e h = e ∙ all_step ss i s lt ∙ ap (λ z. cond z (all_data (knowns (map known_of (drop (i + 1) ss)))) false) h
+
+  pub all_here : i < length ss → b ≡ all_data (knowns (map known_of (drop i ss))) → is_data (known_of (get_or ss i s)) ≡ false → false ≡ b
+  all_here lt e h = sym (e ∙ all_step ss i s lt ∙ ap (λ z. cond z (all_data (knowns (map known_of (drop (i + 1) ss)))) false) h)
+
+-- ---- what operations give
+
+abbrev pub Parts_of : List Held_known → Knowns
+Parts_of ss = knowns (map known_of ss)
+
+pub all_are : (ss : List Held_known) (s : Held_known) → true ≡ all_data (Parts_of ss) → known_of s ≡ Data → Known_to (data_of (Parts_of ss)) (Ok s)
+all_are ss s e d = known_is (ap (λ z. cond z (Some Data) None) (sym e) ∙ ap Some (sym d))
+
+pub not_all : (ss : List Held_known) → false ≡ all_data (Parts_of ss) → Known_to (data_of (Parts_of ss)) (Err Lost)
+not_all ss e = not_known (ap (λ z. cond z (Some Data) None) (sym e))
+
+pub tuple_data : (ss : List Held_known) (s : Held_known) → true ≡ all_data (Parts_of ss) → known_of s ≡ Data → known_of s ≡ known_tuple (Parts_of ss)
+tuple_data ss s e d = d ∙ ap (λ z. cond z Data (Known_tuple (Parts_of ss))) e
+
+pub tuple_holds : (ss : List Held_known) (s : Held_known) → false ≡ all_data (Parts_of ss) → known_of s ≡ Known_tuple (Parts_of ss) → known_of s ≡ known_tuple (Parts_of ss)
+tuple_holds ss s e d = d ∙ ap (λ z. cond z Data (Known_tuple (Parts_of ss))) e
+
+-- ---- one part, and records
+
+pub only_part : (ss : List Held_known) (s : Held_known) → length ss ≡ 1 → Known_to (one_or_data (Parts_of ss)) (Ok (get_or ss 0 s))
+unfolding one_or_data knowns
+only_part [] s e = absurd (omega (arith, e))
+only_part (x ∷ []) s e = known_is refl
+only_part (x ∷ y ∷ ss) s e = absurd (omega (arith, e))
+
+pub many_parts : (ss : List Held_known) → (length ss ≡ 1 → ⊥) → one_or_data (Parts_of ss) ≡ data_of (Parts_of ss)
+unfolding one_or_data knowns
+many_parts [] h = refl
+many_parts (x ∷ []) h = absurd (h refl)
+many_parts (x ∷ y ∷ ss) h = refl
+
+pub known_as_wanted : {w w' : Option Known} {r : Result Held_known Stop} → w' ≡ w → Known_to w r → Known_to w' r
+known_as_wanted {r = r} e h = subst (λ z. Known_to z r) (sym e) h
+
+unequal_fields : (names : List Text) (ss : List Held_known) → (length names ≡ length ss → ⊥) → known_fields names (Parts_of ss) ≡ None
+unfolding knowns
+unequal_fields [] [] h = absurd (h refl)
+unequal_fields [] (s ∷ ss) h = refl
+unequal_fields (f ∷ fs) [] h = refl
+unequal_fields (f ∷ fs) (s ∷ ss) h = ap (and_known f (known_of s)) (unequal_fields fs ss (λ e. h (omega (arith, e))))
+
+pub unequal_record : (names : List (Bor Text)) (ss : List Held_known) → (length names ≡ length ss → ⊥) → some_record (known_fields (texts names) (Parts_of ss)) ≡ None
+unequal_record names ss h = ap some_record (unequal_fields (texts names) ss (λ e. h (sym (length-map names (λ (x : Bor Text). x.now)) ∙ e)))
+
+-- ---- records of data
+
+pub data Data_fields : Option Known_fields → Type 0 where
+  data_fields : {fs : Known_fields} → fields_data fs ≡ true → Data_fields (Some fs)
+
+first_data : (a b : Bool) → cond a b false ≡ true → a ≡ true
+first_data true b h = refl
+first_data false b h = h
+
+rest_data : (a b : Bool) → cond a b false ≡ true → b ≡ true
+rest_data true b h = h
+rest_data false b h = absurd (let z : false ≡ true = h in cc)
+
+both_data : {a b : Bool} → a ≡ true → b ≡ true → cond a b false ≡ true
+both_data {b = b} h k = ap (λ z. cond z b false) h ∙ k
+
+data_with : (f : Text) (s : Known) (fs : Known_fields) → is_data s ≡ true → fields_data fs ≡ true → fields_data (known_with f s fs) ≡ true
+data_with f s known_no_field h k = both_data h refl
+data_with f s (known_field g u fs) h k = by_order (is_before f g) (data_with f s fs h (rest_data (is_data u) (fields_data fs) k))
+  where
+    by_order : (b : Bool) → fields_data (known_with f s fs) ≡ true → fields_data (cond b (known_field f s (known_field g u fs)) (known_field g u (known_with f s fs))) ≡ true
+    by_order true r = both_data h k
+    by_order false r = both_data (first_data (is_data u) (fields_data fs) k) r
+
+all_fields_data : (names : List Text) (ss : List Held_known) → length names ≡ length ss → all_data (Parts_of ss) ≡ true → Data_fields (known_fields names (Parts_of ss))
+unfolding knowns
+all_fields_data [] [] e h = data_fields refl
+all_fields_data [] (s ∷ ss) e h = absurd (omega (arith, e))
+all_fields_data (f ∷ fs) [] e h = absurd (omega (arith, e))
+all_fields_data (f ∷ fs) (s ∷ ss) e h = more (known_fields fs (Parts_of ss)) (all_fields_data fs ss (omega (arith, e)) (rest_data (is_data (known_of s)) (all_data (Parts_of ss)) h))
+  where
+    more : (o : Option Known_fields) → Data_fields o → Data_fields (and_known f (known_of s) o)
+    more _ (data_fields {fs = gs} d) = data_fields (data_with f (known_of s) gs (first_data (is_data (known_of s)) (all_data (Parts_of ss)) h) d)
+
+record_of_data : (o : Option Known_fields) → Data_fields o → some_record o ≡ Some Data
+record_of_data _ (data_fields {fs = fs} d) = ap (λ z. Some (cond z Data (Known_record fs))) d
+
+pub data_record : (names : List (Bor Text)) (ss : List Held_known) (s : Held_known) → length names ≡ length ss → true ≡ all_data (Parts_of ss) → known_of s ≡ Data → Known_to (some_record (known_fields (texts names) (Parts_of ss))) (Ok s)
+data_record names ss s e h d = known_is (record_of_data _ (all_fields_data (texts names) ss (length-map names (λ (x : Bor Text). x.now) ∙ e) (sym h)) ∙ ap Some (sym d))
+
+-- ---- one more argument
+
+pub one_behind : (ss : List Held_known) (s : Held_known) → knowns (map known_of (ss ++ s ∷ [])) ≡ with_known (knowns (map known_of ss)) (known_of s)
+unfolding knowns
+one_behind [] s = refl
+one_behind (x ∷ ss) s = ap (known_and (known_of x)) (one_behind ss s)
+
+-- ---- the parts of a tuple
+
+pub part_step : (k : ℕ) (name : Text) (ss : List Held_known) (i : ℕ) (s : Held_known) → i < length ss → known_part_from k name (knowns (map known_of (drop i ss))) ≡ cond (bytes_eq (decimal k) name) (Some (known_of (get_or ss i s))) (known_part_from (k + 1) name (knowns (map known_of (drop (i + 1) ss))))
+unfolding knowns
+part_step k name ss i s lt = let e : suc k ≡ k + 1 = omega arith in ap (λ z. known_part_from k name (knowns (map known_of z))) (one_more ss i s lt) ∙ ap (λ z. cond (bytes_eq (decimal k) name) (Some (known_of (get_or ss i s))) (known_part_from z name (knowns (map known_of (drop (i + 1) ss))))) e
+
+pub part_done : (k : ℕ) (name : Text) (ss : List Held_known) (n : ℕ) → length ss ≤ n → known_part_from k name (knowns (map known_of (drop n ss))) ≡ None
+unfolding knowns
+part_done k name ss n le = ap (λ z. known_part_from k name (knowns (map known_of z))) (drop_end n ss le)
+
+pub part_here : (k : ℕ) (name : Text) (ss : List Held_known) (i : ℕ) (s : Held_known) (o : Option Known) → i < length ss → o ≡ known_part_from k name (knowns (map known_of (drop i ss))) → bytes_eq (decimal k) name ≡ true → Known_to o (Ok (get_or ss i s))
+part_here k name ss i s o lt e h = known_is (e ∙ part_step k name ss i s lt ∙ ap (λ z. cond z (Some (known_of (get_or ss i s))) (known_part_from (k + 1) name (knowns (map known_of (drop (i + 1) ss))))) h)
+
+pick : (ss : List Held_known) (i : ℕ) → i < length ss → Held_known
+pick [] i lt = absurd (omega (arith, lt))
+pick (s ∷ ss) i lt = s
+
+pub part_on : (k : ℕ) (name : Text) (ss : List Held_known) (i : ℕ) (o : Option Known) → i < length ss → o ≡ known_part_from k name (knowns (map known_of (drop i ss))) → bytes_eq (decimal k) name ≡ false → o ≡ known_part_from (k + 1) name (knowns (map known_of (drop (i + 1) ss)))
+part_on k name ss i o lt e h = let s = pick ss i lt in e ∙ part_step k name ss i s lt ∙ ap (λ z. cond z (Some (known_of (get_or ss i s))) (known_part_from (k + 1) name (knowns (map known_of (drop (i + 1) ss))))) h
+
+-- ---- what each operation gives
+
+module _ (a : Act) (ss : List Held_known) where
+  pub result_is : (b : Act) (w : Option Known) → a ≡ b → known_result (operation_of b) (Parts_of ss) ≡ w → known_result (operation_of a) (Parts_of ss) ≡ w
+  result_is b w e h = ap (λ z. known_result (operation_of z) (Parts_of ss)) e ∙ h
+
+  pub result_tuple : a ≡ act.Tuple → known_result (operation_of a) (Parts_of ss) ≡ Some (known_tuple (Parts_of ss))
+  unfolding known_result
+  result_tuple e = result_is act.Tuple _ e refl
+
+  pub result_record : (fs : Bor (List (Bor Text))) → a ≡ act.Record fs → known_result (operation_of a) (Parts_of ss) ≡ some_record (known_fields (texts fs.now) (Parts_of ss))
+  unfolding known_result
+  result_record fs e = result_is (act.Record fs) _ e refl
+
+one_part : (o : Operation Ref BindId) → ((s : Known) → known_result o (known_and s known_none) ≡ Some s) → (known_result o known_none ≡ Some Data) → ((s s' : Known) (ss : Knowns) → known_result o (known_and s (known_and s' ss)) ≡ data_of (known_and s (known_and s' ss))) → (ss : List Held_known) → known_result o (Parts_of ss) ≡ one_or_data (Parts_of ss)
+unfolding one_or_data knowns
+one_part o f g h [] = g
+one_part o f g h (x ∷ []) = f (known_of x)
+one_part o f g h (x ∷ y ∷ ss) = h (known_of x) (known_of y) (Parts_of ss)
+
+pub result_ascribed : (a : Act) (ss : List Held_known) (t : Bor TypeExp) → a ≡ act.Ascribe t → known_result (operation_of a) (Parts_of ss) ≡ one_or_data (Parts_of ss)
+unfolding known_result
+result_ascribed a ss t e = result_is a ss (act.Ascribe t) _ e (one_part (Ascribe (type_of t.now)) (λ s. refl) refl (λ s s' ss. refl) ss)
+
+pub result_coerced : (a : Act) (ss : List Held_known) (t : Bor TypeExp) → a ≡ act.Coerce t → known_result (operation_of a) (Parts_of ss) ≡ one_or_data (Parts_of ss)
+unfolding known_result
+result_coerced a ss t e = result_is a ss (act.Coerce t) _ e (one_part (Coerce (type_of t.now)) (λ s. refl) refl (λ s s' ss. refl) ss)
+
+pub result_declared : (a : Act) (ss : List Held_known) (t : Bor TypeExp) → a ≡ act.Declared t → known_result (operation_of a) (Parts_of ss) ≡ one_or_data (Parts_of ss)
+unfolding known_result
+result_declared a ss t e = result_is a ss (act.Declared t) _ e (one_part (Declared (type_of t.now)) (λ s. refl) refl (λ s s' ss. refl) ss)
+
+pub result_projected : (a : Act) (ss : List Held_known) (f : Bor Text) (d : Held_known) → a ≡ act.Project f → length ss ≡ 1 → known_result (operation_of a) (Parts_of ss) ≡ known_part f.now (known_of (get_or ss 0 d))
+unfolding known_result knowns
+result_projected a [] f d e n = absurd (omega (arith, n))
+result_projected a (x ∷ []) f d e n = result_is a (x ∷ []) (act.Project f) _ e refl
+result_projected a (x ∷ y ∷ ss) f d e n = absurd (omega (arith, n))
+
+pub result_unprojected : (a : Act) (ss : List Held_known) (f : Bor Text) → a ≡ act.Project f → (length ss ≡ 1 → ⊥) → known_result (operation_of a) (Parts_of ss) ≡ data_of (Parts_of ss)
+unfolding known_result knowns
+result_unprojected a [] f e n = result_is a [] (act.Project f) _ e refl
+result_unprojected a (x ∷ []) f e n = absurd (n refl)
+result_unprojected a (x ∷ y ∷ ss) f e n = result_is a (x ∷ y ∷ ss) (act.Project f) _ e refl
+
+-- ---- assertions
+
+abbrev pub assertion : Operation Ref BindId
+assertion = Assert
+
+pub assert_ok : (ss : List Held_known) (d : Held_known) → length ss ≡ 2 → is_data (known_of (get_or ss 0 d)) ≡ true → known_result assertion (Parts_of ss) ≡ Some (known_of (get_or ss 1 d))
+unfolding known_result knowns
+assert_ok [] d n h = absurd (omega (arith, n))
+assert_ok (x ∷ []) d n h = absurd (omega (arith, n))
+assert_ok (x ∷ y ∷ []) d n h = by_first (known_of x) h
+  where
+    by_first : (k : Known) → is_data k ≡ true → known_result assertion (known_and k (known_and (known_of y) known_none)) ≡ Some (known_of y)
+    by_first Data h = refl
+    by_first (Known_tuple ss) h = absurd (let z : false ≡ true = h in cc)
+    by_first (Known_record fs) h = absurd (let z : false ≡ true = h in cc)
+    by_first (Known_function ps e sc) h = absurd (let z : false ≡ true = h in cc)
+    by_first (Known_primitive p ss) h = absurd (let z : false ≡ true = h in cc)
+assert_ok (x ∷ y ∷ w ∷ ss) d n h = absurd (omega (arith, n))
+
+pub assert_function : (ss : List Held_known) (d : Held_known) → length ss ≡ 2 → is_data (known_of (get_or ss 0 d)) ≡ false → known_result assertion (Parts_of ss) ≡ data_of (Parts_of ss)
+unfolding known_result knowns
+assert_function [] d n h = absurd (omega (arith, n))
+assert_function (x ∷ []) d n h = absurd (omega (arith, n))
+assert_function (x ∷ y ∷ []) d n h = by_first (known_of x) h
+  where
+    by_first : (k : Known) → is_data k ≡ false → known_result assertion (known_and k (known_and (known_of y) known_none)) ≡ data_of (known_and k (known_and (known_of y) known_none))
+    by_first Data h = absurd (let z : true ≡ false = h in cc)
+    by_first (Known_tuple ss) h = refl
+    by_first (Known_record fs) h = refl
+    by_first (Known_function ps e sc) h = refl
+    by_first (Known_primitive p ss) h = refl
+assert_function (x ∷ y ∷ w ∷ ss) d n h = absurd (omega (arith, n))
+
+pub assert_other : (ss : List Held_known) → (length ss ≡ 2 → ⊥) → known_result assertion (Parts_of ss) ≡ data_of (Parts_of ss)
+unfolding known_result knowns
+assert_other [] n = refl
+assert_other (x ∷ []) n = by_first (known_of x)
+  where
+    by_first : (k : Known) → known_result assertion (known_and k known_none) ≡ data_of (known_and k known_none)
+    by_first Data = refl
+    by_first (Known_tuple ss) = refl
+    by_first (Known_record fs) = refl
+    by_first (Known_function ps e sc) = refl
+    by_first (Known_primitive p ss) = refl
+assert_other (x ∷ y ∷ []) n = absurd (n refl)
+assert_other (x ∷ y ∷ w ∷ ss) n = by_first (known_of x) (known_of y) (known_of w) (Parts_of ss)
+  where
+    by_first : (k k' k'' : Known) (ss : Knowns) → known_result assertion (known_and k (known_and k' (known_and k'' ss))) ≡ data_of (known_and k (known_and k' (known_and k'' ss)))
+    by_first Data k' k'' ss = refl
+    by_first (Known_tuple us) k' k'' ss = refl
+    by_first (Known_record fs) k' k'' ss = refl
+    by_first (Known_function ps e sc) k' k'' ss = refl
+    by_first (Known_primitive p us) k' k'' ss = refl
+
+pub result_asserted : (a : Act) (ss : List Held_known) → a ≡ act.Assert → known_result (operation_of a) (Parts_of ss) ≡ known_result assertion (Parts_of ss)
+result_asserted a ss e = ap (λ z. known_result (operation_of z) (Parts_of ss)) e
+
+-- ---- every other operation makes data of data
+
+pub result_other : (a : Act) (ss : List Held_known) → (a ≡ act.Tuple → ⊥) → ((fs : Bor (List (Bor Text))) → a ≡ act.Record fs → ⊥) → ((f : Bor Text) → a ≡ act.Project f → ⊥) → ((t : Bor TypeExp) → a ≡ act.Ascribe t → ⊥) → ((t : Bor TypeExp) → a ≡ act.Coerce t → ⊥) → ((t : Bor TypeExp) → a ≡ act.Declared t → ⊥) → (a ≡ act.Assert → ⊥) → ((f : Bor Text) → a ≡ act.Replace f → ⊥) → known_result (operation_of a) (Parts_of ss) ≡ data_of (Parts_of ss)
+unfolding known_result
+result_other act.Tuple ss t r p a c d s u = absurd (t refl)
+result_other (act.Record fs) ss t r p a c d s u = absurd (r fs refl)
+result_other (act.Project f) ss t r p a c d s u = absurd (p f refl)
+result_other (act.Ascribe v) ss t r p a c d s u = absurd (a v refl)
+result_other (act.Coerce v) ss t r p a c d s u = absurd (c v refl)
+result_other (act.Declared v) ss t r p a c d s u = absurd (d v refl)
+result_other act.Assert ss t r p a c d s u = absurd (s refl)
+result_other (act.Replace f) ss t r p a c d s u = absurd (u f refl)
+result_other (act.Int n v) ss t r p a c d s u = refl
+result_other (act.Truth b) ss t r p a c d s u = refl
+result_other act.Array ss t r p a c d s u = refl
+result_other (act.Binary op) ss t r p a c d s u = refl
+result_other act.Negate ss t r p a c d s u = refl
+result_other act.Complement ss t r p a c d s u = refl
+result_other (act.Index ps) ss t r p a c d s u = refl
+result_other act.Update ss t r p a c d s u = refl
+result_other (act.Range b e) ss t r p a c d s u = refl
+
+-- a field that is replaced: data in data, until records that hold functions are built
+pub replaced_data : (a : Act) (ss : List Held_known) (f : Bor Text) → a ≡ act.Replace f → true ≡ all_data (Parts_of ss) → known_result (operation_of a) (Parts_of ss) ≡ Some Data
+unfolding known_result knowns
+replaced_data a [] f e h = result_is a [] (act.Replace f) _ e refl
+replaced_data a (x ∷ []) f e h = result_is a (x ∷ []) (act.Replace f) _ e (ap (λ z. cond z (Some Data) None) (sym h))
+replaced_data a (x ∷ y ∷ []) f e h = result_is a (x ∷ y ∷ []) (act.Replace f) _ e (by_both (known_of x) (known_of y) h)
+  where
+    by_both : (k k' : Known) → true ≡ cond (is_data k) (cond (is_data k') true false) false → Rattle.fut_meaning.specs.Knowns.replaced_in f.now k k' ≡ Some Data
+    by_both Data Data h = refl
+    by_both Data (Known_tuple ss) h = absurd (let z : true ≡ false = h in cc)
+    by_both Data (Known_record fs) h = absurd (let z : true ≡ false = h in cc)
+    by_both Data (Known_function ps e sc) h = absurd (let z : true ≡ false = h in cc)
+    by_both Data (Known_primitive p ss) h = absurd (let z : true ≡ false = h in cc)
+    by_both (Known_tuple ss) k' h = absurd (let z : true ≡ false = h in cc)
+    by_both (Known_record fs) k' h = absurd (let z : true ≡ false = h in cc)
+    by_both (Known_function ps e sc) k' h = absurd (let z : true ≡ false = h in cc)
+    by_both (Known_primitive p ss) k' h = absurd (let z : true ≡ false = h in cc)
+replaced_data a (x ∷ y ∷ w ∷ ss) f e h = result_is a (x ∷ y ∷ w ∷ ss) (act.Replace f) _ e (ap (λ z. cond z (Some Data) None) (sym h))
+
+pub replaced_is : (a : Act) (ss : List Held_known) (f : Bor Text) (s : Held_known) → a ≡ act.Replace f → true ≡ all_data (Parts_of ss) → known_of s ≡ Data → Known_to (known_result (operation_of a) (Parts_of ss)) (Ok s)
+replaced_is a ss f s e h d = known_is (replaced_data a ss f e h ∙ ap Some (sym d))

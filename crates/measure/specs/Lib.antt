@@ -1,0 +1,5 @@
+pub mod Held
+pub mod Answers
+pub mod Plain
+pub mod Tables
+pub mod Patterns
