@@ -16,7 +16,16 @@ use fut_types::{Head, Kind, ShapeTable};
 use std::alloc::Global;
 use type_graph::{Entry, FAR, Form, Node, Task, UnifyErr, solve};
 
-// Brings about one task.
+// The node of which a task asks something.
+fn asked(task: Task) -> u32 {
+    match task {
+        Task::Same(node, _) => node,
+        Task::Has(node, _, _) => node,
+        Task::Part(node, _, _) => node,
+    }
+}
+
+// Brings about one task. A refusal is told of the node of which it asks something.
 fn settle(
     alloc: Global,
     table: &ShapeTable,
@@ -34,8 +43,12 @@ fn settle(
 {
     let mut tasks = List::new(alloc);
     match tasks.push(task) {
-        Ok(()) => solve(table, nodes, entries, &mut tasks),
-        Err(_) => Err(UnifyErr::Memory),
+        Ok(()) => {}
+        Err(_) => return Err(UnifyErr::Memory),
+    }
+    match solve(table, nodes, entries, &mut tasks) {
+        Ok(()) => Ok(()),
+        Err(error) => Err(error.told_of(asked(task))),
     }
 }
 

@@ -15,7 +15,7 @@ use Rattle.fut_typing.specs.Typing.{Typed}
 use Rattle.type_rules.specs.declared.demand.Demand.{Demand}
 use Rattle.type_rules.specs.Demands.{All_below, All_met, All_allow, Say, Always_allowed}
 use Rattle.type_scopes.specs.declared.Inference.{Inference}
-use Rattle.type_scopes.specs.Scopes.{Claim, Homes, Safe, Claimed, Refused, Depends}
+use Rattle.type_scopes.specs.Scopes.{Around, Claim, Homes, Safe, Claimed, Refused, Depends}
 use Rattle.type_scopes.proofs.Claiming.{depends_wider, depends_both, claimed_low, refused_low, claimed_as, refused_as, claimed_then, refused_then}
 use Rattle.type_constraints.specs.Parts.{Term_claim, Term_homes, Constrained, Unconstrained, use_term}
 use Rattle.type_constraints.proofs.Depending.{depends_term}
@@ -41,7 +41,7 @@ module _ (places : Kind) (base d lo mid : ℕ) (f x : FlatTerm) (i0 i1 i2 i3 : I
   two_claim N scope K a = Typed N places f (1 + lo) scope K a × Typed N places x (1 + lo + numbers f) scope K a
 
   abbrev pub two_homes : Homes
-  two_homes home = (w : ℕ) × (Homed home d w f (1 + lo) × Homed home d w x (1 + lo + numbers f))
+  two_homes home = (w : Around d) × (Homed home d w.0 f (1 + lo) × Homed home d w.0 x (1 + lo + numbers f))
 
   first : Constrained places base d (1 + lo) f i0 i1 → Claimed places base d lo (Term_claim places f (1 + lo)) (Term_homes d f (1 + lo)) i0 i1
   first c = claimed_low places base d lo (1 + lo) (Term_claim places f (1 + lo)) (Term_homes d f (1 + lo)) i0 i1 (omega arith) c
@@ -49,7 +49,7 @@ module _ (places : Kind) (base d lo mid : ℕ) (f x : FlatTerm) (i0 i1 i2 i3 : I
   both : Constrained places base d (1 + lo) f i0 i1 → Constrained places base d mid x i1 i2 → Claimed places base d lo two_claim two_homes i0 i2
   both c1 c2 = claimed_then places base d lo mid (Term_claim places f (1 + lo)) (Term_claim places x mid) two_claim (Term_homes d f (1 + lo)) (Term_homes d x mid) two_homes i0 i1 i2 s (omega arith)
       (depends_wider places (Term_claim places f (1 + lo)) (1 + lo) mid lo mid (omega arith) (omega arith) (depends_term places f (1 + lo) mid eq))
-      (λ N E K a h. (h.0, subst (λ m. Typed N places x m (scope_of N places E) K a) (sym eq) h.1)) (λ home h. ((h.0, h.1.0), (h.0, subst (λ m. Homed home d h.0 x m) (sym eq) h.1.1))) (first c1)
+      (λ N E K a h. (h.0, subst (λ m. Typed N places x m (scope_of N places E) K a) (sym eq) h.1)) (λ home h. ((h.0, h.1.0), (h.0, subst (λ m. Homed home d h.0.0 x m) (sym eq) h.1.1))) (first c1)
       (λ N E K a p q. (p, subst (λ m. Typed N places x m (scope_of N places E) K a) eq q)) c2
 
   two_depends : (hi : ℕ) → hi ≡ 1 + lo + numbers f + numbers x → Depends places two_claim lo hi
@@ -59,7 +59,7 @@ module _ (places : Kind) (base d lo mid : ℕ) (f x : FlatTerm) (i0 i1 i2 i3 : I
   two_refused2 : (R : Claim) (I : Homes) → ((N : Names) (E : Env) (K : Kinds) (a : Sub) → R N (scope_of N places E) K a → two_claim N (scope_of N places E) K a) → ((home : ℕ → ℕ) → I home → two_homes home) → Constrained places base d (1 + lo) f i0 i1 → Unconstrained places base d mid x i1 i2 → Refused places base d lo R I i0 i2
   two_refused2 R I split homes c1 c2 = refused_then places base d lo mid (Term_claim places f (1 + lo)) (Term_claim places x mid) R (Term_homes d f (1 + lo)) (Term_homes d x mid) I i0 i1 i2 s (omega arith)
       (depends_wider places (Term_claim places f (1 + lo)) (1 + lo) mid lo mid (omega arith) (omega arith) (depends_term places f (1 + lo) mid eq))
-      (λ N E K a h. let g = split N E K a h in (g.0, subst (λ m. Typed N places x m (scope_of N places E) K a) (sym eq) g.1)) (λ home h. let g = homes home h in ((g.0, g.1.0), (g.0, subst (λ m. Homed home d g.0 x m) (sym eq) g.1.1))) (first c1) c2
+      (λ N E K a h. let g = split N E K a h in (g.0, subst (λ m. Typed N places x m (scope_of N places E) K a) (sym eq) g.1)) (λ home h. let g = homes home h in ((g.0, g.1.0), (g.0, subst (λ m. Homed home d g.0.0 x m) (sym eq) g.1.1))) (first c1) c2
 
 -- application
 module _ (places : Kind) (base d lo mid : ℕ) (f x : FlatTerm) (i0 i1 i2 i3 : Inference) (s : Safe base i0) (eq : mid ≡ 1 + lo + numbers f) (ds : List Demand) (say : Say ds (λ K a. a (1 + lo) ≡ fun_ty (a mid) (a lo))) (allowed : Always_allowed ds) where
@@ -92,13 +92,13 @@ module _ (places : Kind) (base d lo m1 m2 : ℕ) (c t e : FlatTerm) (i0 i1 i2 i3
   three_claim N scope K a = (Typed N places c (1 + lo) scope K a × Typed N places t (1 + lo + numbers c) scope K a) × Typed N places e (1 + lo + numbers c + numbers t) scope K a
 
   abbrev three_homes : Homes
-  three_homes home = (w : ℕ) × (Homed home d w c (1 + lo) × Homed home d w t (1 + lo + numbers c) × Homed home d w e (1 + lo + numbers c + numbers t))
+  three_homes home = (w : Around d) × (Homed home d w.0 c (1 + lo) × Homed home d w.0 t (1 + lo + numbers c) × Homed home d w.0 e (1 + lo + numbers c + numbers t))
 
   two_of : (home : ℕ → ℕ) → three_homes home → two_homes places base d lo m1 c t i0 i1 i2 i3 s eq1 home
   two_of home h = (h.0, (h.1.0, h.1.1))
 
   last_of : (home : ℕ → ℕ) → three_homes home → Term_homes d e m2 home
-  last_of home h = (h.0, subst (λ m. Homed home d h.0 e m) (sym eq2) h.1.2)
+  last_of home h = (h.0, subst (λ m. Homed home d h.0.0 e m) (sym eq2) h.1.2)
 
   if_homes : (home : ℕ → ℕ) → Term_homes d (If c t e) lo home → three_homes home
   if_homes home h = (h.0, (h.1.1, h.1.2, h.1.3))
@@ -163,4 +163,4 @@ refused_if2 places base d lo mid c t e i0 i1 i2 s eq c1 x = two_refused2 places 
 pub refused_if3 : (places : Kind) (base d lo m1 m2 : ℕ) (c t e : FlatTerm) (i0 i1 i2 i3 : Inference) → Safe base i0 → m1 ≡ 1 + lo + numbers c → m2 ≡ 1 + lo + numbers c + numbers t
     → Constrained places base d (1 + lo) c i0 i1 → Constrained places base d m1 t i1 i2 → Unconstrained places base d m2 e i2 i3 → Unconstrained places base d lo (If c t e) i0 i3
 refused_if3 places base d lo m1 m2 c t e i0 i1 i2 i3 s eq1 eq2 c1 c2 x = refused_then places base d lo m2 (two_claim places base d lo m1 c t i0 i1 i2 i3 s eq1) (Term_claim places e m2) (Term_claim places (If c t e) lo) (two_homes places base d lo m1 c t i0 i1 i2 i3 s eq1) (Term_homes d e m2) (Term_homes d (If c t e) lo) i0 i2 i3 s (omega arith)
-    (two_depends places base d lo m1 c t i0 i1 i2 i3 s eq1 m2 eq2) (λ N E K a h. (h.0.0, subst (λ m. Typed N places e m (scope_of N places E) K a) (sym eq2) h.0.1)) (λ home h. ((h.0, (h.1.1, h.1.2)), (h.0, subst (λ m. Homed home d h.0 e m) (sym eq2) h.1.3))) (both places base d lo m1 c t i0 i1 i2 i3 s eq1 c1 c2) x
+    (two_depends places base d lo m1 c t i0 i1 i2 i3 s eq1 m2 eq2) (λ N E K a h. (h.0.0, subst (λ m. Typed N places e m (scope_of N places E) K a) (sym eq2) h.0.1)) (λ home h. ((h.0, (h.1.1, h.1.2)), (h.0, subst (λ m. Homed home d h.0.0 e m) (sym eq2) h.1.3))) (both places base d lo m1 c t i0 i1 i2 i3 s eq1 c1 c2) x

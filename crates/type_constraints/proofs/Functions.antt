@@ -126,11 +126,6 @@ module _ (places : Kind) (base d lo at : ℕ) (qs : List FlatPattern) (p : FlatP
       g.opened (subst (λ m. Refused places base d m (Pattern_claim places p m) (λ home. At_home home d m (pattern_numbers p)) i1 i2) g.next (c d)))
 
 -- the pattern at a place, and those before and behind it
-pub split_at : (es : List Pat) (n : ℕ) (d : Pat) → n < length es → (rest : List FlatPattern) × (map pattern_of es ≡ map pattern_of (take n es) ++ pattern_of (slice_index_or es n d) ∷ rest)
-split_at [] n d lt = absurd (omega arith)
-split_at (x ∷ es) zero d lt = (map pattern_of es, refl)
-split_at (x ∷ es) (suc n) d lt = let w = split_at es n d (omega arith) in (w.0, ap (λ l. pattern_of x ∷ l) w.1)
-
 pub starts_below : (base : ℕ) (ps : Patterns Ref BindId) (lo : ℕ) → lo + all_pattern_numbers ps ≤ base → Each (λ n. n < base) (pattern_starts ps lo)
 unfolding pattern_starts
 starts_below base no_pattern lo h = tt
@@ -150,7 +145,7 @@ module _ (places : Kind) (base d lo from : ℕ) (ps : Patterns Ref BindId) (e : 
   params_homes home = At_home home d (1 + lo) (all_pattern_numbers ps)
 
   homes : (home : ℕ → ℕ) → Term_homes d (Lambda ps e) lo home → params_homes home × Term_homes d e from home
-  homes home h = ((λ n x y. h.1.0 n (omega arith) (omega arith)), (h.0, subst (λ m. Homed home d h.0 e m) (sym eq) h.1.1))
+  homes home h = ((λ n x y. h.1.0 n (omega arith) (omega arith)), (h.0, subst (λ m. Homed home d h.0.0 e m) (sym eq) h.1.1))
 
   split : (N : Names) (E : Env) (K : Kinds) (a : Sub) → inside N (scope_of N places E) K a → Parameters_claim places ps (1 + lo) N (scope_of N places E) K a × Term_claim places e from N (scope_of N places (env_patterns ps (1 + lo) E)) K a
   split N E K a h = (h.0, subst (λ (s : Scope). Typed N places e from s K a) (sym (scope_patterns N places ps (1 + lo) E)) (subst (λ m. Typed N places e m (with_patterns the_one ps (1 + lo) (scope_of N places E)) K a) (sym eq) h.1))

@@ -21,7 +21,7 @@ use Rattle.fut_typing.proofs.Envs.{scope_function, scope_value, behind_more, env
 use Rattle.type_scopes.specs.declared.Inference.{Inference}
 use Rattle.type_scopes.specs.declared.names.Past.{Past}
 use Rattle.type_scopes.specs.Table.{undone}
-use Rattle.type_scopes.specs.Scopes.{Claim, Safe, Claimed, Opened, Refused, nothing_claimed}
+use Rattle.type_scopes.specs.Scopes.{Around, Claim, Safe, Claimed, Opened, Refused, nothing_claimed}
 use Rattle.type_scopes.proofs.Claiming.{refused_as}
 use Rattle.type_scopes.proofs.Opening.{opened_as, opened_both, opened_refused, opened_then, closed_after}
 use Rattle.type_scopes.proofs.Binding.{binds_none}
@@ -53,7 +53,7 @@ unfolding row_starts behind_all
 starts_more [] l lo = refl
 starts_more (m ∷ ls) l lo = ap (λ ns. lo ∷ ns) (starts_more ls l (behind m lo))
 
-homed_split : (home : ℕ → ℕ) (d w : ℕ) (ls : List Row) (l : Row) (rest : List Row) (lo : ℕ) → Rows_homed home d w (ls ++ l ∷ rest) lo → Rows_homed home d w ls lo × Row_homes d l (behind_all ls lo) home
+homed_split : (home : ℕ → ℕ) (d : ℕ) (w : Around d) (ls : List Row) (l : Row) (rest : List Row) (lo : ℕ) → Rows_homed home d w.0 (ls ++ l ∷ rest) lo → Rows_homed home d w.0 ls lo × Row_homes d l (behind_all ls lo) home
 unfolding Rows_homed behind_all
 homed_split home d w [] l rest lo h = (tt, (w, h.0))
 homed_split home d w (m ∷ ls) l rest lo h = let x = homed_split home d w ls l rest (behind m lo) h.1 in ((h.0, x.0), x.1)
@@ -153,7 +153,7 @@ module _ (places : Kind) (base d lo at : ℕ) (ls : List Row) (l : Row) (begins 
 -- the row, its body, and the chain of their numbers
 module _ (places : Kind) (base d lo from : ℕ) (ls : List Row) (body : FlatTerm) (eq : from ≡ behind_all ls lo) where
   homes : (home : ℕ → ℕ) → Term_homes d (lets ls body) lo home → Rows_homes d ls lo home × Term_homes d body from home
-  homes home h = let w = rows_homed home d h.0 ls body lo h.1 in ((h.0, w.0), (h.0, subst (λ m. Homed home d h.0 body m) (sym eq) w.1))
+  homes home h = let w = rows_homed home d h.0.0 ls body lo h.1 in ((h.0, w.0), (h.0, subst (λ m. Homed home d h.0.0 body m) (sym eq) w.1))
 
   abbrev within : Claim
   within N scope = inside N places ls body lo scope

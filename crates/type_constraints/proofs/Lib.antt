@@ -4,7 +4,6 @@ pub mod Rows
 pub mod Functions
 pub mod Values
 pub mod Lets
-pub mod Using
 pub mod Graphs
 pub mod Ruling
 pub mod Labelling
@@ -12,3 +11,4 @@ pub mod Chains
 pub mod Loops
 pub mod Tuples
 pub mod Overs
+pub mod Definitions

@@ -25,9 +25,9 @@ use Rattle.type_rules.specs.declared.demand.Demand.TheVariants as demand
 use Rattle.type_rules.specs.Demands.{Met, Allows, IsDemand, Are_demands, All_met, All_allow, Say, Always_allowed}
 use Rattle.type_scopes.specs.declared.Inference.{Inference}
 use Rattle.type_scopes.specs.declared.names.Past.{Past}
-use Rattle.type_scopes.specs.Table.{undone, entered}
+use Rattle.type_scopes.specs.Table.{undone, entered, known_at}
 use Rattle.type_scopes.specs.declared.names.Known.TheVariants as known
-use Rattle.type_scopes.specs.Scopes.{Claim, Homes, Safe, Claimed, Opened, Refused, Binds, Depends, nothing_claimed}
+use Rattle.type_scopes.specs.Scopes.{Around, Claim, Homes, Safe, Claimed, Opened, Refused, Binds, Depends, nothing_claimed}
 use Rattle.type_scopes.proofs.Claiming.{depends_both, depends_wider, claimed_low, claimed_then, refused_as, refused_then}
 use Rattle.type_scopes.proofs.Opening.{opened_both, opened_number, opened_refused, opened_then, then_opened, closed_after}
 use Rattle.type_constraints.specs.Parts.{Term_claim, Term_homes, Constrained, Unconstrained, value_row, Row_claim, Row_homes, env_row, behind_first, behind_head, Head_claim, Head_homes, env_head}
@@ -64,7 +64,7 @@ module _ (places : Kind) (base d lo from : ℕ) (mark : Place) (sizes : List Bin
   sees N E = scope_turns N places turns (behind_first p first lo) (env_pattern p (1 + lo) (env_sizes sizes E)) ∙ ap (with_turns turns (behind_first p first lo)) (scope_carried places lo sizes p N E)
 
   homes : (home : ℕ → ℕ) → Term_homes d whole lo home → head_homes home × Term_homes d body from home
-  homes home h = ((h.0, ((h.1.0 lo (omega arith) (omega arith), (λ n x y. h.1.0 n (omega arith) (omega arith)), h.1.1), h.1.2)), (h.0, subst (λ m. Homed home d h.0 body m) (sym eq) h.1.3))
+  homes home h = ((h.0, ((h.1.0 lo (omega arith) (omega arith), (λ n x y. h.1.0 n (omega arith) (omega arith)), h.1.1), h.1.2)), (h.0, subst (λ m. Homed home d h.0.0 body m) (sym eq) h.1.3))
 
   split : (N : Names) (E : Env) (K : Kinds) (a : Sub) → all_but N (scope_of N places E) K a → head N (scope_of N places E) K a × Term_claim places body from N (scope_of N places (into E)) K a
   split N E K a h = (h.0, subst (λ (s : Scope). Typed N places body from s K a) (sym (sees N E)) (subst (λ m. Typed N places body m (inner (scope_of N places E)) K a) (sym eq) h.1))
@@ -135,7 +135,7 @@ module _ (places : Kind) (base d lo from : ℕ) (sizes : List BindId) (p : FlatP
   carried = env_row (value_row sizes p first) lo
 
   while_apart : (home : ℕ → ℕ) → while_homes home → row_homes home × Term_homes d test from home
-  while_apart home h = ((h.0, h.1.0), (h.0, subst (λ m. Homed home d h.0 test m) (sym eq) h.1.1))
+  while_apart home h = ((h.0, h.1.0), (h.0, subst (λ m. Homed home d h.0.0 test m) (sym eq) h.1.1))
 
   while_split : (N : Names) (E : Env) (K : Kinds) (a : Sub) → while_claim N (scope_of N places E) K a → row_claim N (scope_of N places E) K a × true_claim N (scope_of N places (carried E)) K a
   while_split N E K a h = (
@@ -199,7 +199,7 @@ module _ (places : Kind) (base d lo from : ℕ) (sizes : List BindId) (p : FlatP
   counted_claim m N scope K a = first_claim N scope K a × Turns_typed N places (Counted i n) m scope scope K a
 
   abbrev counted_homes : ℕ → Homes
-  counted_homes m home = (w : ℕ) × (Row_homed home d w (value_row sizes p first) lo × Turns_homed home d w (Counted i n) m)
+  counted_homes m home = (w : Around d) × (Row_homed home d w.0 (value_row sizes p first) lo × Turns_homed home d w.0 (Counted i n) m)
 
   abbrev end : ℕ
   end = from + (1 + numbers n)
@@ -254,13 +254,13 @@ module _ (places : Kind) (base d lo from : ℕ) (sizes : List BindId) (p : FlatP
         abbrev name_homes : Homes
         name_homes home = At_home home d (1 + lo) (pattern_numbers p) × (home from ≡ d)
 
-        module _ (i4 i5 i6 : Inference) (y : (lo : ℕ) → Binds base lo 0 (env_sizes sizes) i3 i4) (z : Binds base (1 + lo) (pattern_numbers p) (env_pattern p (1 + lo)) i4 i5) (safe : Safe base i5) (room : from < base) (inn : i.0 < length i5.names) (is : i6 ≡ entered i5 i.0 (known.Number from)) where
+        module _ (i4 i5 i6 : Inference) (y : (lo : ℕ) → Binds base lo 0 (env_sizes sizes) i3 i4) (z : Binds base (1 + lo) (pattern_numbers p) (env_pattern p (1 + lo)) i4 i5) (safe : Safe base i5) (room : from < base) (inn : i.0 < length i5.names) (fresh : known_at i5.names i.0 ≡ known.Nothing) (is : i6 ≡ entered i5 i.0 (known.Number from)) where
           carries : Opened places base d end end nothing_claimed (λ home. At_home home d (1 + lo) (pattern_numbers p)) (env_row (value_row sizes p first) lo) i3 i5
           carries = names places base d lo (1 + lo + pattern_numbers p) sizes p first refl i3 i4 i5 y z places d end (omega (arith, eq))
 
           named : Opened places base d end end nothing_claimed name_homes (λ E. one i.0 from (env_row (value_row sizes p first) lo E)) i3 (entered i5 i.0 (known.Number from))
           named = opened_both places base d end end nothing_claimed nothing_claimed nothing_claimed (λ home. At_home home d (1 + lo) (pattern_numbers p)) (λ home. home from ≡ d) name_homes (env_row (value_row sizes p first) lo) i3 i5 (entered i5 i.0 (known.Number from)) (λ N E K a h. (tt, tt)) (λ home h. h) carries
-              end (one i.0 from) (λ N E K a u v. tt) (opened_number places base d end i5 i.0 safe inn from room (omega arith))
+              end (one i.0 from) (λ N E K a u v. tt) (opened_number places base d end i5 i.0 safe inn fresh from room (omega arith))
 
           pub counted_ok : Opened places base d lo (behind_head p first (Counted i n) lo) (Head_claim places sizes p first (Counted i n) lo) (Head_homes d sizes p first (Counted i n) lo) (env_head sizes p first (Counted i n) lo) i0 i6
           counted_ok = subst (λ (j : Inference). Opened places base d lo (behind_head p first (Counted i n) lo) (Head_claim places sizes p first (Counted i n) lo) (Head_homes d sizes p first (Counted i n) lo) (env_head sizes p first (Counted i n) lo) i0 j) (sym is)

@@ -21,7 +21,7 @@ use Rattle.type_rules.specs.Demands.{All_met, All_allow, Say, Always_allowed}
 use Rattle.type_scopes.specs.declared.Inference.{Inference}
 use Rattle.type_scopes.specs.declared.names.Past.{Past}
 use Rattle.type_scopes.specs.Table.{undone}
-use Rattle.type_scopes.specs.Scopes.{Claim, Homes, Safe, Claimed, Opened, Refused, Binds, Depends, nothing_claimed}
+use Rattle.type_scopes.specs.Scopes.{Around, Claim, Homes, Safe, Claimed, Opened, Refused, Binds, Depends, nothing_claimed}
 use Rattle.type_scopes.proofs.Claiming.{depends_both, depends_wider, claimed_then, refused_as, refused_then}
 use Rattle.type_scopes.proofs.Opening.{closed, opened_both, opened_refused, opened_then, then_opened}
 use Rattle.type_constraints.specs.Parts.{Term_claim, Term_homes, Pattern_claim, Constrained, Unconstrained, value_row, Row_claim, Row_homes, env_row, behind_first, behind_head, Head_claim, Head_homes, env_head}
@@ -44,7 +44,7 @@ module _ (places : Kind) (base d lo from middle : ℕ) (sizes : List BindId) (p 
   over_claim m N scope K a = first_claim N scope K a × Turns_typed N places (Over q e) m scope (inside scope) K a
 
   abbrev over_homes : ℕ → Homes
-  over_homes m home = (w : ℕ) × (Row_homed home d w (value_row sizes p first) lo × Turns_homed home d w (Over q e) m)
+  over_homes m home = (w : Around d) × (Row_homed home d w.0 (value_row sizes p first) lo × Turns_homed home d w.0 (Over q e) m)
 
   abbrev carried : Env → Env
   carried = env_row (value_row sizes p first) lo
@@ -68,7 +68,7 @@ module _ (places : Kind) (base d lo from middle : ℕ) (sizes : List BindId) (p 
   apart home h = ((h.0, h.1.0), h.1.1.0)
 
   array_home : (home : ℕ → ℕ) → over_homes from home → Term_homes d e middle home
-  array_home home h = (h.0, subst (λ m. Homed home d h.0 e m) (sym eq2) h.1.1.1)
+  array_home home h = (h.0, subst (λ m. Homed home d h.0.0 e m) (sym eq2) h.1.1.1)
 
   into_three : (N : Names) (E : Env) (K : Kinds) (a : Sub) → over_claim from N (scope_of N places E) K a → three N (scope_of N places E) K a × rule N (scope_of N places E) K a
   into_three N E K a h = (((h.0, h.1.0.0), subst (λ m. Typed N places e m (scope_of N places E) K a) (sym eq2) h.1.0.1), subst (λ m. IsArray places K (a m) (a from)) (sym eq2) h.1.1)

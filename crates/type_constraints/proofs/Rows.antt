@@ -110,7 +110,7 @@ module _ (places : Kind) (base d lo : ℕ) where
           (claimed_then places base d lo at (Terms_claim places (terms (map term_of es)) lo) (Term_claim places (term_of e) at) (Terms_claim places (terms (map term_of es ++ term_of e ∷ [])) lo)
           (Terms_homes d (terms (map term_of es)) lo) (Term_homes d (term_of e) at) (Terms_homes d (terms (map term_of es ++ term_of e ∷ [])) lo) i0 i1 i2 s (let p : at ≡ lo + all_numbers (terms (map term_of es)) = g.next in omega arith) depends
           (λ N E K a h. let w = typed_split N places (scope_of N places E) K a (map term_of es) (term_of e) [] lo h in (w.0, subst (λ m. Typed N places (term_of e) m (scope_of N places E) K a) (sym g.next) w.1))
-          (λ home h. let w = homed_split home d h.0 (map term_of es) (term_of e) [] lo h.1 in ((h.0, w.0), (h.0, subst (λ m. Homed home d h.0 (term_of e) m) (sym g.next) w.1))) g.claimed
+          (λ home h. let w = homed_split home d h.0.0 (map term_of es) (term_of e) [] lo h.1 in ((h.0, w.0), (h.0, subst (λ m. Homed home d h.0.0 (term_of e) m) (sym g.next) w.1))) g.claimed
           (λ N E K a p q. typed_join N places (scope_of N places E) K a (map term_of es) (term_of e) lo p (subst (λ m. Typed N places (term_of e) m (scope_of N places E) K a) g.next q)) c);
     }
 
@@ -120,7 +120,7 @@ module _ (places : Kind) (base d lo : ℕ) where
         (refused_then places base d lo at (Terms_claim places (terms (map term_of es)) lo) (Term_claim places (term_of e) at) (Terms_claim places (terms (map term_of es ++ term_of e ∷ map term_of rest)) lo)
         (Terms_homes d (terms (map term_of es)) lo) (Term_homes d (term_of e) at) (Terms_homes d (terms (map term_of es ++ term_of e ∷ map term_of rest)) lo) i0 i1 i2 s (let p : at ≡ lo + all_numbers (terms (map term_of es)) = g.next in omega arith) depends
         (λ N E K a h. let w = typed_split N places (scope_of N places E) K a (map term_of es) (term_of e) (map term_of rest) lo h in (w.0, subst (λ m. Typed N places (term_of e) m (scope_of N places E) K a) (sym g.next) w.1))
-        (λ home h. let w = homed_split home d h.0 (map term_of es) (term_of e) (map term_of rest) lo h.1 in ((h.0, w.0), (h.0, subst (λ m. Homed home d h.0 (term_of e) m) (sym g.next) w.1))) g.claimed c)
+        (λ home h. let w = homed_split home d h.0.0 (map term_of es) (term_of e) (map term_of rest) lo h.1 in ((h.0, w.0), (h.0, subst (λ m. Homed home d h.0.0 (term_of e) m) (sym g.next) w.1))) g.claimed c)
 
 -- the types of a row are those of its numbers
 types_are : (a : Sub) (ts : Terms Ref BindId) (lo : ℕ) → types_of a (starts ts lo) ≡ term_types a ts lo
@@ -142,7 +142,7 @@ module _ (places : Kind) (base d lo from : ℕ) (o : Operation Ref BindId) (mark
   )
 
   homes : (home : ℕ → ℕ) → Term_homes d (Strict o mark ts) lo home → Terms_homes d ts from home × Rule_homes d o lo home
-  homes home h = ((h.0, subst (λ m. All_homed home d h.0 ts m) (sym eq) h.1.1), (h.0, h.1.0))
+  homes home h = ((h.0, subst (λ m. All_homed home d h.0.0 ts m) (sym eq) h.1.1), (h.0, h.1.0))
 
   below : Claimed places base d from (Terms_claim places ts from) (Terms_homes d ts from) i0 i1 → Claimed places base d lo (Terms_claim places ts from) (Terms_homes d ts from) i0 i1
   below c = claimed_low places base d lo from (Terms_claim places ts from) (Terms_homes d ts from) i0 i1 (omega arith) c
@@ -160,4 +160,4 @@ module _ (places : Kind) (base d lo from : ℕ) (o : Operation Ref BindId) (mark
 
 pub refused_strict : (places : Kind) (base d lo from : ℕ) (o : Operation Ref BindId) (mark : Place) (ts : Terms Ref BindId) (i0 i1 : Inference) → Safe base i0 → from ≡ lo + own_numbers o → Refused places base d from (Terms_claim places ts from) (Terms_homes d ts from) i0 i1 → Unconstrained places base d lo (Strict o mark ts) i0 i1
 refused_strict places base d lo from o mark ts i0 i1 s eq c = refused_as places base d lo (Terms_claim places ts from) (Term_claim places (Strict o mark ts) lo) (Terms_homes d ts from) (Term_homes d (Strict o mark ts) lo) i0 i1
-    (λ N E K a h. subst (λ m. All_typed N places ts m (scope_of N places E) K a) (sym eq) h.0) (λ home h. (h.0, subst (λ m. All_homed home d h.0 ts m) (sym eq) h.1.1)) (refused_low places base d lo from (Terms_claim places ts from) (Terms_homes d ts from) i0 i1 (omega arith) c)
+    (λ N E K a h. subst (λ m. All_typed N places ts m (scope_of N places E) K a) (sym eq) h.0) (λ home h. (h.0, subst (λ m. All_homed home d h.0.0 ts m) (sym eq) h.1.1)) (refused_low places base d lo from (Terms_claim places ts from) (Terms_homes d ts from) i0 i1 (omega arith) c)

@@ -1,11 +1,17 @@
 -- The rules of operations.
-use Rattle.std.proofs.Common.{◌≡◌, ℕ, ◌<◌, List, [], ◌∷◌, length, slice_index_or, suc, zero, refl, sym, ap, subst, arith}
+use Rattle.std.proofs.Common.{◌≡◌, ℕ, Bool, true, false, List, [], ◌∷◌, length, slice_index_or, Option, Some, None, refl, sym, ap, subst, arith}
+use Rattle.fut_ast.specs.Sorts.{Text}
+use Rattle.fut_ast.specs.declared.node.End.{End}
+use Rattle.fut_scalar.specs.declared.operator.BinOp.{BinOp}
+use Rattle.fut_scalar.specs.declared.scalar.IntType.{IntType}
 use Rattle.fut_scalar.specs.declared.place.BindId.{BindId}
 use Rattle.fut_flat.specs.declared.prim.Ref.{Ref}
-use Rattle.fut_flat.specs.Terms.{Operation}
+use Rattle.fut_flat.specs.Terms.{Operation, Integer, Truth, Binary, Negate, Complement, Project, Replace, Ascribe, Coerce, Declared, Assert, Range}
+use Rattle.fut_flat.specs.Erased.{FlatType}
 use Rattle.fut_types.specs.declared.Kind.{Kind}
-use Rattle.fut_types.specs.Types.{Sub, Kinds, Tys, none, more}
+use Rattle.fut_types.specs.Types.{Ty, Sub, Kinds, Tys, none, more}
 use Rattle.fut_typing.specs.Names.{Names}
+use Rattle.fut_typing.specs.Scopes.{Denotes}
 use Rattle.fut_typing.specs.Rules.{Rule, Written}
 use Rattle.fut_typing.specs.Homes.{Env, scope_of}
 use Rattle.fut_typing.specs.Typing.{operand}
@@ -13,8 +19,9 @@ use Rattle.type_claims.specs.Claims.{types_of}
 use Rattle.type_rules.specs.declared.demand.Demand.{Demand}
 use Rattle.type_rules.specs.Demands.{All_met, All_allow, Always_allowed}
 use Rattle.type_scopes.specs.declared.Inference.{Inference}
-use Rattle.type_scopes.specs.Scopes.{Claim, Homes, Claimed, Refused}
+use Rattle.type_scopes.specs.Scopes.{Claim, Safe, Claimed, Refused}
 use Rattle.type_scopes.proofs.Claiming.{claimed_as, refused_as}
+use Rattle.type_patterns.specs.Asking.{Ascribed_claim}
 use Rattle.type_constraints.specs.Parts.{Rule_claim, Rule_homes}
 use Rattle.type_constraints.proofs.Forms.{anywhere}
 
@@ -96,3 +103,124 @@ module _ (places : Kind) (o : Operation Ref BindId) (lo : ℕ) (parts : List ℕ
   pub say_three : length parts ≡ 3 → Say_of places o lo (λ a. more (a (slice_index_or parts 0 0)) (more (a (slice_index_or parts 1 0)) (more (a (slice_index_or parts 2 0)) none))) ds → Say_rule places o lo parts ds
   unfolding types_of
   say_three e say = subst (λ (l : List ℕ). Say_rule places o lo l ds) (sym (three_parts parts e)) say
+
+-- an operation on another number of parts
+abbrev pub Never_rule : Kind → Operation Ref BindId → List ℕ → Type 0
+Never_rule places o parts = (N : Names) (K : Kinds) (a : Sub) (t u : Ty) → Rule N places K o t u (types_of a parts) → ⊥
+
+pub never_err : (places : Kind) (base lo : ℕ) (o : Operation Ref BindId) (parts : List ℕ) (i : Inference) → Safe base i → Never_rule places o parts → (d from : ℕ) → Refused places base d from (Rule_claim places o lo parts) (Rule_homes d o lo) i i
+never_err places base lo o parts i s never d from = record { labels = s.labels; reads = λ N T born r. r; nowhere = λ N T home born E r rd h pl K a p q. never N K a (a lo) (a (operand o lo)) q.0 }
+
+pub integer_never : (places : Kind) (n : ℕ) (ty : Option IntType) (l : List ℕ) → (length l ≡ 0 → ⊥) → Never_rule places (Integer n ty) l
+unfolding types_of
+integer_never places n None [] ne N K a t u h = ne refl
+integer_never places n None (x ∷ l) ne N K a t u h = h
+integer_never places n (Some i) [] ne N K a t u h = ne refl
+integer_never places n (Some i) (x ∷ l) ne N K a t u h = h
+
+pub truth_never : (places : Kind) (b : Bool) (l : List ℕ) → (length l ≡ 0 → ⊥) → Never_rule places (Truth b) l
+unfolding types_of
+truth_never places b [] ne N K a t u h = ne refl
+truth_never places b (x ∷ l) ne N K a t u h = h
+
+pub negate_never : (places : Kind) (l : List ℕ) → (length l ≡ 1 → ⊥) → Never_rule places (Negate) l
+unfolding types_of
+negate_never places [] ne N K a t u h = h
+negate_never places (x ∷ []) ne N K a t u h = ne refl
+negate_never places (x ∷ y ∷ l) ne N K a t u h = h
+
+pub complement_never : (places : Kind) (l : List ℕ) → (length l ≡ 1 → ⊥) → Never_rule places (Complement) l
+unfolding types_of
+complement_never places [] ne N K a t u h = h
+complement_never places (x ∷ []) ne N K a t u h = ne refl
+complement_never places (x ∷ y ∷ l) ne N K a t u h = h
+
+pub project_never : (places : Kind) (f : Text) (l : List ℕ) → (length l ≡ 1 → ⊥) → Never_rule places (Project f) l
+unfolding types_of
+project_never places f [] ne N K a t u h = h
+project_never places f (x ∷ []) ne N K a t u h = ne refl
+project_never places f (x ∷ y ∷ l) ne N K a t u h = h
+
+pub ascribe_never : (places : Kind) (e : FlatType) (l : List ℕ) → (length l ≡ 1 → ⊥) → Never_rule places (Ascribe e) l
+unfolding types_of
+ascribe_never places e [] ne N K a t u h = h
+ascribe_never places e (x ∷ []) ne N K a t u h = ne refl
+ascribe_never places e (x ∷ y ∷ l) ne N K a t u h = h
+
+pub coerce_never : (places : Kind) (e : FlatType) (l : List ℕ) → (length l ≡ 1 → ⊥) → Never_rule places (Coerce e) l
+unfolding types_of
+coerce_never places e [] ne N K a t u h = h
+coerce_never places e (x ∷ []) ne N K a t u h = ne refl
+coerce_never places e (x ∷ y ∷ l) ne N K a t u h = h
+
+pub declared_never : (places : Kind) (e : FlatType) (l : List ℕ) → (length l ≡ 1 → ⊥) → Never_rule places (Declared e) l
+unfolding types_of
+declared_never places e [] ne N K a t u h = h
+declared_never places e (x ∷ []) ne N K a t u h = ne refl
+declared_never places e (x ∷ y ∷ l) ne N K a t u h = h
+
+pub binary_never : (places : Kind) (o : BinOp) (l : List ℕ) → (length l ≡ 2 → ⊥) → Never_rule places (Binary o) l
+unfolding types_of
+binary_never places o [] ne N K a t u h = h
+binary_never places o (x ∷ []) ne N K a t u h = h
+binary_never places o (x ∷ y ∷ []) ne N K a t u h = ne refl
+binary_never places o (x ∷ y ∷ z ∷ l) ne N K a t u h = h
+
+pub assert_never : (places : Kind) (l : List ℕ) → (length l ≡ 2 → ⊥) → Never_rule places (Assert) l
+unfolding types_of
+assert_never places [] ne N K a t u h = h
+assert_never places (x ∷ []) ne N K a t u h = h
+assert_never places (x ∷ y ∷ []) ne N K a t u h = ne refl
+assert_never places (x ∷ y ∷ z ∷ l) ne N K a t u h = h
+
+pub replace_never : (places : Kind) (f : Text) (l : List ℕ) → (length l ≡ 2 → ⊥) → Never_rule places (Replace f) l
+unfolding types_of
+replace_never places f [] ne N K a t u h = h
+replace_never places f (x ∷ []) ne N K a t u h = h
+replace_never places f (x ∷ y ∷ []) ne N K a t u h = ne refl
+replace_never places f (x ∷ y ∷ z ∷ l) ne N K a t u h = h
+
+pub range_by_never : (places : Kind) (end : End) (l : List ℕ) → (length l ≡ 3 → ⊥) → Never_rule places (Range true end) l
+unfolding types_of
+range_by_never places end [] ne N K a t u h = h
+range_by_never places end (x ∷ []) ne N K a t u h = h
+range_by_never places end (x ∷ y ∷ []) ne N K a t u h = h
+range_by_never places end (x ∷ y ∷ z ∷ []) ne N K a t u h = ne refl
+range_by_never places end (x ∷ y ∷ z ∷ v ∷ l) ne N K a t u h = h
+
+pub range_never : (places : Kind) (end : End) (l : List ℕ) → (length l ≡ 2 → ⊥) → Never_rule places (Range false end) l
+unfolding types_of
+range_never places end [] ne N K a t u h = h
+range_never places end (x ∷ []) ne N K a t u h = h
+range_never places end (x ∷ y ∷ []) ne N K a t u h = ne refl
+range_never places end (x ∷ y ∷ z ∷ l) ne N K a t u h = h
+
+-- a type that is written
+abbrev pub Ascribes : Kind → FlatType → Operation Ref BindId → ℕ → Type 0
+Ascribes places e o lo = ((N : Names) (K : Kinds) (t u x : Ty) → (Rule N places K o t u (more x none) → t ≡ x) × (t ≡ x → Rule N places K o t u (more x none)))
+    × ((N : Names) (E : Env) (K : Kinds) (a : Sub) (t : Ty) → (Written N places K o (scope_of N places E) a t → Denotes N places K a e (scope_of N places E) t) × (Denotes N places K a e (scope_of N places E) t → Written N places K o (scope_of N places E) a t))
+
+module _ (places : Kind) (base lo : ℕ) (o : Operation Ref BindId) (e : FlatType) (parts : List ℕ) (one : length parts ≡ 1) (is : Ascribes places e o lo) (i i' : Inference) where
+  abbrev first : ℕ
+  first = slice_index_or parts 0 0
+
+  to_written : (N : Names) (E : Env) (K : Kinds) (a : Sub) → Rule_claim places o lo parts N (scope_of N places E) K a → Ascribed_claim places e lo first N (scope_of N places E) K a
+  to_written N E K a h = ((is.0 N K (a lo) (a (operand o lo)) (a first)).0 (subst (λ ts. Rule N places K o (a lo) (a (operand o lo)) ts) (types_one a parts one) h.0), (is.1 N E K a (a lo)).0 h.1)
+
+  from_written : (N : Names) (E : Env) (K : Kinds) (a : Sub) → Ascribed_claim places e lo first N (scope_of N places E) K a → Rule_claim places o lo parts N (scope_of N places E) K a
+  from_written N E K a h = (subst (λ ts. Rule N places K o (a lo) (a (operand o lo)) ts) (sym (types_one a parts one)) ((is.0 N K (a lo) (a (operand o lo)) (a first)).1 h.0), (is.1 N E K a (a lo)).1 h.1)
+
+  pub written_ok : ((d from : ℕ) → Claimed places base d from (Ascribed_claim places e lo first) (λ home. Unit {0}) i i') → (d from : ℕ) → Claimed places base d from (Rule_claim places o lo parts) (Rule_homes d o lo) i i'
+  written_ok c d from = claimed_as places base d from (Ascribed_claim places e lo first) (Rule_claim places o lo parts) anywhere (Rule_homes d o lo) i i' to_written from_written (λ home h. tt) (c d from)
+
+  pub written_err : ((d from : ℕ) → Refused places base d from (Ascribed_claim places e lo first) (λ home. Unit {0}) i i') → (d from : ℕ) → Refused places base d from (Rule_claim places o lo parts) (Rule_homes d o lo) i i'
+  written_err c d from = refused_as places base d from (Ascribed_claim places e lo first) (Rule_claim places o lo parts) anywhere (Rule_homes d o lo) i i' to_written (λ home h. tt) (c d from)
+
+pub ascribe_is : (places : Kind) (e : FlatType) (lo : ℕ) → Ascribes places e (Ascribe e) lo
+ascribe_is places e lo = ((λ N K t u x. ((λ h. h), (λ h. h))), (λ N E K a t. ((λ h. h), (λ h. h))))
+
+pub coerce_is : (places : Kind) (e : FlatType) (lo : ℕ) → Ascribes places e (Coerce e) lo
+coerce_is places e lo = ((λ N K t u x. ((λ h. h), (λ h. h))), (λ N E K a t. ((λ h. h), (λ h. h))))
+
+pub declared_is : (places : Kind) (e : FlatType) (lo : ℕ) → Ascribes places e (Declared e) lo
+declared_is places e lo = ((λ N K t u x. ((λ h. h), (λ h. h))), (λ N E K a t. ((λ h. h), (λ h. h))))

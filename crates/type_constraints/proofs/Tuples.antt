@@ -1,15 +1,18 @@
--- Patterns without written types.
-use Rattle.std.proofs.Common.{◌≡◌, ℕ, ◌+◌, ◌*◌, ◌≤◌, ◌<◌, List, [], ◌∷◌, ◌++◌, length, map, slice_index_or, refl, sym, ◌∙◌, ap, subst, arith, append_assoc}
+-- Patterns of parts in a row, and patterns with written types.
+use Rattle.std.proofs.Common.{◌≡◌, ℕ, ◌+◌, ◌*◌, ◌≤◌, ◌<◌, List, [], ◌∷◌, ◌++◌, length, map, slice_index_or, refl, sym, ◌∙◌, ap, subst, arith, append_assoc, Bor}
 use mathlib.Core.Logic.{◌⊎◌, inl, inr}
 use Rattle.fut_scalar.specs.declared.place.BindId.{BindId}
 use Rattle.fut_types.specs.declared.Kind.{Kind}
-use Rattle.fut_types.specs.declared.Head.TheVariants as head
-use Rattle.fut_types.specs.Types.{Made, Tys, Sub, Kinds}
+use Rattle.fut_ast.specs.Sorts.{Text}
+use Rattle.fut_types.specs.Types.{Sub, Kinds}
 use Rattle.fut_flat.specs.declared.prim.Ref.{Ref}
-use Rattle.fut_flat.specs.Terms.{Tuple_pattern, Patterns}
+use Rattle.fut_flat.specs.Terms.{Record_pattern, Typed_pattern, Patterns}
 use Rattle.fut_flat.specs.Numbers.{pattern_numbers, all_pattern_numbers}
 use Rattle.fut_flat.specs.declared.pat.Pat.{Pat}
-use Rattle.fut_flat.specs.Erased.{FlatPattern, pattern_of, patterns}
+use Rattle.fut_flat.specs.declared.pat.PatField.{PatField, fold_out-PatField}
+use Rattle.fut_flat.specs.declared.pat.PatForm.TheVariants as form
+use Rattle.fut_flat.specs.Erased.{FlatType, FlatPattern, pattern_form, pattern_of, patterns}
+use Rattle.fut_flat.proofs.ErasedPatterns.{pattern_field}
 use Rattle.fut_typing.specs.Names.{Names}
 use Rattle.fut_typing.specs.Scopes.{Scope}
 use Rattle.fut_typing.specs.Patterns.{pattern_types, Pattern_typed, Patterns_typed}
@@ -18,10 +21,13 @@ use Rattle.fut_typing.proofs.Local.{all_local_more, patterns_same}
 use Rattle.fut_typing.proofs.Cong.{scope_local}
 use Rattle.type_claims.specs.Claims.{types_of}
 use Rattle.type_scopes.specs.declared.Inference.{Inference}
-use Rattle.type_scopes.specs.Scopes.{Claim, Homes, Safe, Claimed, Refused, Depends}
+use Rattle.type_patterns.specs.Asking.{Type_claim}
+use Rattle.type_patterns.proofs.Forms.{Making}
+use Rattle.type_scopes.specs.Scopes.{Claim, Homes, Safe, Claimed, Refused, Depends, field_pattern}
 use Rattle.type_scopes.proofs.Claiming.{depends_wider, claimed_low, claimed_none, claimed_then, refused_as, refused_low, refused_then}
-use Rattle.type_scopes.proofs.Binding.{weigh, weigh_all, falls_in}
-use Rattle.type_constraints.specs.Parts.{Pattern_claim, Patterns_claim, pattern_starts}
+use Rattle.type_scopes.proofs.Binding.{record_is, weigh, weigh_all, falls_in}
+use Rattle.type_constraints.specs.Parts.{Pattern_claim, Patterns_claim, pattern_name, pattern_starts}
+use Rattle.type_constraints.proofs.Depending.{depends_pattern}
 use Rattle.type_constraints.proofs.Functions.{no_numbers, numbers_split, starts_more, append_none, types_are}
 
 depends_patterns : (places : Kind) (ps : Patterns Ref BindId) (lo hi : ℕ) → hi ≡ lo + all_pattern_numbers ps → Depends places (Patterns_claim places ps lo) lo hi
@@ -77,42 +83,76 @@ module _ (places : Kind) (base lo at : ℕ) (qs : List FlatPattern) (p : FlatPat
       (depends_patterns places (patterns qs) lo here refl) (λ N E K a h. patterns_split N places K a (scope_of N places E) qs p rest lo h) (parted d rest) (g.claimed d)
       (subst (λ m. Refused places base d m (Pattern_claim places p m) (λ home. At_home home d m (pattern_numbers p)) i1 i2) g.next (c d)))
 
--- a tuple of a row
-module _ (places : Kind) (base lo : ℕ) (ps : Patterns Ref BindId) (i0 i1 : Inference) where
-  abbrev tuple_homes : ℕ → Homes
-  tuple_homes d home = At_home home d lo (pattern_numbers (Tuple_pattern ps))
+-- a pattern whose type is made of those of a row
+module _ (places : Kind) (base lo : ℕ) (q : FlatPattern) (ps : Patterns Ref BindId) (M : Making) (many : pattern_numbers q ≡ 1 + all_pattern_numbers ps)
+    (opens : (N : Names) (K : Kinds) (a : Sub) (scope : Scope) → Pattern_typed N places K a q lo scope → Patterns_typed N places K a ps (1 + lo) scope × M N (a lo) (pattern_types a ps (1 + lo)))
+    (closes : (N : Names) (K : Kinds) (a : Sub) (scope : Scope) → Patterns_typed N places K a ps (1 + lo) scope → M N (a lo) (pattern_types a ps (1 + lo)) → Pattern_typed N places K a q lo scope) (i0 i1 : Inference) where
+  abbrev whole_homes : ℕ → Homes
+  whole_homes d home = At_home home d lo (pattern_numbers q)
 
   abbrev part_homes : ℕ → Homes
   part_homes d home = At_home home d (1 + lo) (all_pattern_numbers ps)
 
-  inner : (d : ℕ) (home : ℕ → ℕ) → tuple_homes d home → part_homes d home
-  inner d home h n x y = h n (omega arith) (omega arith)
+  inner : (d : ℕ) (home : ℕ → ℕ) → whole_homes d home → part_homes d home
+  inner d home h n x y = h n (omega arith) (omega (arith, many))
 
-  pub tuple_err1 : ((d : ℕ) → Refused places base d (1 + lo) (Patterns_claim places ps (1 + lo)) (λ home. At_home home d (1 + lo) (all_pattern_numbers ps)) i0 i1) → (d : ℕ) → Refused places base d lo (Pattern_claim places (Tuple_pattern ps) lo) (tuple_homes d) i0 i1
-  tuple_err1 c d = refused_low places base d lo (1 + lo) (Pattern_claim places (Tuple_pattern ps) lo) (tuple_homes d) i0 i1 (omega arith) (refused_as places base d (1 + lo) (Patterns_claim places ps (1 + lo)) (Pattern_claim places (Tuple_pattern ps) lo) (part_homes d) (tuple_homes d) i0 i1 (λ N E K a h. h.0) (inner d) (c d))
+  pub made_err1 : ((d : ℕ) → Refused places base d (1 + lo) (Patterns_claim places ps (1 + lo)) (λ home. At_home home d (1 + lo) (all_pattern_numbers ps)) i0 i1) → (d : ℕ) → Refused places base d lo (Pattern_claim places q lo) (whole_homes d) i0 i1
+  made_err1 c d = refused_low places base d lo (1 + lo) (Pattern_claim places q lo) (whole_homes d) i0 i1 (omega arith) (refused_as places base d (1 + lo) (Patterns_claim places ps (1 + lo)) (Pattern_claim places q lo) (part_homes d) (whole_homes d) i0 i1 (λ N E K a h. (opens N K a (scope_of N places E) h).0) (inner d) (c d))
 
   module _ (i2 : Inference) (begins : List ℕ) (eb : begins ≡ pattern_starts ps (1 + lo)) (s : Safe base i0) (c : (d : ℕ) → Claimed places base d (1 + lo) (Patterns_claim places ps (1 + lo)) (λ home. At_home home d (1 + lo) (all_pattern_numbers ps)) i0 i1) where
     abbrev made : Claim
-    made N scope K a = a lo ≡ Made head.Tuple (types_of a begins)
+    made N scope K a = M N (a lo) (types_of a begins)
 
     types : (a : Sub) → pattern_types a ps (1 + lo) ≡ types_of a begins
     types a = sym (types_are a ps (1 + lo)) ∙ ap (types_of a) (sym eb)
 
+    split : (N : Names) (E : Env) (K : Kinds) (a : Sub) → Pattern_claim places q lo N (scope_of N places E) K a → Patterns_claim places ps (1 + lo) N (scope_of N places E) K a × made N (scope_of N places E) K a
+    split N E K a h = let w = opens N K a (scope_of N places E) h in (w.0, subst (M N (a lo)) (types a) w.1)
+
     end_depends : Depends places (Patterns_claim places ps (1 + lo)) lo (1 + lo + all_pattern_numbers ps)
     end_depends = depends_wider places (Patterns_claim places ps (1 + lo)) (1 + lo) (1 + lo + all_pattern_numbers ps) lo (1 + lo + all_pattern_numbers ps) (omega arith) (omega arith) (depends_patterns places ps (1 + lo) (1 + lo + all_pattern_numbers ps) refl)
 
-    pub tuple_ok : ((places : Kind) (d lo' : ℕ) → Claimed places base d lo' made (λ home. Unit {0}) i1 i2) → (d : ℕ) → Claimed places base d lo (Pattern_claim places (Tuple_pattern ps) lo) (tuple_homes d) i0 i2
-    tuple_ok r d = claimed_then places base d lo (1 + lo + all_pattern_numbers ps) (Patterns_claim places ps (1 + lo)) made (Pattern_claim places (Tuple_pattern ps) lo) (part_homes d) (λ home. Unit {0}) (tuple_homes d) i0 i1 i2 s (omega arith) end_depends
-        (λ N E K a h. (h.0, subst (λ (ts : Tys). a lo ≡ Made head.Tuple ts) (types a) h.1)) (λ home h. (inner d home h, tt)) (claimed_low places base d lo (1 + lo) (Patterns_claim places ps (1 + lo)) (part_homes d) i0 i1 (omega arith) (c d))
-        (λ N E K a x y. (x, subst (λ (ts : Tys). a lo ≡ Made head.Tuple ts) (sym (types a)) y)) (r places d (1 + lo + all_pattern_numbers ps))
+    pub made_ok : ((places : Kind) (d lo' : ℕ) → Claimed places base d lo' made (λ home. Unit {0}) i1 i2) → (d : ℕ) → Claimed places base d lo (Pattern_claim places q lo) (whole_homes d) i0 i2
+    made_ok r d = claimed_then places base d lo (1 + lo + all_pattern_numbers ps) (Patterns_claim places ps (1 + lo)) made (Pattern_claim places q lo) (part_homes d) (λ home. Unit {0}) (whole_homes d) i0 i1 i2 s (omega arith) end_depends
+        split (λ home h. (inner d home h, tt)) (claimed_low places base d lo (1 + lo) (Patterns_claim places ps (1 + lo)) (part_homes d) i0 i1 (omega arith) (c d))
+        (λ N E K a x y. closes N K a (scope_of N places E) x (subst (M N (a lo)) (sym (types a)) y)) (r places d (1 + lo + all_pattern_numbers ps))
 
-    pub tuple_err2 : ((places : Kind) (d lo' : ℕ) → Refused places base d lo' made (λ home. Unit {0}) i1 i2) → (d : ℕ) → Refused places base d lo (Pattern_claim places (Tuple_pattern ps) lo) (tuple_homes d) i0 i2
-    tuple_err2 r d = refused_then places base d lo (1 + lo + all_pattern_numbers ps) (Patterns_claim places ps (1 + lo)) made (Pattern_claim places (Tuple_pattern ps) lo) (part_homes d) (λ home. Unit {0}) (tuple_homes d) i0 i1 i2 s (omega arith) end_depends
-        (λ N E K a h. (h.0, subst (λ (ts : Tys). a lo ≡ Made head.Tuple ts) (types a) h.1)) (λ home h. (inner d home h, tt)) (claimed_low places base d lo (1 + lo) (Patterns_claim places ps (1 + lo)) (part_homes d) i0 i1 (omega arith) (c d)) (r places d (1 + lo + all_pattern_numbers ps))
+    pub made_err2 : ((places : Kind) (d lo' : ℕ) → Refused places base d lo' made (λ home. Unit {0}) i1 i2) → (d : ℕ) → Refused places base d lo (Pattern_claim places q lo) (whole_homes d) i0 i2
+    made_err2 r d = refused_then places base d lo (1 + lo + all_pattern_numbers ps) (Patterns_claim places ps (1 + lo)) made (Pattern_claim places q lo) (part_homes d) (λ home. Unit {0}) (whole_homes d) i0 i1 i2 s (omega arith) end_depends
+        split (λ home h. (inner d home h, tt)) (claimed_low places base d lo (1 + lo) (Patterns_claim places ps (1 + lo)) (part_homes d) i0 i1 (omega arith) (c d)) (r places d (1 + lo + all_pattern_numbers ps))
+
+-- a pattern with a written type
+module _ (places : Kind) (base lo : ℕ) (p : FlatPattern) (e : FlatType) (i0 i1 : Inference) where
+  abbrev pattern_homes : ℕ → Homes
+  pattern_homes d home = At_home home d lo (pattern_numbers p)
+
+  pub typed_err1 : ((d : ℕ) → Refused places base d lo (Pattern_claim places p lo) (λ home. At_home home d lo (pattern_numbers p)) i0 i1) → (d : ℕ) → Refused places base d lo (Pattern_claim places (Typed_pattern p e) lo) (pattern_homes d) i0 i1
+  typed_err1 c d = refused_as places base d lo (Pattern_claim places p lo) (Pattern_claim places (Typed_pattern p e) lo) (pattern_homes d) (pattern_homes d) i0 i1 (λ N E K a h. h.0) (λ home h. h) (c d)
+
+  module _ (i2 : Inference) (s : Safe base i0) (c : (d : ℕ) → Claimed places base d lo (Pattern_claim places p lo) (λ home. At_home home d lo (pattern_numbers p)) i0 i1) where
+    pub typed_ok : ((d from : ℕ) → Claimed places base d from (Type_claim places e lo) (λ home. Unit {0}) i1 i2) → (d : ℕ) → Claimed places base d lo (Pattern_claim places (Typed_pattern p e) lo) (pattern_homes d) i0 i2
+    typed_ok r d = claimed_then places base d lo (lo + pattern_numbers p) (Pattern_claim places p lo) (Type_claim places e lo) (Pattern_claim places (Typed_pattern p e) lo) (pattern_homes d) (λ home. Unit {0}) (pattern_homes d) i0 i1 i2 s (omega arith)
+        (depends_pattern places p lo (lo + pattern_numbers p) refl) (λ N E K a h. h) (λ home h. (h, tt)) (c d) (λ N E K a x y. (x, y)) (r d (lo + pattern_numbers p))
+
+    pub typed_err2 : ((d from : ℕ) → Refused places base d from (Type_claim places e lo) (λ home. Unit {0}) i1 i2) → (d : ℕ) → Refused places base d lo (Pattern_claim places (Typed_pattern p e) lo) (pattern_homes d) i0 i2
+    typed_err2 r d = refused_then places base d lo (lo + pattern_numbers p) (Pattern_claim places p lo) (Type_claim places e lo) (Pattern_claim places (Typed_pattern p e) lo) (pattern_homes d) (λ home. Unit {0}) (pattern_homes d) i0 i1 i2 s (omega arith)
+        (depends_pattern places p lo (lo + pattern_numbers p) refl) (λ N E K a h. h) (λ home h. (h, tt)) (c d) (r d (lo + pattern_numbers p))
+
+-- the names of a record's pattern
+pattern_field_is : (f : PatField) → (pattern_field f).0 ≡ pattern_name f
+unfolding pattern_field pattern_of
+pattern_field_is f = ap (λ (g : Text × FlatPattern). g.0) (fold_out-PatField FlatPattern FlatPattern (Text × FlatPattern) pattern_form (λ p. p.form) (λ f. (f.name.now, f.pat)) f)
+
+names_are : (fs : List PatField) → map (λ (f : Text × FlatPattern). f.0) (map pattern_field fs) ≡ map pattern_name fs
+names_are [] = refl
+names_are (f ∷ fs) = λ k. pattern_field_is f k ∷ names_are fs k
+
+pub named_is : (p : Pat) (fs : Bor (List PatField)) → p.form ≡ form.Record fs → pattern_of p ≡ Record_pattern (map pattern_name fs.now) (patterns (map field_pattern fs.now))
+named_is p fs is = record_is p fs is ∙ ap (λ ns. Record_pattern ns (patterns (map field_pattern fs.now))) (names_are fs.now)
 
 -- a pattern of which nothing is asked
 pub free_ok : (places : Kind) (base lo : ℕ) (p q : FlatPattern) (i : Inference) → Safe base i → p ≡ q → ((N : Names) (E : Env) (K : Kinds) (a : Sub) → Pattern_typed N places K a q lo (scope_of N places E)) → (d : ℕ) → Claimed places base d lo (Pattern_claim places p lo) (λ home. At_home home d lo (pattern_numbers p)) i i
 free_ok places base lo p q i s e all d = claimed_none places base d lo (Pattern_claim places p lo) (λ home. At_home home d lo (pattern_numbers p)) i s (λ N E K a. subst (λ (x : FlatPattern). Pattern_typed N places K a x lo (scope_of N places E)) (sym e) (all N E K a))
 
-pub falls_thrice : (es : List Pat) (n : ℕ) (d : Pat) (t : ℕ) → n < length es → t ≡ 3 * weigh_all (patterns (map pattern_of es)) + 1 → 3 * weigh (pattern_of (slice_index_or es n d)) < t
-falls_thrice es n d t lt is = let f : 2 * weigh (pattern_of (slice_index_or es n d)) < 2 * weigh_all (patterns (map pattern_of es)) + 1 = falls_in pattern_of es n d (2 * weigh_all (patterns (map pattern_of es)) + 1) lt refl in omega (arith, f, is)
+pub falls_thrice : {X : Type 0} (f : X → FlatPattern) (es : List X) (n : ℕ) (d : X) (t : ℕ) → n < length es → t ≡ 3 * weigh_all (patterns (map f es)) + 1 → 3 * weigh (f (slice_index_or es n d)) < t
+falls_thrice f es n d t lt is = let w : 2 * weigh (f (slice_index_or es n d)) < 2 * weigh_all (patterns (map f es)) + 1 = falls_in f es n d (2 * weigh_all (patterns (map f es)) + 1) lt refl in omega (arith, w, is)

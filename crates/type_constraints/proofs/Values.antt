@@ -73,7 +73,7 @@ module _ (places : Kind) (base d lo from : ℕ) (sizes : List BindId) (p : FlatP
   seen N E K a h = subst (λ (s : Scope). Pattern_typed N places K a p (1 + lo) s) (scope_sizes N places sizes E) h
 
   homes_of : (home : ℕ → ℕ) → row_homes home → homes_p home × Term_homes d v from home
-  homes_of home h = (h.1.1, (h.0, subst (λ m. Homed home d h.0 v m) (sym eq) h.1.2))
+  homes_of home h = (h.1.1, (h.0, subst (λ m. Homed home d h.0.0 v m) (sym eq) h.1.2))
 
   -- the pattern, behind its size names
   module _ (i0 i1 : Inference) (x : Binds base (1 + lo) 0 (env_sizes sizes) i0 i1) where

@@ -3,6 +3,8 @@ use Rattle.std.specs.Prelude.{◌≡◌, ℕ, ◌+◌, false, List, [], ◌∷�
 use Rattle.fut_scalar.specs.declared.place.BindId.{BindId}
 use Rattle.fut_scalar.specs.declared.place.Place.{Place}
 use Rattle.fut_types.specs.declared.Kind.{Kind}
+use Rattle.fut_ast.specs.Sorts.{Text}
+use Rattle.fut_flat.specs.declared.pat.PatField.{PatField}
 use Rattle.fut_flat.specs.declared.prim.Ref.{Ref}
 use Rattle.fut_flat.specs.Terms.{Patterns, no_pattern, pattern_and, Operation, Use, Terms, no_term, term_and}
 use Rattle.fut_flat.specs.Numbers.{pattern_numbers, own_numbers, numbers, turn_numbers}
@@ -17,7 +19,7 @@ use Rattle.fut_typing.specs.Patterns.{with_pattern, Pattern_typed, Patterns_type
 use Rattle.fut_typing.specs.Typing.{operand, Function_name, Let_typed, Typed, All_typed, Turns_typed}
 use Rattle.type_claims.specs.Claims.{types_of}
 use Rattle.type_scopes.specs.declared.Inference.{Inference}
-use Rattle.type_scopes.specs.Scopes.{Claim, Homes, Claimed, Refused}
+use Rattle.type_scopes.specs.Scopes.{Around, Claim, Homes, Claimed, Refused}
 
 -- a use of a name, as a term
 abbrev pub use_term : Ref → Place → ℕ → FlatTerm
@@ -27,7 +29,7 @@ abbrev pub Term_claim : Kind → FlatTerm → ℕ → Claim
 Term_claim places t lo N scope = Typed N places t lo scope
 
 abbrev pub Term_homes : ℕ → FlatTerm → ℕ → Homes
-Term_homes d t lo home = (w : ℕ) × Homed home d w t lo
+Term_homes d t lo home = (w : Around d) × Homed home d w.0 t lo
 
 -- the rules of all numbers of a term are put in
 abbrev pub Constrained : Kind → ℕ → ℕ → ℕ → FlatTerm → Inference → Inference → Type 0
@@ -42,7 +44,7 @@ abbrev pub Terms_claim : Kind → Terms Ref BindId → ℕ → Claim
 Terms_claim places ts lo N scope = All_typed N places ts lo scope
 
 abbrev pub Terms_homes : ℕ → Terms Ref BindId → ℕ → Homes
-Terms_homes d ts lo home = (w : ℕ) × All_homed home d w ts lo
+Terms_homes d ts lo home = (w : Around d) × All_homed home d w.0 ts lo
 
 -- where the numbers of terms in a row begin
 unfoldable pub starts : Terms Ref BindId → ℕ → List ℕ
@@ -54,7 +56,7 @@ abbrev pub Rule_claim : Kind → Operation Ref BindId → ℕ → List ℕ → C
 Rule_claim places o lo parts N scope K a = Rule N places K o (a lo) (a (operand o lo)) (types_of a parts) × Written N places K o scope a (a lo)
 
 abbrev pub Rule_homes : ℕ → Operation Ref BindId → ℕ → Homes
-Rule_homes d o lo home = (w : ℕ) × At_home home (home_in (differs o) d w) lo (own_numbers o)
+Rule_homes d o lo home = (w : Around d) × At_home home (home_in (differs o) d w.0) lo (own_numbers o)
 
 abbrev pub Pattern_claim : Kind → FlatPattern → ℕ → Claim
 Pattern_claim places p lo N scope K a = Pattern_typed N places K a p lo scope
@@ -65,6 +67,10 @@ Patterns_claim places ps lo N scope K a = Patterns_typed N places K a ps lo scop
 -- each parameter sees the names of those before it
 abbrev pub Parameters_claim : Kind → Patterns Ref BindId → ℕ → Claim
 Parameters_claim places ps lo N scope K a = Parameters_typed N places K a ps lo scope
+
+-- the name of a field's pattern
+abbrev pub pattern_name : PatField → Text
+pattern_name f = f.name.now
 
 -- where the numbers of patterns in a row begin
 unfoldable pub pattern_starts : Patterns Ref BindId → ℕ → List ℕ
@@ -80,7 +86,7 @@ abbrev pub Row_claim : Kind → Row → ℕ → Claim
 Row_claim places l lo N scope K a = Let_typed N places l.0.is_function (Function_name l.0.sizes l.0.pattern) (row_scheme N places l lo scope) K a
 
 abbrev pub Row_homes : ℕ → Row → ℕ → Homes
-Row_homes d l lo home = (w : ℕ) × Row_homed home d w l lo
+Row_homes d l lo home = (w : Around d) × Row_homed home d w.0 l lo
 
 -- what stands in scope behind a let
 abbrev pub env_row : Row → ℕ → Env → Env
@@ -91,7 +97,7 @@ Rows_claim places [] lo N scope K a = Unit {0}
 Rows_claim places (l ∷ ls) lo N scope K a = Row_claim places l lo N scope K a × Rows_claim places ls (behind l lo) N (with_row N places l lo scope) K a
 
 abbrev pub Rows_homes : ℕ → List Row → ℕ → Homes
-Rows_homes d ls lo home = (w : ℕ) × Rows_homed home d w ls lo
+Rows_homes d ls lo home = (w : Around d) × Rows_homed home d w.0 ls lo
 
 -- where the numbers of lets in a row begin
 unfoldable pub row_starts : List Row → ℕ → List ℕ
@@ -120,7 +126,7 @@ abbrev pub Head_claim : Kind → List BindId → FlatPattern → FlatTerm → Fl
 Head_claim places sizes p first turns lo N scope K a = Row_claim places (value_row sizes p first) lo N scope K a × Turns_typed N places turns (behind_first p first lo) scope (with_pattern the_one p (1 + lo) (with_sizes sizes scope)) K a
 
 abbrev pub Head_homes : ℕ → List BindId → FlatPattern → FlatTerm → FlatTurns → ℕ → Homes
-Head_homes d sizes p first turns lo home = (w : ℕ) × (Row_homed home d w (value_row sizes p first) lo × Turns_homed home d w turns (behind_first p first lo))
+Head_homes d sizes p first turns lo home = (w : Around d) × (Row_homed home d w.0 (value_row sizes p first) lo × Turns_homed home d w.0 turns (behind_first p first lo))
 
 -- what stands in scope in the body of a loop
 abbrev pub env_head : List BindId → FlatPattern → FlatTerm → FlatTurns → ℕ → Env → Env

@@ -1,10 +1,11 @@
 // Expressions.
-ghost use Rattle.std.specs.Prelude.{◌≡◌, ◌≤◌, ◌<◌, ◌+◌, ◌++◌, ℕ, map, OnOk, IfOk, IfErr};
+ghost use Rattle.std.specs.Prelude.{◌≡◌, ◌≤◌, ◌<◌, ◌+◌, ◌++◌, ℕ, map, true, OnOk, IfOk, IfErr};
 ghost use Rattle.fut_flat.specs.Terms.{Apply, Counted, If, Lambda, Over, Strict, While};
 ghost use Rattle.fut_flat.specs.Numbers.{all_numbers, numbers};
-ghost use Rattle.fut_flat.specs.Erased.{lets as lets_term, operation_of, pattern_of, patterns, term_of, terms};
+ghost use Rattle.fut_flat.specs.Erased.{lets as lets_term, operation_of, parameters, pattern_of, patterns, term_of, terms};
 ghost use Rattle.fut_flat.proofs.ErasedForms.{loop_of, row_of, turns_of};
 ghost use Rattle.fut_typing.specs.Rows.{behind, behind_all, env_rows};
+ghost use Rattle.type_definitions.specs.Definitions.{Definition_claim, Definition_homes, env_definition, named};
 ghost use Rattle.type_graph.specs.Graph.{Each, Tells};
 ghost use Rattle.type_scopes.specs.Scopes.{Claimed, Opened, Refused, Safe};
 ghost use Rattle.type_constraints.specs.Parts.{Constrained, Head_claim, Head_homes, Row_claim, Row_homes, Rows_claim, Rows_homes, Terms_claim, Terms_homes, Unconstrained, behind_head, env_head, env_row, row_starts, starts, use_term, value_row};
@@ -12,10 +13,11 @@ ghost use Rattle.type_constraints.specs.Parts.{Constrained, Head_claim, Head_hom
 use crate::operations::{constrain_rule, own_numbers_of};
 use crate::patterns::{constrain_arrows, constrain_chain, constrain_parameters, constrain_pattern};
 use crate::uses::use_name;
-use fut_flat::{Act, Exp, Form, Let, Loop, LoopForm, Pat, Ref};
+use fut_flat::{Act, Exp, Form, Head, Let, Loop, LoopForm, Pat, PatForm, Ref};
 use fut_scalar::{BindId, List, Place, ScalarType};
 use fut_types::Kind;
 use std::alloc::Global;
+use type_definitions::{enter_parameters, generalise};
 use type_graph::UnifyErr;
 use type_rules::{Demand, application, carried, choice, counted, gone_over};
 use type_scopes::{
@@ -381,14 +383,99 @@ fn constrain_row<'a>(
     ensures err { IfErr result (Tells (Refused places base depth lo (Row_claim places (row_of one.now) lo) (Row_homes depth (row_of one.now) lo) inference.old inference.new)) }
 {
     if one.is_function {
-        return Err(UnifyErr::Memory);
+        return constrain_function(alloc, places, base, one, depth, lo, inference);
     }
+    // Only a function has parameters.
     if one.heads.len() > 0 {
         return Err(UnifyErr::Memory);
     }
     constrain_value(
         alloc, places, base, one.sizes, &one.pat, &one.value, depth, lo, inference,
     )
+}
+
+// A let that is written as a function: a definition of a name.
+#[cycle(constrain)]
+fn constrain_function<'a>(
+    alloc: Global,
+    places: Kind,
+    base: u32,
+    one: &Let<'a>,
+    depth: u32,
+    lo: u32,
+    inference: &mut Inference<'a>,
+) -> Result<u32, UnifyErr>
+    requires safe { Safe base inference.old }
+    requires room { behind (row_of one.now) lo ≤ base }
+    requires function { one.now.is_function ≡ true }
+    ensures next { IfOk result (λ next. next ≡ behind (row_of one.now) lo) }
+    ensures ok { OnOk result (Opened places base depth lo (behind (row_of one.now) lo) (Row_claim places (row_of one.now) lo) (Row_homes depth (row_of one.now) lo) (env_row (row_of one.now) lo) inference.old inference.new) }
+    ensures err { IfErr result (Tells (Refused places base depth lo (Row_claim places (row_of one.now) lo) (Row_homes depth (row_of one.now) lo) inference.old inference.new)) }
+{
+    if one.sizes.len() > 0 {
+        return Err(UnifyErr::Clash(lo, lo));
+    }
+    match one.pat.form {
+        PatForm::Bound(bind) => constrain_definition(
+            alloc,
+            places,
+            base,
+            bind,
+            one.heads,
+            &one.value,
+            depth,
+            1 + lo,
+            inference,
+        ),
+        PatForm::Wild => Err(UnifyErr::Clash(lo, lo)),
+        PatForm::Tuple(_) => Err(UnifyErr::Clash(lo, lo)),
+        PatForm::Record(_) => Err(UnifyErr::Clash(lo, lo)),
+        PatForm::Typed(_, _) => Err(UnifyErr::Clash(lo, lo)),
+    }
+}
+
+/// A definition of a name: its parameters, its value, and its uses behind it. Its numbers begin at `lo`, with that of the name;
+/// `depth` is the depth around it. The answer is where its numbers end.
+#[cycle(constrain)]
+pub fn constrain_definition<'a>(
+    alloc: Global,
+    places: Kind,
+    base: u32,
+    name: BindId,
+    heads: &[Head],
+    value: &Exp<'a>,
+    depth: u32,
+    lo: u32,
+    inference: &mut Inference<'a>,
+) -> Result<u32, UnifyErr>
+    requires safe { Safe base inference.old }
+    requires room { lo + (1 + numbers (term_of value.now)) ≤ base }
+    ensures next { IfOk result (λ next. next ≡ lo + (1 + numbers (term_of value.now))) }
+    ensures ok { OnOk result (Opened places base depth lo (lo + (1 + numbers (term_of value.now))) (Definition_claim places (named name (parameters heads.now) (term_of value.now)) lo) (Definition_homes depth (named name (parameters heads.now) (term_of value.now)) lo) (env_definition (named name (parameters heads.now) (term_of value.now)) lo) inference.old inference.new) }
+    ensures err { IfErr result (Tells (Refused places base depth lo (Definition_claim places (named name (parameters heads.now) (term_of value.now)) lo) (Definition_homes depth (named name (parameters heads.now) (term_of value.now)) lo) inference.old inference.new)) }
+{
+    if depth >= 4294967294 {
+        return Err(UnifyErr::Memory);
+    }
+    let mark = mark_of(inference);
+    let mut own = List::new(alloc);
+    match enter_parameters(base, heads, places, 1 + depth, &mut own, inference) {
+        Ok(()) => {}
+        Err(_) => return Err(UnifyErr::Memory),
+    }
+    let next = match constrain(alloc, places, base, value, 1 + depth, 1 + lo, inference) {
+        Ok(next) => next,
+        Err(error) => return Err(error),
+    };
+    match demand(alloc, base, inference, &[Demand::Same(lo, 1 + lo)]) {
+        Ok(()) => {}
+        Err(error) => return Err(error),
+    }
+    take_back(inference, mark);
+    match generalise(own.as_slice(), lo, depth, name.0, inference) {
+        Ok(()) => Ok(next),
+        Err(error) => Err(error),
+    }
 }
 
 // A let that is not written as a function.

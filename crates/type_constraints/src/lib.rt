@@ -9,4 +9,4 @@ mod operations;
 mod patterns;
 mod uses;
 
-pub use expressions::constrain;
+pub use expressions::{constrain, constrain_definition};

@@ -11,7 +11,7 @@ use fut_types::Kind;
 use std::alloc::Global;
 use type_graph::UnifyErr;
 use type_labels::label;
-use type_records::fields;
+use type_patterns::{constrain_ascription, constrain_fields};
 use type_rows::{array, index, tuple, update_at};
 use type_rules::{
     assertion, binary, complement, literal, negation, projection, range, range_by, replacement,
@@ -64,7 +64,9 @@ pub fn constrain_rule<'a>(
         Act::Record(_) => constrain_record(alloc, places, base, act, lo, parts, inference),
         Act::Project(_) => constrain_project(alloc, places, base, act, lo, parts, inference),
         Act::Replace(_) => constrain_replace(alloc, places, base, act, lo, parts, inference),
-        _ => Err(UnifyErr::Memory),
+        Act::Ascribe(_) | Act::Coerce(_) | Act::Declared(_) => {
+            constrain_written(alloc, places, base, act, lo, parts, inference)
+        }
     }
 }
 
@@ -112,12 +114,19 @@ fn constrain_none(
     ensures ok { OnOk result ((depth from : ℕ) → Claimed places base depth from (Rule_claim places (operation_of act.now) lo parts.now) (Rule_homes depth (operation_of act.now) lo) inference.old inference.new) }
     ensures err { IfErr result (Tells ((depth from : ℕ) → Refused places base depth from (Rule_claim places (operation_of act.now) lo parts.now) (Rule_homes depth (operation_of act.now) lo) inference.old inference.new)) }
 {
-    if parts.len() != 0 {
-        return Err(UnifyErr::Memory);
-    }
     match *act {
-        Act::Int { ty, .. } => demand(alloc, base, inference, &literal(lo, ty)),
-        Act::Truth(_) => demand(alloc, base, inference, &truth(lo)),
+        Act::Int { ty, .. } => {
+            if parts.len() != 0 {
+                return Err(UnifyErr::Clash(lo, lo));
+            }
+            demand(alloc, base, inference, &literal(lo, ty))
+        }
+        Act::Truth(_) => {
+            if parts.len() != 0 {
+                return Err(UnifyErr::Clash(lo, lo));
+            }
+            demand(alloc, base, inference, &truth(lo))
+        }
         _ => Err(UnifyErr::Memory),
     }
 }
@@ -138,12 +147,19 @@ fn constrain_one(
     ensures ok { OnOk result ((depth from : ℕ) → Claimed places base depth from (Rule_claim places (operation_of act.now) lo parts.now) (Rule_homes depth (operation_of act.now) lo) inference.old inference.new) }
     ensures err { IfErr result (Tells ((depth from : ℕ) → Refused places base depth from (Rule_claim places (operation_of act.now) lo parts.now) (Rule_homes depth (operation_of act.now) lo) inference.old inference.new)) }
 {
-    if parts.len() != 1 {
-        return Err(UnifyErr::Memory);
-    }
     match *act {
-        Act::Negate => demand(alloc, base, inference, &negation(lo, parts[0])),
-        Act::Complement => demand(alloc, base, inference, &complement(lo, parts[0])),
+        Act::Negate => {
+            if parts.len() != 1 {
+                return Err(UnifyErr::Clash(lo, lo));
+            }
+            demand(alloc, base, inference, &negation(lo, parts[0]))
+        }
+        Act::Complement => {
+            if parts.len() != 1 {
+                return Err(UnifyErr::Clash(lo, lo));
+            }
+            demand(alloc, base, inference, &complement(lo, parts[0]))
+        }
         _ => Err(UnifyErr::Memory),
     }
 }
@@ -164,15 +180,20 @@ fn constrain_two(
     ensures ok { OnOk result ((depth from : ℕ) → Claimed places base depth from (Rule_claim places (operation_of act.now) lo parts.now) (Rule_homes depth (operation_of act.now) lo) inference.old inference.new) }
     ensures err { IfErr result (Tells ((depth from : ℕ) → Refused places base depth from (Rule_claim places (operation_of act.now) lo parts.now) (Rule_homes depth (operation_of act.now) lo) inference.old inference.new)) }
 {
-    if parts.len() != 2 {
-        return Err(UnifyErr::Memory);
-    }
     match *act {
         Act::Binary(op) => {
+            if parts.len() != 2 {
+                return Err(UnifyErr::Clash(lo, lo));
+            }
             let rule = binary(op, lo, 1 + lo, parts[0], parts[1]);
             demand(alloc, base, inference, &rule)
         }
-        Act::Assert => demand(alloc, base, inference, &assertion(lo, parts[0], parts[1])),
+        Act::Assert => {
+            if parts.len() != 2 {
+                return Err(UnifyErr::Clash(lo, lo));
+            }
+            demand(alloc, base, inference, &assertion(lo, parts[0], parts[1]))
+        }
         _ => Err(UnifyErr::Memory),
     }
 }
@@ -195,14 +216,17 @@ fn constrain_range(
 {
     match *act {
         Act::Range { stepped, .. } => {
-            if stepped && parts.len() == 3 {
+            if stepped {
+                if parts.len() != 3 {
+                    return Err(UnifyErr::Clash(lo, lo));
+                }
                 let rule = range_by(lo, parts[0], parts[1], parts[2]);
                 return demand(alloc, base, inference, &rule);
             }
-            if !stepped && parts.len() == 2 {
-                return demand(alloc, base, inference, &range(lo, parts[0], parts[1]));
+            if parts.len() != 2 {
+                return Err(UnifyErr::Clash(lo, lo));
             }
-            Err(UnifyErr::Memory)
+            demand(alloc, base, inference, &range(lo, parts[0], parts[1]))
         }
         _ => Err(UnifyErr::Memory),
     }
@@ -224,12 +248,8 @@ fn constrain_record<'a>(
     ensures ok { OnOk result ((depth from : ℕ) → Claimed places base depth from (Rule_claim places (operation_of act.now) lo parts.now) (Rule_homes depth (operation_of act.now) lo) inference.old inference.new) }
     ensures err { IfErr result (Tells ((depth from : ℕ) → Refused places base depth from (Rule_claim places (operation_of act.now) lo parts.now) (Rule_homes depth (operation_of act.now) lo) inference.old inference.new)) }
 {
-    let labels = &mut inference.labels;
-    let table = &mut inference.table;
-    let nodes = &mut inference.nodes;
-    let entries = &mut inference.entries;
     match *act {
-        Act::Record(names) => fields(alloc, labels, table, base, nodes, entries, lo, names, parts),
+        Act::Record(names) => constrain_fields(alloc, base, lo, names, parts, inference),
         _ => Err(UnifyErr::Memory),
     }
 }
@@ -250,11 +270,11 @@ fn constrain_project<'a>(
     ensures ok { OnOk result ((depth from : ℕ) → Claimed places base depth from (Rule_claim places (operation_of act.now) lo parts.now) (Rule_homes depth (operation_of act.now) lo) inference.old inference.new) }
     ensures err { IfErr result (Tells ((depth from : ℕ) → Refused places base depth from (Rule_claim places (operation_of act.now) lo parts.now) (Rule_homes depth (operation_of act.now) lo) inference.old inference.new)) }
 {
-    if parts.len() != 1 {
-        return Err(UnifyErr::Memory);
-    }
     match *act {
         Act::Project(text) => {
+            if parts.len() != 1 {
+                return Err(UnifyErr::Clash(lo, lo));
+            }
             let number = match label(&mut inference.labels, &mut inference.table, text) {
                 Ok(number) => number,
                 Err(_) => return Err(UnifyErr::Memory),
@@ -286,11 +306,11 @@ fn constrain_replace<'a>(
     ensures ok { OnOk result ((depth from : ℕ) → Claimed places base depth from (Rule_claim places (operation_of act.now) lo parts.now) (Rule_homes depth (operation_of act.now) lo) inference.old inference.new) }
     ensures err { IfErr result (Tells ((depth from : ℕ) → Refused places base depth from (Rule_claim places (operation_of act.now) lo parts.now) (Rule_homes depth (operation_of act.now) lo) inference.old inference.new)) }
 {
-    if parts.len() != 2 {
-        return Err(UnifyErr::Memory);
-    }
     match *act {
         Act::Replace(text) => {
+            if parts.len() != 2 {
+                return Err(UnifyErr::Clash(lo, lo));
+            }
             let number = match label(&mut inference.labels, &mut inference.table, text) {
                 Ok(number) => number,
                 Err(_) => return Err(UnifyErr::Memory),
@@ -301,6 +321,45 @@ fn constrain_replace<'a>(
                 inference,
                 &replacement(lo, parts[0], parts[1], number),
             )
+        }
+        _ => Err(UnifyErr::Memory),
+    }
+}
+
+// An operation whose result and part have the type that is written.
+fn constrain_written<'a>(
+    alloc: Global,
+    places: Kind,
+    base: u32,
+    act: &Act<'a>,
+    lo: u32,
+    parts: &[u32],
+    inference: &mut Inference<'a>,
+) -> Result<(), UnifyErr>
+    requires safe { Safe base inference.old }
+    requires room { lo + own_numbers (operation_of act.now) ≤ base }
+    requires parts { Each (λ part. part < base) parts.now }
+    ensures ok { OnOk result ((depth from : ℕ) → Claimed places base depth from (Rule_claim places (operation_of act.now) lo parts.now) (Rule_homes depth (operation_of act.now) lo) inference.old inference.new) }
+    ensures err { IfErr result (Tells ((depth from : ℕ) → Refused places base depth from (Rule_claim places (operation_of act.now) lo parts.now) (Rule_homes depth (operation_of act.now) lo) inference.old inference.new)) }
+{
+    match *act {
+        Act::Ascribe(ty) => {
+            if parts.len() != 1 {
+                return Err(UnifyErr::Clash(lo, lo));
+            }
+            constrain_ascription(alloc, places, base, ty, lo, parts[0], inference)
+        }
+        Act::Coerce(ty) => {
+            if parts.len() != 1 {
+                return Err(UnifyErr::Clash(lo, lo));
+            }
+            constrain_ascription(alloc, places, base, ty, lo, parts[0], inference)
+        }
+        Act::Declared(ty) => {
+            if parts.len() != 1 {
+                return Err(UnifyErr::Clash(lo, lo));
+            }
+            constrain_ascription(alloc, places, base, ty, lo, parts[0], inference)
         }
         _ => Err(UnifyErr::Memory),
     }

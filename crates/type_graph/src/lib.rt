@@ -14,6 +14,7 @@
 
 ghost use Rattle.std.specs.Prelude.{◌≡◌, ◌<◌, OnOk, IfErr, length};
 ghost use Rattle.type_graph.specs.Graph.{IsGraph, IsBound, AreEntries, IsTask, Each, Tables, Told, Solved, Grows, Kept, Unmet, Tells};
+ghost use Rattle.type_graph.specs.Refusals.{Same_reason};
 ghost use Rattle.fut_types.specs.Shapes.{IsTable};
 
 mod parts;
@@ -89,6 +90,20 @@ impl From<NoMemory> for UnifyErr {
 
     fn from(_error: NoMemory) -> UnifyErr {
         UnifyErr::Memory
+    }
+}
+
+impl UnifyErr {
+    /// The same refusal, told of this node.
+    pub fn told_of(self, node: u32) -> UnifyErr
+        ensures { Same_reason self result }
+    {
+        match self {
+            UnifyErr::Clash(_, other) => UnifyErr::Clash(node, other),
+            UnifyErr::BadKind(_, kind) => UnifyErr::BadKind(node, kind),
+            UnifyErr::Infinite(_) => UnifyErr::Infinite(node),
+            UnifyErr::Memory => UnifyErr::Memory,
+        }
     }
 }
 

@@ -7,7 +7,7 @@
 ghost use Rattle.std.specs.Prelude.{◌≡◌, ◌<◌, ◌≤◌, ◌+◌, ◌-◌, ◌^◌, ◌++◌, ◌∷◌, [], ℕ, length, OnOk, IfErr};
 ghost use Rattle.fut_types.specs.Shapes.{IsTable};
 ghost use Rattle.fut_types.specs.declared.shapes.ShapeTable.{ShapeTable as TheTable};
-ghost use Rattle.type_graph.specs.Graph.{IsGraph, IsBound, Each, Tables, Told, Tells};
+ghost use Rattle.type_graph.specs.Graph.{AreEntries, Each, Grows, IsBound, IsGraph, IsTask, Kept, Solved, Tables, Tells, Told, Unmet};
 ghost use Rattle.type_claims.specs.Claims.{Sound, Extends, Inside, Adds, Nowhere};
 ghost use Rattle.type_schemes.specs.Schemes.{PartWithin, PartKnown, Region, Known};
 ghost use Rattle.type_instances.specs.Instances.{IsUse, IsLabelled, asked, Pushes, Use, Uses, Instanced, Frees};
@@ -16,7 +16,7 @@ use fut_scalar::List;
 use fut_types::ShapeTable;
 use std::alloc::Global;
 use type_claims::push_node;
-use type_graph::{Entry, FAR, Form, Node, Task, UnifyErr, solve};
+use type_graph::{Entry, FAR, Form, Node, Task, UnifyErr, solve as bring_about};
 use type_schemes::{Part, PartForm, part_of};
 
 fn push_task(tasks: &mut List<Task>, task: Task) -> Result<(), UnifyErr>
@@ -156,6 +156,30 @@ fn use_parts(
     Ok(())
 }
 
+// Brings about all tasks. A refusal is told of this number.
+fn solve(
+    table: &ShapeTable,
+    nodes: &mut List<Node>,
+    entries: &mut List<Entry>,
+    tasks: &mut List<Task>,
+    number: u32,
+) -> Result<(), UnifyErr>
+    requires table { IsTable table.now }
+    requires graph { IsGraph nodes.old }
+    requires bound { IsBound table.now (length entries.old) nodes.old }
+    requires entries { AreEntries table.now (length nodes.old) entries.old }
+    requires within { Each (IsTask table.now (length nodes.old)) tasks.old }
+    ensures grows { Grows table.now (length nodes.old) entries.old entries.new }
+    ensures kept { OnOk result (Kept table.now nodes.old nodes.new entries.old entries.new) }
+    ensures solved { OnOk result ((T : Tables) → Told table.now entries.new T → Solved T nodes.old tasks.old nodes.new) }
+    ensures err { IfErr result (Tells ((T : Tables) → Told table.now entries.new T → Unmet T nodes.old tasks.old)) }
+{
+    match bring_about(table, nodes, entries, tasks) {
+        Ok(()) => Ok(()),
+        Err(error) => Err(error.told_of(number)),
+    }
+}
+
 /// Asks that a node's type is one of a definition.
 pub fn instance(
     alloc: Global,
@@ -193,7 +217,7 @@ pub fn instance(
         Err(_) => return Err(UnifyErr::Memory),
     }
     match push_task(&mut tasks, Task::Same(number, start)) {
-        Ok(()) => solve(table, nodes, entries, &mut tasks),
+        Ok(()) => solve(table, nodes, entries, &mut tasks, number),
         Err(_) => Err(UnifyErr::Memory),
     }
 }

@@ -1,3 +1,5 @@
 pub mod Spelling
 pub mod Numbering
 pub mod Keys
+pub mod Permutations
+pub mod Named

@@ -11,7 +11,7 @@ use Rattle.fut_types.specs.declared.shapes.ShapeTable.{ShapeTable}
 use Rattle.fut_types.specs.Shapes.{IsTable, position_at, fields_of, row_of, some_fields, label_at, labels_from}
 use Rattle.fut_typing.specs.Names.{Spells}
 use Rattle.type_labels.specs.declared.labels.Labels.{Labels}
-use Rattle.type_labels.specs.Labels.{number_of, record_of, row_in, IsLabels, Goes_on, One_more}
+use Rattle.type_labels.specs.Labels.{number_of, record_of, row_in, Rising, IsLabels, Goes_on, One_more}
 
 some_is : (n m : ℕ) → Some n ≡ Some m → n ≡ m
 some_is n m e = cc
@@ -107,6 +107,15 @@ module _ (labels labels' : Labels) (table table' : ShapeTable) (text : Text) (pl
     | inr o ↦ (let lt : n < length table.positions = is.within s n o in let l : length table'.positions ≡ length table.positions + 1 = long in omega arith)
   ]
 
+  abbrev name' : ℕ → Text
+  name' n = elim (ℕ_discrete n (length table.positions)) as (λ d. Text) [ yes e ↦ text | no ne ↦ is.name n ]
+
+  named' : (n : ℕ) → n < length table'.positions → number_of labels' (name' n) ≡ Some n
+  named' n lt = elim (ℕ_discrete n (length table.positions)) as (λ d. number_of labels' (elim d as (λ d. Text) [ yes e ↦ text | no ne ↦ is.name n ]) ≡ Some n) [
+    | yes e ↦ new_number ∙ ap Some (sym e)
+    | no ne ↦ old_number (is.name n) n (is.named n (let l : length table'.positions ≡ length table.positions + 1 = long in grind (arith, ne)))
+  ]
+
   same_fields : (n : ℕ) → fields_of table' n ≡ fields_of table n
   unfolding row_of
   same_fields n = ap (λ ls. labels_from ls (slice_index_or table'.records n some_fields).first (slice_index_or table'.records n some_fields).count) same_labels
@@ -116,10 +125,13 @@ module _ (labels labels' : Labels) (table table' : ShapeTable) (text : Text) (pl
   named_is = record {
     is_table = record { rows = λ n lt. table_rows n (subst (λ rs. n < length rs) same_records lt) };
     within = within';
+    name = name';
+    named = named';
     one = one';
     spelled = spelled';
     rows = λ n lt. same_rows (fields_of table' n) ∙ ap (record_of labels) (same_fields n) ∙ is.rows n (subst (λ rs. n < length rs) same_records lt);
     found = λ ls n h. let f = is.found ls n (sym (same_rows ls) ∙ h) in (subst (λ rs. n < length rs) (sym same_records) f.0, same_fields n ∙ f.1);
+    rising = λ n lt. subst (Rising 0) (sym (same_fields n)) (is.rising n (subst (λ rs. n < length rs) same_records lt));
   }
     where
       table_rows : (n : ℕ) → n < length table.records → (row_of table' n).first + (row_of table' n).count ≤ length table'.labels
@@ -184,7 +196,7 @@ labels_new [] (y ∷ ys) = labels_cons (y ∷ ys) 0 (length ys) ∙ (λ i. label
 labels_new (x ∷ xs) ys = labels_next x (xs ++ ys) (length ys) (length xs) ∙ labels_new xs ys
 
 module _ (labels labels' : Labels) (table table' : ShapeTable) (row : List ℕ) (fresh : record_of labels row ≡ None) (same_numbers : (s : Text) → number_of labels' s ≡ number_of labels s)
-    (known : (ls : List ℕ) → record_of labels' ls ≡ cond (bytes_eq row ls) (Some (length table.records)) (record_of labels ls)) (more : One_more table row table') (is : IsLabels labels table) where
+    (known : (ls : List ℕ) → record_of labels' ls ≡ cond (bytes_eq row ls) (Some (length table.records)) (record_of labels ls)) (more : One_more table row table') (is : IsLabels labels table) (rises : Rising 0 row) where
   row_at_old : (n : ℕ) → n < length table.records → row_of table' n ≡ row_of table n
   unfolding row_of
   row_at_old n lt = ap (λ rs. slice_index_or rs n some_fields) more.records ∙ row_old table.records _ n lt
@@ -247,6 +259,8 @@ module _ (labels labels' : Labels) (table table' : ShapeTable) (row : List ℕ) 
   recorded_is = record {
     is_table = table_is;
     within = λ s n h. subst (λ ps. n < length ps) (sym more.positions) (is.within s n (sym (same_numbers s) ∙ h));
+    name = is.name;
+    named = λ n lt. same_numbers (is.name n) ∙ is.named n (subst (λ ps. n < length ps) more.positions lt);
     one = λ s t n h k. is.one s t n (sym (same_numbers s) ∙ h) (sym (same_numbers t) ∙ k);
     spelled = λ s n m h. subst (λ p. (p ≡ Some m) ↔ Spells s m) (sym (same_positions n)) (is.spelled s n m (sym (same_numbers s) ∙ h));
     rows = λ n lt. elim (lower n lt) as (λ d. record_of labels' (fields_of table' n) ≡ Some n) [
@@ -257,8 +271,29 @@ module _ (labels labels' : Labels) (table table' : ShapeTable) (row : List ℕ) 
       | inl e ↦ (let l : length table'.records ≡ length table.records + 1 = long_records in let q : n ≡ length table.records = e.1 in omega arith, subst (λ m. fields_of table' m ≡ ls) (sym e.1) (fields_new ∙ e.0))
       | inr o ↦ let f = is.found ls n o in (let l : length table'.records ≡ length table.records + 1 = long_records in let q : n < length table.records = f.0 in omega arith, fields_old n f.0 ∙ f.1)
     ];
+    rising = λ n lt. elim (lower n lt) as (λ d. Rising 0 (fields_of table' n)) [
+      | inl o ↦ subst (Rising 0) (sym (fields_old n o)) (is.rising n o)
+      | inr e ↦ subst (λ m. Rising 0 (fields_of table' m)) (sym e) (subst (Rising 0) (sym fields_new) rises)
+    ];
   }
 
 pub numbers_same : (labels labels' : Labels) → labels'.numbers ≡ labels.numbers → (s : Text) → number_of labels' s ≡ number_of labels s
 unfolding number_of
 numbers_same labels labels' e s = ap (λ m. get_by (λ k. bytes_eq s k.now) m) e
+
+-- without names and records
+pub no_table : (labels : Labels) (table : ShapeTable) → table.records ≡ [] → table.positions ≡ [] → ((s : Text) → number_of labels s ≡ None) → ((ls : List ℕ) → record_of labels ls ≡ None) → IsLabels labels table
+no_table labels table rs ps none nothing = record {
+  is_table = record { rows = λ n lt. absurd (no_record n lt) };
+  within = λ s n h. absurd (none_not n (number_of labels s) (none s) h);
+  name = λ n. [];
+  named = λ n lt. absurd (let l : length table.positions ≡ 0 = ap length ps in omega arith);
+  one = λ s t n h k. absurd (none_not n (number_of labels s) (none s) h);
+  spelled = λ s n m h. absurd (none_not n (number_of labels s) (none s) h);
+  rows = λ n lt. absurd (no_record n lt);
+  found = λ ls n h. absurd (none_not n (record_of labels ls) (nothing ls) h);
+  rising = λ n lt. absurd (no_record n lt);
+}
+  where
+    no_record : (n : ℕ) → n < length table.records → ⊥
+    no_record n lt = let l : length table.records ≡ 0 = ap length rs in omega arith

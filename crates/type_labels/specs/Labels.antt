@@ -1,5 +1,5 @@
 -- A numbering of names and records, of which a part is known.
-use Rattle.std.specs.Prelude.{◌≡◌, ◌↔◌, ℕ, ◌<◌, List, [], ◌∷◌, ◌++◌, length, Option, Some}
+use Rattle.std.specs.Prelude.{◌≡◌, ◌↔◌, ℕ, suc, ◌<◌, ◌≤◌, List, [], ◌∷◌, ◌++◌, length, Option, Some}
 use Rattle.std.specs.Str.{bytes_eq}
 use Rattle.std.specs.Cmp.Lexicographic.{pointwise}
 use Rattle.std.specs.Bool.{nat_eq}
@@ -9,7 +9,7 @@ use Rattle.fut_ast.specs.Sorts.{Text}
 use Rattle.fut_types.specs.declared.shapes.Fields.{Fields}
 use Rattle.fut_types.specs.declared.shapes.ShapeTable.{ShapeTable}
 use Rattle.fut_types.specs.Shapes.{IsTable, Tells, position_at, fields_of}
-use Rattle.fut_typing.specs.Names.{Names, Spells}
+use Rattle.fut_typing.specs.Names.{Names, AreNames, Spells}
 use Rattle.type_labels.specs.declared.labels.Labels.{Labels}
 
 -- the number of a name, as far as it has one
@@ -23,14 +23,23 @@ row_in rows ls = get_by (λ k. pointwise nat_eq ls k.items) rows
 abbrev pub record_of : Labels → List ℕ → Option ℕ
 record_of labels ls = row_in labels.rows ls
 
--- the table in hand is well-formed: each name and each record has one number, and a name that is a position names that part
+-- the numbers of a row rise, from this one on
+abbrev pub Rising : ℕ → List ℕ → Type 0
+Rising from [] = Unit {0}
+Rising from (x ∷ xs) = (from ≤ x) × Rising (suc x) xs
+
+-- the table in hand is well-formed: each name and each record has one number, each number is that of one, a name that is a
+-- position names that part, and a record's labels rise
 pub record IsLabels (labels : Labels) (table : ShapeTable) : Type 0 where
   pub is_table : IsTable table
   pub within : (s : Text) (n : ℕ) → number_of labels s ≡ Some n → n < length table.positions
+  pub name : ℕ → Text
+  pub named : (n : ℕ) → n < length table.positions → number_of labels (name n) ≡ Some n
   pub one : (s t : Text) (n : ℕ) → number_of labels s ≡ Some n → number_of labels t ≡ Some n → s ≡ t
   pub spelled : (s : Text) (n m : ℕ) → number_of labels s ≡ Some n → (position_at table n ≡ Some m) ↔ Spells s m
   pub rows : (n : ℕ) → n < length table.records → record_of labels (fields_of table n) ≡ Some n
   pub found : (ls : List ℕ) (n : ℕ) → record_of labels ls ≡ Some n → (n < length table.records) × (fields_of table n ≡ ls)
+  pub rising : (n : ℕ) → n < length table.records → Rising 0 (fields_of table n)
 
 -- names, records and positions are added, and all keep their numbers
 pub record Goes_on (labels : Labels) (table : ShapeTable) (labels' : Labels) (table' : ShapeTable) : Type 0 where
@@ -46,6 +55,10 @@ pub record Goes_on (labels : Labels) (table : ShapeTable) (labels' : Labels) (ta
 pub record Labelled (labels : Labels) (table : ShapeTable) (N : Names) : Type 0 where
   pub label : (s : Text) (n : ℕ) → number_of labels s ≡ Some n → N.label s ≡ n
   pub shapes : Tells table N.shapes
+
+-- there are names that go on from the table in hand
+abbrev pub Goes_on_to_names : Type 0
+Goes_on_to_names = (labels : Labels) (table : ShapeTable) → IsLabels labels table → (N : Names) × AreNames N × Labelled labels table N
 
 -- a record with these labels is added
 pub record One_more (table : ShapeTable) (row : List ℕ) (table' : ShapeTable) : Type 0 where

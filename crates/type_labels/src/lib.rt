@@ -4,6 +4,8 @@
 //! says holds of every numbering that goes on from it (`specs/Labels.antt`).
 #![tactic(auto)]
 
+ghost use Rattle.type_labels.specs.Labels.{Goes_on_to_names};
+
 mod labels;
 mod records;
 mod spelled;
@@ -11,3 +13,8 @@ mod spelled;
 pub use labels::{Labels, label, no_labels, no_shapes};
 pub use records::record;
 pub use spelled::position;
+
+/// The names and records that a table has keep their numbers in some numbering of all names and records.
+pub fn a_table_goes_on_to_names()
+    ensures { Goes_on_to_names }
+{}

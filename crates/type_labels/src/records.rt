@@ -3,7 +3,7 @@ ghost use Rattle.std.specs.Prelude.{◌≡◌, ◌++◌, ℕ, List, Some, OnOk, 
 ghost use Rattle.std.specs.Bool.{nat_eq};
 ghost use Rattle.std.specs.Cmp.Lexicographic.{pointwise};
 ghost use Rattle.fut_types.specs.Shapes.{IsTable};
-ghost use Rattle.type_labels.specs.Labels.{Goes_on, IsLabels, One_more, record_of, row_in};
+ghost use Rattle.type_labels.specs.Labels.{Goes_on, IsLabels, One_more, Rising, record_of, row_in};
 
 use crate::labels::Labels;
 use fut_scalar::{List as Items, NoMemory};
@@ -66,7 +66,8 @@ pub fn record(
     table: &mut ShapeTable,
     row: &[u32],
 ) -> Result<u32, NoMemory>
-    requires { IsLabels labels.old table.old }
+    requires is { IsLabels labels.old table.old }
+    requires rising { Rising 0 row.now }
     ensures is { OnOk result (IsLabels labels.new table.new) }
     ensures on { OnOk result (Goes_on labels.old table.old labels.new table.new) }
     ensures number { IfOk result (λ n. record_of labels.new row.now ≡ Some n) }

@@ -6,6 +6,7 @@ use Rattle.std.proofs.lemmas.List.Sorted.{Contains-permutation, IsPermutation-sy
 use mathlib.Core.Logic.{◌⊎◌, inl, inr}
 use Rattle.fut_typing.specs.Names.{Once}
 use Rattle.fut_typing.proofs.Members.{In, in_list, list_in}
+use Rattle.type_labels.specs.Labels.{Rising}
 use Rattle.type_records.proofs.Naming.{Apart}
 
 at_in : (xs : List ℕ) (k d : ℕ) → k < length xs → In (slice_index_or xs k d) xs
@@ -92,6 +93,13 @@ above x (y ∷ ys) r z (inr i) = let lt : x < y = r 0 (omega arith) in let l2 : 
 rises_apart : (xs : List ℕ) → Rises xs → Apart xs
 rises_apart [] r = tt
 rises_apart (x ∷ xs) r = ((λ i. let lt : x < x = above x xs r x i in absurd (omega arith)), rises_apart xs (rises_rest x xs r))
+
+rising_from : (from : ℕ) (xs : List ℕ) → Rises xs → (0 < length xs → from ≤ slice_index_or xs 0 0) → Rising from xs
+rising_from from [] r h = tt
+rising_from from (x ∷ xs) r h = (h (omega arith), rising_from (suc x) xs (rises_rest x xs r) (λ lt. r 0 (omega arith)))
+
+pub rising_all : (xs : List ℕ) → Rises xs → Rising 0 xs
+rising_all xs r = rising_from 0 xs r (λ lt. omega arith)
 
 once_rises : (xs : List ℕ) → IsNonDecreasing xs → Once xs → Rises xs
 once_rises xs s o k lt = let le : slice_index_or xs k 0 ≤ slice_index_or xs (k + 1) 0 = s k (k + 1) 0 (omega arith) lt in let ne = o k (k + 1) 0 (omega arith) lt in grind (arith, ne)

@@ -1,8 +1,9 @@
 // Rows of labels in ascending order.
-ghost use Rattle.std.specs.Prelude.{◌≡◌, ◌↔◌, ℕ, ◌+◌, ◌<◌, IsTrue, IfOk, MatchOption, length, slice_index_or};
+ghost use Rattle.std.specs.Prelude.{◌≡◌, ◌↔◌, ℕ, ◌+◌, ◌<◌, IsTrue, IfOk, IfSome, MatchOption, length, slice_index_or};
 ghost use Rattle.std.specs.List.{Contains};
 ghost use Rattle.std.specs.List.Sorted.{IsNonDecreasing, IsPermutation};
 ghost use Rattle.fut_typing.specs.Names.{Once};
+ghost use Rattle.type_labels.specs.Labels.{Rising};
 
 use fut_scalar::{List, NoMemory};
 use std::alloc::Global;
@@ -35,7 +36,8 @@ fn rises(row: &[u32]) -> bool
 
 /// The labels in ascending order, where none stands twice.
 pub fn ascending(alloc: Global, row: &[u32]) -> Result<Option<List<u32>>, NoMemory>
-    ensures { IfOk result (λ found. MatchOption found (Once row.now → ⊥) (λ list. Once row.now × ((l : ℕ) → Contains list l ↔ Contains row.now l) × (length list ≡ length row.now))) }
+    ensures found { IfOk result (λ found. MatchOption found (Once row.now → ⊥) (λ list. Once row.now × ((l : ℕ) → Contains list l ↔ Contains row.now l) × (length list ≡ length row.now))) }
+    ensures rising { IfOk result (λ found. IfSome found (λ list. Rising 0 list)) }
 {
     let list = match sorted(alloc, row) {
         Ok(list) => list,

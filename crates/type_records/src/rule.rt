@@ -41,7 +41,7 @@ fn number_of_row(
 
 /// A record: its type is that of the fields with these names, which have the types of the parts.
 ///
-/// The table may get new names and a new record.
+/// The table may get new names and a new record, also where the rule is refused.
 pub fn fields<'a>(
     alloc: Global,
     labels: &mut Labels<'a>,
@@ -59,6 +59,7 @@ pub fn fields<'a>(
     requires id { id < base }
     requires parts { Each (λ part. part < base) parts.now }
     ensures is { OnOk result (IsLabels labels.new table.new) }
+    ensures is_err { IfErr result (Tells (IsLabels labels.new table.new)) }
     ensures on { OnOk result (Goes_on labels.old table.old labels.new table.new) }
     ensures extends { OnOk result (Extends table.new nodes.old entries.old nodes.new entries.new) }
     ensures ok { OnOk result ((N : Names) (T : Tables) → AreNames N → Labelled labels.new table.new N → T.shapes ≡ N.shapes → Told table.new entries.new T → Adds T base (λ K a. IsRecord N (texts names.now) (a id) (types_of a parts.now)) (λ home. Unit {0}) nodes.old nodes.new) }

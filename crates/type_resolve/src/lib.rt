@@ -190,7 +190,7 @@ pub fn resolve(alloc: Global, nodes: &List<Node>, entries: &List<Entry>) -> Resu
     while at < nodes.len() {
         match visit(nodes, entries, &mut marks, at as u32) {
             Ok(()) => {}
-            Err(error) => return Err(error),
+            Err(error) => return Err(error.told_of(at as u32)),
         }
         at += 1;
     }

@@ -60,7 +60,7 @@ module _ (table : ShapeTable) (base first count : ℕ) (S : Shapes) (K : Kinds) 
   all_same_met (d ∷ ds) o m = (same_met d o.0 m.0, all_same_met ds o.1 m.1)
 
 -- the program's numbers have their homes, all others none
-abbrev near_home : ℕ → (ℕ → ℕ) → ℕ → ℕ
+abbrev pub near_home : ℕ → (ℕ → ℕ) → ℕ → ℕ
 near_home base home m = elim (lt_or m base) as (λ d. ℕ) [ inl lt ↦ home m | inr le ↦ far ]
 
 near_low : (base : ℕ) (home : ℕ → ℕ) (m : ℕ) → m < base → near_home base home m ≡ home m
@@ -70,7 +70,7 @@ near_high : (base : ℕ) (home : ℕ → ℕ) (m : ℕ) → base ≤ m → near_
 near_high base home m h = elim (lt_or m base) as (λ d. elim d as (λ d. ℕ) [ inl lt ↦ home m | inr le ↦ far ] ≡ far) [ inl lt ↦ absurd (omega arith) | inr le ↦ refl ]
 
 -- nothing is at home above far
-state_near : (T : Tables) (home : ℕ → ℕ) (base : ℕ) (nodes : List Node) → IsGraph nodes → base ≤ length nodes → State T home base nodes [] → State T (near_home base home) (length nodes) nodes []
+pub state_near : (T : Tables) (home : ℕ → ℕ) (base : ℕ) (nodes : List Node) → IsGraph nodes → base ≤ length nodes → State T home base nodes [] → State T (near_home base home) (length nodes) nodes []
 state_near T home base nodes g le s = record {
   top = s.top;
   tops = s.tops;
@@ -86,7 +86,7 @@ state_near T home base nodes g le s = record {
   ];
 }
 
-state_back : (T : Tables) (home : ℕ → ℕ) (base many : ℕ) (nodes : List Node) → base ≤ many → State T (near_home base home) many nodes [] → State T home base nodes []
+pub state_back : (T : Tables) (home : ℕ → ℕ) (base many : ℕ) (nodes : List Node) → base ≤ many → State T (near_home base home) many nodes [] → State T home base nodes []
 state_back T home base many nodes le s = record {
   top = s.top;
   tops = s.tops;

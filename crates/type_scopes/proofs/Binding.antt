@@ -15,7 +15,7 @@ use Rattle.fut_flat.specs.declared.pat.PatForm.TheVariants as form
 use Rattle.fut_typing.specs.Homes.{Env, one, At_home, env_pattern, env_patterns, env_sizes, a_size}
 use Rattle.type_scopes.specs.declared.names.Known.TheVariants as known
 use Rattle.type_scopes.specs.declared.Inference.{Inference}
-use Rattle.type_scopes.specs.Table.{entered}
+use Rattle.type_scopes.specs.Table.{entered, known_at}
 use Rattle.type_scopes.specs.Scopes.{Safe, Binds, nothing_claimed, field_pattern}
 use Rattle.type_scopes.proofs.Going.{later_none}
 use Rattle.type_scopes.proofs.Opening.{more_none, opened_as, opened_both, opened_number, opened_size}
@@ -26,7 +26,7 @@ module _ (base : ℕ) where
   binds_none lo i s places d hi h = record {
     later = later_none base i s;
     more = more_none i;
-    adds = λ N T home born E r rd h. puts_none T base (λ K a. Unit {0}) (λ home. At_home home d lo 0) i.nodes (λ K a. tt);
+    adds = λ N T home born E r rd h. puts_none T born base (λ K a. Unit {0}) (λ home. At_home home d lo 0) i.nodes (λ K a. tt);
     ready = λ N T home born E r rd h. rd;
   }
 
@@ -38,13 +38,13 @@ module _ (base : ℕ) where
   binds_within lo lo' m m' into on i i' l h e x places d hi r = opened_as places base d hi hi nothing_claimed nothing_claimed (λ home. At_home home d lo m) (λ home. At_home home d lo' m') into on i i' (λ N E K a h. (tt, tt)) (λ N E K a p q. tt)
       (λ home g n p q. g n (omega arith) (omega arith)) e (x places d hi (omega arith))
 
-  pub binds_number : (b lo : ℕ) (i : Inference) → Safe base i → b < length i.names → lo < base → Binds base lo 1 (one b lo) i (entered i b (known.Number lo))
-  binds_number b lo i s inn h places d hi r = opened_as places base d hi hi nothing_claimed nothing_claimed (λ home. home lo ≡ d) (λ home. At_home home d lo 1) (one b lo) (one b lo) i (entered i b (known.Number lo)) (λ N E K a h. (tt, tt)) (λ N E K a p q. tt)
-      (λ home g. g lo (omega arith) (omega arith)) refl (opened_number places base d hi i b s inn lo h (omega arith))
+  pub binds_number : (b lo : ℕ) (i : Inference) → Safe base i → b < length i.names → known_at i.names b ≡ known.Nothing → lo < base → Binds base lo 1 (one b lo) i (entered i b (known.Number lo))
+  binds_number b lo i s inn fresh h places d hi r = opened_as places base d hi hi nothing_claimed nothing_claimed (λ home. home lo ≡ d) (λ home. At_home home d lo 1) (one b lo) (one b lo) i (entered i b (known.Number lo)) (λ N E K a h. (tt, tt)) (λ N E K a p q. tt)
+      (λ home g. g lo (omega arith) (omega arith)) refl (opened_number places base d hi i b s inn fresh lo h (omega arith))
 
-  pub binds_size : (b lo : ℕ) (i : Inference) → Safe base i → b < length i.names → Binds base lo 0 (a_size b) i (entered i b known.Size)
-  binds_size b lo i s inn places d hi r = opened_as places base d hi hi nothing_claimed nothing_claimed (λ home. Unit {0}) (λ home. At_home home d lo 0) (a_size b) (a_size b) i (entered i b known.Size) (λ N E K a h. (tt, tt)) (λ N E K a p q. tt)
-      (λ home g. tt) refl (opened_size places base d hi i b s inn)
+  pub binds_size : (b lo : ℕ) (i : Inference) → Safe base i → b < length i.names → known_at i.names b ≡ known.Nothing → Binds base lo 0 (a_size b) i (entered i b known.Size)
+  binds_size b lo i s inn fresh places d hi r = opened_as places base d hi hi nothing_claimed nothing_claimed (λ home. Unit {0}) (λ home. At_home home d lo 0) (a_size b) (a_size b) i (entered i b known.Size) (λ N E K a h. (tt, tt)) (λ N E K a p q. tt)
+      (λ home g. tt) refl (opened_size places base d hi i b s inn fresh)
 
 -- patterns in a row
 numbers_more : (qs : List FlatPattern) (p : FlatPattern) → all_pattern_numbers (patterns (qs ++ p ∷ [])) ≡ all_pattern_numbers (patterns qs) + pattern_numbers p
@@ -115,12 +115,12 @@ pub record Sized (base : ℕ) (bs : List BindId) (i i' : Inference) : Type 0 whe
 pub sized_none : (base : ℕ) (i : Inference) → Safe base i → Sized base [] i i
 sized_none base i s = record { safe = s; binds = λ lo. binds_none base lo i s }
 
-pub sized_more : (base : ℕ) (bs : List BindId) (n : ℕ) (d : BindId) (i0 i1 i2 : Inference) → n < length bs → Sized base (take n bs) i0 i1 → (slice_index_or bs n d).0 < length i1.names → i2 ≡ entered i1 (slice_index_or bs n d).0 known.Size → Sized base (take (n + 1) bs) i0 i2
-sized_more base bs n d i0 i1 i2 lt x inn is = let b : BindId = slice_index_or bs n d in
+pub sized_more : (base : ℕ) (bs : List BindId) (n : ℕ) (d : BindId) (i0 i1 i2 : Inference) → n < length bs → Sized base (take n bs) i0 i1 → (slice_index_or bs n d).0 < length i1.names → known_at i1.names (slice_index_or bs n d).0 ≡ known.Nothing → i2 ≡ entered i1 (slice_index_or bs n d).0 known.Size → Sized base (take (n + 1) bs) i0 i2
+sized_more base bs n d i0 i1 i2 lt x inn fresh is = let b : BindId = slice_index_or bs n d in
     subst (λ (i : Inference). Sized base (take (n + 1) bs) i0 i) (sym is) (subst (λ l. Sized base l i0 (entered i1 b.0 known.Size)) (let z : suc n ≡ n + 1 = omega arith in sym (take-suc bs n d lt) ∙ ap (λ m. take m bs) z) (record {
-      safe = (binds_size base b.0 0 i1 x.safe inn kind.Any 0 0 (omega arith)).later.safe;
+      safe = (binds_size base b.0 0 i1 x.safe inn fresh kind.Any 0 0 (omega arith)).later.safe;
       binds = λ lo. binds_within base lo lo (0 + 0) 0 (λ E. a_size b.0 (env_sizes (take n bs) E)) (env_sizes (take n bs ++ b ∷ [])) i0 (entered i1 b.0 known.Size) (omega arith) (omega arith) (λ k E. sym (sizes_more (take n bs) b E) k)
-          (binds_then base lo 0 0 (env_sizes (take n bs)) (a_size b.0) i0 i1 (entered i1 b.0 known.Size) (x.binds lo) (binds_size base b.0 (lo + 0) i1 x.safe inn));
+          (binds_then base lo 0 0 (env_sizes (take n bs)) (a_size b.0) i0 i1 (entered i1 b.0 known.Size) (x.binds lo) (binds_size base b.0 (lo + 0) i1 x.safe inn fresh));
     }))
 
 -- the forms of patterns
@@ -134,8 +134,8 @@ module _ (base lo : ℕ) (p : Pat) where
 pub inner_is : (base lo : ℕ) (qs : List FlatPattern) (i i' : Inference) → Binds base (1 + lo) (all_pattern_numbers (patterns qs)) (env_patterns (patterns qs) (1 + lo)) i i' → Binds base lo (1 + all_pattern_numbers (patterns qs)) (env_patterns (patterns qs) (1 + lo)) i i'
 inner_is base lo qs i i' x = binds_within base (1 + lo) lo (all_pattern_numbers (patterns qs)) (1 + all_pattern_numbers (patterns qs)) (env_patterns (patterns qs) (1 + lo)) (env_patterns (patterns qs) (1 + lo)) i i' (omega arith) (omega arith) refl x
 
-pub entered_safe : (base b lo : ℕ) (i : Inference) → Safe base i → b < length i.names → lo < base → Safe base (entered i b (known.Number lo))
-entered_safe base b lo i s inn h = (binds_number base b lo i s inn h kind.Any 0 (lo + 1) (omega arith)).later.safe
+pub entered_safe : (base b lo : ℕ) (i : Inference) → Safe base i → b < length i.names → known_at i.names b ≡ known.Nothing → lo < base → Safe base (entered i b (known.Number lo))
+entered_safe base b lo i s inn fresh h = (binds_number base b lo i s inn fresh h kind.Any 0 (lo + 1) (omega arith)).later.safe
 
 pub record_is : (p : Pat) (fs : Bor (List PatField)) → p.form ≡ form.Record fs → pattern_of p ≡ Record_pattern (map (λ (f : Text × FlatPattern). f.0) (map pattern_field fs.now)) (patterns (map field_pattern fs.now))
 record_is p fs is = pattern_record p fs is ∙ ap (λ qs. Record_pattern (map (λ (f : Text × FlatPattern). f.0) (map pattern_field fs.now)) (patterns qs)) (fields_are fs.now)

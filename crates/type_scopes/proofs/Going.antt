@@ -10,7 +10,7 @@ use Rattle.fut_typing.specs.Scopes.{Uses, Scope}
 use Rattle.fut_typing.specs.Homes.{Env, scope_of}
 use Rattle.type_graph.specs.declared.Node.{Node}
 use Rattle.type_graph.specs.declared.Entry.{Entry}
-use Rattle.type_graph.specs.Graph.{far, Tables}
+use Rattle.type_graph.specs.Graph.{far, Tables, Solves}
 use Rattle.type_claims.specs.Claims.{Extends as MoreNodes}
 use Rattle.type_schemes.specs.declared.Part.{Part}
 use Rattle.type_schemes.specs.declared.PartForm.{PartForm}
@@ -18,9 +18,10 @@ use Rattle.type_schemes.specs.declared.PartForm.TheVariants as part
 use Rattle.type_schemes.specs.Schemes.{part_at, PartShows, PartFits, PartWithin, PartKnown, Extends, Region, Known as KnownHeads, Instance}
 use Rattle.type_scopes.specs.declared.names.Known.{Known}
 use Rattle.type_scopes.specs.declared.names.Known.TheVariants as known
+use Rattle.type_scopes.specs.declared.names.Seat.{Seat}
 use Rattle.type_scopes.specs.declared.Inference.{Inference}
 use Rattle.type_scopes.specs.Table.{known_at}
-use Rattle.type_scopes.specs.Scopes.{Stored, Puts, Safe, Reads, Means, Knows, Ready, Wider, Later, Same, Claim, Homes, Depends}
+use Rattle.type_scopes.specs.Scopes.{Stored, Puts, Safe, Reads, Usable, Means, Knows, Ready, Wider, Later, Same, Claim, Homes, Depends}
 
 -- more nodes and more parts
 within_more : (n n' f e k : ℕ) (o : PartForm) → n ≤ n' → PartWithin n f e k o → PartWithin n' f e k o
@@ -60,7 +61,6 @@ pub stored_more : (base n n' : ℕ) (table table' : ShapeTable) (store store' : 
 stored_more base n n' table table' store store' known.Nothing le w ex short s = tt
 stored_more base n n' table table' store store' (known.Number p) le w ex short s = s
 stored_more base n n' table table' store store' known.Size le w ex short s = tt
-stored_more base n n' table table' store store' (known.Argument p) le w ex short s = omega arith
 stored_more base n n' table table' store store' (known.Type p) le w ex short s = omega arith
 stored_more base n n' table table' store store' (known.Definition f c) le w ex short s = (region_more n n' store store' f c le ex short s.0, heads_more table table' store store' n f c w ex s.0 s.1)
 
@@ -79,17 +79,24 @@ instance_moved S store store' n f c K full t same wi i = record {
   is = i.is;
 }
 
-pub means_more : (S : Shapes) (base n : ℕ) (table : ShapeTable) (store store' : List Part) (k : Known) (uses : Uses) (types : Ty → Type 0) (K : Kinds) (full : Sub) → Extends store store' → Stored base n table store k → Means S store k uses types K full → Means S store' k uses types K full
-means_more S base n table store store' known.Nothing uses types K full ex s m = m
-means_more S base n table store store' (known.Number p) uses types K full ex s m = m
-means_more S base n table store store' known.Size uses types K full ex s m = m
-means_more S base n table store store' (known.Argument p) uses types K full ex s m = m
-means_more S base n table store store' (known.Type p) uses types K full ex s m = m
-means_more S base n table store store' (known.Definition f c) uses types K full ex s m =
-    let same : (k : ℕ) → f ≤ k → k < f + c → part_at store' k ≡ part_at store k = λ k p q. ex.1 k (let a : f + c ≤ length store = s.0.within in omega arith) in λ t. (
-      (λ u. instance_moved S store store' n f c K full t same s.0.each ((m t).0 u)),
-      (λ h. (m t).1 (instance_moved S store' store n f c K full t (λ k p q. sym (same k p q)) (λ k p q. subst (λ (x : Part). PartWithin n f (f + c) k x.form) (sym (same k p q)) (s.0.each k p q)) h)),
+usable_more : (S : Shapes) (base n : ℕ) (table : ShapeTable) (store store' : List Part) (k : Known) (K : Kinds) (full : Sub) (t : Ty) → Extends store store' → Stored base n table store k → (Usable S store k K full t → Usable S store' k K full t) × (Usable S store' k K full t → Usable S store k K full t)
+usable_more S base n table store store' known.Nothing K full t ex s = ((λ u. u), (λ u. u))
+usable_more S base n table store store' (known.Number p) K full t ex s = ((λ u. u), (λ u. u))
+usable_more S base n table store store' known.Size K full t ex s = ((λ u. u), (λ u. u))
+usable_more S base n table store store' (known.Type p) K full t ex s = ((λ u. u), (λ u. u))
+usable_more S base n table store store' (known.Definition f c) K full t ex s =
+    let same : (k : ℕ) → f ≤ k → k < f + c → part_at store' k ≡ part_at store k = λ k p q. ex.1 k (let a : f + c ≤ length store = s.0.within in omega arith) in (
+      (λ i. instance_moved S store store' n f c K full t same s.0.each i),
+      (λ i. instance_moved S store' store n f c K full t (λ k p q. sym (same k p q)) (λ k p q. subst (λ (x : Part). PartWithin n f (f + c) k x.form) (sym (same k p q)) (s.0.each k p q)) i),
     )
+
+pub means_more : (S : Shapes) (base n : ℕ) (table : ShapeTable) (store store' : List Part) (k : Known) (uses : Uses) (types : Ty → Type 0) (K : Kinds) (full : Sub) → Extends store store' → Stored base n table store k → Means S store k uses types K full → Means S store' k uses types K full
+means_more S base n table store store' k uses types K full ex s m = record {
+  usable = λ t u. (usable_more S base n table store store' k K full t ex s).0 (m.usable t u);
+  used = λ t u. m.used t ((usable_more S base n table store store' k K full t ex s).1 u);
+  denoted = m.denoted;
+  denotes = m.denotes;
+}
 
 -- the same names, a larger store
 pub knows_more : (S : Shapes) (base : ℕ) (i i' : Inference) (scope : Scope) (K : Kinds) (full : Sub) → Safe base i → i'.names ≡ i.names → Extends i.store i'.store → Knows S i scope K full → Knows S i' scope K full
@@ -105,12 +112,14 @@ wider_then t0 t1 t2 x y = record { heads = λ h k. y.heads h (x.heads h k); labe
 
 -- one step after the other
 pub later_none : (base : ℕ) (i : Inference) → Safe base i → Later base i i
-later_none base i s = record { safe = s; reads = λ N T r. r; longer = omega arith; store = extends_none i.store; names = refl; wider = wider_none i.table }
+later_none base i s = record { safe = s; reads = λ N T born r. r; seats = λ n h. refl; keeps = λ N T born r K a so. so; longer = omega arith; store = extends_none i.store; names = refl; wider = wider_none i.table }
 
 pub later_then : (base : ℕ) (i0 i1 i2 : Inference) → Later base i0 i1 → Later base i1 i2 → Later base i0 i2
 later_then base i0 i1 i2 x y = record {
   safe = y.safe;
-  reads = λ N T r. x.reads N T (y.reads N T r);
+  reads = λ N T born r. x.reads N T born (y.reads N T born r);
+  seats = λ n h. y.seats n (subst (λ (t : Seat). t.node < far) (sym (x.seats n h)) h) ∙ x.seats n h;
+  keeps = λ N T born r K a so. x.keeps N T born (y.reads N T born r) K a (y.keeps N T born r K a so);
   longer = let a : length i0.nodes ≤ length i1.nodes = x.longer in let b : length i1.nodes ≤ length i2.nodes = y.longer in omega arith;
   store = extends_then i0.store i1.store i2.store x.store y.store;
   names = y.names ∙ x.names;
@@ -125,11 +134,11 @@ same_then i0 i1 i2 x y = record { names = y.names ∙ x.names; past = y.past ∙
 
 -- a larger graph
 module _ (base : ℕ) (i : Inference) (nodes : List Node) (entries : List Entry) (s : Safe base i) (x : MoreNodes i.table i.nodes i.entries nodes entries) where
-  pub reads_less : (N : Names) (T : Tables) → Reads (record i { nodes = nodes; entries = entries }) N T → Reads i N T
-  reads_less N T r = record { names = r.names; labelled = r.labelled; shapes = r.shapes; told = x.told T r.told }
+  pub reads_less : (N : Names) (T : Tables) (born : ℕ → ℕ) → Reads (record i { nodes = nodes; entries = entries }) N T born → Reads i N T born
+  reads_less N T born r = record { names = r.names; labelled = r.labelled; shapes = r.shapes; told = x.told T r.told; seats = r.seats }
 
-  pub later_graph : Later base i (record i { nodes = nodes; entries = entries })
-  later_graph = record {
+  pub later_graph : ((N : Names) (T : Tables) (born : ℕ → ℕ) → Reads (record i { nodes = nodes; entries = entries }) N T born → (K : Kinds) (a : Sub) → Solves T K a nodes → Solves T K a i.nodes) → Later base i (record i { nodes = nodes; entries = entries })
+  later_graph keeps = record {
     safe = record {
       table = s.table;
       labels = s.labels;
@@ -139,6 +148,8 @@ module _ (base : ℕ) (i : Inference) (nodes : List Node) (entries : List Entry)
       stored = λ b lt. stored_more base (length i.nodes) (length nodes) i.table i.table i.store i.store (known_at i.names b) x.longer (wider_none i.table) (extends_none i.store) s.short (s.stored b lt);
     };
     reads = reads_less;
+    seats = λ n h. refl;
+    keeps = keeps;
     longer = x.longer;
     store = extends_none i.store;
     names = refl;
@@ -152,6 +163,7 @@ module _ (N : Names) (places : Kind) (T : Tables) (home born : ℕ → ℕ) (bas
     outer = r.outer;
     state = r.state;
     backed = r.backed;
+    plain = r.plain;
     narrow = λ n m. let q = r.narrow n m in let q0 : n < lo = q.0 in let q1 : home n ≤ d = q.1 in (omega arith, omega arith);
     knows = r.knows;
     below = λ K a b same p. r.below K a b (λ n lt. same n (omega arith)) p;
@@ -161,13 +173,14 @@ module _ (N : Names) (places : Kind) (T : Tables) (home born : ℕ → ℕ) (bas
   ready_on lo' ll r = ready_up d lo' (omega arith) r.depth ll r
 
   -- behind a part of a program, whose numbers end at hi
-  pub ready_next : (hi : ℕ) (i' : Inference) (P : Claim) (H : Homes) → lo ≤ hi → Depends places P lo hi → Safe base i → i'.names ≡ i.names → Extends i.store i'.store → Ready N places T home born base E d lo i → H home
-      → Puts T base (P N (scope_of N places E)) H i.nodes i'.nodes → Ready N places T home born base E d hi i'
-  ready_next hi i' P H le dep s names ex r h x = record {
+  pub ready_next : (hi : ℕ) (i' : Inference) (P : Claim) (H : Homes) → lo ≤ hi → Depends places P lo hi → Safe base i → i'.names ≡ i.names → Extends i.store i'.store → length i.nodes ≤ length i'.nodes → Ready N places T home born base E d lo i → H home
+      → Puts T born base (P N (scope_of N places E)) H i.nodes i'.nodes → Ready N places T home born base E d hi i'
+  ready_next hi i' P H le dep s names ex longer r h x = record {
     depth = r.depth;
     outer = r.outer;
     state = x.state home r.state;
-    backed = x.backed home born h r.backed;
+    backed = x.backed home h r.backed;
+    plain = λ n k p. r.plain n k (omega arith);
     narrow = λ n m. let q = r.narrow n m in let q0 : n < lo = q.0 in (omega arith, q.1);
     knows = λ K full so. knows_more T.shapes base i i' (scope_of N places E) K full s names ex (r.knows K full (x.keeps K full so));
     below = λ K a b same p. x.forth K b (r.below K a b (λ n lt. same n (omega arith)) (x.back K a p)) (dep N E K a b (λ n. elim [ inl m ↦ let q : n < lo = (r.narrow n m).0 in same n (omega arith) | inr w ↦ same n w.1 ]) (x.done K a p));

@@ -3,4 +3,5 @@ pub mod Claiming
 pub mod Going
 pub mod Opening
 pub mod Putting
+pub mod Seating
 pub mod Table

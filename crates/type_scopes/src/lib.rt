@@ -10,7 +10,7 @@ mod steps;
 
 use fut_scalar::List;
 use fut_types::ShapeTable;
-pub use names::{Known, Past, enter, known_of, mark_of, take_back};
+pub use names::{Known, Past, Seat, enter, known_of, mark_of, note_seat, seat_of, take_back};
 pub use patterns::{enter_pattern, enter_patterns, enter_sizes};
 pub use steps::demand;
 use type_graph::{Entry, Node};
@@ -36,4 +36,6 @@ pub struct Inference<'a> {
     pub names: List<Known>,
     /// What the names that were entered stood for before, oldest first.
     pub past: List<Past>,
+    /// Where each type parameter was met, by its number.
+    pub seats: List<Seat>,
 }

@@ -1,9 +1,14 @@
 use Rattle.std.proofs.Common.{◌≤◌, ◌<◌, ◌+◌, ◌++◌, List, [], ◌∷◌, map, take, slice_index_or, subst, sym, ◌∙◌, ap, refl, arith}
 use Rattle.fut_flat.specs.Numbers.{numbers, all_numbers}
-use Rattle.fut_flat.specs.Erased.{FlatTerm, operation_of, term_of, terms}
+use Rattle.fut_flat.specs.Erased.{FlatTerm, operation_of, parameters, term_of, terms}
+use Rattle.type_uses.specs.Uses.{type_numbers}
+use Rattle.type_constraints.proofs.Definitions.{definition_err1, definition_err2, definition_err3, definition_ok, definition_own, definition_root, definition_sound, function_err, function_ok, function_refused, no_record, no_sizes, no_tuple, no_typed, no_wild, row_numbers}
 use Rattle.fut_flat.proofs.ErasedForms.{term_use, term_strict, term_apply, term_if, term_lambda, term_lets}
 use Rattle.fut_typing.proofs.Ranges.{numbers_some, own_some}
-use Rattle.type_rules.proofs.Adding.{tells}
+use Rattle.fut_flat.proofs.ErasedPatterns.{pattern_bound, pattern_wild, pattern_tuple, pattern_typed}
+use Rattle.fut_flat.specs.Erased.{FlatPattern}
+use Rattle.fut_typing.specs.Typing.{Function_name}
+use Rattle.type_rules.proofs.Adding.{tells, tells_both, on_ok, if_err}
 use Rattle.type_constraints.proofs.Forms.{apply_ok, apply_err3, refused_apply, refused_apply2, if_ok, if_err4, refused_if, refused_if2, refused_if3, below_two, below_four}
 use Rattle.type_constraints.proofs.Rows.{gone_none, gone_more, gone_refused, falls_in, room_in, take_more, at_place, starts_below, Gone_over, strict_ok, refused_strict, strict_err2}
 use Rattle.fut_flat.specs.declared.exp.Exp.{Exp}
@@ -15,7 +20,7 @@ use Rattle.fut_flat.specs.Erased.{Row, pattern_of, patterns}
 use Rattle.fut_flat.proofs.ErasedForms.{row_of}
 use Rattle.fut_typing.specs.Rows.{behind, behind_all, env_rows}
 use Rattle.type_scopes.specs.Scopes.{Opened}
-use Rattle.type_scopes.proofs.Binding.{take_all}
+use Rattle.type_scopes.proofs.Binding.{if_ok as ok_also, record_is, take_all}
 use Rattle.type_constraints.specs.Parts.{Rows_claim, Rows_homes, row_starts}
 use Rattle.type_constraints.proofs.Lets.{Lets_open, lets_none, lets_more, lets_refused, lets_err1, lets_err2, lets_err3, lets_ok, numbers_lets, behind_from, some_rows, row_starts_below, row_falls, row_room, row_split, row_more, value_is}
 use Rattle.type_constraints.proofs.Values.{pattern_claimed, value_err1, value_err2, value_err3, row, value_ok, same_within, same_says, same_allowed}
@@ -369,7 +374,7 @@ pub constrain_counted-enter_sizes-requires : goal.constrain_counted-enter_sizes-
 constrain_counted-enter_sizes-requires t c = record { safe = (c.in-Ok-demand.ensures.ok c.args.places 0 0).later.safe }
 
 pub constrain_counted-returns-in-Ok-enter-clause-ok : goal.constrain_counted-returns-in-Ok-enter-clause-ok
-constrain_counted-returns-in-Ok-enter-clause-ok t c = counted_ok c.args.places c.args.base c.args.depth c.args.lo c.in-Ok.next c.args.sizes.now (pattern_of c.args.pat.now) (term_of c.args.first.now) (term_of c.args.bound.now) c.args.name c.in-Ok.ensures.next c.args.inference.now c.constrain_bound.new.inference c.constrain.new.inference c.requires.safe c.in-Ok.ensures.ok c.demand.new.inference c.in-Ok-constrain.ensures.ok c.counted.result c.counted.ensures.says c.counted.ensures.allowed c.in-Ok-demand.ensures.ok c.enter_sizes.new.inference c.enter_pattern.new.inference c.enter.new.inference c.in-Ok-enter_sizes.ensures.ok c.in-Ok-enter_pattern.ensures.ok c.in-Ok-enter_pattern.ensures.safe (omega (arith, c.requires.room, c.in-Ok.ensures.next)) c.in-Ok-enter.ensures.within c.in-Ok-enter.ensures.ok
+constrain_counted-returns-in-Ok-enter-clause-ok t c = counted_ok c.args.places c.args.base c.args.depth c.args.lo c.in-Ok.next c.args.sizes.now (pattern_of c.args.pat.now) (term_of c.args.first.now) (term_of c.args.bound.now) c.args.name c.in-Ok.ensures.next c.args.inference.now c.constrain_bound.new.inference c.constrain.new.inference c.requires.safe c.in-Ok.ensures.ok c.demand.new.inference c.in-Ok-constrain.ensures.ok c.counted.result c.counted.ensures.says c.counted.ensures.allowed c.in-Ok-demand.ensures.ok c.enter_sizes.new.inference c.enter_pattern.new.inference c.enter.new.inference c.in-Ok-enter_sizes.ensures.ok c.in-Ok-enter_pattern.ensures.ok c.in-Ok-enter_pattern.ensures.safe (omega (arith, c.requires.room, c.in-Ok.ensures.next)) c.in-Ok-enter.ensures.within c.in-Ok-enter.ensures.fresh c.in-Ok-enter.ensures.ok
 
 pub constrain_head-constrain_over-requires : goal.constrain_head-constrain_over-requires
 constrain_head-constrain_over-requires t c = let e = ap (λ (x : FlatTurns). turn_numbers x) (ap turns_of c.in-ForIn.is ∙ turns_over c.in-ForIn.part c.in-ForIn.array) in (omega (arith, e), (c.requires.safe, omega (arith, e, c.requires.room)))
@@ -415,3 +420,56 @@ constrain_over-enter_sizes-requires t c = record { safe = (c.in-Ok-demand.ensure
 
 pub constrain_over-returns-in-Ok-enter_pattern-2-clause-ok : goal.constrain_over-returns-in-Ok-enter_pattern-2-clause-ok
 constrain_over-returns-in-Ok-enter_pattern-2-clause-ok t c = over_ok c.args.places c.args.base c.args.depth c.args.lo c.in-Ok.next c.in-Ok-constrain_pattern.next c.args.sizes.now (pattern_of c.args.pat.now) (term_of c.args.first.now) (pattern_of c.args.part.now) (term_of c.args.array.now) c.in-Ok.ensures.next c.in-Ok-constrain_pattern.ensures.next c.args.inference.now c.take_back.new.inference c.constrain.new.inference c.requires.safe (two_claimed c.args.places c.args.base c.args.depth c.args.lo c.in-Ok.next c.in-Ok-constrain_pattern.next c.args.sizes.now (pattern_of c.args.pat.now) (term_of c.args.first.now) (pattern_of c.args.part.now) (term_of c.args.array.now) c.in-Ok.ensures.next c.in-Ok-constrain_pattern.ensures.next c.args.inference.now c.constrain_value.new.inference c.in-Ok.ensures.ok c.constrain_pattern.new.inference c.take_back.new.inference c.requires.safe c.in-Ok-constrain_pattern.ensures.ok (λ before added e l. c.take_back.ensures before added e (l ∙ sym c.mark_of-mark.ensures))) c.demand.new.inference c.in-Ok-constrain.ensures.ok c.gone_over.result c.gone_over.ensures.says c.gone_over.ensures.allowed c.enter_sizes.new.inference c.enter_pattern.new.inference c.enter_pattern-2.new.inference c.in-Ok-demand.ensures.ok c.in-Ok-enter_sizes.ensures.ok c.in-Ok-enter_pattern.ensures.ok c.in-Ok-enter_pattern-2.ensures.ok
+
+pub constrain_definition-constrain-requires : goal.constrain_definition-constrain-requires
+constrain_definition-constrain-requires t c = (omega arith, (c.in-Ok.ensures.safe, omega (arith, c.requires.room)))
+
+pub constrain_definition-returns-in-Err-constrain-clause-err : goal.constrain_definition-returns-in-Err-constrain-clause-err
+constrain_definition-returns-in-Err-constrain-clause-err t c = tells c.in-Err-constrain.error (definition_err1 c.args.places c.args.base c.args.depth c.args.lo c.args.name (parameters c.args.heads.now) (term_of c.args.value.now) c.args.inference.now c.enter_parameters.new.inference c.requires.safe c.in-Ok.ensures.ok (omega (arith, c.if-depth-ge4294967294.false)) c.constrain.new.inference) c.in-Err-constrain.ensures.err
+
+pub constrain_definition-demand-requires-clause-within : goal.constrain_definition-demand-requires-clause-within
+constrain_definition-demand-requires-clause-within t c = same_within c.constrain.new.inference.table c.args.base c.args.lo (1 + c.args.lo) (omega (arith, c.requires.room, numbers_some (term_of c.args.value.now))) (omega (arith, c.requires.room, numbers_some (term_of c.args.value.now)))
+
+pub constrain_definition-returns-in-Err-demand-clause-err : goal.constrain_definition-returns-in-Err-demand-clause-err
+constrain_definition-returns-in-Err-demand-clause-err t c = tells c.in-Err-demand.error (definition_err2 c.args.places c.args.base c.args.depth c.args.lo c.args.name (parameters c.args.heads.now) (term_of c.args.value.now) c.args.inference.now c.enter_parameters.new.inference c.requires.safe c.in-Ok.ensures.ok (omega (arith, c.if-depth-ge4294967294.false)) c.constrain.new.inference c.demand.new.inference c.in-Ok-constrain.ensures.ok) c.in-Err-demand.ensures.err
+
+pub constrain_definition-generalise-requires : goal.constrain_definition-generalise-requires
+constrain_definition-generalise-requires t c = record {
+  sound = definition_sound c.args.places c.args.base c.args.depth c.args.lo c.args.name (parameters c.args.heads.now) (term_of c.args.value.now) c.args.inference.now c.enter_parameters.new.inference c.requires.safe c.in-Ok.ensures.ok (omega (arith, c.if-depth-ge4294967294.false)) c.constrain.new.inference c.demand.new.inference c.in-Ok-constrain.ensures.ok c.in-Ok-demand.ensures.ok c.requires.room c.take_back.new.inference (λ before added e l. c.take_back.ensures before added e (l ∙ sym c.mark_of-mark.ensures)) c.as_slice.result.now (c.as_slice.ensures ∙ c.in-Ok.ensures.own ∙ ap (λ l. l ++ type_numbers (parameters c.args.heads.now)) c.new-own.ensures);
+  root = definition_root c.args.places c.args.base c.args.depth c.args.lo c.args.name (parameters c.args.heads.now) (term_of c.args.value.now) c.args.inference.now c.enter_parameters.new.inference c.requires.safe c.in-Ok.ensures.ok (omega (arith, c.if-depth-ge4294967294.false)) c.constrain.new.inference c.demand.new.inference c.in-Ok-constrain.ensures.ok c.in-Ok-demand.ensures.ok c.requires.room c.take_back.new.inference (λ before added e l. c.take_back.ensures before added e (l ∙ sym c.mark_of-mark.ensures)) c.as_slice.result.now (c.as_slice.ensures ∙ c.in-Ok.ensures.own ∙ ap (λ l. l ++ type_numbers (parameters c.args.heads.now)) c.new-own.ensures);
+  own = definition_own c.args.places c.args.base c.args.depth c.args.lo c.args.name (parameters c.args.heads.now) (term_of c.args.value.now) c.args.inference.now c.enter_parameters.new.inference c.requires.safe c.in-Ok.ensures.ok (omega (arith, c.if-depth-ge4294967294.false)) c.constrain.new.inference c.demand.new.inference c.in-Ok-constrain.ensures.ok c.in-Ok-demand.ensures.ok c.requires.room c.take_back.new.inference (λ before added e l. c.take_back.ensures before added e (l ∙ sym c.mark_of-mark.ensures)) c.as_slice.result.now (c.as_slice.ensures ∙ c.in-Ok.ensures.own ∙ ap (λ l. l ++ type_numbers (parameters c.args.heads.now)) c.new-own.ensures);
+}
+
+pub constrain_definition-returns-in-Ok-generalise-clause-ok : goal.constrain_definition-returns-in-Ok-generalise-clause-ok
+constrain_definition-returns-in-Ok-generalise-clause-ok t c = definition_ok c.args.places c.args.base c.args.depth c.args.lo c.args.name (parameters c.args.heads.now) (term_of c.args.value.now) c.args.inference.now c.enter_parameters.new.inference c.requires.safe c.in-Ok.ensures.ok (omega (arith, c.if-depth-ge4294967294.false)) c.constrain.new.inference c.demand.new.inference c.in-Ok-constrain.ensures.ok c.in-Ok-demand.ensures.ok c.requires.room c.take_back.new.inference (λ before added e l. c.take_back.ensures before added e (l ∙ sym c.mark_of-mark.ensures)) c.as_slice.result.now (c.as_slice.ensures ∙ c.in-Ok.ensures.own ∙ ap (λ l. l ++ type_numbers (parameters c.args.heads.now)) c.new-own.ensures) c.generalise.new.inference c.in-Ok-generalise.ensures.ok
+
+pub constrain_definition-returns-clause-err : goal.constrain_definition-returns-clause-err
+constrain_definition-returns-clause-err t c = tells_both c.in-Err-generalise.error (λ x e. definition_err3 c.args.places c.args.base c.args.depth c.args.lo c.args.name (parameters c.args.heads.now) (term_of c.args.value.now) c.args.inference.now c.enter_parameters.new.inference c.requires.safe c.in-Ok.ensures.ok (omega (arith, c.if-depth-ge4294967294.false)) c.constrain.new.inference c.demand.new.inference c.in-Ok-constrain.ensures.ok c.in-Ok-demand.ensures.ok c.requires.room c.take_back.new.inference (λ before added e l. c.take_back.ensures before added e (l ∙ sym c.mark_of-mark.ensures)) c.as_slice.result.now (c.as_slice.ensures ∙ c.in-Ok.ensures.own ∙ ap (λ l. l ++ type_numbers (parameters c.args.heads.now)) c.new-own.ensures) c.generalise.new.inference x e) c.in-Err-generalise.ensures.err c.in-Err-generalise.ensures.same
+
+pub constrain_function-returns-then-one-gt0-clause-err : goal.constrain_function-returns-then-one-gt0-clause-err
+constrain_function-returns-then-one-gt0-clause-err t c = function_refused c.args.places c.args.base c.args.depth c.args.lo c.args.one.now c.requires.function c.args.inference.now c.requires.safe (no_sizes c.args.one.now.sizes.now (pattern_of c.args.one.now.pat) (omega (arith, c.if-one-gt0.true)))
+
+pub constrain_function-constrain_definition-requires : goal.constrain_function-constrain_definition-requires
+constrain_function-constrain_definition-requires t c = let e = row_numbers c.args.places c.args.base c.args.depth 0 c.args.one.now c.requires.function c.args.inference.now c.in-Bound.bind (pattern_bound c.args.one.now.pat c.in-Bound.bind c.in-Bound.is) (omega (arith, c.if-one-gt0.false)) c.args.inference.now in
+    let z = row_numbers c.args.places c.args.base c.args.depth c.args.lo c.args.one.now c.requires.function c.args.inference.now c.in-Bound.bind (pattern_bound c.args.one.now.pat c.in-Bound.bind c.in-Bound.is) (omega (arith, c.if-one-gt0.false)) c.args.inference.now in (omega (arith, e), (c.requires.safe, omega (arith, z, c.requires.room)))
+
+pub constrain_function-returns-in-Bound-clause-next : goal.constrain_function-returns-in-Bound-clause-next
+constrain_function-returns-in-Bound-clause-next t c = ok_also c.constrain_definition.result (λ n e. e ∙ sym (row_numbers c.args.places c.args.base c.args.depth c.args.lo c.args.one.now c.requires.function c.args.inference.now c.in-Bound.bind (pattern_bound c.args.one.now.pat c.in-Bound.bind c.in-Bound.is) (omega (arith, c.if-one-gt0.false)) c.constrain_definition.new.inference)) c.constrain_definition.ensures.next
+
+pub constrain_function-returns-in-Bound-clause-ok : goal.constrain_function-returns-in-Bound-clause-ok
+constrain_function-returns-in-Bound-clause-ok t c = on_ok c.constrain_definition.result (function_ok c.args.places c.args.base c.args.depth c.args.lo c.args.one.now c.requires.function c.args.inference.now c.in-Bound.bind (pattern_bound c.args.one.now.pat c.in-Bound.bind c.in-Bound.is) (omega (arith, c.if-one-gt0.false)) c.constrain_definition.new.inference) c.constrain_definition.ensures.ok
+
+pub constrain_function-returns-in-Bound-clause-err : goal.constrain_function-returns-in-Bound-clause-err
+constrain_function-returns-in-Bound-clause-err t c = if_err c.constrain_definition.result (function_err c.args.places c.args.base c.args.depth c.args.lo c.args.one.now c.requires.function c.args.inference.now c.in-Bound.bind (pattern_bound c.args.one.now.pat c.in-Bound.bind c.in-Bound.is) (omega (arith, c.if-one-gt0.false)) c.constrain_definition.new.inference) c.constrain_definition.ensures.err
+
+pub constrain_function-returns-in-Wild-clause-err : goal.constrain_function-returns-in-Wild-clause-err
+constrain_function-returns-in-Wild-clause-err t c = function_refused c.args.places c.args.base c.args.depth c.args.lo c.args.one.now c.requires.function c.args.inference.now c.requires.safe (subst (λ (p : FlatPattern). Function_name c.args.one.now.sizes.now p → ⊥) (sym (pattern_wild c.args.one.now.pat c.in-Wild.is)) (no_wild c.args.one.now.sizes.now))
+
+pub constrain_function-returns-in-Tuple-clause-err : goal.constrain_function-returns-in-Tuple-clause-err
+constrain_function-returns-in-Tuple-clause-err t c = function_refused c.args.places c.args.base c.args.depth c.args.lo c.args.one.now c.requires.function c.args.inference.now c.requires.safe (subst (λ (p : FlatPattern). Function_name c.args.one.now.sizes.now p → ⊥) (sym (pattern_tuple c.args.one.now.pat c.in-Tuple.field-0 c.in-Tuple.is)) (no_tuple c.args.one.now.sizes.now _))
+
+pub constrain_function-returns-in-Record-clause-err : goal.constrain_function-returns-in-Record-clause-err
+constrain_function-returns-in-Record-clause-err t c = function_refused c.args.places c.args.base c.args.depth c.args.lo c.args.one.now c.requires.function c.args.inference.now c.requires.safe (subst (λ (p : FlatPattern). Function_name c.args.one.now.sizes.now p → ⊥) (sym (record_is c.args.one.now.pat c.in-Record.field-0 c.in-Record.is)) (no_record c.args.one.now.sizes.now _ _))
+
+pub constrain_function-returns-in-Typed-clause-err : goal.constrain_function-returns-in-Typed-clause-err
+constrain_function-returns-in-Typed-clause-err t c = function_refused c.args.places c.args.base c.args.depth c.args.lo c.args.one.now c.requires.function c.args.inference.now c.requires.safe (subst (λ (p : FlatPattern). Function_name c.args.one.now.sizes.now p → ⊥) (sym (pattern_typed c.args.one.now.pat c.in-Typed.field-0 c.in-Typed.field-1 c.in-Typed.is)) (no_typed c.args.one.now.sizes.now _ _))

@@ -62,3 +62,9 @@ decreases-constrain_counted l = 3 * (pattern_numbers (pattern_of l.pat.now) + nu
 
 abbrev pub decreases-constrain_over : goal.decreases-constrain_over
 decreases-constrain_over l = 3 * (pattern_numbers (pattern_of l.pat.now) + numbers (term_of l.first.now) + (pattern_numbers (pattern_of l.part.now) + numbers (term_of l.array.now))) + 1
+
+abbrev pub decreases-constrain_function : goal.decreases-constrain_function
+decreases-constrain_function l = 3 * behind (row_of l.one.now) 0
+
+abbrev pub decreases-constrain_definition : goal.decreases-constrain_definition
+decreases-constrain_definition l = 3 * (1 + numbers (term_of l.value.now))

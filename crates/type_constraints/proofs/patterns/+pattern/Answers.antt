@@ -1,15 +1,19 @@
-use Rattle.std.proofs.Common.{◌≡◌, ◌+◌, ◌<◌, ◌++◌, List, map, take, sym, ◌∙◌, subst, ap, arith}
+use Rattle.std.proofs.Common.{◌≡◌, ◌+◌, ◌<◌, ◌++◌, List, map, take, refl, sym, ◌∙◌, subst, ap, arith}
 use Rattle.fut_flat.specs.Numbers.{pattern_numbers, all_pattern_numbers}
-use Rattle.fut_flat.specs.Erased.{FlatPattern, pattern_of, patterns}
-use Rattle.fut_flat.proofs.ErasedPatterns.{pattern_bound, pattern_wild, pattern_tuple}
+use Rattle.fut_flat.specs.Terms.{Record_pattern, Tuple_pattern}
+use Rattle.fut_flat.specs.Erased.{FlatPattern, pattern_of, patterns, type_of}
+use Rattle.fut_flat.proofs.ErasedPatterns.{pattern_bound, pattern_wild, pattern_tuple, pattern_typed}
+use Rattle.fut_typing.proofs.Ranges.{pattern_some}
 use Rattle.fut_typing.specs.Homes.{At_home}
 use Rattle.type_graph.specs.Graph.{Each}
 use Rattle.type_rules.proofs.Adding.{tells}
-use Rattle.type_scopes.specs.Scopes.{Claimed}
+use Rattle.type_patterns.proofs.Forms.{of_tuples, of_records}
+use Rattle.type_scopes.specs.Scopes.{Claimed, field_pattern}
 use Rattle.type_scopes.proofs.Binding.{bound_room, map_more, room_in, take_all, weigh}
-use Rattle.type_constraints.specs.Parts.{Patterns_claim, pattern_starts}
-use Rattle.type_constraints.proofs.Functions.{split_at, starts_below}
-use Rattle.type_constraints.proofs.Tuples.{Row_claimed, row_none, row_more, row_refused, tuple_ok, tuple_err1, tuple_err2, free_ok, falls_thrice}
+use Rattle.type_constraints.specs.Parts.{Patterns_claim, pattern_name, pattern_starts}
+use Rattle.type_constraints.proofs.Functions.{starts_below}
+use Rattle.type_patterns.proofs.Rows.{split_at}
+use Rattle.type_constraints.proofs.Tuples.{Row_claimed, row_none, row_more, row_refused, made_ok, made_err1, made_err2, typed_ok, typed_err1, typed_err2, named_is, free_ok, falls_thrice}
 use Rattle.type_constraints.proofs.patterns.+pattern.Goals as goal
 
 pub constrain_pattern-returns-in-Bound-clause-next : goal.constrain_pattern-returns-in-Bound-clause-next
@@ -40,7 +44,7 @@ pub constrain_tuple-constrain_patterns-requires : goal.constrain_tuple-constrain
 constrain_tuple-constrain_patterns-requires t c = (omega arith, (c.requires.safe, omega (arith, c.requires.room)))
 
 pub constrain_tuple-returns-in-Err-clause-err : goal.constrain_tuple-returns-in-Err-clause-err
-constrain_tuple-returns-in-Err-clause-err t c = tells c.in-Err.error (tuple_err1 c.args.places c.args.base c.args.lo (patterns (map pattern_of c.args.parts.now)) c.args.inference.now c.constrain_patterns.new.inference) c.in-Err.ensures.err
+constrain_tuple-returns-in-Err-clause-err t c = tells c.in-Err.error (made_err1 c.args.places c.args.base c.args.lo (Tuple_pattern (patterns (map pattern_of c.args.parts.now))) (patterns (map pattern_of c.args.parts.now)) of_tuples refl (λ N K a scope h. h) (λ N K a scope x y. (x, y)) c.args.inference.now c.constrain_patterns.new.inference) c.in-Err.ensures.err
 
 pub constrain_tuple-constrain_made-requires-clause-safe : goal.constrain_tuple-constrain_made-requires-clause-safe
 constrain_tuple-constrain_made-requires-clause-safe t c = (c.in-Ok.ensures.ok 0).later.safe
@@ -49,19 +53,19 @@ pub constrain_tuple-constrain_made-requires-clause-parts : goal.constrain_tuple-
 constrain_tuple-constrain_made-requires-clause-parts t c = subst (λ l. Each (λ n. n < c.args.base) l) (sym (c.as_slice.ensures ∙ c.in-Ok.ensures.begins ∙ ap (λ l. l ++ pattern_starts (patterns (map pattern_of c.args.parts.now)) (1 + c.args.lo)) c.new-begins.ensures)) (starts_below c.args.base (patterns (map pattern_of c.args.parts.now)) (1 + c.args.lo) (omega (arith, c.requires.room)))
 
 pub constrain_tuple-returns-in-Ok-constrain_made-clause-ok : goal.constrain_tuple-returns-in-Ok-constrain_made-clause-ok
-constrain_tuple-returns-in-Ok-constrain_made-clause-ok t c = tuple_ok c.args.places c.args.base c.args.lo (patterns (map pattern_of c.args.parts.now)) c.args.inference.now c.constrain_patterns.new.inference c.constrain_made.new.inference c.as_slice.result.now (c.as_slice.ensures ∙ c.in-Ok.ensures.begins ∙ ap (λ l. l ++ pattern_starts (patterns (map pattern_of c.args.parts.now)) (1 + c.args.lo)) c.new-begins.ensures) c.requires.safe c.in-Ok.ensures.ok c.in-Ok-constrain_made.ensures.ok
+constrain_tuple-returns-in-Ok-constrain_made-clause-ok t c = made_ok c.args.places c.args.base c.args.lo (Tuple_pattern (patterns (map pattern_of c.args.parts.now))) (patterns (map pattern_of c.args.parts.now)) of_tuples refl (λ N K a scope h. h) (λ N K a scope x y. (x, y)) c.args.inference.now c.constrain_patterns.new.inference c.constrain_made.new.inference c.as_slice.result.now (c.as_slice.ensures ∙ c.in-Ok.ensures.begins ∙ ap (λ l. l ++ pattern_starts (patterns (map pattern_of c.args.parts.now)) (1 + c.args.lo)) c.new-begins.ensures) c.requires.safe c.in-Ok.ensures.ok c.in-Ok-constrain_made.ensures.ok
 
 pub constrain_tuple-returns-clause-err : goal.constrain_tuple-returns-clause-err
-constrain_tuple-returns-clause-err t c = tells c.in-Err-constrain_made.error (tuple_err2 c.args.places c.args.base c.args.lo (patterns (map pattern_of c.args.parts.now)) c.args.inference.now c.constrain_patterns.new.inference c.constrain_made.new.inference c.as_slice.result.now (c.as_slice.ensures ∙ c.in-Ok.ensures.begins ∙ ap (λ l. l ++ pattern_starts (patterns (map pattern_of c.args.parts.now)) (1 + c.args.lo)) c.new-begins.ensures) c.requires.safe c.in-Ok.ensures.ok) c.in-Err-constrain_made.ensures.err
+constrain_tuple-returns-clause-err t c = tells c.in-Err-constrain_made.error (made_err2 c.args.places c.args.base c.args.lo (Tuple_pattern (patterns (map pattern_of c.args.parts.now))) (patterns (map pattern_of c.args.parts.now)) of_tuples refl (λ N K a scope h. h) (λ N K a scope x y. (x, y)) c.args.inference.now c.constrain_patterns.new.inference c.constrain_made.new.inference c.as_slice.result.now (c.as_slice.ensures ∙ c.in-Ok.ensures.begins ∙ ap (λ l. l ++ pattern_starts (patterns (map pattern_of c.args.parts.now)) (1 + c.args.lo)) c.new-begins.ensures) c.requires.safe c.in-Ok.ensures.ok) c.in-Err-constrain_made.ensures.err
 
 pub constrain_patterns-loop-part-init : goal.constrain_patterns-loop-part-init
 constrain_patterns-loop-part-init t c = row_none c.args.places c.args.base c.args.lo c.args.begins.now c.args.inference.now c.requires.safe
 
 pub constrain_patterns-constrain_pattern-requires : goal.constrain_patterns-constrain_pattern-requires
-constrain_patterns-constrain_pattern-requires t c = (falls_thrice c.args.parts.now c.loop-part.part-index _ t c.loop-part-test.true (omega arith), ((c.loop-part.invariant.claimed 0).later.safe, room_in pattern_of c.args.parts.now c.loop-part.part-index _ c.args.lo c.loop-part.at c.args.base c.loop-part-test.true c.loop-part.invariant.next c.requires.room))
+constrain_patterns-constrain_pattern-requires t c = (falls_thrice pattern_of c.args.parts.now c.loop-part.part-index _ t c.loop-part-test.true (omega arith), ((c.loop-part.invariant.claimed 0).later.safe, room_in pattern_of c.args.parts.now c.loop-part.part-index _ c.args.lo c.loop-part.at c.args.base c.loop-part-test.true c.loop-part.invariant.next c.requires.room))
 
 pub constrain_patterns-returns-in-Err-constrain_pattern-clause-err : goal.constrain_patterns-returns-in-Err-constrain_pattern-clause-err
-constrain_patterns-returns-in-Err-constrain_pattern-clause-err t c = let w = split_at c.args.parts.now c.loop-part.part-index _ c.loop-part-test.true in
+constrain_patterns-returns-in-Err-constrain_pattern-clause-err t c = let w = split_at pattern_of c.args.parts.now c.loop-part.part-index _ c.loop-part-test.true in
     tells c.in-Err-constrain_pattern.error (row_refused c.args.places c.args.base c.args.lo c.loop-part.at (map pattern_of (take c.loop-part.part-index c.args.parts.now)) _ c.args.begins.now c.loop-part.begins c.args.inference.now c.loop-part.inference c.constrain_pattern.new.inference c.requires.safe c.loop-part.invariant (map pattern_of c.args.parts.now) w.0 w.1) c.in-Err-constrain_pattern.ensures.err
 
 pub constrain_patterns-loop-part-preserved : goal.constrain_patterns-loop-part-preserved
@@ -82,3 +86,86 @@ constrain_pattern-overflow_add-result t c = let h = bound_room c.args.base c.arg
 
 pub constrain_pattern-overflow_add-result-in-Wild : goal.constrain_pattern-overflow_add-result-in-Wild
 constrain_pattern-overflow_add-result-in-Wild t c = let h = bound_room c.args.base c.args.lo c.args.pat.now _ (pattern_wild c.args.pat.now c.in-Wild.is) c.requires.room in omega (arith, h, c.ranges.base.fits)
+
+pub constrain_field_patterns-loop-field-init : goal.constrain_field_patterns-loop-field-init
+constrain_field_patterns-loop-field-init t c = row_none c.args.places c.args.base c.args.lo c.args.begins.now c.args.inference.now c.requires.safe
+
+pub constrain_field_patterns-constrain_pattern-requires : goal.constrain_field_patterns-constrain_pattern-requires
+constrain_field_patterns-constrain_pattern-requires t c = (falls_thrice field_pattern c.args.fields.now c.loop-field.field-index _ t c.loop-field-test.true (omega arith), ((c.loop-field.invariant.claimed 0).later.safe, room_in field_pattern c.args.fields.now c.loop-field.field-index _ c.args.lo c.loop-field.at c.args.base c.loop-field-test.true c.loop-field.invariant.next c.requires.room))
+
+pub constrain_field_patterns-returns-in-Err-constrain_pattern-clause-err : goal.constrain_field_patterns-returns-in-Err-constrain_pattern-clause-err
+constrain_field_patterns-returns-in-Err-constrain_pattern-clause-err t c = let w = split_at field_pattern c.args.fields.now c.loop-field.field-index _ c.loop-field-test.true in
+    tells c.in-Err-constrain_pattern.error (row_refused c.args.places c.args.base c.args.lo c.loop-field.at (map field_pattern (take c.loop-field.field-index c.args.fields.now)) _ c.args.begins.now c.loop-field.begins c.args.inference.now c.loop-field.inference c.constrain_pattern.new.inference c.requires.safe c.loop-field.invariant (map field_pattern c.args.fields.now) w.0 w.1) c.in-Err-constrain_pattern.ensures.err
+
+pub constrain_field_patterns-loop-field-preserved : goal.constrain_field_patterns-loop-field-preserved
+constrain_field_patterns-loop-field-preserved t c = subst (λ (l : List FlatPattern). Row_claimed c.args.places c.args.base c.args.lo c.in-Ok-constrain_pattern.next l c.args.begins.now c.push.new.self c.args.inference.now c.constrain_pattern.new.inference) (map_more field_pattern c.args.fields.now c.loop-field.field-index _ c.loop-field-test.true)
+    (row_more c.args.places c.args.base c.args.lo c.loop-field.at (map field_pattern (take c.loop-field.field-index c.args.fields.now)) _ c.args.begins.now c.loop-field.begins c.args.inference.now c.loop-field.inference c.constrain_pattern.new.inference c.requires.safe c.loop-field.invariant c.in-Ok-constrain_pattern.next c.push.new.self c.in-Ok.ensures.ok c.in-Ok-constrain_pattern.ensures.next c.in-Ok-constrain_pattern.ensures.ok)
+
+pub constrain_field_patterns-returns-clause-next : goal.constrain_field_patterns-returns-clause-next
+constrain_field_patterns-returns-clause-next t c = subst (λ l. c.loop-field.at ≡ c.args.lo + all_pattern_numbers (patterns (map field_pattern l))) (take_all c.args.fields.now c.loop-field.field-index c.loop-field-test.false) c.loop-field.invariant.next
+
+pub constrain_field_patterns-returns-clause-begins : goal.constrain_field_patterns-returns-clause-begins
+constrain_field_patterns-returns-clause-begins t c = subst (λ l. c.loop-field.begins ≡ c.args.begins.now ++ pattern_starts (patterns (map field_pattern l)) c.args.lo) (take_all c.args.fields.now c.loop-field.field-index c.loop-field-test.false) c.loop-field.invariant.noted
+
+pub constrain_field_patterns-returns-clause-ok : goal.constrain_field_patterns-returns-clause-ok
+constrain_field_patterns-returns-clause-ok t c = λ d. subst (λ l. Claimed c.args.places c.args.base d c.args.lo (Patterns_claim c.args.places (patterns (map field_pattern l)) c.args.lo) (λ home. At_home home d c.args.lo (all_pattern_numbers (patterns (map field_pattern l)))) c.args.inference.now c.loop-field.inference) (take_all c.args.fields.now c.loop-field.field-index c.loop-field-test.false) (c.loop-field.invariant.claimed d)
+
+pub constrain_record-constrain_field_patterns-requires : goal.constrain_record-constrain_field_patterns-requires
+constrain_record-constrain_field_patterns-requires t c = (omega arith, (c.requires.safe, omega (arith, c.requires.room)))
+
+pub constrain_record-returns-in-Err-clause-err : goal.constrain_record-returns-in-Err-clause-err
+constrain_record-returns-in-Err-clause-err t c = tells c.in-Err.error (made_err1 c.args.places c.args.base c.args.lo (Record_pattern (map pattern_name c.args.fields.now) (patterns (map field_pattern c.args.fields.now))) (patterns (map field_pattern c.args.fields.now)) (of_records (map pattern_name c.args.fields.now)) refl (λ N K a scope h. h) (λ N K a scope x y. (x, y)) c.args.inference.now c.constrain_field_patterns.new.inference) c.in-Err.ensures.err
+
+pub constrain_record-constrain_named-requires-clause-safe : goal.constrain_record-constrain_named-requires-clause-safe
+constrain_record-constrain_named-requires-clause-safe t c = (c.in-Ok.ensures.ok 0).later.safe
+
+pub constrain_record-constrain_named-requires-clause-parts : goal.constrain_record-constrain_named-requires-clause-parts
+constrain_record-constrain_named-requires-clause-parts t c = subst (λ l. Each (λ n. n < c.args.base) l) (sym (c.as_slice.ensures ∙ c.in-Ok.ensures.begins ∙ ap (λ l. l ++ pattern_starts (patterns (map field_pattern c.args.fields.now)) (1 + c.args.lo)) c.new-begins.ensures)) (starts_below c.args.base (patterns (map field_pattern c.args.fields.now)) (1 + c.args.lo) (omega (arith, c.requires.room)))
+
+pub constrain_record-returns-in-Ok-constrain_named-clause-ok : goal.constrain_record-returns-in-Ok-constrain_named-clause-ok
+constrain_record-returns-in-Ok-constrain_named-clause-ok t c = made_ok c.args.places c.args.base c.args.lo (Record_pattern (map pattern_name c.args.fields.now) (patterns (map field_pattern c.args.fields.now))) (patterns (map field_pattern c.args.fields.now)) (of_records (map pattern_name c.args.fields.now)) refl (λ N K a scope h. h) (λ N K a scope x y. (x, y)) c.args.inference.now c.constrain_field_patterns.new.inference c.constrain_named.new.inference c.as_slice.result.now (c.as_slice.ensures ∙ c.in-Ok.ensures.begins ∙ ap (λ l. l ++ pattern_starts (patterns (map field_pattern c.args.fields.now)) (1 + c.args.lo)) c.new-begins.ensures) c.requires.safe c.in-Ok.ensures.ok c.in-Ok-constrain_named.ensures.ok
+
+pub constrain_record-returns-clause-err : goal.constrain_record-returns-clause-err
+constrain_record-returns-clause-err t c = tells c.in-Err-constrain_named.error (made_err2 c.args.places c.args.base c.args.lo (Record_pattern (map pattern_name c.args.fields.now) (patterns (map field_pattern c.args.fields.now))) (patterns (map field_pattern c.args.fields.now)) (of_records (map pattern_name c.args.fields.now)) refl (λ N K a scope h. h) (λ N K a scope x y. (x, y)) c.args.inference.now c.constrain_field_patterns.new.inference c.constrain_named.new.inference c.as_slice.result.now (c.as_slice.ensures ∙ c.in-Ok.ensures.begins ∙ ap (λ l. l ++ pattern_starts (patterns (map field_pattern c.args.fields.now)) (1 + c.args.lo)) c.new-begins.ensures) c.requires.safe c.in-Ok.ensures.ok) c.in-Err-constrain_named.ensures.err
+
+pub constrain_typed-constrain_pattern-requires : goal.constrain_typed-constrain_pattern-requires
+constrain_typed-constrain_pattern-requires t c = (omega arith, (c.requires.safe, c.requires.room))
+
+pub constrain_typed-returns-in-Err-clause-err : goal.constrain_typed-returns-in-Err-clause-err
+constrain_typed-returns-in-Err-clause-err t c = tells c.in-Err.error (typed_err1 c.args.places c.args.base c.args.lo (pattern_of c.args.inner.now) (type_of c.args.ty.now) c.args.inference.now c.constrain_pattern.new.inference) c.in-Err.ensures.err
+
+pub constrain_typed-constrain_type-requires-clause-safe : goal.constrain_typed-constrain_type-requires-clause-safe
+constrain_typed-constrain_type-requires-clause-safe t c = (c.in-Ok.ensures.ok 0).later.safe
+
+pub constrain_typed-constrain_type-requires-clause-number : goal.constrain_typed-constrain_type-requires-clause-number
+constrain_typed-constrain_type-requires-clause-number t c = omega (arith, c.requires.room, pattern_some (pattern_of c.args.inner.now))
+
+pub constrain_typed-returns-in-Ok-constrain_type-clause-ok : goal.constrain_typed-returns-in-Ok-constrain_type-clause-ok
+constrain_typed-returns-in-Ok-constrain_type-clause-ok t c = typed_ok c.args.places c.args.base c.args.lo (pattern_of c.args.inner.now) (type_of c.args.ty.now) c.args.inference.now c.constrain_pattern.new.inference c.constrain_type.new.inference c.requires.safe c.in-Ok.ensures.ok c.in-Ok-constrain_type.ensures.ok
+
+pub constrain_typed-returns-in-Err-constrain_type-clause-err : goal.constrain_typed-returns-in-Err-constrain_type-clause-err
+constrain_typed-returns-in-Err-constrain_type-clause-err t c = tells c.in-Err-constrain_type.error (typed_err2 c.args.places c.args.base c.args.lo (pattern_of c.args.inner.now) (type_of c.args.ty.now) c.args.inference.now c.constrain_pattern.new.inference c.constrain_type.new.inference c.requires.safe c.in-Ok.ensures.ok) c.in-Err-constrain_type.ensures.err
+
+pub constrain_pattern-constrain_record-requires : goal.constrain_pattern-constrain_record-requires
+constrain_pattern-constrain_record-requires t c = let e = ap (λ (x : FlatPattern). weigh x) (named_is c.args.pat.now c.in-Record.fields c.in-Record.is) in (omega (arith, e), (c.requires.safe, bound_room c.args.base c.args.lo c.args.pat.now _ (named_is c.args.pat.now c.in-Record.fields c.in-Record.is) c.requires.room))
+
+pub constrain_pattern-returns-in-Record-clause-next : goal.constrain_pattern-returns-in-Record-clause-next
+constrain_pattern-returns-in-Record-clause-next t c = rw (named_is c.args.pat.now c.in-Record.fields c.in-Record.is) c.constrain_record.ensures.next
+
+pub constrain_pattern-returns-in-Record-clause-ok : goal.constrain_pattern-returns-in-Record-clause-ok
+constrain_pattern-returns-in-Record-clause-ok t c = rw (named_is c.args.pat.now c.in-Record.fields c.in-Record.is) c.constrain_record.ensures.ok
+
+pub constrain_pattern-returns-in-Record-clause-err : goal.constrain_pattern-returns-in-Record-clause-err
+constrain_pattern-returns-in-Record-clause-err t c = rw (named_is c.args.pat.now c.in-Record.fields c.in-Record.is) c.constrain_record.ensures.err
+
+pub constrain_pattern-constrain_typed-requires : goal.constrain_pattern-constrain_typed-requires
+constrain_pattern-constrain_typed-requires t c = let e = ap (λ (x : FlatPattern). weigh x) (pattern_typed c.args.pat.now c.in-Typed.inner c.in-Typed.ty c.in-Typed.is) in (omega (arith, e), (c.requires.safe, bound_room c.args.base c.args.lo c.args.pat.now _ (pattern_typed c.args.pat.now c.in-Typed.inner c.in-Typed.ty c.in-Typed.is) c.requires.room))
+
+pub constrain_pattern-returns-in-Typed-clause-next : goal.constrain_pattern-returns-in-Typed-clause-next
+constrain_pattern-returns-in-Typed-clause-next t c = rw (pattern_typed c.args.pat.now c.in-Typed.inner c.in-Typed.ty c.in-Typed.is) c.constrain_typed.ensures.next
+
+pub constrain_pattern-returns-in-Typed-clause-ok : goal.constrain_pattern-returns-in-Typed-clause-ok
+constrain_pattern-returns-in-Typed-clause-ok t c = rw (pattern_typed c.args.pat.now c.in-Typed.inner c.in-Typed.ty c.in-Typed.is) c.constrain_typed.ensures.ok
+
+pub constrain_pattern-returns-in-Typed-clause-err : goal.constrain_pattern-returns-in-Typed-clause-err
+constrain_pattern-returns-in-Typed-clause-err t c = rw (pattern_typed c.args.pat.now c.in-Typed.inner c.in-Typed.ty c.in-Typed.is) c.constrain_typed.ensures.err

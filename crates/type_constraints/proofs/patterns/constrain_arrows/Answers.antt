@@ -2,15 +2,16 @@ use Rattle.std.proofs.Common.{◌≡◌}
 use Rattle.fut_typing.specs.Patterns.{arrows}
 use Rattle.type_claims.specs.Claims.{types_of}
 use Rattle.type_scopes.proofs.Claiming.{claimed_graph, ok_both}
-use Rattle.type_constraints.proofs.Using.{err_both}
+use Rattle.type_patterns.proofs.Asking.{err_both}
 use Rattle.type_constraints.proofs.patterns.constrain_arrows.Goals as goal
 
 pub returns-clause-ok : goal.returns-clause-ok
 returns-clause-ok c = ok_both c.function.result (λ x f places d lo. claimed_graph places c.args.base d lo (λ N scope K a. a c.args.number ≡ arrows (types_of a c.args.params.now) (a c.args.body)) (λ home. Unit {0}) c.args.inference.now c.function.new.nodes c.function.new.entries c.requires.safe x
-    (λ N T E r told. f T told)) c.function.ensures.extends c.function.ensures.ok
+    (λ N T born E r told. f T told)) c.function.ensures.extends c.function.ensures.ok
 
 pub returns-clause-err : goal.returns-clause-err
 returns-clause-err c = err_both c.function.result (λ un before places d lo. record {
-  reads = λ N T r. record { names = r.names; labelled = r.labelled; shapes = r.shapes; told = before T r.told };
+  labels = c.requires.safe.labels;
+  reads = λ N T born r. record { names = r.names; labelled = r.labelled; shapes = r.shapes; told = before T r.told; seats = r.seats };
   nowhere = λ N T home born E r rd h. un T r.told;
 }) c.function.ensures.err c.function.ensures.before

@@ -7,7 +7,8 @@ use Rattle.type_scopes.specs.Scopes.{Opened}
 use Rattle.type_scopes.proofs.Binding.{map_more, room_in, take_all}
 use Rattle.type_constraints.specs.Parts.{Parameters_claim}
 use Rattle.type_constraints.proofs.Depending.{depends_pattern}
-use Rattle.type_constraints.proofs.Functions.{Row_open, open_none, open_more, open_refused, split_at}
+use Rattle.type_constraints.proofs.Functions.{Row_open, open_none, open_more, open_refused}
+use Rattle.type_patterns.proofs.Rows.{split_at}
 use Rattle.type_constraints.proofs.patterns.constrain_parameters.Goals as goal
 
 pub loop-param-init : goal.loop-param-init
@@ -17,7 +18,7 @@ pub constrain_pattern-requires-clause-room : goal.constrain_pattern-requires-cla
 constrain_pattern-requires-clause-room c = room_in pattern_of c.args.params.now c.loop-param.param-index _ c.args.lo c.loop-param.at c.args.base c.loop-param-test.true c.loop-param.invariant.next c.requires.room
 
 pub returns-in-Err-constrain_pattern-clause-err : goal.returns-in-Err-constrain_pattern-clause-err
-returns-in-Err-constrain_pattern-clause-err c = let w = split_at c.args.params.now c.loop-param.param-index _ c.loop-param-test.true in
+returns-in-Err-constrain_pattern-clause-err c = let w = split_at pattern_of c.args.params.now c.loop-param.param-index _ c.loop-param-test.true in
     tells c.in-Err-constrain_pattern.error (open_refused c.args.places c.args.base c.args.depth c.args.lo c.loop-param.at (map pattern_of (take c.loop-param.param-index c.args.params.now)) _ c.args.begins.now c.loop-param.begins c.args.inference.now c.loop-param.inference c.constrain_pattern.new.inference c.constrain_pattern.new.inference c.loop-param.invariant
     (map pattern_of c.args.params.now) w.0 w.1) c.in-Err-constrain_pattern.ensures.err
 

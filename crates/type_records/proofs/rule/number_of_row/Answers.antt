@@ -10,4 +10,4 @@ returns-in-Ok-None-clause-on c = on_same c.args.labels.now c.args.table.now
 
 pub returns-in-Ok-clause-number : goal.returns-in-Ok-clause-number
 returns-in-Ok-clause-number c = row_of_list c.record.new.labels c.record.new.table c.args.row.now c.in-Ok-Some.list c.as_slice.result.now c.in-Ok.number c.in-Ok.ensures.is c.in-Ok.ensures.number c.as_slice.ensures
-    (subst (λ (found : Option (List ℕ)). MatchOption found (Once c.args.row.now → ⊥) (λ list. Once c.args.row.now × ((l : ℕ) → Contains list l ↔ Contains c.args.row.now l) × (length list ≡ length c.args.row.now))) c.in-Ok-Some.field-0-is c.in-Ok-Some.ensures)
+    (subst (λ (found : Option (List ℕ)). MatchOption found (Once c.args.row.now → ⊥) (λ list. Once c.args.row.now × ((l : ℕ) → Contains list l ↔ Contains c.args.row.now l) × (length list ≡ length c.args.row.now))) c.in-Ok-Some.field-0-is c.in-Ok-Some.ensures.found)

@@ -37,10 +37,10 @@ pub enter_pattern-returns-in-Wild-clause-next : goal.enter_pattern-returns-in-Wi
 enter_pattern-returns-in-Wild-clause-next t c = let e = ap (λ (x : FlatPattern). c.args.lo + pattern_numbers x) (pattern_wild c.args.pat.now c.in-Wild.is) in omega (arith, e)
 
 pub enter_pattern-returns-in-Ok-clause-safe : goal.enter_pattern-returns-in-Ok-clause-safe
-enter_pattern-returns-in-Ok-clause-safe t c = subst (λ (i : Inference). Safe c.args.base i) (sym c.in-Ok.ensures.ok) (entered_safe c.args.base c.in-Bound.bind.0 c.args.lo c.args.inference.now c.requires.safe c.in-Ok.ensures.within (let h = bound_room c.args.base c.args.lo c.args.pat.now _ (pattern_bound c.args.pat.now c.in-Bound.bind c.in-Bound.is) c.requires.room in omega (arith, h)))
+enter_pattern-returns-in-Ok-clause-safe t c = subst (λ (i : Inference). Safe c.args.base i) (sym c.in-Ok.ensures.ok) (entered_safe c.args.base c.in-Bound.bind.0 c.args.lo c.args.inference.now c.requires.safe c.in-Ok.ensures.within c.in-Ok.ensures.fresh (let h = bound_room c.args.base c.args.lo c.args.pat.now _ (pattern_bound c.args.pat.now c.in-Bound.bind c.in-Bound.is) c.requires.room in omega (arith, h)))
 
 pub enter_pattern-returns-in-Ok-clause-ok : goal.enter_pattern-returns-in-Ok-clause-ok
-enter_pattern-returns-in-Ok-clause-ok t c = subst (λ (i : Inference). Binds c.args.base c.args.lo (pattern_numbers (pattern_of c.args.pat.now)) (env_pattern (pattern_of c.args.pat.now) c.args.lo) c.args.inference.now i) (sym c.in-Ok.ensures.ok) (binds_is c.args.base c.args.lo c.args.pat.now _ 1 _ c.args.inference.now _ (pattern_bound c.args.pat.now c.in-Bound.bind c.in-Bound.is) refl refl (binds_number c.args.base c.in-Bound.bind.0 c.args.lo c.args.inference.now c.requires.safe c.in-Ok.ensures.within (let h = bound_room c.args.base c.args.lo c.args.pat.now _ (pattern_bound c.args.pat.now c.in-Bound.bind c.in-Bound.is) c.requires.room in omega (arith, h))))
+enter_pattern-returns-in-Ok-clause-ok t c = subst (λ (i : Inference). Binds c.args.base c.args.lo (pattern_numbers (pattern_of c.args.pat.now)) (env_pattern (pattern_of c.args.pat.now) c.args.lo) c.args.inference.now i) (sym c.in-Ok.ensures.ok) (binds_is c.args.base c.args.lo c.args.pat.now _ 1 _ c.args.inference.now _ (pattern_bound c.args.pat.now c.in-Bound.bind c.in-Bound.is) refl refl (binds_number c.args.base c.in-Bound.bind.0 c.args.lo c.args.inference.now c.requires.safe c.in-Ok.ensures.within c.in-Ok.ensures.fresh (let h = bound_room c.args.base c.args.lo c.args.pat.now _ (pattern_bound c.args.pat.now c.in-Bound.bind c.in-Bound.is) c.requires.room in omega (arith, h))))
 
 pub enter_pattern-returns-in-Wild-clause-ok : goal.enter_pattern-returns-in-Wild-clause-ok
 enter_pattern-returns-in-Wild-clause-ok t c = binds_is c.args.base c.args.lo c.args.pat.now _ 1 _ c.args.inference.now c.args.inference.now (pattern_wild c.args.pat.now c.in-Wild.is) refl refl (binds_within c.args.base c.args.lo c.args.lo 0 1 (λ E. E) (λ E. E) c.args.inference.now c.args.inference.now (omega arith) (omega arith) refl (binds_none c.args.base c.args.lo c.args.inference.now c.requires.safe))

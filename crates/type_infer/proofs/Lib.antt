@@ -1,0 +1,7 @@
+pub mod Results
+pub mod Tables
+pub mod Rows
+pub mod Beginning
+pub mod Building
+pub mod Answering
+pub mod Layers

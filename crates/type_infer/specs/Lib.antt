@@ -1,0 +1,5 @@
+pub mod Inferring
+pub mod Definitions
+pub mod Graphs
+pub mod Refusals
+pub mod Reading
