@@ -1,0 +1,3 @@
+pub mod Substitutions
+pub mod Putting
+pub mod Reading
