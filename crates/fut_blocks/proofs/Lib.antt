@@ -1,0 +1,4 @@
+pub mod Layers
+pub mod NeverStuck
+pub mod OneOutcome
+mod Examples

@@ -1,0 +1,9 @@
+pub mod Tells
+pub mod Reading
+pub mod Scalars
+pub mod Operations
+pub mod Storing
+pub mod Steps
+pub mod Loops
+pub mod Acts
+pub mod Whole

@@ -1,0 +1,16 @@
+//! Runs unfolded programs, by the copying meaning of blocks.
+//!
+//! The values of names stand in a table by their numbers, so that a name is read at once; the values that an act gives lie
+//! on a stack until names are bound to them. Neither grows with the turns of a loop. The theorem of this crate is the
+//! contract of [`eval`]: its answer is an outcome that the meaning allows, or that memory ran out.
+#![tactic(auto)]
+
+mod blocks;
+mod names;
+mod operate;
+mod program;
+mod stop;
+#[cfg(test)]
+mod tests;
+
+pub use program::{EvalErr, eval};
