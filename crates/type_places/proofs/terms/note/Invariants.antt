@@ -1,0 +1,5 @@
+use Rattle.std.proofs.Common.{◌≡◌, ◌++◌, replicate}
+use Rattle.type_places.proofs.terms.note.Given as goal
+
+abbrev pub invariant-loop : goal.invariant-loop
+invariant-loop l = l.places ≡ l.fn.places ++ replicate l.counter l.at

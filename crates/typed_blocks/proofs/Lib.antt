@@ -1,0 +1,2 @@
+pub mod NeverWrong
+pub mod ResultTypes

@@ -1,0 +1,40 @@
+-- What is proved of unfolding.
+use Rattle.std.specs.Prelude.{ℕ, List, []}
+use Rattle.fut_scalar.specs.declared.place.BindId.{BindId}
+use Rattle.fut_scalar.specs.declared.scalar.IntType.{IntType}
+use Rattle.fut_flat.specs.declared.prim.Ref.{Ref}
+use Rattle.fut_meaning.specs.Flats.{FlatMode, FlatValue, Named_term, flat_tops, Flat_means}
+use Rattle.fut_meaning.specs.Outcomes.{Out}
+use Rattle.fut_meaning.specs.Sames.{Left, Right}
+use Rattle.fut_meaning.specs.Values.{Values, listed}
+use Rattle.fut_blocks.specs.declared.block.Program.{Program}
+use Rattle.fut_blocks.specs.Meaning.{Component}
+use Rattle.fut_blocks.specs.Numbered.{Upward, Body_numbered}
+use Rattle.fut_blocks.specs.Plain.{body_of}
+use Rattle.fut_blocks.specs.Programs.{Program_means}
+use Rattle.unfold.specs.Shapes.{Shape, Shapes, All_split, Is_value}
+use Rattle.unfold.specs.Programs.{Program_unfolds}
+
+-- In a mode, what the blocks allow for the components of arguments, the program allows for the arguments, with the same
+-- count: a value that has those components, or the same report.
+abbrev pub AddsNoOutcome : FlatMode → Type 0
+AddsNoOutcome M =
+    (integer_at : ℕ → IntType) (budget : ℕ) (ds : List Named_term) (entry : BindId) (hs : Shapes) (h : Shape) (p : Program) → Program_unfolds integer_at (flat_tops 0 ds) entry.0 hs h p
+    → (arguments : Values Ref BindId (Unit {0})) (components : List Component) → All_split hs arguments components []
+    → (o : Out (List Component)) (f : ℕ) → Program_means budget p components o f → Right (Is_value h) (Flat_means integer_at M budget ds entry (listed arguments)) o f
+
+-- and what the program allows, the blocks allow
+abbrev pub LosesNoOutcome : FlatMode → Type 0
+LosesNoOutcome M =
+    (integer_at : ℕ → IntType) (budget : ℕ) (ds : List Named_term) (entry : BindId) (hs : Shapes) (h : Shape) (p : Program) → Program_unfolds integer_at (flat_tops 0 ds) entry.0 hs h p
+    → (arguments : Values Ref BindId (Unit {0})) (components : List Component) → All_split hs arguments components []
+    → (o : Out FlatValue) (f : ℕ) → Flat_means integer_at M budget ds entry (listed arguments) o f → Left (Is_value h) (Program_means budget p components) o f
+
+-- all names rise from those of the parameters on, and lie below the number of names
+pub record Rising (p : Program) : Type 0 where
+  pub first : ℕ
+  pub parameters : Upward 0 p.params.now first
+  pub numbered : Body_numbered first (body_of p.body) p.names
+
+abbrev pub NamesRise : Type 0
+NamesRise = (integer_at : ℕ → IntType) (ds : List Named_term) (entry : BindId) (hs : Shapes) (h : Shape) (p : Program) → Program_unfolds integer_at (flat_tops 0 ds) entry.0 hs h p → Rising p

@@ -1,0 +1,157 @@
+-- Functions removed: an application of a known function becomes the body, and each operation on scalars a step with a new
+-- name. Steps stand in the order of evaluation. New names only go upward: `n` is the next that may be taken, before and
+-- behind (Hovgaard, Henriksen and Elsman, "High-performance defunctionalisation in Futhark").
+use Rattle.std.specs.Prelude.{◌≡◌, ℕ, suc, ◌+◌, ◌≤◌, ◌++◌, List, [], ◌∷◌, map, Bool, true, false, Option, Some, None, pos, length, nat_lt}
+use Rattle.std.specs.Str.{bytes_eq}
+use Rattle.fut_scalar.specs.Integers.{width_of}
+use Rattle.fut_scalar.specs.declared.operator.BinOp.{BinOp}
+use Rattle.fut_scalar.specs.declared.operator.BinOp.TheVariants as binary
+use Rattle.fut_scalar.specs.declared.operator.UnOp.TheVariants as unary
+use Rattle.fut_scalar.specs.declared.place.BindId.{BindId}
+use Rattle.fut_scalar.specs.declared.place.Place.{Place}
+use Rattle.fut_scalar.specs.declared.scalar.IntType.{IntType}
+use Rattle.fut_scalar.specs.declared.scalar.IntType.TheVariants.{I32}
+use Rattle.fut_scalar.specs.declared.scalar.Scalar.{Scalar}
+use Rattle.fut_scalar.specs.declared.scalar.Scalar.TheVariants as scalar
+use Rattle.fut_scalar.specs.declared.scalar.ScalarType.{ScalarType}
+use Rattle.fut_ast.specs.Sorts.{Text}
+use Rattle.fut_flat.specs.declared.prim.Primitive.{Primitive}
+use Rattle.fut_flat.specs.declared.prim.Primitive.TheVariants as prim
+use Rattle.fut_flat.specs.declared.prim.Ref.{Ref}
+use Rattle.fut_flat.specs.declared.prim.Ref.TheVariants as ref
+use Rattle.fut_flat.specs.Erased.{FlatType, FlatTerm, FlatPattern}
+use Rattle.fut_flat.specs.Numbers.{pattern_numbers, all_pattern_numbers, own_numbers, numbers}
+use Rattle.fut_flat.specs.Terms.{Bound_pattern, Wild_pattern, Tuple_pattern, Record_pattern, Typed_pattern, Patterns, no_pattern, pattern_and, Operation, Integer, Truth, Tuple_of, Record_of, Binary, Negate, Complement, Project, Replace, Ascribe, Coerce, Declared, Assert, Binding, Use, Strict, Lambda, Apply, Let, If, Loop, Terms, no_term, term_and, Counted, While}
+use Rattle.fut_meaning.specs.Operations.{named_values, arity}
+use Rattle.fut_meaning.specs.Operators.{integer, lowest, highest}
+use Rattle.fut_blocks.specs.declared.block.Atom.{Atom}
+use Rattle.fut_blocks.specs.declared.block.Atom.TheVariants as atom
+use Rattle.fut_blocks.specs.declared.block.Operation.TheVariants as operation
+use Rattle.fut_blocks.specs.Plain.{Action, Operate, Give, lets}
+use Rattle.fut_blocks.specs.Plain as act
+use Rattle.fut_blocks.specs.Meaning.{fitted}
+use Rattle.fut_blocks.specs.Numbered.{Upward}
+use Rattle.unfold.specs.Knowns.{Known, Scalar_known, Tuple_known, Record_known, Function_known, Primitive_known, Knowns, no_known, known_and, Known_fields, no_known_field, known_field_and, Scope, name_and, Tops, listed, knowns, find, fields, replaced, part, record_parts}
+use Rattle.unfold.specs.Shapes.{Shape, Laid}
+
+-- steps: new names for what an act gives
+abbrev pub Bindings : Type 0
+Bindings = List (List ℕ × Action)
+
+abbrev pub step : List ℕ → Action → Bindings
+step xs a = (xs, a) ∷ []
+
+abbrev pub names : List ℕ → List Atom
+names = map atom.Name
+
+abbrev pub named : ℕ → Known
+named x = Scalar_known (atom.Name x)
+
+abbrev pub constant : Scalar → Known
+constant c = Scalar_known (atom.Constant c)
+
+-- ---- patterns
+
+-- the names of a pattern with what is known of the parts
+mutual
+  pub data Binds : FlatPattern → Known → Scope → Scope → Type 0 where
+    b_bound : {b : BindId} {s : Known} {sc : Scope} → Binds (Bound_pattern b) s sc (name_and b s sc)
+    b_wild : {s : Known} {sc : Scope} → Binds Wild_pattern s sc sc
+    b_tuple : {ps : Patterns Ref BindId} {ss : Knowns} {sc inner : Scope} → All_bind ps (listed ss) sc inner → Binds (Tuple_pattern ps) (Tuple_known ss) sc inner
+    b_record : {fs : List Text} {ps : Patterns Ref BindId} {known : Known_fields} {ss : List Known} {sc inner : Scope} → record_parts fs known ≡ Some ss → All_bind ps ss sc inner → Binds (Record_pattern fs ps) (Record_known known) sc inner
+    b_typed : {p : FlatPattern} {t : FlatType} {s : Known} {sc inner : Scope} → Binds p s sc inner → Binds (Typed_pattern p t) s sc inner
+
+  pub data All_bind : Patterns Ref BindId → List Known → Scope → Scope → Type 0 where
+    b_none : {sc : Scope} → All_bind no_pattern [] sc sc
+    b_more : {p : FlatPattern} {ps : Patterns Ref BindId} {s : Known} {ss : List Known} {sc sc' inner : Scope} → Binds p s sc sc' → All_bind ps ss sc' inner → All_bind (pattern_and p ps) (s ∷ ss) sc inner
+
+-- ---- operations
+
+-- whether both truth values hold
+abbrev pub both_hold : Atom → Atom → Action
+both_hold u w = act.If u (Give (w ∷ [])) (Give (atom.Constant (scalar.Bool false) ∷ []))
+
+-- `==`: the comparisons of all components, each of which has to hold
+mutual
+  pub data Equals (at : Place) : Known → Known → ℕ → Bindings → Atom → ℕ → Type 0 where
+    e_scalars : {u w : Atom} {n x : ℕ} → n ≤ x → Equals at (Scalar_known u) (Scalar_known w) n (step (x ∷ []) (Operate (operation.Binary binary.Eq at u w))) (atom.Name x) (suc x)
+    e_tuples : {ss us : Knowns} {n n' : ℕ} {bs : Bindings} {u : Atom} → All_equal at ss us n bs u n' → Equals at (Tuple_known ss) (Tuple_known us) n bs u n'
+    e_records : {fs gs : Known_fields} {n n' : ℕ} {bs : Bindings} {u : Atom} → Fields_equal at fs gs n bs u n' → Equals at (Record_known fs) (Record_known gs) n bs u n'
+
+  pub data All_equal (at : Place) : Knowns → Knowns → ℕ → Bindings → Atom → ℕ → Type 0 where
+    e_none : {n : ℕ} → All_equal at no_known no_known n [] (atom.Constant (scalar.Bool true)) n
+    e_more : {s t : Known} {ss ts : Knowns} {n n1 n2 x : ℕ} {bs cs : Bindings} {u w : Atom} → Equals at s t n bs u n1 → All_equal at ss ts n1 cs w n2 → n2 ≤ x → All_equal at (known_and s ss) (known_and t ts) n (bs ++ (cs ++ step (x ∷ []) (both_hold u w))) (atom.Name x) (suc x)
+
+  pub data Fields_equal (at : Place) : Known_fields → Known_fields → ℕ → Bindings → Atom → ℕ → Type 0 where
+    e_no_field : {n : ℕ} → Fields_equal at no_known_field no_known_field n [] (atom.Constant (scalar.Bool true)) n
+    e_field : {f g : Text} {s t : Known} {fs gs : Known_fields} {n n1 n2 x : ℕ} {bs cs : Bindings} {u w : Atom} → bytes_eq f g ≡ true → Equals at s t n bs u n1 → Fields_equal at fs gs n1 cs w n2 → n2 ≤ x → Fields_equal at (known_field_and f s fs) (known_field_and g t gs) n (bs ++ (cs ++ step (x ∷ []) (both_hold u w))) (atom.Name x) (suc x)
+
+-- the type of a literal: that of its suffix, or else the one that is told
+abbrev pub literal_type : IntType → Option IntType → IntType
+literal_type t None = t
+literal_type t (Some u) = u
+
+-- an operation at its mark, where `t` is the type of an integer without a suffix
+pub data Operates (t : IntType) : Operation Ref BindId → Place → List Known → ℕ → Bindings → Known → ℕ → Type 0 where
+  o_integer : {m n : ℕ} {suffix : Option IntType} {at : Place} {c : Scalar} → fitted c ≡ integer (literal_type t suffix) (pos m) → Operates t (Integer m suffix) at [] n [] (constant c) n
+  o_truth : {b : Bool} {n : ℕ} {at : Place} → Operates t (Truth b) at [] n [] (constant (scalar.Bool b)) n
+  o_tuple : {n : ℕ} {at : Place} {ss : List Known} → Operates t Tuple_of at ss n [] (Tuple_known (knowns ss)) n
+  o_record : {n : ℕ} {at : Place} {ss : List Known} {fs : List Text} {known : List (Text × Known)} → named_values fs ss ≡ Some known → Operates t (Record_of fs) at ss n [] (Record_known (fields known)) n
+  o_binary : {op : BinOp} {n x : ℕ} {at : Place} {u w : Atom} → n ≤ x → Operates t (Binary op) at (Scalar_known u ∷ Scalar_known w ∷ []) n (step (x ∷ []) (Operate (operation.Binary op at u w))) (named x) (suc x)
+  o_equal : {n n' : ℕ} {at : Place} {s s' : Known} {bs : Bindings} {u : Atom} → Equals at s s' n bs u n' → Operates t (Binary binary.Eq) at (s ∷ s' ∷ []) n bs (Scalar_known u) n'
+  o_unequal : {n n' x : ℕ} {at : Place} {s s' : Known} {bs : Bindings} {u : Atom} → Equals at s s' n bs u n' → n' ≤ x → Operates t (Binary binary.Ne) at (s ∷ s' ∷ []) n (bs ++ step (x ∷ []) (Operate (operation.Unary unary.Not u))) (named x) (suc x)
+  o_negate : {n x : ℕ} {at : Place} {u : Atom} → n ≤ x → Operates t Negate at (Scalar_known u ∷ []) n (step (x ∷ []) (Operate (operation.Unary unary.Neg u))) (named x) (suc x)
+  o_complement : {n x : ℕ} {at : Place} {u : Atom} → n ≤ x → Operates t Complement at (Scalar_known u ∷ []) n (step (x ∷ []) (Operate (operation.Unary unary.Not u))) (named x) (suc x)
+  o_project : {n : ℕ} {at : Place} {f : Text} {s s' : Known} → part f s ≡ Some s' → Operates t (Project f) at (s ∷ []) n [] s' n
+  o_replace : {n : ℕ} {at : Place} {f : Text} {fs : Known_fields} {s : Known} → Operates t (Replace f) at (Record_known fs ∷ s ∷ []) n [] (Record_known (replaced f s fs)) n
+  o_ascribe : {n : ℕ} {at : Place} {u : FlatType} {s : Known} → Operates t (Ascribe u) at (s ∷ []) n [] s n
+  o_coerce : {n : ℕ} {at : Place} {u : FlatType} {s : Known} → Operates t (Coerce u) at (s ∷ []) n [] s n
+  o_declared : {n : ℕ} {at : Place} {u : FlatType} {s : Known} → Operates t (Declared u) at (s ∷ []) n [] s n
+  -- the condition is asserted by a step without names
+  o_assert : {n : ℕ} {at : Place} {u : Atom} {s : Known} → Operates t Assert at (Scalar_known u ∷ s ∷ []) n (step [] (Operate (operation.Assert at u))) s n
+
+-- the numbers of a type
+abbrev pub constant_of : Primitive → Option Scalar
+constant_of (prim.Lowest t) = Some (scalar.Int t (lowest t))
+constant_of (prim.Highest t) = Some (scalar.Int t (highest t))
+constant_of (prim.NumBits t) = Some (scalar.Int I32 (width_of t))
+constant_of p = None
+
+-- a primitive at its place with all its arguments
+pub data Primitive_operates : Primitive → Place → List Known → ℕ → Bindings → Known → ℕ → Type 0 where
+  p_convert : {to from : ScalarType} {n x : ℕ} {at : Place} {u : Atom} → n ≤ x → Primitive_operates (prim.Convert to from) at (Scalar_known u ∷ []) n (step (x ∷ []) (Operate (operation.Convert to u))) (named x) (suc x)
+  p_min : {t : IntType} {n x : ℕ} {at : Place} {u w : Atom} → n ≤ x → Primitive_operates (prim.Min t) at (Scalar_known u ∷ Scalar_known w ∷ []) n (step (x ∷ []) (Operate (operation.Binary binary.Min at u w))) (named x) (suc x)
+  p_max : {t : IntType} {n x : ℕ} {at : Place} {u w : Atom} → n ≤ x → Primitive_operates (prim.Max t) at (Scalar_known u ∷ Scalar_known w ∷ []) n (step (x ∷ []) (Operate (operation.Binary binary.Max at u w))) (named x) (suc x)
+  p_abs : {t : IntType} {n x : ℕ} {at : Place} {u : Atom} → n ≤ x → Primitive_operates (prim.Abs t) at (Scalar_known u ∷ []) n (step (x ∷ []) (Operate (operation.Unary unary.Abs u))) (named x) (suc x)
+  p_popc : {t : IntType} {n x : ℕ} {at : Place} {u : Atom} → n ≤ x → Primitive_operates (prim.Popc t) at (Scalar_known u ∷ []) n (step (x ∷ []) (Operate (operation.Unary unary.Popc u))) (named x) (suc x)
+
+-- ---- terms
+
+-- Under the names of a scope a term, whose nodes are numbered from a number on, unfolds to steps and what is then known of its
+-- value. The types of integers without a suffix and what is known of the definitions are told.
+mutual
+  pub data Unfolds (integer_at : ℕ → IntType) (tops : Tops) : Scope → ℕ → FlatTerm → ℕ → Bindings → Known → ℕ → Type 0 where
+    u_name : {sc : Scope} {lo k n : ℕ} {b : BindId} {at : Place} {s : Known} → find tops sc b.0 ≡ Some s → Unfolds integer_at tops sc lo (Use (ref.Bound b) at k) n [] s n
+    u_primitive : {sc : Scope} {lo k n : ℕ} {p : Primitive} {at : Place} → constant_of p ≡ None → Unfolds integer_at tops sc lo (Use (ref.Prim p) at k) n [] (Primitive_known p at no_known) n
+    u_constant : {sc : Scope} {lo k n : ℕ} {p : Primitive} {at : Place} {c : Scalar} → constant_of p ≡ Some (fitted c) → Unfolds integer_at tops sc lo (Use (ref.Prim p) at k) n [] (constant c) n
+    u_strict : {sc : Scope} {lo n n1 n2 : ℕ} {o : Operation Ref BindId} {mark : Place} {ts : Terms Ref BindId} {bs cs : Bindings} {ss : List Known} {s : Known} → Unfold_all integer_at tops sc (lo + own_numbers o) ts n bs ss n1 → Operates (integer_at lo) o mark ss n1 cs s n2 → Unfolds integer_at tops sc lo (Strict o mark ts) n (bs ++ cs) s n2
+    u_lambda : {sc : Scope} {lo n : ℕ} {ps : Patterns Ref BindId} {e : FlatTerm} → Unfolds integer_at tops sc lo (Lambda ps e) n [] (Function_known ps e (1 + lo + all_pattern_numbers ps) sc) n
+    u_apply : {sc : Scope} {lo n n1 n2 n3 : ℕ} {f e : FlatTerm} {bs cs ds : Bindings} {h s s' : Known} → Unfolds integer_at tops sc (1 + lo) f n bs h n1 → Unfolds integer_at tops sc (1 + lo + numbers f) e n1 cs s n2 → Applies integer_at tops h s n2 ds s' n3 → Unfolds integer_at tops sc lo (Apply f e) n (bs ++ (cs ++ ds)) s' n3
+    u_let : {sc inner : Scope} {lo n n1 n2 : ℕ} {b : Binding Ref BindId} {v e : FlatTerm} {bs cs : Bindings} {s s' : Known} → Unfolds integer_at tops sc (1 + lo + pattern_numbers b.pattern) v n bs s n1 → Binds b.pattern s sc inner → Unfolds integer_at tops inner (1 + lo + pattern_numbers b.pattern + numbers v) e n1 cs s' n2 → Unfolds integer_at tops sc lo (Let b v e) n (bs ++ cs) s' n2
+    -- both branches give data of one shape, whose components get new names
+    u_if : {sc : Scope} {lo n n1 n2 n3 n4 : ℕ} {c a b : FlatTerm} {bs cs ds : Bindings} {u : Atom} {h : Shape} {s s' t : Known} {us ws : List Atom} (xs : List ℕ) → Unfolds integer_at tops sc (1 + lo) c n bs (Scalar_known u) n1 → Unfolds integer_at tops sc (1 + lo + numbers c) a n1 cs s n2 → Laid h s us [] → Unfolds integer_at tops sc (1 + lo + numbers c + numbers a) b n2 ds s' n3 → Laid h s' ws [] → Upward n3 xs n4 → Laid h t (names xs) [] → Unfolds integer_at tops sc lo (If c a b) n (bs ++ step xs (act.If u (lets cs us) (lets ds ws))) t n4
+    -- each turn is unfolded once, on new names `ps` for the components of its value and `y` for the turn, and gives data of the same shape
+    u_counted : {sc inner : Scope} {lo n n1 n2 n3 n4 n5 y : ℕ} {mark : Place} {sizes : List BindId} {p : FlatPattern} {i : BindId} {first count body : FlatTerm} {bs cs ds : Bindings} {u : Atom} {h : Shape} {s r s' t : Known} {us ws : List Atom} (ps xs : List ℕ) → Unfolds integer_at tops sc (1 + lo + pattern_numbers p) first n bs s n1 → Laid h s us [] → Unfolds integer_at tops sc (1 + (1 + lo + pattern_numbers p + numbers first)) count n1 cs (Scalar_known u) n2 → Upward n2 ps n3 → Laid h r (names ps) [] → Binds p r sc inner → n3 ≤ y → Unfolds integer_at tops (name_and i (named y) inner) (1 + lo + pattern_numbers p + numbers first + (1 + numbers count)) body (suc y) ds s' n4 → Laid h s' ws [] → Upward n4 xs n5 → Laid h t (names xs) [] → Unfolds integer_at tops sc lo (Loop mark sizes p first (Counted i count) body) n (bs ++ (cs ++ step xs (act.For ps us y u (lets ds ws)))) t n5
+    u_while : {sc inner : Scope} {lo n n1 n2 n3 n4 n5 : ℕ} {mark : Place} {sizes : List BindId} {p : FlatPattern} {first test body : FlatTerm} {bs cs ds : Bindings} {u : Atom} {h : Shape} {s r s' t : Known} {us ws : List Atom} (ps xs : List ℕ) → Unfolds integer_at tops sc (1 + lo + pattern_numbers p) first n bs s n1 → Laid h s us [] → Upward n1 ps n2 → Laid h r (names ps) [] → Binds p r sc inner → Unfolds integer_at tops inner (1 + lo + pattern_numbers p + numbers first) test n2 cs (Scalar_known u) n3 → Unfolds integer_at tops inner (1 + lo + pattern_numbers p + numbers first + numbers test) body n3 ds s' n4 → Laid h s' ws [] → Upward n4 xs n5 → Laid h t (names xs) [] → Unfolds integer_at tops sc lo (Loop mark sizes p first (While test) body) n (bs ++ step xs (act.While mark ps us (lets cs (u ∷ [])) (lets ds ws))) t n5
+
+  -- terms from left to right
+  pub data Unfold_all (integer_at : ℕ → IntType) (tops : Tops) : Scope → ℕ → Terms Ref BindId → ℕ → Bindings → List Known → ℕ → Type 0 where
+    u_none : {sc : Scope} {lo n : ℕ} → Unfold_all integer_at tops sc lo no_term n [] [] n
+    u_more : {sc : Scope} {lo n n1 n2 : ℕ} {t : FlatTerm} {ts : Terms Ref BindId} {bs cs : Bindings} {s : Known} {ss : List Known} → Unfolds integer_at tops sc lo t n bs s n1 → Unfold_all integer_at tops sc (lo + numbers t) ts n1 cs ss n2 → Unfold_all integer_at tops sc lo (term_and t ts) n (bs ++ cs) (s ∷ ss) n2
+
+  -- a known function applied to an argument: its body is unfolded where there is an argument for each parameter
+  pub data Applies (integer_at : ℕ → IntType) (tops : Tops) : Known → Known → ℕ → Bindings → Known → ℕ → Type 0 where
+    a_body : {sc inner : Scope} {p : FlatPattern} {e : FlatTerm} {lo n n' : ℕ} {bs : Bindings} {s s' : Known} → Binds p s sc inner → Unfolds integer_at tops inner lo e n bs s' n' → Applies integer_at tops (Function_known (pattern_and p no_pattern) e lo sc) s n bs s' n'
+    a_waits : {sc inner : Scope} {p q : FlatPattern} {ps : Patterns Ref BindId} {e : FlatTerm} {lo n : ℕ} {s : Known} → Binds p s sc inner → Applies integer_at tops (Function_known (pattern_and p (pattern_and q ps)) e lo sc) s n [] (Function_known (pattern_and q ps) e lo inner) n
+    a_primitive_waits : {p : Primitive} {at : Place} {ss : Knowns} {s : Known} {n : ℕ} → nat_lt (length (listed ss ++ s ∷ [])) (arity p) ≡ true → Applies integer_at tops (Primitive_known p at ss) s n [] (Primitive_known p at (knowns (listed ss ++ s ∷ []))) n
+    a_primitive : {p : Primitive} {at : Place} {ss : Knowns} {s s' : Known} {n n' : ℕ} {bs : Bindings} → nat_lt (length (listed ss ++ s ∷ [])) (arity p) ≡ false → Primitive_operates p at (listed ss ++ s ∷ []) n bs s' n' → Applies integer_at tops (Primitive_known p at ss) s n bs s' n'
