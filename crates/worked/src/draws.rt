@@ -3,12 +3,12 @@ use crate::parts::{Parts, behind_word, count, cut, number_of};
 use crate::rows::Answers;
 use crate::runs::row::Row;
 use crate::runs::stage_of;
-use crate::shown::Shown;
 use crate::stage::Stage;
 use crate::tally::Tally;
 use crate::texts::Text;
 use fut_io::MemLoader;
 use fut_scalar::{List, Name, NoMemory};
+use shown::Shown;
 use std::alloc::Global;
 
 /// How many texts are drawn, of how many pieces, and the state that the drawing begins with.

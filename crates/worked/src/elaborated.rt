@@ -1,9 +1,7 @@
-// Texts and their flat programs. A line `frame prelude` says that each text stands behind the prelude, `frame alone` that it
+// Texts and their flat programs, or the types of their definitions. A line `frame prelude` says that each text stands behind the prelude, `frame alone` that it
 // stands behind no text.
-use crate::flat::programs::show_flat;
 use crate::parts::behind_word;
 use crate::rows::Answers;
-use crate::shown::Shown;
 use crate::tokens::MOST_BYTES;
 use bumpalo::Bump;
 use fut_lexer::{Token, lex};
@@ -11,20 +9,24 @@ use fut_parser::parse;
 use fut_scalar::Place;
 use fut_tree::{Held, Program};
 use module_elab::{ModErr, PRELUDE, PRELUDE_PATH, SourceSet, elaborate};
+use shown::flat::programs::show_flat;
+use shown::{Shown, show_types};
 use std::alloc::Global;
 
-/// Answers a text with its flat program.
+/// Answers a text with its flat program, or with the types of its definitions.
 #[derive(Drop)]
 pub struct Elaborated {
     alloc: Global,
     has_prelude: bool,
+    shows_types: bool,
 }
 
 impl Elaborated {
-    pub fn new(alloc: Global) -> Elaborated {
+    pub fn new(alloc: Global, shows_types: bool) -> Elaborated {
         Elaborated {
             alloc,
             has_prelude: false,
+            shows_types,
         }
     }
 }
@@ -42,13 +44,13 @@ impl Answers for Elaborated {
     fn answer(&mut self, text: &[u8], shown: &mut Shown) -> (&'static [u8], &'static [u8]) {
         shown.begin(false);
         let before = if self.has_prelude { PRELUDE } else { "" };
-        show_text(self.alloc, before.as_bytes(), text, shown);
+        show_text(self.alloc, self.shows_types, before.as_bytes(), text, shown);
         (b"", b"")
     }
 }
 
 /// Shows the flat program of a text, or why there is none.
-fn show_text(alloc: Global, before: &[u8], text: &[u8], shown: &mut Shown) {
+fn show_text(alloc: Global, shows_types: bool, before: &[u8], text: &[u8], shown: &mut Shown) {
     if text.len() > MOST_BYTES || before.len() > MOST_BYTES {
         return shown.push("! too many bytes");
     }
@@ -59,7 +61,14 @@ fn show_text(alloc: Global, before: &[u8], text: &[u8], shown: &mut Shown) {
         Err(_) => shown.push("! no tokens"),
         Ok(second) => {
             let bump = Bump::new(alloc);
-            show_tokens(alloc, &bump, first.as_slice(), second.as_slice(), shown)
+            show_tokens(
+                alloc,
+                &bump,
+                shows_types,
+                first.as_slice(),
+                second.as_slice(),
+                shown,
+            )
         }
     }
 }
@@ -96,6 +105,7 @@ fn source_set<'a>(
 fn show_tokens<'a>(
     alloc: Global,
     bump: &'a Bump,
+    shows_types: bool,
     first: &'a [Token],
     second: &'a [Token],
     shown: &mut Shown,
@@ -107,13 +117,20 @@ fn show_tokens<'a>(
         return shown.push("! no tree");
     };
     match source_set(bump, prelude, program) {
-        Some(set) => show_elaborated(alloc, bump, &set, shown),
+        Some(set) => show_elaborated(alloc, bump, shows_types, &set, shown),
         None => shown.push("! memory"),
     }
 }
 
-fn show_elaborated<'a>(alloc: Global, bump: &'a Bump, set: &SourceSet<'a>, shown: &mut Shown) {
+fn show_elaborated<'a>(
+    alloc: Global,
+    bump: &'a Bump,
+    shows_types: bool,
+    set: &SourceSet<'a>,
+    shown: &mut Shown,
+) {
     match elaborate(alloc, bump, set) {
+        Ok(flat) if shows_types => show_types(alloc, &flat, shown),
         Ok(flat) => {
             shown.push("=");
             show_flat(&flat, shown);

@@ -1,4 +1,4 @@
-//! Worked examples of the whole product as rows of data: runs, trees, flat programs, tokens, operations on scalars, and
+//! Worked examples of the whole product as rows of data: runs, trees, flat programs, types, tokens, operations on scalars, and
 //! texts that are drawn. The files are named as arguments; the head of each says what its rows are, and `README` how they are written.
 //!
 //! A line tells of each file how many rows hold, or how many differ and what came of the first of these.
@@ -7,13 +7,10 @@
 mod draws;
 mod elaborated;
 mod fault;
-mod flat;
 mod parts;
 mod rows;
 mod runs;
 mod scalars;
-mod shapes;
-mod shown;
 mod stage;
 mod tally;
 mod texts;
@@ -27,10 +24,10 @@ use crate::parts::cut;
 use crate::rows::Rows;
 use crate::runs::check_runs;
 use crate::scalars::Scalars;
-use crate::shown::Shown;
 use crate::tally::Tally;
 use crate::tokens::Tokens;
 use crate::trees::Trees;
+use shown::Shown;
 use std::alloc::Global;
 use std::process::ExitCode;
 use std::{env, fs, io, str};
@@ -42,7 +39,8 @@ fn check_rows(alloc: Global, text: &[u8], tally: &mut Tally) {
     match str::from_utf8(head).unwrap_or("") {
         "rows of runs" => check_runs(alloc, rest, tally),
         "rows of trees" => rows.check(&mut Trees::new(alloc), rest, tally),
-        "rows of names" => rows.check(&mut Elaborated::new(alloc), rest, tally),
+        "rows of names" => rows.check(&mut Elaborated::new(alloc, false), rest, tally),
+        "rows of types" => rows.check(&mut Elaborated::new(alloc, true), rest, tally),
         "rows of tokens" => rows.check(&mut Tokens::new(alloc), rest, tally),
         "rows of scalars" => rows.check(&mut Scalars, rest, tally),
         "rows of draws" => rows.check(&mut Draws::new(alloc), rest, tally),

@@ -1,9 +1,9 @@
 // Rows of a text and its answer.
 use crate::fault::Wrong;
 use crate::parts::Parts;
-use crate::shown::Shown;
 use crate::tally::Tally;
 use crate::texts::{Text, add_text, expand, is_answer, is_comment, is_text};
+use shown::Shown;
 use std::alloc::Global;
 
 /// What answers the texts of rows.

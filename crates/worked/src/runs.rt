@@ -6,9 +6,9 @@ use crate::fault::Wrong;
 use crate::parts::{Parts, count};
 use crate::runs::given::{err_of, loader_of, out_of, source_of, words_of};
 use crate::runs::row::Row;
-use crate::shown::Shown;
 use crate::stage::Stage;
 use crate::tally::Tally;
+use shown::Shown;
 use std::alloc::Global;
 
 /// How many bytes the lines before the first blank one have, with their ends.

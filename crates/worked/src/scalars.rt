@@ -6,9 +6,9 @@ ghost use Rattle.fut_arithmetic.specs.Types.{IsOf, type_of};
 
 use crate::parts::{cut, number_of};
 use crate::rows::Answers;
-use crate::shown::Shown;
 use fut_arithmetic::{binop, convert, decode_order, decode_word, encode_order, encode_word, unop};
 use fut_scalar::{BinOp, IntType, Scalar, ScalarFault, ScalarType, UnOp};
+use shown::Shown;
 
 /// Answers an operation with the bits of its result.
 #[derive(Clone, Copy)]

@@ -1,8 +1,8 @@
 // A call of the program over objects in memory.
-use crate::shown::Shown;
 use fut_io::{MemLoader, MemSink, MemSource, MemWords};
 use futhark_command::run_command_line;
 use futhark_core::code;
+use shown::Shown;
 use std::alloc::Global;
 
 /// What a call is given, and what it writes on.

@@ -1,9 +1,8 @@
 // Texts and their tokens. A token is shown by its kind, its bytes, its place, and `tight`.
 use crate::rows::Answers;
-use crate::shown::Shown;
 use fut_lexer::{LexErr, Token, TokenKind, lex};
-use fut_scalar::IntType;
 use fut_token::{Lift, fixed_text};
+use shown::{Shown, suffix_text};
 use std::alloc::Global;
 
 /// The most bytes of a text that is cut into tokens.
@@ -105,20 +104,5 @@ fn lift_text(lift: Lift) -> &'static str {
         Lift::Plain => "var ",
         Lift::Lifted => "var ^",
         Lift::SizeLifted => "var ~",
-    }
-}
-
-/// The suffix of an integer, or nothing.
-pub fn suffix_text(suffix: Option<IntType>) -> &'static str {
-    match suffix {
-        None => "",
-        Some(IntType::I8) => "i8",
-        Some(IntType::I16) => "i16",
-        Some(IntType::I32) => "i32",
-        Some(IntType::I64) => "i64",
-        Some(IntType::U8) => "u8",
-        Some(IntType::U16) => "u16",
-        Some(IntType::U32) => "u32",
-        Some(IntType::U64) => "u64",
     }
 }

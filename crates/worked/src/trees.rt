@@ -1,8 +1,6 @@
 // Texts and their trees. A line `frame value` says that the texts behind it are values of a definition; see `Frame`.
 use crate::parts::behind_word;
 use crate::rows::Answers;
-use crate::shapes::modules::show_program;
-use crate::shown::Shown;
 use crate::texts::Text;
 use crate::tokens::MOST_BYTES;
 use bumpalo::Bump;
@@ -10,6 +8,8 @@ use fut_ast::What;
 use fut_lexer::{Token, lex};
 use fut_parser::{ParseErr, parse};
 use fut_scalar::Place;
+use shown::Shown;
+use shown::shapes::modules::show_program;
 use std::alloc::Global;
 use std::str;
 
