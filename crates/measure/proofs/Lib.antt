@@ -8,3 +8,6 @@ pub mod Fielding
 pub mod Peeling
 pub mod Walks
 pub mod Leads
+pub mod Forms
+pub mod Rows
+pub mod Running

@@ -1,9 +1,7 @@
-//! What is known of values before a program runs, held by reference in an arena: the layer below the measure of a program.
+//! How many visits the walk through a program takes, and how many of them lie inside each other, before anything is unfolded.
 //!
-//! The walk that is measured is that of `fut_meaning` (`specs/Walk.antt`). This crate has what the walk does where it makes no
-//! visit: it finds names, binds patterns, applies operations and primitives to what is known of their parts, and looks behind
-//! declared types. `specs/Answers.antt` says what each answers. The walk itself is not here yet. A record that holds a function
-//! is not built yet either, and is answered as a want of memory.
+//! The walk is that of `fut_meaning` (`specs/Walk.antt`): it stops at the first visit past a limit, so it is linear in the
+//! visits up to the limits however often the program's functions run into each other.
 #![tactic(auto)]
 
 mod known;
@@ -15,6 +13,7 @@ mod records;
 mod scope;
 mod stop;
 mod tops;
+mod walk;
 mod walked;
 
 pub use stop::Stop;
