@@ -1,5 +1,5 @@
 -- Each form of expressions.
-use Rattle.std.proofs.Common.{◌≡◌, ℕ, ◌+◌, ◌<◌, ◌++◌, List, [], ◌∷◌, map, length, drop, get_or, true, false, Option, None, Some, sym, ◌∙◌, ap, subst, Result, Ok, Err}
+use Rattle.std.proofs.Common.{◌≡◌, ℕ, ◌+◌, ◌<◌, ◌++◌, List, [], ◌∷◌, map, length, drop, get_or, Bool, cond, ◌&&◌, true, false, refl, Option, None, Some, sym, ◌∙◌, ap, subst, Result, Ok, Err}
 use Rattle.std.specs.Borrow.{Bor}
 use Rattle.fut_scalar.specs.declared.place.Place.{Place}
 use Rattle.fut_ast.specs.Sorts.{SourcePat, SourceExp, SourceType}
@@ -12,13 +12,15 @@ use Rattle.fut_tree.specs.Exps.{exp_of}
 use Rattle.fut_flat.specs.declared.exp.Exp.{Exp as Flat}
 use Rattle.fut_flat.specs.declared.pat.Pat.{Pat}
 use Rattle.fut_flat.specs.declared.ty.TypeExp.{TypeExp as FlatTy}
-use Rattle.fut_flat.specs.Terms.{Apply, Declared, If, Lambda, Range, Strict, term_and, no_term}
-use Rattle.fut_flat.specs.Erased.{patterns, pattern_of, term_of, type_of}
+use Rattle.fut_flat.specs.Terms.{Apply, Declared, If, Lambda, Let, Loop, Range, Strict, Use, term_and, no_term}
+use Rattle.fut_ast.specs.Sorts.{Text}
+use Rattle.fut_flat.specs.Erased.{FlatTerm, patterns, pattern_of, term_of, type_of}
 use Rattle.fut_flat.specs.Sources as source
-use Rattle.fut_flat.specs.Sources.{SourceTerm, declared, placed, source_pattern, source_type}
+use Rattle.fut_flat.specs.Sources.{Placed, SourceTerm, applied_to, declared, is_before, is_use, placed, standing, source_pattern, source_type}
 use Rattle.module_scopes.specs.declared.refusal.Stop.{Stop}
 use Rattle.module_scopes.specs.declared.table.Names.{Names}
-use Rattle.module_scopes.specs.Resolve.{resolve, resolve_parameters, resolve_type}
+use Rattle.module_scopes.specs.Resolve.{Numbered, after, resolve, resolve_parameters, resolve_type, stands_behind}
+use Rattle.module_scopes.specs.Scopes.{Scope, value_of}
 use Rattle.module_scopes.specs.Answers.{Walked, Went, went, refused, no_memory, Entered}
 use Rattle.module_scopes.specs.Table.{scope_of, made_of, outside}
 use Rattle.module_scopes.specs.Walks.{Doing}
@@ -26,6 +28,7 @@ use Rattle.module_scopes.proofs.Walking.{doing_start, doing_next, doing_stops, d
 use Rattle.module_nodes.specs.Built.{Built2, Built3}
 use Rattle.module_nodes.proofs.Steps.{of_two, of_three}
 use Rattle.module_types.specs.Bindings.{parameters_of}
+use Rattle.module_exps.specs.Order.{is_named, is_turned}
 use Rattle.module_exps.specs.Parts.{exp_part, source_of}
 use Rattle.module_exps.proofs.HeldExps.{exp_held, held_layer, place_held}
 use Rattle.module_exps.proofs.Grouping.{group_held}
@@ -35,9 +38,48 @@ use Rattle.module_exps.proofs.TurnLaws.{loop_went, loop_stops}
 use Rattle.module_exps.proofs.ComposedLaws.{composed_at}
 use Rattle.module_exps.proofs.Above.{parameters_rise, scoped}
 
-pub apply_went : (f e : SourceTerm) (s t u : Names) (a b c : Result Flat Stop) → Went term_of (resolve f) s t a → Went term_of (resolve e) t u b → Built2 (λ f e x. term_of x ≡ Apply (term_of f) (term_of e)) a b c → Went term_of (resolve (Apply f e)) s u c
-unfolding resolve
-apply_went f e s t u a b c p q w = of_two Apply p q w
+-- where a name stands changes nothing of what it is
+standing_same : (behind : Bool) (f : SourceTerm) → resolve (standing behind f) ≡ resolve f
+unfolding resolve value_of
+standing_same behind (Use p at k) = refl
+standing_same behind (Strict o mark ts) = refl
+standing_same behind (Lambda ps e) = refl
+standing_same behind (Apply f e) = refl
+standing_same behind (Let b v e) = refl
+standing_same behind (If c a b) = refl
+standing_same behind (Loop mark sizes p first turns body) = refl
+
+standing_is : (behind : Bool) (f : SourceTerm) → stands_behind (standing behind f) ≡ (is_use f && behind)
+standing_is behind (Use p at k) = refl
+standing_is behind (Strict o mark ts) = refl
+standing_is behind (Lambda ps e) = refl
+standing_is behind (Apply f e) = refl
+standing_is behind (Let b v e) = refl
+standing_is behind (If c a b) = refl
+standing_is behind (Loop mark sizes p first turns body) = refl
+
+abbrev in_order : SourceTerm → SourceTerm → Scope → List Text → Numbered FlatTerm
+in_order f e sc made = after (resolve f sc made) (λ f made. after (resolve e sc made) (λ e made. Ok (Apply f e, made)))
+
+abbrev turned : SourceTerm → SourceTerm → Scope → List Text → Numbered FlatTerm
+turned f e sc made = after (resolve e sc made) (λ e made. after (resolve f sc made) (λ f made. Ok (Apply f e, made)))
+
+application : (f e : Placed) (behind : Bool) → (is_use f.term && is_before e.place f.place) ≡ behind → resolve (applied_to f e) ≡ (λ sc made. cond behind (turned f.term e.term sc made) (in_order f.term e.term sc made))
+unfolding resolve applied_to
+application f e behind is = (λ i sc made. cond (standing_is (is_before e.place f.place) f.term i)
+    (after (resolve e.term sc made) (λ x made. after (standing_same (is_before e.place f.place) f.term i sc made) (λ g made. Ok (Apply g x, made))))
+    (after (standing_same (is_before e.place f.place) f.term i sc made) (λ g made. after (resolve e.term sc made) (λ x made. Ok (Apply g x, made)))))
+    ∙ (λ i sc made. cond (is i) (turned f.term e.term sc made) (in_order f.term e.term sc made))
+
+pub apply_went : (f e : SourceExp) (s t u : Names) (a b c : Result Flat Stop) → is_turned f e ≡ false → Went term_of (resolve (source_of f)) s t a → Went term_of (resolve (source_of e)) t u b
+    → Built2 (λ f e x. term_of x ≡ Apply (term_of f) (term_of e)) a b c → Went term_of (resolve (applied_to (placed f) (placed e))) s u c
+unfolding source_of is_named is_turned
+apply_went f e s t u a b c is p q w = subst (λ does. Went term_of does s u c) (sym (application (placed f) (placed e) false is)) (of_two Apply p q w)
+
+pub behind_went : (f e : SourceExp) (s t u : Names) (a b c : Result Flat Stop) → is_turned f e ≡ true → Went term_of (resolve (source_of e)) s t a → Went term_of (resolve (source_of f)) t u b
+    → Built2 (λ e f x. term_of x ≡ Apply (term_of f) (term_of e)) a b c → Went term_of (resolve (applied_to (placed f) (placed e))) s u c
+unfolding source_of is_named is_turned
+behind_went f e s t u a b c is p q w = subst (λ does. Went term_of does s u c) (sym (application (placed f) (placed e) true is)) (of_two (λ x g. Apply g x) p q w)
 
 pub choice_went : (c a b : SourceTerm) (s t u v : Names) (x y z d : Result Flat Stop) → Went term_of (resolve c) s t x → Went term_of (resolve a) t u y → Went term_of (resolve b) u v z
     → Built3 (λ c a b w. term_of w ≡ If (term_of c) (term_of a) (term_of b)) x y z d → Went term_of (resolve (If c a b)) s v d
@@ -65,7 +107,7 @@ pub stepped_went : {s t : Names} {c : Result Flat Stop} (e : Inside) (v : Source
     → Went term_of (resolve (Strict (Range true end) e.mark (source.three (source_of a.now) (source_of n.now) (source_of b.now)))) s t c → Went term_of (resolve (source_of v)) s t c
 stepped_went e v a n b o end stands is some w = exp_went e v (held_form.Range a (Some n) end b) stands (is ∙ ap (λ n. held_form.Range a n end b) some) w
 
-pub ruleset form_rules = (exp_held, group_held, apply_went, choice_went, lambda_went, lets_went)
+pub ruleset form_rules = (exp_held, group_held, apply_went, behind_went, choice_went, lambda_went, lets_went)
 
 pub ruleset loop_rules = (exp_held, group_held, binary_went, composed_at, loop_went, loop_stops)
 

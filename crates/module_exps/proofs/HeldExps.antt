@@ -14,7 +14,7 @@ use Rattle.fut_tree.specs.Names.{names, all, maybe}
 use Rattle.fut_tree.specs.Exps.{exp_fields, binds_of, loop_of, ix_of, ixs_of, exp_of}
 use Rattle.fut_tree.proofs.Layers.{layer_of, out_form}
 use Rattle.fut_flat.specs.Terms.{Integer, Truth, Tuple_of, Record_of, Array_of, Index, Project, Update, Replace, Ascribe, Coerce, Assert, Range, Use, Strict, Lambda, Apply, If, Loop, no_term, term_and}
-use Rattle.fut_flat.specs.Sources.{Placed, SourceTerm, labels, spelled, source_type, patterns, source_pattern, terms, terms_then, one, two, three, declared, joined, negated, names_before, asked, lets, placed, source_term}
+use Rattle.fut_flat.specs.Sources.{applied_to, Placed, SourceTerm, labels, spelled, source_type, patterns, source_pattern, terms, terms_then, one, two, three, declared, joined, negated, names_before, asked, lets, placed, source_term}
 use Rattle.fut_flat.proofs.SourceForms.{layer, exp_fields as placed_fields, row_of, turns_of, asked_of, placed_is, index_is, index_layer}
 use Rattle.module_exps.specs.Lists.{all_exps, exps_of, part_of}
 use Rattle.module_exps.specs.Parts.{source_of}
@@ -27,7 +27,7 @@ held_layer held_form.Unit at mark = Strict Tuple_of mark no_term
 held_layer (held_form.Tuple es) at mark = Strict Tuple_of mark (terms (map placed (all es.now)))
 held_layer (held_form.Record fs) at mark = Strict (Record_of (map (λ (f : ExpField). f.name.now) fs.now)) mark (terms (map placed (map (λ (f : ExpField). f.exp.now) fs.now)))
 held_layer (held_form.Array es) at mark = Strict Array_of mark (terms (map placed (all es.now)))
-held_layer (held_form.Apply f e) at mark = Apply (source_of f.now) (source_of e.now)
+held_layer (held_form.Apply f e) at mark = applied_to (placed f.now) (placed e.now)
 held_layer (held_form.Binary op a b) at mark = joined op mark (source_of a.now) (source_of b.now)
 held_layer (held_form.Unary op a) at mark = Strict (negated op) mark (one (source_of a.now))
 held_layer (held_form.Lambda ps t e) at mark = Lambda (patterns (map source_pattern (all ps.now))) (declared (maybe t) (placed e.now))

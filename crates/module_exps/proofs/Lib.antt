@@ -1,5 +1,6 @@
 pub mod HeldExps
 pub mod Grouping
+pub mod OrderLaws
 pub mod StrictLaws
 pub mod UseLaws
 pub mod Above

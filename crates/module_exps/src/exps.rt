@@ -18,7 +18,7 @@ ghost use Rattle.module_exps.specs.Parts.{counted_part, each_row, exp_part, head
 use crate::composing::{argument_name, functions, is_left_first, left_name, right_name};
 use crate::groups::{Group, taken_by};
 use crate::heads::{Head, Valued, bring_head, element_pattern, sized_pattern};
-use crate::leaves::{negation, operation, used};
+use crate::leaves::{is_behind, negation, operation, used};
 use crate::lists::{index_parts, record_parts, update_exps};
 use bumpalo::Bump;
 use bumpalo::collections::into_bump_slice;
@@ -61,6 +61,14 @@ fn walked_choosing<'a>(
 {
     match exp.form {
         Form::Path(path) => used(path, exp.place, bump, names),
+        Form::Apply(function, argument) if is_behind(function, argument) => {
+            nodes::applied_behind(
+                bump,
+                exp.place,
+                walked(argument, bump, names),
+                walked(function, bump, names),
+            )
+        }
         Form::Apply(function, argument) => {
             nodes::applied(
                 bump,

@@ -1,18 +1,20 @@
 // Names that are used, and operators.
 ghost use Rattle.std.specs.Prelude.{◌≡◌};
 ghost use Rattle.fut_flat.specs.Erased.{operation_of, term_of};
-ghost use Rattle.fut_flat.specs.Sources.{names_before, negated, spelled};
+ghost use Rattle.fut_flat.specs.Sources.{is_before, names_before, negated, spelled};
 ghost use Rattle.fut_flat.specs.Terms.{Use};
 ghost use Rattle.fut_tree.specs.Names.{names as texts_of};
 ghost use Rattle.module_scopes.specs.Answers.{Went};
 ghost use Rattle.module_scopes.specs.Resolve.{resolve};
 ghost use Rattle.module_exps.specs.Lists.{operation_in};
+ghost use Rattle.module_exps.specs.Order.{is_named, is_turned};
 ghost use Rattle.module_exps.specs.Plain.{Plain};
 
 use bumpalo::Bump;
 use fut_ast::Oper;
 use fut_flat::{Act, Exp};
 use fut_scalar::{BinOp, Place};
+use fut_tree::{Exp as SourceExp, Form};
 use module_nodes::uses;
 use module_scopes::{Names, Stop, value_of};
 
@@ -57,4 +59,31 @@ pub fn negation<'a>(op: Oper) -> Act<'a>
         Oper::Then => Act::Complement,
         Oper::After => Act::Complement,
     }
+}
+
+/// Which of two places of a file comes first.
+fn is_before(left: Place, right: Place) -> bool
+    ensures { result ≡ is_before left right }
+{
+    left.line < right.line || left.line == right.line && left.column < right.column
+}
+
+/// Whether an expression is the use of a name.
+#[tactic(auto, using(crate::proofs::OrderLaws::name_held))]
+fn is_name(exp: &SourceExp<'_>) -> bool
+    ensures { result ≡ is_named exp.now }
+{
+    match exp.form {
+        Form::Path(_) => true,
+        Form::Lets([], body) => is_name(body),
+        _ => false,
+    }
+}
+
+/// Whether a function is a name that stands behind its argument, as one in backticks.
+#[tactic(auto, using(crate::proofs::OrderLaws::turned_held))]
+pub fn is_behind(function: &SourceExp<'_>, argument: &SourceExp<'_>) -> bool
+    ensures { result ≡ is_turned function.now argument.now }
+{
+    is_name(function) && is_before(argument.place, function.place)
 }

@@ -10,7 +10,7 @@ use Rattle.fut_flat.specs.Sources.{Spelled, SourceTerm, SourcePattern, SourceTur
 use Rattle.fut_flat.specs.Terms.{Patterns, no_pattern, pattern_and, Parameter, Size_parameter, Type_parameter, Operation, Integer, Truth, Tuple_of, Record_of, Array_of, Binary, Negate, Complement, Index, Project, Update, Replace, Ascribe, Coerce, Declared, Assert, Range, Use, Strict, Lambda, Apply, Let, If, Loop, Terms, no_term, term_and, Counted, Over, While}
 use Rattle.module_scopes.specs.Names.{Refusal}
 use Rattle.module_scopes.specs.Scopes.{Entry, a_value, Scope, enter, value_of}
-use Rattle.module_scopes.specs.Resolve.{Numbered, next, with_text, Naming, Bound, whole, resolve_pattern, resolve_parameters, number_sizes, number_heads, resolve_operation, is_declared, use_found, resolve, resolve_all, resolve_turns}
+use Rattle.module_scopes.specs.Resolve.{Numbered, next, with_text, Naming, Bound, whole, resolve_pattern, resolve_parameters, number_sizes, number_heads, resolve_operation, is_declared, use_found, resolve, resolve_all, resolve_turns, stands_behind}
 use Rattle.fut_meaning.specs.Sources.{Outside}
 use Rattle.fut_meaning.specs.Resolved.{Locals, flat_use, Pattern_resolved, p_bound, p_wild, p_tuple, p_record, p_typed, Patterns_resolved, p_none, p_and, Same_operation, o_integer, o_truth, o_tuple, o_record, o_array, o_binary, o_negate, o_complement, o_index, o_project, o_update, o_replace, o_ascribe, o_coerce, o_declared, o_assert, o_range, Resolved, r_use, r_strict, r_lambda, r_apply, r_let, r_if, r_loop, All_resolved, r_none, r_more, Turns_resolved, r_counted, r_over, r_while}
 use Rattle.module_meaning.specs.Sourced.{No_sizes, Plain, All_plain, Plain_turns}
@@ -176,10 +176,15 @@ mutual
       let y = term_so body a.1 m l b x.inner outside n x.reads i in
       term_ends (r_lambda x.patterns y.resolved) (omega (arith, patterns_le x.patterns, y.more)) q))
   term_so (Apply f a) sc made made' u ls outside n r e =
-      went _ _ _ e (λ g m h w. went _ _ _ w (λ b l i q.
-      let x = term_so f sc made m g ls outside n.0 r h in
+      either_order (stands_behind f) e
+      (λ g. went _ _ _ g (λ b m h w. went _ _ _ w (λ c l i q.
+      let y = term_so a sc made m b ls outside n.1 r h in
+      let x = term_so f sc m l c ls outside n.0 r i in
+      term_ends (r_apply (down y.more x.resolved) y.resolved) (omega (arith, x.more, y.more)) q)))
+      (λ g. went _ _ _ g (λ c m h w. went _ _ _ w (λ b l i q.
+      let x = term_so f sc made m c ls outside n.0 r h in
       let y = term_so a sc m l b ls outside n.1 r i in
-      term_ends (r_apply x.resolved (down x.more y.resolved)) (omega (arith, x.more, y.more)) q))
+      term_ends (r_apply x.resolved (down x.more y.resolved)) (omega (arith, x.more, y.more)) q)))
   term_so (Let b v body) sc made made' u ls outside n r e =
       went _ _ _ e (λ s m1 h1 g1. went _ _ _ g1 (λ p m2 h2 g2. went _ _ _ g2 (λ hs m3 h3 g3. went _ _ _ g3 (λ v' m4 h4 g4. went _ _ _ g4 (λ e' m5 h5 q.
       let none = sizes_none b.sizes made n.0 in

@@ -129,6 +129,26 @@ pub fn applied<'a>(
     })
 }
 
+/// An application whose function stands behind its argument.
+#[tactic(auto, using(crate::proofs::Made::exps))]
+pub fn applied_behind<'a>(
+    bump: &'a Bump,
+    place: Place,
+    argument: Result<Exp<'a>, Stop<'a>>,
+    function: Result<Exp<'a>, Stop<'a>>,
+) -> Result<Exp<'a>, Stop<'a>>
+    ensures { Built2 (λ e f x. term_of x ≡ Apply (term_of f) (term_of e)) argument.entry function.entry result }
+{
+    let argument = argument?;
+    let function = function?;
+    let function = held(bump, function)?;
+    let argument = held(bump, argument)?;
+    Ok(Exp {
+        place,
+        form: Form::Apply(function, argument),
+    })
+}
+
 /// A choice.
 #[tactic(auto, using(crate::proofs::Made::exps))]
 pub fn choice<'a>(

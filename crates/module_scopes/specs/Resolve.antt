@@ -171,6 +171,16 @@ abbrev pub is_declared : Operation Spelled Label → Bool
 is_declared (Declared t) = true
 is_declared o = false
 
+-- a name that stands behind what it is applied to
+abbrev pub stands_behind : SourceTerm → Bool
+stands_behind (Use p at k) = p.is_behind
+stands_behind (Strict o mark ts) = false
+stands_behind (Lambda ps e) = false
+stands_behind (Apply f e) = false
+stands_behind (Let b v e) = false
+stands_behind (If c a b) = false
+stands_behind (Loop mark sizes p first turns body) = false
+
 unfoldable mutual
   pub resolve : SourceTerm → Scope → List Text → Numbered FlatTerm
   resolve (Use p at k) sc made = use_found at made (value_of sc p)
@@ -179,7 +189,11 @@ unfoldable mutual
       (after (resolve_operation o sc made) (λ o made. after (resolve_all ts sc made) (λ ts made. Ok (Strict o mark ts, made))))
       (after (resolve_all ts sc made) (λ ts made. after (resolve_operation o sc made) (λ o made. Ok (Strict o mark ts, made))))
   resolve (Lambda ps e) sc made = after (resolve_parameters ps sc made) (λ ps made. after (resolve e ps.1 made) (λ e made. Ok (Lambda ps.0 e, made)))
-  resolve (Apply f e) sc made = after (resolve f sc made) (λ f made. after (resolve e sc made) (λ e made. Ok (Apply f e, made)))
+  -- the parts of an application in the order of the text
+  resolve (Apply f e) sc made =
+      cond (stands_behind f)
+      (after (resolve e sc made) (λ e made. after (resolve f sc made) (λ f made. Ok (Apply f e, made))))
+      (after (resolve f sc made) (λ f made. after (resolve e sc made) (λ e made. Ok (Apply f e, made))))
   -- the value of a let sees its size and type parameters, and the body what the pattern binds
   resolve (Let b v e) sc made =
       after (Ok (number_sizes b.sizes made)) (λ s made.
