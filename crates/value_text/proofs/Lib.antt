@@ -1,0 +1,4 @@
+pub mod Between
+pub mod Values
+pub mod Integers
+pub mod RoundTrip
