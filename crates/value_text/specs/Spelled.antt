@@ -1,6 +1,7 @@
--- How values are spelled: an integer with an optional `-` and an optional type behind it, `true`, `false`; an array begins
--- with `[` or `empty`.
+-- How values are spelled: an integer with an optional `-` and an optional type behind it, `true`, `false`; `empty(..)`, which is read
+-- to its end; and of any other array its `[`.
 use Rattle.std.specs.Prelude.{ℕ, ◌+◌, true, false, cond, max, ◌==◌, ◌||◌, List, [], ◌∷◌, drop, Result, Ok, Err, codes}
+use Rattle.value_text.specs.Empties.{empty_len}
 use Rattle.value_text.specs.Words.{is_digit, common, is_word, suffix_at}
 use Rattle.value_text.specs.Numbers.{prefix_of, base_at, number_at}
 use Rattle.value_text.specs.declared.numbers.Number.{Number}
@@ -34,11 +35,15 @@ integer_at bytes = unsigned_at (minus_at bytes) (drop (minus_at bytes) bytes)
 unfoldable pub word_front : List ℕ → ℕ
 word_front bytes = max (common bytes (codes "true")) (max (common bytes (codes "false")) (common bytes (codes "empty")))
 
+abbrev pub empty_array : Result ℕ ℕ → Result Spelled ℕ
+empty_array (Ok n) = Ok (record { form = form.Array; length = 5 + n })
+empty_array (Err n) = Err (5 + n)
+
 unfoldable pub word_at : List ℕ → Result Spelled ℕ
 word_at bytes =
     cond (is_word bytes (codes "true")) (Ok (record { form = form.Truth true; length = 4 }))
     (cond (is_word bytes (codes "false")) (Ok (record { form = form.Truth false; length = 5 }))
-    (cond (is_word bytes (codes "empty")) (Ok (record { form = form.Array; length = 5 })) (Err (word_front bytes))))
+    (cond (is_word bytes (codes "empty")) (empty_array (empty_len (drop 5 bytes))) (Err (word_front bytes))))
 
 abbrev pub spelled_by : ℕ → List ℕ → Result Spelled ℕ
 spelled_by b bytes = cond (b == 91) (Ok (record { form = form.Array; length = 1 })) (cond (b == 45 || is_digit b) (integer_at bytes) (word_at bytes))

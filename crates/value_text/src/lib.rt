@@ -6,6 +6,7 @@
 //! refusal is the first that there is; and [`printed_values_read_back`] says that printing and reading belong together.
 #![tactic(auto)]
 
+mod empties;
 mod gaps;
 mod laws;
 mod numbers;

@@ -1,7 +1,9 @@
 // How values are spelled.
-ghost use Rattle.std.specs.Prelude.{◌≡◌, ◌≤◌, ◌+◌, length, IfOk, IfErr};
-ghost use Rattle.value_text.specs.Spelled.{integer_at, minus_at, spelled_at, unsigned_at, word_at, word_front};
+ghost use Rattle.std.specs.Prelude.{◌≡◌, ◌≤◌, ◌+◌, length, drop, IfOk, IfErr};
+ghost use Rattle.value_text.specs.Empties.{empty_len};
+ghost use Rattle.value_text.specs.Spelled.{empty_array, integer_at, minus_at, spelled_at, unsigned_at, word_at, word_front};
 
+use crate::empties::empty_len;
 use crate::gaps::behind;
 use crate::numbers::{base_at, number_at, prefix_of};
 use crate::words::{common, greater, is_digit, is_word, suffix_at};
@@ -16,7 +18,7 @@ pub enum Form {
         suffix: Option<IntType>,
     },
     Truth(bool),
-    /// An array, which only begins here.
+    /// An array: an empty one, or the `[` of another.
     Array,
 }
 
@@ -90,6 +92,22 @@ fn word_front(text: &[u8]) -> usize
     )
 }
 
+/// The empty array behind the word at the front.
+fn empty_array(text: &[u8]) -> Result<Spelled, usize>
+    requires { 5 ≤ length text.now }
+    ensures value { result ≡ empty_array (empty_len (drop 5 text.now)) }
+    ensures within { IfOk result (λ spelled. spelled.length ≤ length text.now) }
+    ensures place { IfErr result (λ offset. offset ≤ length text.now) }
+{
+    match empty_len(behind(text, 5)) {
+        Ok(length) => Ok(Spelled {
+            form: Form::Array,
+            length: 5 + length,
+        }),
+        Err(offset) => Err(5 + offset),
+    }
+}
+
 /// The word at the front.
 #[tactic(auto, unfolding(crate::specs::Spelled::word_at))]
 fn word_at(text: &[u8]) -> Result<Spelled, usize>
@@ -108,10 +126,7 @@ fn word_at(text: &[u8]) -> Result<Spelled, usize>
             length: 5,
         })
     } else if is_word(text, b"empty") {
-        Ok(Spelled {
-            form: Form::Array,
-            length: 5,
-        })
+        empty_array(text)
     } else {
         Err(word_front(text))
     }

@@ -91,7 +91,7 @@ pub fn name_of(ty: IntType) -> &'static [u8]
 
 /// The integer type whose name is the word at the front.
 #[tactic(auto, unfolding(crate::specs::Words::type_at))]
-fn type_at(text: &[u8]) -> Option<IntType>
+pub fn type_at(text: &[u8]) -> Option<IntType>
     ensures { result ≡ type_at text.now }
 {
     if is_word(text, b"i8") {
@@ -139,7 +139,7 @@ fn unsigned_front(text: &[u8]) -> usize
 
 /// How many bytes at the front begin the name of an integer type.
 #[tactic(auto, unfolding(crate::specs::Words::type_front))]
-fn type_front(text: &[u8]) -> usize
+pub fn type_front(text: &[u8]) -> usize
     ensures value { result ≡ type_front text.now }
     ensures within { result ≤ length text.now }
 {
