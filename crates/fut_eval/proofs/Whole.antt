@@ -3,13 +3,10 @@ use Rattle.std.proofs.Common.{◌≡◌, ℕ, zero, suc, List, [], ◌∷◌, �
 use Rattle.fut_scalar.specs.Integers.{FitsType}
 use Rattle.fut_scalar.specs.declared.report.Report.{Report}
 use Rattle.fut_scalar.specs.declared.scalar.Scalar.{Scalar}
-use Rattle.fut_meaning.specs.Outcomes.{Val, Wrong}
 use Rattle.fut_blocks.specs.declared.block.Program.{Program}
 use Rattle.fut_blocks.specs.Plain.{body_of}
 use Rattle.fut_blocks.specs.Meaning.{under, body_means}
-use Rattle.fut_blocks.specs.Programs.{Program_means, WellFormed, AreArguments}
-use Rattle.fut_blocks.specs.Typed.{Sort}
-use Rattle.fut_blocks.proofs.NeverStuck.{never_stuck}
+use Rattle.fut_blocks.specs.Programs.{Program_means, NeverWrong, Rising}
 use Rattle.fut_eval.specs.declared.program.EvalErr.TheVariants as eval
 use Rattle.fut_eval.specs.declared.stop.Stop.{Stop}
 use Rattle.fut_eval.specs.declared.stop.Stop.TheVariants.{Failed, Stuck}
@@ -54,34 +51,34 @@ all_fit : (vs : List Scalar) → All FitsType vs → Fit vs
 all_fit [] h = tt
 all_fit (v ∷ vs) h = (h 0 v (omega arith), all_fit vs (λ k d l. h (suc k) d (omega arith)))
 
-module _ (budget : ℕ) (p : Program) (args t t' s s' : List Scalar) (m : length t ≡ p.names) (e : s ≡ []) (a : AreArguments p args) where
-  run_is : (r : Answer) (ts : List Sort) → WellFormed p ts → Program_runs budget p args t t' s s' r → Runs (Program_means budget p args) 0 t t' s s' r
+module _ (budget : ℕ) (p : Program) (args t t' s s' : List Scalar) (m : length t ≡ p.names) (e : s ≡ []) (fit : All FitsType args) (rising : Rising p) (never : NeverWrong budget p args) where
+  run_is : (r : Answer) → Program_runs budget p args t t' s s' r → Runs (Program_means budget p args) 0 t t' s s' r
   unfolding Program_runs
-  run_is r ts w h = h w.first w.rising w.numbered (omega arith) (all_fit args a.1)
+  run_is r h = h rising.first rising.parameters rising.numbered (omega arith) (all_fit args fit)
 
-  pub eval_ok : Program_runs budget p args t t' s s' (Ok tt) → (ts : List Sort) → WellFormed p ts → Evaluates budget p ts args (Ok s')
-  eval_ok h ts w = by_run (run_is (Ok tt) ts w h)
+  pub eval_ok : Program_runs budget p args t t' s s' (Ok tt) → Evaluates budget p args (Ok s')
+  eval_ok h = by_run (run_is (Ok tt) h)
     where
-      by_run : Runs (Program_means budget p args) 0 t t' s s' (Ok tt) → Evaluates budget p ts args (Ok s')
+      by_run : Runs (Program_means budget p args) 0 t t' s s' (Ok tt) → Evaluates budget p args (Ok s')
       by_run (ran vs f q v x y) =
           let i : s' ≡ vs = q ∙ ap (λ z. z ++ vs) e in
-          subst (λ z. Evaluates budget p ts args (Ok z)) (sym i) (came_to f y (never_stuck budget p ts args w a (Val vs) f y) (fit_all vs v))
-      by_run (gone f y) = absurd (never_stuck budget p ts args w a Wrong f y)
+          subst (λ z. Evaluates budget p args (Ok z)) (sym i) (came_to f y (fit_all vs v))
+      by_run (gone f y) = absurd (never f y)
 
-  pub eval_failed : (r : Report) → Program_runs budget p args t t' s s' (Err (Failed r)) → (ts : List Sort) → WellFormed p ts → Evaluates budget p ts args (Err (eval.Failed r))
-  eval_failed r h ts w = by_run (run_is (Err (Failed r)) ts w h)
+  pub eval_failed : (r : Report) → Program_runs budget p args t t' s s' (Err (Failed r)) → Evaluates budget p args (Err (eval.Failed r))
+  eval_failed r h = by_run (run_is (Err (Failed r)) h)
     where
-      by_run : Runs (Program_means budget p args) 0 t t' s s' (Err (Failed r)) → Evaluates budget p ts args (Err (eval.Failed r))
+      by_run : Runs (Program_means budget p args) 0 t t' s s' (Err (Failed r)) → Evaluates budget p args (Err (eval.Failed r))
       by_run (failed f y) = has_failed f y
-      by_run (gone f y) = absurd (never_stuck budget p ts args w a Wrong f y)
+      by_run (gone f y) = absurd (never f y)
 
-  pub eval_stuck : Program_runs budget p args t t' s s' (Err Stuck) → (ts : List Sort) → WellFormed p ts → ⊥
-  eval_stuck h ts w = by_run (run_is (Err Stuck) ts w h)
+  pub eval_stuck : Program_runs budget p args t t' s s' (Err Stuck) → ⊥
+  eval_stuck h = by_run (run_is (Err Stuck) h)
     where
       by_run : Runs (Program_means budget p args) 0 t t' s s' (Err Stuck) → ⊥
-      by_run (gone f y) = never_stuck budget p ts args w a Wrong f y
+      by_run (gone f y) = never f y
 
-pub eval_memory : (budget : ℕ) (p : Program) (args : List Scalar) (ts : List Sort) → Evaluates budget p ts args (Err eval.Memory)
-eval_memory budget p args ts = has_no_memory
+pub eval_memory : (budget : ℕ) (p : Program) (args : List Scalar) → Evaluates budget p args (Err eval.Memory)
+eval_memory budget p args = has_no_memory
 
 pub ruleset evaluations = (eval_ok, eval_failed, eval_stuck, eval_memory)

@@ -5,13 +5,12 @@ use Rattle.fut_scalar.specs.declared.report.Report.{Report}
 use Rattle.fut_meaning.specs.Outcomes.{Val, Fail}
 use Rattle.fut_blocks.specs.declared.block.Program.{Program}
 use Rattle.fut_blocks.specs.Meaning.{Component}
-use Rattle.fut_blocks.specs.Typed.{Sort}
-use Rattle.fut_blocks.specs.Programs.{Program_means, AreOf}
+use Rattle.fut_blocks.specs.Programs.{Program_means}
 use Rattle.fut_eval.specs.declared.program.EvalErr.{EvalErr}
 use Rattle.fut_eval.specs.declared.program.EvalErr.TheVariants.{Failed, Memory}
 
--- results of these types or a report, as the meaning allows it; want of memory is free
-pub data Evaluates (budget : ℕ) (p : Program) (ts : List Sort) (args : List Component) : Result (List Component) EvalErr → Type 0 where
-  came_to : {vs : List Component} (f : ℕ) → Program_means budget p args (Val vs) f → AreOf ts vs → All FitsType vs → Evaluates budget p ts args (Ok vs)
-  failed : {r : Report} (f : ℕ) → Program_means budget p args (Fail r) f → Evaluates budget p ts args (Err (Failed r))
-  no_memory : Evaluates budget p ts args (Err Memory)
+-- results or a report, as the meaning allows it; want of memory is free
+pub data Evaluates (budget : ℕ) (p : Program) (args : List Component) : Result (List Component) EvalErr → Type 0 where
+  came_to : {vs : List Component} (f : ℕ) → Program_means budget p args (Val vs) f → All FitsType vs → Evaluates budget p args (Ok vs)
+  failed : {r : Report} (f : ℕ) → Program_means budget p args (Fail r) f → Evaluates budget p args (Err (Failed r))
+  no_memory : Evaluates budget p args (Err Memory)

@@ -1,10 +1,9 @@
 // The public call.
-ghost use Rattle.std.specs.Prelude.{◌≡◌, IfOk, vec_len};
-ghost use Rattle.fut_blocks.specs.Programs.{AreArguments, WellFormed};
-ghost use Rattle.fut_blocks.specs.Typed.{Sort};
+ghost use Rattle.std.specs.Prelude.{◌≡◌, All, IfOk, vec_len};
+ghost use Rattle.fut_scalar.specs.Integers.{FitsType};
+ghost use Rattle.fut_blocks.specs.Programs.{NeverWrong, Rising};
 ghost use Rattle.fut_eval.specs.Evaluates.{Evaluates};
 ghost use Rattle.fut_eval.specs.Runs.{Program_runs};
-ghost use Rattle.std.specs.Prelude.{List as Items};
 
 use crate::blocks::run_block;
 use crate::names::store;
@@ -47,7 +46,7 @@ pub fn run(
     run_block(&program.body, turns, table, stack)
 }
 
-/// The results of a well-formed program for arguments of its parameters' types.
+/// The results of a program for arguments on which it never goes wrong.
 ///
 /// A `while` loop may take at most `turns` turns. `Ok`: results that the meaning of the program allows. `Failed`: a report
 /// that it allows. `Memory`: memory ran out.
@@ -58,9 +57,10 @@ pub fn eval(
     args: &[Scalar],
     turns: u64,
 ) -> Result<List<Scalar>, EvalErr>
-    requires well_formed { (ts : Items Sort) × WellFormed program.now ts }
-    requires arguments { AreArguments program.now args.now }
-    ensures { (ts : Items Sort) → WellFormed program.now ts → Evaluates turns program.now ts args.now result }
+    requires rising { Rising program.now }
+    requires arguments { All FitsType args.now }
+    requires never_wrong { NeverWrong turns program.now args.now }
+    ensures { Evaluates turns program.now args.now result }
 {
     let Ok(mut table) = table_of(alloc, program.names) else {
         return Err(EvalErr::Memory);

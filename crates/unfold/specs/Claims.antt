@@ -9,9 +9,7 @@ use Rattle.fut_meaning.specs.Sames.{Left, Right}
 use Rattle.fut_meaning.specs.Values.{Values, listed}
 use Rattle.fut_blocks.specs.declared.block.Program.{Program}
 use Rattle.fut_blocks.specs.Meaning.{Component}
-use Rattle.fut_blocks.specs.Numbered.{Upward, Body_numbered}
-use Rattle.fut_blocks.specs.Plain.{body_of}
-use Rattle.fut_blocks.specs.Programs.{Program_means}
+use Rattle.fut_blocks.specs.Programs.{Program_means, Rising}
 use Rattle.unfold.specs.Shapes.{Shape, Shapes, All_split, Is_value}
 use Rattle.unfold.specs.Programs.{Program_unfolds}
 
@@ -30,11 +28,6 @@ LosesNoOutcome M =
     → (arguments : Values Ref BindId (Unit {0})) (components : List Component) → All_split hs arguments components []
     → (o : Out FlatValue) (f : ℕ) → Flat_means integer_at M budget ds entry (listed arguments) o f → Left (Is_value h) (Program_means budget p components) o f
 
--- all names rise from those of the parameters on, and lie below the number of names
-pub record Rising (p : Program) : Type 0 where
-  pub first : ℕ
-  pub parameters : Upward 0 p.params.now first
-  pub numbered : Body_numbered first (body_of p.body) p.names
-
+-- the names of the blocks rise
 abbrev pub NamesRise : Type 0
 NamesRise = (integer_at : ℕ → IntType) (ds : List Named_term) (entry : BindId) (hs : Shapes) (h : Shape) (p : Program) → Program_unfolds integer_at (flat_tops 0 ds) entry.0 hs h p → Rising p

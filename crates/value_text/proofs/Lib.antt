@@ -1,0 +1,5 @@
+pub mod Between
+pub mod Values
+pub mod Dimensions
+pub mod Integers
+pub mod RoundTrip

@@ -1,0 +1,25 @@
+-- What is proved of the text of values.
+use Rattle.std.specs.Prelude.{◌≡◌, ℕ, ◌<◌, ◌^◌, ℤ, List, [], ◌∷◌, map, All, Some}
+use Rattle.fut_scalar.specs.Integers.{FitsType, integer_of, width_of}
+use Rattle.fut_scalar.specs.declared.scalar.IntType.{IntType}
+use Rattle.fut_scalar.specs.declared.scalar.Scalar.{Scalar}
+use Rattle.fut_scalar.specs.declared.scalar.Scalar.TheVariants as scalar
+use Rattle.fut_arithmetic.specs.Types.{type_of}
+use Rattle.value_text.specs.Printing.{text_of, output_of}
+use Rattle.value_text.specs.Reading.{Reads, value_in}
+
+-- the text of a value reads as that value
+abbrev pub TextReadsBack : Type 0
+TextReadsBack = (value : Scalar) → FitsType value → Reads (type_of value ∷ []) (text_of value) (value ∷ [])
+
+-- what is printed reads as the values that were printed
+abbrev pub OutputReadsBack : Type 0
+OutputReadsBack = (values : List Scalar) → All FitsType values → Reads (map type_of values) (output_of values) values
+
+-- the value that is found for an integer stands for it
+abbrev pub FoundIntegersStand : Type 0
+FoundIntegersStand = (ty : IntType) (z : ℤ) (value : Scalar) → value_in ty z ≡ Some value → (bits : ℕ) × (value ≡ scalar.Int ty bits) × (bits < 2 ^ width_of ty) × (integer_of ty bits ≡ z)
+
+-- and each value of the type is found
+abbrev pub IntegersAreFound : Type 0
+IntegersAreFound = (ty : IntType) (bits : ℕ) → bits < 2 ^ width_of ty → value_in ty (integer_of ty bits) ≡ Some (scalar.Int ty bits)

@@ -1,0 +1,14 @@
+// Laws of the text of values, each carried by a call.
+ghost use Rattle.value_text.specs.Claims.{FoundIntegersStand, IntegersAreFound, OutputReadsBack, TextReadsBack};
+
+/// The law that the text of a value reads as that value, and what is printed reads as the values that were printed.
+pub fn printed_values_read_back()
+    ensures one { TextReadsBack }
+    ensures all { OutputReadsBack }
+{}
+
+/// The law that an integer is read as the value of its type that stands for it, if there is one.
+pub fn integers_are_kept()
+    ensures stand { FoundIntegersStand }
+    ensures found { IntegersAreFound }
+{}

@@ -1,0 +1,21 @@
+//! Values as text: arguments are read, and results are printed.
+//!
+//! The text of a program's input is one value for each parameter: an integer with an optional `-`, in decimal, hexadecimal
+//! or binary, with an optional type behind it, or `true` or `false`. Blanks and comments may stand between. The theorem of
+//! this crate is the contract of [`read_args`]: the values are those that the text reads as (`specs/Reading.antt`), or the
+//! refusal is the first that there is; and [`printed_values_read_back`] says that printing and reading belong together.
+#![tactic(auto)]
+
+mod empties;
+mod gaps;
+mod laws;
+mod numbers;
+mod printing;
+mod reading;
+mod spelled;
+mod wanted;
+mod words;
+
+pub use laws::{integers_are_kept, printed_values_read_back};
+pub use printing::{print_value, print_values};
+pub use reading::{TextErr, read_args};
