@@ -1,0 +1,2 @@
+pub mod PatternNumbers
+pub mod TermNumbers
