@@ -1,5 +1,7 @@
 -- Classes of characters, and the spellings of keywords, symbols and suffixes. A character is its code.
 use Rattle.std.specs.Prelude.{ℕ, Bool, true, false, not, ◌&&◌, ◌||◌, ◌==◌, List, [], ◌∷◌, codes, Option, Some, None, nat_le, nat_lt, if◌then◌else◌}
+use Rattle.std.specs.List.{list_all, list_any}
+use Rattle.std.specs.Str.{bytes_eq, chars}
 use Rattle.std.specs.Char.{is_ascii_alphabetic, is_ascii_alphanumeric}
 use Rattle.unicode_ident.specs.Ident.{is_xid_start, is_xid_continue}
 use Rattle.fut_scalar.specs.declared.scalar.IntType.{IntType}
@@ -57,6 +59,16 @@ keywords =
 
 unfoldable pub keyword : List ℕ → Option Fixed
 keyword cs = first_spelled cs keywords
+
+-- a text that is a name: one may be bound by it
+abbrev pub begins_name : List ℕ → Bool
+begins_name text = begins starts_name (chars text)
+
+abbrev pub is_keyword : List ℕ → Bool
+is_keyword text = list_any (λ f. bytes_eq (text_of f) text) keywords
+
+abbrev pub is_name : List ℕ → Bool
+is_name text = begins_name text && (list_all goes_on_name (chars text) && not (is_keyword text))
 
 -- the integer type that a word behind an integer names
 unfoldable pub suffix_of : List ℕ → Option IntType

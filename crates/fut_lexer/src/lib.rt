@@ -5,9 +5,11 @@
 mod classes;
 mod front;
 mod lexer;
+mod names;
 mod number;
 mod position;
 mod words;
 
 pub use fut_token::{Fixed, Lift, Token, TokenKind};
 pub use lexer::{LexErr, a_text_has_one_reading, lex};
+pub use names::is_name;

@@ -20,6 +20,9 @@ use Rattle.fut_meaning.specs.Resolved.{Resolved, Definitions_resolved, no_defini
 use Rattle.fut_meaning.proofs.SameNumbers.{numbers_same}
 use Rattle.fut_meaning.proofs.SamePrograms.{program_sim}
 use Rattle.fut_meaning.proofs.Sims.{go_back, go_forth}
+use Rattle.module_meaning.specs.Sizeless.{Sizeless, Definitions_sizeless}
+use Rattle.module_meaning.proofs.Told.{Told, definition_told}
+use Rattle.module_meaning.proofs.Sizes.{no_head, term_plain}
 use Rattle.module_meaning.specs.Sourced.{outside_of, No_sizes, Plain, Written, Plain_written, source_tops, written_form, written_decs, written, binds, named_values}
 use Rattle.fut_meaning.proofs.SameData.{all_datums_same, source_allows, source_reports, flat_allows, flat_reports}
 use Rattle.module_meaning.specs.Claims.{ElaboratedAddsNothing, ElaboratedLosesNothing, SameReports, SameResults}
@@ -31,11 +34,11 @@ use Rattle.module_meaning.proofs.Terms.{term_so, heads_more, heads_read}
 -- definitions resolved one after the other
 data Run : Scope → List Text → List Written → List FlatDefinition → Scope → List Text → Type 0 where
   run_none : {sc : Scope} {made : List Text} → Run sc made [] [] sc made
-  run_more : {sc sc' : Scope} {made m made' : List Text} {ws : List Written} {d : FlatDefinition} {fs : List FlatDefinition} (file : ℕ) (is_entry : Bool) (x : Text) (heads : List (Head Text)) (value : SourceTerm) → define file is_entry x heads value sc made ≡ Ok (d, m) → Run (a_value x d.bind ∷ sc) m ws fs sc' made' → Run sc made (record { name = x; parameters = source_parameters heads; value = value } ∷ ws) (d ∷ fs) sc' made'
+  run_more : {sc sc' : Scope} {made m made' : List Text} {ws : List Written} {d : FlatDefinition} {fs : List FlatDefinition} (file : ℕ) (is_entry : Bool) (x : Text) (heads : List (Head Text)) (value : SourceTerm) → Told value → define file is_entry x heads value sc made ≡ Ok (d, m) → Run (a_value x d.bind ∷ sc) m ws fs sc' made' → Run sc made (record { name = x; parameters = source_parameters heads; value = value } ∷ ws) (d ∷ fs) sc' made'
 
 run-append : {sc sc1 sc2 : Scope} {m m1 m2 : List Text} {ws us : List Written} {fs gs : List FlatDefinition} → Run sc m ws fs sc1 m1 → Run sc1 m1 us gs sc2 m2 → Run sc m (ws ++ us) (fs ++ gs) sc2 m2
 run-append run_none s = s
-run-append (run_more file is_entry x heads value e r) s = run_more file is_entry x heads value e (run-append r s)
+run-append (run_more file is_entry x heads value t e r) s = run_more file is_entry x heads value t e (run-append r s)
 
 -- from what was seen before some definitions to what is seen behind them
 abbrev Goes : Seen → List Written → List FlatDefinition → Seen → Type 0
@@ -52,12 +55,12 @@ chosen : {C A : Type 0} (t : Bool) (w : Refusal) (r : Result A Refusal) (z : A) 
 chosen true w r z e k = not_refused w z e
 chosen false w r z e k = k e
 
-def_goes : (file : ℕ) (is_entry : Bool) (x : Label) (heads : List (Head Text)) (value : SourceTerm) (s s' : Seen) (d : FlatDefinition) → behind x.name s (define file is_entry x.name heads value s.scope s.made) ≡ Ok (d, s') → Goes s (record { name = x.name; parameters = source_parameters heads; value = value } ∷ []) (d ∷ []) s'
-def_goes file is_entry x heads value s s' d e =
-    behind_is x.name s s' d _ e (λ m h i j. run_more file is_entry x.name heads value h (subst (λ z. Run (a_value x.name d.bind ∷ s.scope) m [] [] z s'.made) (sym i) (subst (λ z. Run (a_value x.name d.bind ∷ s.scope) m [] [] (a_value x.name d.bind ∷ s.scope) z) (sym j) run_none)))
+def_goes : (file : ℕ) (is_entry : Bool) (x : Label) (heads : List (Head Text)) (value : SourceTerm) (s s' : Seen) (d : FlatDefinition) → Told value → behind x.name s (define file is_entry x.name heads value s.scope s.made) ≡ Ok (d, s') → Goes s (record { name = x.name; parameters = source_parameters heads; value = value } ∷ []) (d ∷ []) s'
+def_goes file is_entry x heads value s s' d t e =
+    behind_is x.name s s' d _ e (λ m h i j. run_more file is_entry x.name heads value t h (subst (λ z. Run (a_value x.name d.bind ∷ s.scope) m [] [] z s'.made) (sym i) (subst (λ z. Run (a_value x.name d.bind ∷ s.scope) m [] [] (a_value x.name d.bind ∷ s.scope) z) (sym j) run_none)))
 
 form_goes : (file : ℕ) (at : Place) (l : DecLayer) (s s' : Seen) (d : FlatDefinition) → resolve_dec_form file at l s ≡ Ok (d, s') → Goes s (written_form l) (d ∷ []) s'
-form_goes file at (DecForm-F.Def is_entry x heads ps t e) s s' d h = chosen (has_text s.own x.name) _ _ (d, s') h (def_goes file is_entry x heads (definition_term ps t e) s s' d)
+form_goes file at (DecForm-F.Def is_entry x heads ps t e) s s' d h = chosen (has_text s.own x.name) _ _ (d, s') h (def_goes file is_entry x heads (definition_term ps t e) s s' d (definition_told ps t e))
 form_goes file at l s s' d h = not_refused _ (d, s') h
 
 dec_goes : (file : ℕ) (dec : Dec) (s s' : Seen) (d : FlatDefinition) → resolve_dec file dec s ≡ Ok (d, s') → Goes s (written_form (out-DecForm dec.form)) (d ∷ []) s'
@@ -108,7 +111,7 @@ below_value {n} {m} {sc} x b le lt r = record { below = λ y c e. either (bytes_
 tops_resolved : {sc sc' : Scope} {made made' : List Text} {ws : List Written} {fs : List FlatDefinition} (lo : ℕ) → Run sc made ws fs sc' made' → Below (length made) sc → Plain_written ws → Definitions_resolved (length made) (source_tops lo sc ws (binds fs)) (flat_tops lo (named_values fs))
 unfolding flat_tops
 tops_resolved lo run_none b p = no_definition
-tops_resolved {sc} {made = made} lo (run_more {m = m} {ws = ws} {d} {fs} file is_entry x heads value e r) b p =
+tops_resolved {sc} {made = made} lo (run_more {m = m} {ws = ws} {d} {fs} file is_entry x heads value t e r) b p =
     let y = define_so file is_entry x heads value sc made m d p.0 p.1 e in
     let le : length made ≤ length m = omega (arith, y.more) in
     let lt : d.bind.0 < length m = omega (arith, y.bind, y.more) in
@@ -131,9 +134,22 @@ nothing_below : {n : ℕ} → Below n []
 unfolding value_in
 nothing_below = record { below = λ x b e. absurd (let z : None ≡ Some b = e in cc) }
 
-pub elaborated : (ps : List Program) (flat : FlatProgram) → resolve_program ps ≡ Ok flat → Plain_written (written ps) → Definitions_resolved 0 (source_tops 0 [] (written ps) (binds flat.definitions)) (flat_tops 0 (named_values flat.definitions))
+definition_plain : (file : ℕ) (is_entry : Bool) (x : Text) (heads : List (Head Text)) (value : SourceTerm) (sc : Scope) (made m : List Text) (d : FlatDefinition) → Told value → No_sizes d.parameters → Sizeless d.value → define file is_entry x heads value sc made ≡ Ok (d, m) → No_sizes (source_parameters heads) × Plain value
+unfolding define
+definition_plain file is_entry x heads value sc made m d t n z e =
+    went _ _ _ e (λ h k i g. went _ _ _ g (λ v l j q.
+    (no_head (source_parameters heads) (with_text made x) (subst No_sizes (ap (λ w. w.parameters) (sym (ok_part q)) ∙ ap (λ w. w.0) (sym (ok_part i))) n),
+    term_plain value (enter h.1 sc) k l v t (subst Sizeless (ap (λ w. w.value) (sym (ok_part q))) z) j)))
+
+plain_tops : {sc sc' : Scope} {made made' : List Text} {ws : List Written} {fs : List FlatDefinition} → Run sc made ws fs sc' made' → Definitions_sizeless fs → Plain_written ws
+plain_tops run_none z = tt
+plain_tops {sc} {made = made} (run_more {m = m} {d = d} file is_entry x heads value t e r) z =
+    let y = definition_plain file is_entry x heads value sc made m d t z.0 z.1 e in
+    (y.0, y.1, plain_tops r z.2)
+
+pub elaborated : (ps : List Program) (flat : FlatProgram) → resolve_program ps ≡ Ok flat → Definitions_sizeless flat.definitions → Definitions_resolved 0 (source_tops 0 [] (written ps) (binds flat.definitions)) (flat_tops 0 (named_values flat.definitions))
 unfolding resolve_program
-elaborated ps flat e p = program_is _ flat e (λ s h. tops_resolved 0 (files_go 0 ps (record { own = []; scope = []; made = [] }) s flat.definitions h) nothing_below p)
+elaborated ps flat e z = program_is _ flat e (λ s h. let r = files_go 0 ps (record { own = []; scope = []; made = [] }) s flat.definitions h in tops_resolved 0 r nothing_below (plain_tops r z))
 
 pub elaborated_adds_nothing : ElaboratedAddsNothing
 elaborated_adds_nothing ps flat e p integer_at tight budget entry vs ws s o f x = go_back (program_sim integer_at tight budget entry true (elaborated ps flat e p) s) o f x

@@ -142,7 +142,7 @@ no_entries : {sc : Scope} {ls : Locals} {outside : Outside} → Reads sc ls outs
 unfolding enter
 no_entries r = r
 
-either_order : {C A E : Type 0} (t : Bool) {x y : Result A E} {z : A} → cond t x y ≡ Ok z → (x ≡ Ok z → C) → (y ≡ Ok z → C) → C
+pub either_order : {C A E : Type 0} (t : Bool) {x y : Result A E} {z : A} → cond t x y ≡ Ok z → (x ≡ Ok z → C) → (y ≡ Ok z → C) → C
 either_order true e f g = f e
 either_order false e f g = g e
 

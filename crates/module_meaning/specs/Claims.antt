@@ -11,7 +11,8 @@ use Rattle.fut_meaning.specs.Flats.{FlatValue, FlatTop, flat_names, flat_tops}
 use Rattle.fut_meaning.specs.Sources.{SourceValue, SourceTop, Source_means}
 use Rattle.fut_meaning.specs.Sames.{Same, All_same, Left, Right}
 use Rattle.module_scopes.specs.Programs.{FlatProgram, resolve_program}
-use Rattle.module_meaning.specs.Sourced.{written, Plain_written, source_tops, binds, named_values}
+use Rattle.module_meaning.specs.Sourced.{written, source_tops, binds, named_values}
+use Rattle.module_meaning.specs.Sizeless.{Definitions_sizeless}
 
 abbrev pub source_of : List Program → FlatProgram → List SourceTop
 source_of ps flat = source_tops 0 [] (written ps) (binds flat.definitions)
@@ -22,14 +23,14 @@ flat_of flat = flat_tops 0 (named_values flat.definitions)
 -- what the flat program allows, the files allow for the same arguments, with the same count
 abbrev pub ElaboratedAddsNothing : Type 0
 ElaboratedAddsNothing =
-    (ps : List Program) (flat : FlatProgram) → resolve_program ps ≡ Ok flat → Plain_written (written ps)
+    (ps : List Program) (flat : FlatProgram) → resolve_program ps ≡ Ok flat → Definitions_sizeless flat.definitions
     → (integer_at : ℕ → IntType) (tight : Bool) (budget entry : ℕ) (vs : List SourceValue) (ws : List FlatValue) → All_same Same vs ws
     → (o : Out FlatValue) (f : ℕ) → Program_means (flat_names integer_at) (plain tight) budget (flat_of flat) entry ws o f → Left Same (Source_means integer_at (plain tight) budget (source_of ps flat) entry vs) o f
 
 -- and what the files allow, the flat program does
 abbrev pub ElaboratedLosesNothing : Type 0
 ElaboratedLosesNothing =
-    (ps : List Program) (flat : FlatProgram) → resolve_program ps ≡ Ok flat → Plain_written (written ps)
+    (ps : List Program) (flat : FlatProgram) → resolve_program ps ≡ Ok flat → Definitions_sizeless flat.definitions
     → (integer_at : ℕ → IntType) (tight : Bool) (budget entry : ℕ) (vs : List SourceValue) (ws : List FlatValue) → All_same Same vs ws
     → (o : Out SourceValue) (f : ℕ) → Source_means integer_at (plain tight) budget (source_of ps flat) entry vs o f → Right Same (Program_means (flat_names integer_at) (plain tight) budget (flat_of flat) entry ws) o f
 
@@ -37,7 +38,7 @@ ElaboratedLosesNothing =
 -- the same count of words
 abbrev pub SameResults : Type 0
 SameResults =
-    (ps : List Program) (flat : FlatProgram) → resolve_program ps ≡ Ok flat → Plain_written (written ps)
+    (ps : List Program) (flat : FlatProgram) → resolve_program ps ≡ Ok flat → Definitions_sizeless flat.definitions
     → (integer_at : ℕ → IntType) (tight : Bool) (budget entry : ℕ) (arguments : List Datum) (result : Datum) (words : ℕ)
     → Program_means (flat_names integer_at) (plain tight) budget (flat_of flat) entry (all_values arguments) (Val (as_value result)) words
     ↔ Source_means integer_at (plain tight) budget (source_of ps flat) entry (all_values arguments) (Val (as_value result)) words
@@ -45,7 +46,7 @@ SameResults =
 -- and so is the report of a failure
 abbrev pub SameReports : Type 0
 SameReports =
-    (ps : List Program) (flat : FlatProgram) → resolve_program ps ≡ Ok flat → Plain_written (written ps)
+    (ps : List Program) (flat : FlatProgram) → resolve_program ps ≡ Ok flat → Definitions_sizeless flat.definitions
     → (integer_at : ℕ → IntType) (tight : Bool) (budget entry : ℕ) (arguments : List Datum) (report : Report) (words : ℕ)
     → Program_means (flat_names integer_at) (plain tight) budget (flat_of flat) entry (all_values arguments) (Fail report) words
     ↔ Source_means integer_at (plain tight) budget (source_of ps flat) entry (all_values arguments) (Fail report) words

@@ -1,2 +1,3 @@
 pub mod Sourced
+pub mod Sizeless
 pub mod Claims

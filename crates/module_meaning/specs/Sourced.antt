@@ -36,7 +36,7 @@ abbrev pub outside_of : Scope → Outside
 outside_of sc p = named_of (value_at sc some_place p)
 
 -- no size is named: the values of sizes come with arrays
-abbrev pub No_sizes : List (Parameter Label) → Type 0
+abbrev pub No_sizes : {B : Type 0} → List (Parameter B) → Type 0
 No_sizes [] = Unit {0}
 No_sizes (Size_parameter x ∷ hs) = ⊥
 No_sizes (Type_parameter x lifted ∷ hs) = No_sizes hs
