@@ -137,9 +137,10 @@ nothing_below = record { below = λ x b e. absurd (let z : None ≡ Some b = e i
 definition_plain : (file : ℕ) (is_entry : Bool) (x : Text) (heads : List (Head Text)) (value : SourceTerm) (sc : Scope) (made m : List Text) (d : FlatDefinition) → Told value → No_sizes d.parameters → Sizeless d.value → define file is_entry x heads value sc made ≡ Ok (d, m) → No_sizes (source_parameters heads) × Plain value
 unfolding define
 definition_plain file is_entry x heads value sc made m d t n z e =
-    went _ _ _ e (λ h k i g. went _ _ _ g (λ v l j q.
-    (no_head (source_parameters heads) (with_text made x) (subst No_sizes (ap (λ w. w.parameters) (sym (ok_part q)) ∙ ap (λ w. w.0) (sym (ok_part i))) n),
-    term_plain value (enter h.1 sc) k l v t (subst Sizeless (ap (λ w. w.value) (sym (ok_part q))) z) j)))
+    went _ _ _ e (λ h k i g. went _ _ _ g (λ v l j q. (
+      no_head (source_parameters heads) (with_text made x) (subst No_sizes (ap (λ w. w.parameters) (sym (ok_part q)) ∙ ap (λ w. w.0) (sym (ok_part i))) n),
+      term_plain value (enter h.1 sc) k l v t (subst Sizeless (ap (λ w. w.value) (sym (ok_part q))) z) j,
+    )))
 
 plain_tops : {sc sc' : Scope} {made made' : List Text} {ws : List Written} {fs : List FlatDefinition} → Run sc made ws fs sc' made' → Definitions_sizeless fs → Plain_written ws
 plain_tops run_none z = tt

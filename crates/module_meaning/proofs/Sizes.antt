@@ -44,19 +44,24 @@ mutual
       (λ g. went _ _ _ g (λ b m h w. went _ _ _ w (λ c l i q. let y = subst Sizeless (sym (ok_part q)) z in (term_plain f sc made m b n.0 y.0 h, term_plain a sc m l c n.1 y.1 i))))
   term_plain (Let b v body) sc made made' u n z e =
       went _ _ _ e (λ s m1 h1 g1. went _ _ _ g1 (λ p m2 h2 g2. went _ _ _ g2 (λ hs m3 h3 g3. went _ _ _ g3 (λ v' m4 h4 g4. went _ _ _ g4 (λ e' m5 h5 q.
-      let y = subst Sizeless (sym (ok_part q)) z in
-      (no_size b.sizes made (ap (λ w. w.0) (ok_part h1) ∙ y.0),
-      no_head b.parameters m2 (subst No_sizes (ap (λ w. w.0) (sym (ok_part h3))) y.1),
-      term_plain v _ m3 m4 v' n.0 y.2 h4, term_plain body _ m4 m5 e' n.1 y.3 h5))))))
+      let y = subst Sizeless (sym (ok_part q)) z in (
+        no_size b.sizes made (ap (λ w. w.0) (ok_part h1) ∙ y.0),
+        no_head b.parameters m2 (subst No_sizes (ap (λ w. w.0) (sym (ok_part h3))) y.1),
+        term_plain v _ m3 m4 v' n.0 y.2 h4,
+        term_plain body _ m4 m5 e' n.1 y.3 h5,
+      ))))))
   term_plain (If c a b) sc made made' u n z e =
       went _ _ _ e (λ c' m h w. went _ _ _ w (λ a' l i w'. went _ _ _ w' (λ b' k j q.
       let y = subst Sizeless (sym (ok_part q)) z in
       (term_plain c sc made m c' n.0 y.0 h, term_plain a sc m l a' n.1 y.1 i, term_plain b sc l k b' n.2 y.2 j))))
   term_plain (Loop mark sizes p first turns body) sc made made' u n z e =
       went _ _ _ e (λ s m1 h1 g1. went _ _ _ g1 (λ p' m2 h2 g2. went _ _ _ g2 (λ f m3 h3 g3. went _ _ _ g3 (λ t m4 h4 g4. went _ _ _ g4 (λ b m5 h5 q.
-      let y = subst Sizeless (sym (ok_part q)) z in
-      (no_size sizes made (ap (λ w. w.0) (ok_part h1) ∙ y.0),
-      term_plain first sc m2 m3 f n.0 y.1 h3, turns_plain turns _ _ m3 m4 t n.1 y.2 h4, term_plain body _ m4 m5 b n.2 y.3 h5))))))
+      let y = subst Sizeless (sym (ok_part q)) z in (
+        no_size sizes made (ap (λ w. w.0) (ok_part h1) ∙ y.0),
+        term_plain first sc m2 m3 f n.0 y.1 h3,
+        turns_plain turns _ _ m3 m4 t n.1 y.2 h4,
+        term_plain body _ m4 m5 b n.2 y.3 h5,
+      ))))))
 
   all_plain : (ts : Terms Spelled Label) (sc : Scope) (made made' : List Text) (us : Terms Ref BindId) → All_told ts → All_sizeless us → resolve_all ts sc made ≡ Ok (us, made') → All_plain ts
   all_plain no_term sc made made' us n z e = tt
