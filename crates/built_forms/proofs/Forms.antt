@@ -1,0 +1,108 @@
+-- Forms are built where their parts are.
+use Rattle.std.proofs.Common.{◌≡◌, ℕ, suc, ◌<◌, List, [], ◌∷◌, length, map, sym, subst, arith, Bor}
+use Rattle.std.specs.List.{All}
+use Rattle.fut_scalar.specs.declared.place.BindId.{BindId}
+use Rattle.fut_scalar.specs.declared.place.Place.{Place}
+use Rattle.fut_flat.specs.declared.act.Act.{Act}
+use Rattle.fut_flat.specs.declared.exp.Exp.{Exp}
+use Rattle.fut_flat.specs.declared.exp.Form.TheVariants as form
+use Rattle.fut_flat.specs.declared.exp.Let.{Let as LetTree}
+use Rattle.fut_flat.specs.declared.exp.Loop.{Loop as LoopTree}
+use Rattle.fut_flat.specs.declared.exp.LoopForm.{LoopForm}
+use Rattle.fut_flat.specs.declared.exp.LoopForm.TheVariants as turns
+use Rattle.fut_flat.specs.declared.pat.Pat.{Pat}
+use Rattle.fut_flat.specs.declared.prim.Ref.{Ref}
+use Rattle.fut_flat.specs.declared.program.Definition.{Definition}
+use Rattle.fut_flat.specs.Erased.{FlatTerm, Row, pattern_of, patterns, parameters, terms, lets, term_of}
+use Rattle.fut_flat.proofs.ErasedForms.{row_of, turns_of, row_is, loop_is, term_use, term_strict, term_lambda, term_apply, term_lets, term_if, term_loop, turns_counted, turns_while}
+use Rattle.fut_typing.specs.Program.{defined}
+use Rattle.typed_meaning.specs.Meant.{Has_parameter, No_sizes, Meant, All_meant}
+use Rattle.typed_meaning.specs.Walkable.{Walkable, All_walkable, how_many}
+use Rattle.typed_meaning.specs.Programs.{Definitions_meant}
+use Rattle.typed_meaning.specs.Walks.{Definitions_walkable}
+use Rattle.built_forms.specs.Trees.{any, Use_built, Term_built, Turns_built, Act_built, Exp_built, Heads_built, Let_built, Loop_built, Loop_turns_built, Definition_built}
+
+-- the first of a list, and the others
+abbrev pub first_of : {X : Type 0} (P : X → Type 0) (x : X) (xs : List X) → All P (x ∷ xs) → P x
+first_of P x xs h = h 0 x (omega arith)
+
+abbrev pub others : {X : Type 0} (P : X → Type 0) (x : X) (xs : List X) → All P (x ∷ xs) → All P xs
+others P x xs h = λ k d lt. h (suc k) d (omega arith)
+
+parts_built : (es : List Exp) → All Exp_built es → All_meant any (terms (map term_of es)) × All_walkable any (terms (map term_of es))
+unfolding terms Exp_built
+parts_built [] h = (tt, tt)
+parts_built (e ∷ es) h = let r = parts_built es (others Exp_built e es h) in let x = first_of Exp_built e es h in ((x.0, r.0), (x.1, r.1))
+
+row_built : (ls : List LetTree) (body : FlatTerm) → All Let_built ls → Term_built body → Term_built (lets (map row_of ls) body)
+unfolding lets Let_built Heads_built Exp_built
+row_built [] body h b = b
+row_built (l ∷ ls) body h b =
+    let r = row_built ls body (others Let_built l ls h) b in
+    let x = first_of Let_built l ls h in
+    let heads : No_sizes [] (parameters l.heads.now) = x.1 in
+    let sized : No_sizes l.sizes.now (parameters l.heads.now) = subst (λ (bs : List BindId). No_sizes bs (parameters l.heads.now)) (sym x.0) heads in
+    subst (λ (row : Row). (No_sizes row.0.sizes row.0.parameters × Meant any row.1 × Meant any (lets (map row_of ls) body)) × (No_sizes row.0.sizes row.0.parameters × Walkable any row.1 × Walkable any (lets (map row_of ls) body)))
+    (sym (row_is l)) ((sized, x.2.0, r.0), (sized, x.2.1, r.1))
+
+has_parameter : (ps : List Pat) → 0 < length ps → Has_parameter (patterns (map pattern_of ps))
+unfolding patterns
+has_parameter [] lt = absurd (let z : 0 < 0 = lt in omega arith)
+has_parameter (p ∷ ps) lt = tt
+
+as_term : (e : Exp) (t : FlatTerm) → term_of e ≡ t → Term_built t → Exp_built e
+unfolding Exp_built
+as_term e t is h = subst Term_built (sym is) h
+
+pub built_use : (e : Exp) (r : Ref) (k : ℕ) → e.form ≡ form.Use r k → Use_built r → Exp_built e
+built_use e r k is h = as_term e _ (term_use e r k is) h
+
+pub built_strict : (e : Exp) (a : Act) (mark : Place) (es : Bor (List Exp)) → e.form ≡ form.Strict a mark es → Act_built a → All Exp_built es.now → Exp_built e
+unfolding Act_built
+built_strict e a mark es is o h = let r = parts_built es.now h in as_term e _ (term_strict e a mark es is) ((o.0, r.0), (o.1 (how_many (terms (map term_of es.now))), r.1))
+
+pub built_lambda : (e : Exp) (ps : Bor (List Pat)) (b : Bor Exp) → e.form ≡ form.Lambda ps b → 0 < length ps.now → Exp_built b.now → Exp_built e
+unfolding Exp_built
+built_lambda e ps b is lt h = let p = has_parameter ps.now lt in as_term e _ (term_lambda e ps b is) ((p, h.0), (p, h.1))
+
+pub built_apply : (e : Exp) (f x : Bor Exp) → e.form ≡ form.Apply f x → Exp_built f.now → Exp_built x.now → Exp_built e
+unfolding Exp_built
+built_apply e f x is h k = as_term e _ (term_apply e f x is) ((h.0, k.0), (h.1, k.1))
+
+pub built_lets : (e : Exp) (ls : Bor (List LetTree)) (b : Bor Exp) → e.form ≡ form.Lets ls b → All Let_built ls.now → Exp_built b.now → Exp_built e
+unfolding Exp_built
+built_lets e ls b is h k = as_term e _ (term_lets e ls b is) (row_built ls.now (term_of b.now) h k)
+
+pub built_if : (e : Exp) (c a b : Bor Exp) → e.form ≡ form.If c a b → Exp_built c.now → Exp_built a.now → Exp_built b.now → Exp_built e
+unfolding Exp_built
+built_if e c a b is h k l = as_term e _ (term_if e c a b is) ((h.0, k.0, l.0), (h.1, k.1, l.1))
+
+pub built_loop : (e : Exp) (l : Bor LoopTree) → e.form ≡ form.Loop l → Loop_built l.now → Exp_built e
+unfolding Loop_built
+built_loop e l is h = as_term e _ (term_loop e l is) h
+
+pub loop_built : (l : LoopTree) → l.sizes.now ≡ [] → Exp_built l.first → Loop_turns_built l.form → Exp_built l.body → Loop_built l
+unfolding Loop_built Loop_turns_built Exp_built
+loop_built l none h k b =
+    let sized : No_sizes l.sizes.now [] = subst (λ (bs : List BindId). No_sizes bs []) (sym none) tt in
+    subst Term_built (sym (loop_is l)) ((sized, h.0, k.0, b.0), (sized, h.1, k.1, b.1))
+
+pub built_counted : (t : LoopForm) (i : BindId) (n : Exp) → t ≡ turns.For i n → Exp_built n → Loop_turns_built t
+unfolding Loop_turns_built Exp_built
+built_counted t i n is h = subst (λ (s : LoopForm). Turns_built (turns_of s)) (sym is) (subst Turns_built (sym (turns_counted i n)) h)
+
+pub built_while : (t : LoopForm) (c : Exp) → t ≡ turns.While c → Exp_built c → Loop_turns_built t
+unfolding Loop_turns_built Exp_built
+built_while t c is h = subst (λ (s : LoopForm). Turns_built (turns_of s)) (sym is) (subst Turns_built (sym (turns_while c)) h)
+
+-- ---- programs
+
+pub definitions_meant : (ds : List Definition) → All Definition_built ds → Definitions_meant (map defined ds)
+unfolding Definition_built Heads_built Exp_built
+definitions_meant [] h = tt
+definitions_meant (d ∷ ds) h = let x = first_of Definition_built d ds h in (x.0, x.1.0, definitions_meant ds (others Definition_built d ds h))
+
+pub definitions_walkable : (ds : List Definition) → All Definition_built ds → Definitions_walkable (map defined ds)
+unfolding Definition_built Heads_built Exp_built
+definitions_walkable [] h = tt
+definitions_walkable (d ∷ ds) h = let x = first_of Definition_built d ds h in (x.0, x.1.1, definitions_walkable ds (others Definition_built d ds h))
