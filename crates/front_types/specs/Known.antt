@@ -1,0 +1,16 @@
+-- What is known of a program that has a typing: it has only forms that are built, and inference tells its types.
+use Rattle.std.specs.Prelude.{◌≡◌}
+use Rattle.fut_flat.specs.declared.program.Flat.{Flat}
+use Rattle.fut_typing.specs.Program.{program_of}
+use Rattle.type_infer.specs.Inferring.{Infers}
+use Rattle.built_forms.specs.Built.{Is_built}
+use Rattle.front_types.specs.declared.typed.Accepted.{Accepted}
+
+pub record Is_known (accepted : Accepted) : Type 0 where
+  pub built : Is_built accepted.flat
+  pub infers : Infers (program_of accepted.flat) accepted.inference
+
+-- and it is this one
+pub record Knows (flat : Flat) (accepted : Accepted) : Type 0 where
+  pub is : accepted.flat ≡ flat
+  pub known : Is_known accepted
