@@ -1,0 +1,109 @@
+-- What the stages give, put together.
+use Rattle.std.proofs.Common.{◌≡◌, List, [], ◌∷◌, map, Result, Ok, Err, refl, sym, ◌∙◌, ap, subst}
+use Rattle.std.specs.Prelude.{None}
+use Rattle.unbuilt_tokens.specs.Unbuilt.{first_unbuilt}
+use Rattle.fut_ast.specs.declared.module.Program.{Program}
+use Rattle.fut_token.specs.declared.token.Token.{Token}
+use Rattle.fut_flat.specs.declared.program.Definition.{Definition}
+use Rattle.fut_flat.specs.declared.program.Flat.{Flat}
+use Rattle.fut_typing.specs.Names.{Names}
+use Rattle.fut_typing.specs.Program.{Defined, defined, program_of as typing_of}
+use Rattle.fut_typing.specs.Answers.{NoType, FunctionPlace, Ambiguous}
+use Rattle.module_scopes.specs.Names.{Refusal}
+use Rattle.module_scopes.specs.Programs.{FlatProgram, resolve_program}
+use Rattle.module_elab.specs.Elaborated.{definition_of, program_of as flat_of}
+use Rattle.type_infer.specs.Inferring.{Has_typing, Infers}
+use Rattle.type_scopes.specs.declared.Inference.{Inference}
+use Rattle.front_types.specs.Known.{Knows}
+use Rattle.front_types.specs.Mistyped.{Some_numbering}
+use Rattle.front_types.specs.declared.typed.Accepted.{Accepted}
+use Rattle.front_types.specs.declared.typed.TypeErr.TheVariants as types
+use Rattle.front_types.proofs.Numbered.{numbered}
+use Rattle.front.specs.Acceptance.{Is_accepted, IsBuiltProgram, IsParsed, IsPrelude, IsResolved, IsUntyped, Resolves, Typable, definitions_of, defined_of}
+use Rattle.front.specs.Stages.{Explains, IsMisnamed, Misnames, Untyped}
+use Rattle.front.specs.declared.refusals.NameErr.TheVariants as names
+use Rattle.front.specs.declared.refusals.Refused.{Refused}
+use Rattle.front.specs.declared.refusals.Refused.TheVariants as why
+
+-- ---- definitions, as they are resolved and as typing speaks of them
+
+all_same : (ds : List Definition) → map defined_of (map definition_of ds) ≡ map defined ds
+all_same [] = refl
+all_same (d ∷ ds) = ap (λ l. defined d ∷ l) (all_same ds)
+
+pub same_definitions : (flat : Flat) → definitions_of (flat_of flat) ≡ typing_of flat
+same_definitions flat = all_same flat.definitions.now
+
+-- ---- types
+
+typable : (ds : List Defined) (i : Inference) → Infers ds i → Some_numbering (λ N. Typable N ds)
+typable ds i infers = let has = numbered (Has_typing ds i) i infers.typing in (has.0, has.1, (has.2.types, has.2.typing))
+
+-- ---- names
+
+-- of the prelude and a program names are refused so
+pub refused_so : (prelude program : Program) (ps : List Program) (refused : Refused) → IsPrelude prelude → ps ≡ prelude ∷ program ∷ [] → Misnames (resolve_program ps) refused → IsMisnamed program refused
+refused_so prelude program ps (why.Parse err) is same m = m
+refused_so prelude program ps (why.NotBuilt at) is same m = m
+refused_so prelude program ps (why.Names (names.Unbound name at)) is same m = record { prelude = prelude; is_prelude = is; resolved = ap resolve_program (sym same) ∙ m }
+refused_so prelude program ps (why.Names (names.Twice name at)) is same m = record { prelude = prelude; is_prelude = is; resolved = ap resolve_program (sym same) ∙ m }
+refused_so prelude program ps (why.Names (names.NoMember name at)) is same m = record { prelude = prelude; is_prelude = is; resolved = ap resolve_program (sym same) ∙ m }
+refused_so prelude program ps (why.Types err) is same m = m
+refused_so prelude program ps why.Memory is same m = tt
+
+-- ---- the whole
+
+module _ (tokens : List Token) (program : Program) (spelled : IsBuiltProgram tokens program) where
+  pub named : (answer : Result FlatProgram Refusal) → Resolves program answer → IsResolved tokens answer
+  named answer resolves = record { program = program; spelled = spelled; resolves = resolves }
+
+  pub accepted : (flat : Flat) (a : Accepted) → Resolves program (Ok (flat_of flat)) → Knows flat a → Is_accepted tokens a
+  accepted flat a resolves knows = record {
+    acceptable = record {
+      resolved = named (Ok (flat_of a.flat)) (subst (λ f. Resolves program (Ok (flat_of f))) (sym knows.is) resolves);
+      typed = subst (λ ds. Some_numbering (λ N. Typable N ds)) (sym (same_definitions a.flat)) (typable (typing_of a.flat) a.inference knows.known.infers);
+    };
+    known = knows.known;
+  }
+
+  -- names are refused so
+  pub misnamed : (refused : Refused) → IsMisnamed program refused → Explains tokens refused
+  misnamed (why.Parse err) m = absurd m
+  misnamed (why.NotBuilt at) m = absurd m
+  misnamed (why.Names (names.Unbound name at)) m = named _ m
+  misnamed (why.Names (names.Twice name at)) m = named _ m
+  misnamed (why.Names (names.NoMember name at)) m = named _ m
+  misnamed (why.Types err) m = absurd m
+  misnamed why.Memory m = tt
+
+  untyped : (Lacks : Names → List Defined → Type 0) (flat : Flat) → Resolves program (Ok (flat_of flat)) → Some_numbering (λ N. Lacks N (typing_of flat)) → IsUntyped tokens Lacks
+  untyped Lacks flat resolves some = record {
+    flat = flat_of flat;
+    resolved = named (Ok (flat_of flat)) resolves;
+    lacks = subst (λ ds. Some_numbering (λ N. Lacks N ds)) (sym (same_definitions flat)) some;
+  }
+
+  -- types are refused so
+  pub mistyped : (flat : Flat) (refused : Refused) → Resolves program (Ok (flat_of flat)) → Untyped (typing_of flat) refused → Explains tokens refused
+  mistyped flat (why.Parse err) resolves m = absurd m
+  mistyped flat (why.NotBuilt at) resolves m = absurd m
+  mistyped flat (why.Names err) resolves m = absurd m
+  mistyped flat (why.Types (types.NoType at)) resolves m = untyped NoType flat resolves m
+  mistyped flat (why.Types (types.FunctionPlace at)) resolves m = untyped FunctionPlace flat resolves m
+  mistyped flat (why.Types (types.Ambiguous at)) resolves m = untyped Ambiguous flat resolves m
+  mistyped flat (why.Types types.Memory) resolves m = absurd m
+  mistyped flat why.Memory resolves m = tt
+
+-- ---- as the stages answer
+
+module _ (tokens : List Token) (program : Program) (parsed : IsParsed tokens program) (built : first_unbuilt tokens ≡ None) where
+  pub accepts : (flat : Flat) (a : Accepted) → Resolves program (Ok (flat_of flat)) → Knows flat a → Is_accepted tokens a
+  accepts = accepted tokens program (record { parsed = parsed; built = built })
+
+  pub misnames : (refused : Refused) → IsMisnamed program refused → Explains tokens refused
+  misnames = misnamed tokens program (record { parsed = parsed; built = built })
+
+  pub mistypes : (flat : Flat) (refused : Refused) → Resolves program (Ok (flat_of flat)) → Untyped (typing_of flat) refused → Explains tokens refused
+  mistypes = mistyped tokens program (record { parsed = parsed; built = built })
+
+pub ruleset joining = (accepts, misnames, mistypes)

@@ -1,0 +1,10 @@
+use Rattle.std.proofs.Common.{rules, ◌≡◌}
+use Rattle.std.specs.Prelude.{None}
+use Rattle.unbuilt_tokens.specs.Unbuilt.{first_unbuilt}
+use Rattle.front.proofs.Joining.{accepts}
+use Rattle.front.proofs.accepting.accept.Goals as goal
+
+pub returns-in-Ok-typed-clause-accepted : goal.returns-in-Ok-typed-clause-accepted
+returns-in-Ok-typed-clause-accepted c =
+    let built : first_unbuilt c.args.tokens.now ≡ None = search rules in
+    accepts c.args.tokens.now c.in-Ok.program c.in-Ok.ensures.ok built c.in-Ok-resolved.flat c.in-Ok-typed.accepted c.in-Ok-resolved.ensures.ok c.in-Ok-typed.ensures.ok

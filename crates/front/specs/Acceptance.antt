@@ -1,0 +1,151 @@
+-- When the tokens of a file are an accepted program, and why others are not. The prelude is file 0, the file itself file 1.
+use Rattle.std.specs.Prelude.{◌≡◌, ◌≤◌, ◌<◌, ℕ, List, [], ◌∷◌, map, Option, None, Some, Result, Ok, Err, true}
+use Rattle.fut_scalar.specs.declared.place.Place.{Place}
+use Rattle.fut_token.specs.declared.token.Token.{Token}
+use Rattle.fut_lexer.specs.Lexing.{HasTokens}
+use Rattle.fut_ast.specs.Grammar.{Derives}
+use Rattle.fut_ast.specs.LeftOut.{begins_left_out}
+use Rattle.fut_ast.specs.Nesting.{Too_deep}
+use Rattle.fut_ast.specs.declared.module.Program.{Program}
+use Rattle.fut_parser.specs.Places.{Ends, place_of}
+use Rattle.fut_parser.specs.declared.programs.ParseErr.{ParseErr}
+use Rattle.fut_parser.specs.declared.programs.ParseErr.TheVariants as parse
+use Rattle.fut_flat.specs.Terms.{Bound_pattern}
+use Rattle.fut_types.specs.Types.{Sub}
+use Rattle.fut_typing.specs.Names.{Names, AreNames}
+use Rattle.fut_typing.specs.Program.{Defined}
+use Rattle.fut_typing.specs.Answers.{Typing_is, NoType, FunctionPlace, Ambiguous}
+use Rattle.module_scopes.specs.Names.{Refusal}
+use Rattle.module_scopes.specs.Names as refusal
+use Rattle.module_scopes.specs.Programs.{FlatDefinition, FlatProgram, resolve_program}
+use Rattle.module_elab.specs.Elaborated.{program_of as flat_of}
+use Rattle.module_elab.specs.declared.prelude.TheConstants.{PRELUDE}
+use Rattle.unbuilt_tokens.specs.Unbuilt.{first_unbuilt}
+use Rattle.front_types.specs.Known.{Is_known}
+use Rattle.front_types.specs.Mistyped.{Some_numbering}
+use Rattle.front_types.specs.declared.typed.Accepted.{Accepted}
+use Rattle.front.specs.declared.refusals.NameErr.TheVariants as names
+use Rattle.front_types.specs.declared.typed.TypeErr.TheVariants as types
+use Rattle.front.specs.declared.refusals.Refused.{Refused}
+use Rattle.front.specs.declared.refusals.Refused.TheVariants as why
+
+-- ---- the grammar
+
+abbrev pub prelude_file : ℕ
+prelude_file = 0
+
+abbrev pub named_file : ℕ
+named_file = 1
+
+-- the tokens spell this program and no other, nested at most 200 deep
+pub record IsParsed (tokens : List Token) (program : Program) : Type 0 where
+  pub height : ℕ
+  pub spelled : Derives tokens program height
+  pub flat : height ≤ 201
+  pub only : (other : Program) (h : ℕ) → Derives tokens other h → other ≡ program
+
+-- this is the place of one of the tokens, or of the last one, and of the tokens from there on this holds
+abbrev pub StandsAt : List Token → Place → (List Token → Type 0) → Type 0
+StandsAt tokens place Holds = (rest : List Token) × Ends tokens rest × (place ≡ place_of named_file tokens rest) × Holds rest
+
+-- the tokens are no program
+pub record IsNoProgram (tokens : List Token) (place : Place) (Holds : List Token → Type 0) : Type 0 where
+  pub none : (program : Program) (h : ℕ) → Derives tokens program h → ⊥
+  pub stands : StandsAt tokens place Holds
+
+-- the nodes of the tokens are nested too deep
+pub record IsTooDeep (tokens : List Token) (place : Place) : Type 0 where
+  pub deep : (program : Program) (h : ℕ) → Derives tokens program h → 201 < h
+  pub stands : StandsAt tokens place (Too_deep tokens)
+
+-- why the tokens spell no program that is nested at most 200 deep
+abbrev pub Unspelled : List Token → ParseErr → Type 0
+Unspelled tokens (parse.Syntax place) = IsNoProgram tokens place (λ rest. Unit {0})
+Unspelled tokens (parse.LeftOut place what) = IsNoProgram tokens place (λ rest. begins_left_out what rest ≡ true)
+Unspelled tokens (parse.TooDeep place) = IsTooDeep tokens place
+Unspelled tokens parse.Memory = ⊥
+
+-- ---- names
+
+abbrev pub IsPreludeText : List Token → Type 0
+IsPreludeText tokens = HasTokens prelude_file PRELUDE.now tokens
+
+-- what the text of the prelude spells
+pub record IsPrelude (prelude : Program) : Type 0 where
+  pub tokens : List Token
+  pub lexed : IsPreludeText tokens
+  pub parsed : IsParsed tokens prelude
+
+-- behind the prelude the names of a file are resolved to this: its flat program, or the first refusal in order of text
+pub record Resolves (program : Program) (answer : Result FlatProgram Refusal) : Type 0 where
+  pub prelude : Program
+  pub is_prelude : IsPrelude prelude
+  pub resolved : resolve_program (prelude ∷ program ∷ []) ≡ answer
+
+-- ---- types
+
+abbrev pub defined_of : FlatDefinition → Defined
+defined_of d = record { name = Bound_pattern d.bind; parameters = d.parameters; value = d.value }
+
+-- the definitions of a flat program, as typing speaks of them
+abbrev pub definitions_of : FlatProgram → List Defined
+definitions_of flat = map defined_of flat.definitions
+
+abbrev pub Typable : Names → List Defined → Type 0
+Typable N ds = (types : Sub) × Typing_is N ds types
+
+-- ---- what is accepted
+
+-- the tokens spell this program, in which no token of a form stands that is not built
+pub record IsBuiltProgram (tokens : List Token) (program : Program) : Type 0 where
+  pub parsed : IsParsed tokens program
+  pub built : first_unbuilt tokens ≡ None
+
+-- and its names are resolved to this
+pub record IsResolved (tokens : List Token) (answer : Result FlatProgram Refusal) : Type 0 where
+  pub program : Program
+  pub spelled : IsBuiltProgram tokens program
+  pub resolves : Resolves program answer
+
+-- The tokens are accepted: behind the prelude they are this flat program, and names and records can be numbered so that it
+-- has a typing.
+pub record IsAcceptable (tokens : List Token) (flat : FlatProgram) : Type 0 where
+  pub resolved : IsResolved tokens (Ok flat)
+  pub typed : Some_numbering (λ N. Typable N (definitions_of flat))
+
+-- the same, and it has one however they are numbered
+pub record IsSurelyAcceptable (tokens : List Token) (flat : FlatProgram) : Type 0 where
+  pub resolved : IsResolved tokens (Ok flat)
+  pub typed : (N : Names) → AreNames N → Typable N (definitions_of flat)
+
+-- what is answered of tokens that are accepted
+pub record Is_accepted (tokens : List Token) (accepted : Accepted) : Type 0 where
+  pub acceptable : IsAcceptable tokens (flat_of accepted.flat)
+  pub known : Is_known accepted
+
+-- ---- what is not accepted, and why
+
+-- their flat program has no typing to go on with
+pub record IsUntyped (tokens : List Token) (Lacks : Names → List Defined → Type 0) : Type 0 where
+  pub flat : FlatProgram
+  pub resolved : IsResolved tokens (Ok flat)
+  pub lacks : Some_numbering (λ N. Lacks N (definitions_of flat))
+
+-- it is a program, in which at this place a token of a form stands that is not built, and none before
+pub record IsUnbuilt (tokens : List Token) (at : Place) : Type 0 where
+  pub program : Program
+  pub parsed : IsParsed tokens program
+  pub unbuilt : first_unbuilt tokens ≡ Some at
+
+-- why the tokens are not accepted. Want of memory says nothing of them.
+abbrev pub Unaccepted : List Token → Refused → Type 0
+Unaccepted tokens (why.Parse err) = Unspelled tokens err
+Unaccepted tokens (why.NotBuilt at) = IsUnbuilt tokens at
+Unaccepted tokens (why.Names (names.Unbound name at)) = IsResolved tokens (Err (refusal.Unbound name at))
+Unaccepted tokens (why.Names (names.Twice name at)) = IsResolved tokens (Err (refusal.Twice name at))
+Unaccepted tokens (why.Names (names.NoMember name at)) = IsResolved tokens (Err (refusal.NoMember name at))
+Unaccepted tokens (why.Types (types.NoType at)) = IsUntyped tokens NoType
+Unaccepted tokens (why.Types (types.FunctionPlace at)) = IsUntyped tokens FunctionPlace
+Unaccepted tokens (why.Types (types.Ambiguous at)) = IsUntyped tokens Ambiguous
+Unaccepted tokens (why.Types types.Memory) = ⊥
+Unaccepted tokens why.Memory = ⊥

@@ -1,0 +1,55 @@
+-- What the stages of the front answer.
+use Rattle.std.specs.Prelude.{◌≡◌, List, Result, Ok, Err}
+use Rattle.fut_token.specs.declared.token.Token.{Token}
+use Rattle.fut_ast.specs.declared.module.Program.{Program}
+use Rattle.fut_parser.specs.declared.programs.ParseErr.{ParseErr}
+use Rattle.fut_parser.specs.declared.programs.ParseErr.TheVariants as parse
+use Rattle.fut_typing.specs.Program.{Defined}
+use Rattle.module_scopes.specs.Names.{Refusal}
+use Rattle.module_scopes.specs.Names as refusal
+use Rattle.module_scopes.specs.Programs.{FlatProgram}
+use Rattle.front_types.specs.Mistyped.{Mistyped}
+use Rattle.front_types.specs.declared.typed.TypeErr.TheVariants as types
+use Rattle.front.specs.Acceptance.{Resolves, Unaccepted, Unspelled}
+use Rattle.front.specs.declared.refusals.NameErr.TheVariants as names
+use Rattle.front.specs.declared.refusals.Refused.{Refused}
+use Rattle.front.specs.declared.refusals.Refused.TheVariants as why
+
+-- memory ran out, or the tokens spell no program for this reason
+abbrev pub Misspells : List Token → ParseErr → Type 0
+Misspells tokens parse.Memory = Unit {0}
+Misspells tokens err = Unspelled tokens err
+
+-- memory ran out, or names are refused so
+abbrev pub Misnames : Result FlatProgram Refusal → Refused → Type 0
+Misnames answer (why.Parse err) = ⊥
+Misnames answer (why.NotBuilt at) = ⊥
+Misnames answer (why.Names (names.Unbound name at)) = answer ≡ Err (refusal.Unbound name at)
+Misnames answer (why.Names (names.Twice name at)) = answer ≡ Err (refusal.Twice name at)
+Misnames answer (why.Names (names.NoMember name at)) = answer ≡ Err (refusal.NoMember name at)
+Misnames answer (why.Types err) = ⊥
+Misnames answer why.Memory = Unit {0}
+
+-- memory ran out, or the names of a program are refused so
+abbrev pub IsMisnamed : Program → Refused → Type 0
+IsMisnamed program (why.Parse err) = ⊥
+IsMisnamed program (why.NotBuilt at) = ⊥
+IsMisnamed program (why.Names (names.Unbound name at)) = Resolves program (Err (refusal.Unbound name at))
+IsMisnamed program (why.Names (names.Twice name at)) = Resolves program (Err (refusal.Twice name at))
+IsMisnamed program (why.Names (names.NoMember name at)) = Resolves program (Err (refusal.NoMember name at))
+IsMisnamed program (why.Types err) = ⊥
+IsMisnamed program why.Memory = Unit {0}
+
+-- memory ran out, or these definitions have no typing to go on with
+abbrev pub Untyped : List Defined → Refused → Type 0
+Untyped ds (why.Parse err) = ⊥
+Untyped ds (why.NotBuilt at) = ⊥
+Untyped ds (why.Names err) = ⊥
+Untyped ds (why.Types types.Memory) = ⊥
+Untyped ds (why.Types err) = Mistyped ds err
+Untyped ds why.Memory = Unit {0}
+
+-- memory ran out, or the tokens are not accepted for this reason
+abbrev pub Explains : List Token → Refused → Type 0
+Explains tokens why.Memory = Unit {0}
+Explains tokens reason = Unaccepted tokens reason

@@ -1,0 +1,155 @@
+// From tokens to an accepted program.
+ghost use Rattle.std.specs.Prelude.{◌≡◌, [], ◌∷◌, IfOk, IfErr, Ok, Result};
+ghost use Rattle.module_scopes.specs.Names.{Refusal};
+ghost use Rattle.module_scopes.specs.Programs.{FlatProgram};
+ghost use Rattle.fut_tree.specs.Names.{all};
+ghost use Rattle.fut_typing.specs.Program.{program_of as typing_of};
+ghost use Rattle.module_elab.specs.Elaborated.{program_of as flat_of, Tells};
+ghost use Rattle.front.specs.Acceptance.{Is_accepted, IsParsed, IsPreludeText, Resolves};
+ghost use Rattle.front_types.specs.Known.{Knows};
+ghost use Rattle.front.specs.Stages.{Explains, IsMisnamed, Misnames, Misspells, Untyped};
+
+use crate::reading::{Prelude, prelude_tree};
+use crate::refusals::{NameErr, Refused};
+use bumpalo::Bump;
+use front_types::{Accepted, TypeErr, typed_program};
+use fut_flat::Flat;
+use fut_parser::{ParseErr, parse};
+use fut_scalar::{Name, NoMemory};
+use fut_token::Token;
+use fut_tree::{Held, Program};
+use module_elab::{ModErr, PRELUDE_PATH, SourceSet, elaborate};
+use std::alloc::Global;
+use unbuilt_tokens::first_unbuilt;
+
+/// The number of the named file: the first in load order.
+const NAMED_FILE: u32 = 1;
+
+/// The paths of the files. No name of a file is asked for here.
+const PATHS: [&str; 2] = [PRELUDE_PATH, ""];
+
+/// The program that the tokens of the file spell.
+fn parsed<'a>(bump: &'a Bump, tokens: &'a [Token]) -> Result<Program<'a>, ParseErr>
+    ensures ok { IfOk result (IsParsed tokens.now) }
+    ensures err { IfErr result (Misspells tokens.now) }
+{
+    parse(bump, NAMED_FILE, tokens)
+}
+
+/// A tree, held by the arena.
+fn held<'a>(bump: &'a Bump, program: Program<'a>) -> Result<Held<'a, Program<'a>>, NoMemory>
+    ensures { IfOk result (λ held. held.at.now ≡ program.entry) }
+{
+    match bump.try_alloc(program) {
+        Ok(at) => Ok(Held { at }),
+        Err(_) => Err(NoMemory),
+    }
+}
+
+/// The prelude and a file, in load order.
+fn source_set<'a>(
+    bump: &'a Bump,
+    prelude: Program<'a>,
+    program: Program<'a>,
+) -> Result<SourceSet<'a>, NoMemory>
+    ensures { IfOk result (λ set. all set.programs.now ≡ prelude.entry ∷ program.entry ∷ []) }
+{
+    let prelude = held(bump, prelude)?;
+    let program = held(bump, program)?;
+    match bump.try_alloc_slice_copy(&[prelude, program]) {
+        Ok(programs) => Ok(SourceSet {
+            names: &PATHS,
+            programs,
+        }),
+        Err(_) => Err(NoMemory),
+    }
+}
+
+/// A refusal of names, which owns its name. One of a form that is not built, which tokens tell before, is want of memory.
+fn misnamed(alloc: Global, err: ModErr<'_>) -> Refused
+    ensures { (answer : Result FlatProgram Refusal) → Tells answer err.entry → Misnames answer result }
+{
+    match err {
+        ModErr::Unbound { name, at } => match Name::new(alloc, name) {
+            Ok(name) => Refused::Names(NameErr::Unbound { name, at }),
+            Err(_) => Refused::Memory,
+        },
+        ModErr::Twice { name, at } => match Name::new(alloc, name) {
+            Ok(name) => Refused::Names(NameErr::Twice { name, at }),
+            Err(_) => Refused::Memory,
+        },
+        ModErr::NoMember { name, at } => match Name::new(alloc, name) {
+            Ok(name) => Refused::Names(NameErr::NoMember { name, at }),
+            Err(_) => Refused::Memory,
+        },
+        ModErr::NotYet { at: _ } => Refused::Memory,
+        ModErr::Memory => Refused::Memory,
+    }
+}
+
+/// The flat program of the prelude and a file.
+fn resolved<'a>(
+    alloc: Global,
+    bump: &'a Bump,
+    prelude: &'a Prelude,
+    program: Program<'a>,
+) -> Result<Flat<'a>, Refused>
+    requires prelude { IsPreludeText prelude.now.tokens }
+    ensures ok { IfOk result (λ flat. Resolves program.entry (Ok (flat_of flat))) }
+    ensures err { IfErr result (IsMisnamed program.entry) }
+{
+    let Ok(prelude) = prelude_tree(bump, prelude) else {
+        return Err(Refused::Memory);
+    };
+    let Ok(set) = source_set(bump, prelude, program) else {
+        return Err(Refused::Memory);
+    };
+    match elaborate(alloc, bump, &set) {
+        Ok(flat) => Ok(flat),
+        Err(err) => Err(misnamed(alloc, err)),
+    }
+}
+
+/// The types of a flat program.
+fn typed<'a>(alloc: Global, flat: Flat<'a>) -> Result<Accepted<'a>, Refused>
+    ensures ok { IfOk result (Knows flat.entry) }
+    ensures err { IfErr result (Untyped (typing_of flat.entry)) }
+{
+    match typed_program(alloc, flat) {
+        Ok(accepted) => Ok(accepted),
+        Err(TypeErr::Memory) => Err(Refused::Memory),
+        Err(err) => Err(Refused::Types(err)),
+    }
+}
+
+/// The program that the tokens of a file spell behind the prelude, or why it is not accepted. Its trees lie in the arena.
+///
+/// The cost is linear in the tokens, but for what types cost.
+#[tactic(auto, using(crate::proofs::Joining::joining))]
+pub fn accept<'a>(
+    alloc: Global,
+    bump: &'a Bump,
+    prelude: &'a Prelude,
+    tokens: &'a [Token],
+) -> Result<Accepted<'a>, Refused>
+    requires prelude { IsPreludeText prelude.now.tokens }
+    ensures accepted { IfOk result (Is_accepted tokens.now) }
+    ensures refused { IfErr result (Explains tokens.now) }
+{
+    let program = match parsed(bump, tokens) {
+        Ok(program) => program,
+        Err(ParseErr::Memory) => return Err(Refused::Memory),
+        Err(err) => return Err(Refused::Parse(err)),
+    };
+    if let Some(at) = first_unbuilt(tokens) {
+        return Err(Refused::NotBuilt { at });
+    }
+    let flat = match resolved(alloc, bump, prelude, program) {
+        Ok(flat) => flat,
+        Err(refused) => return Err(refused),
+    };
+    match typed(alloc, flat) {
+        Ok(accepted) => Ok(accepted),
+        Err(refused) => Err(refused),
+    }
+}

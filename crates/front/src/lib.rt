@@ -1,0 +1,17 @@
+//! The front: from the tokens of a file to an accepted program, and to the definition that a run begins at.
+//!
+//! What [`accept`] answers is told by `specs/Acceptance.antt`: the tokens spell a program and no other; no token of a form
+//! that is not built stands in it; its names are bound behind the prelude; and it has a typing. A refusal comes only where
+//! its cause stands there. All trees lie in one arena.
+#![tactic(auto)]
+
+mod accepting;
+mod laws;
+mod reading;
+mod refusals;
+
+pub use accepting::accept;
+pub use front_types::{Accepted, TypeErr};
+pub use laws::tokens_have_one_answer;
+pub use reading::{Prelude, read_prelude};
+pub use refusals::{NameErr, Refused};
