@@ -3,3 +3,4 @@ pub mod Values
 pub mod Dimensions
 pub mod Integers
 pub mod RoundTrip
+pub mod Texts

@@ -1,5 +1,10 @@
 // Laws of the text of values, each carried by a call.
-ghost use Rattle.value_text.specs.Claims.{FoundIntegersStand, IntegersAreFound, OutputReadsBack, TextReadsBack};
+ghost use Rattle.value_text.specs.Claims.{FoundIntegersStand, IntegersAreFound, OutputReadsBack, TextReadsBack, TextsAreRead};
+
+/// The law that a text of the grammar (`specs/Grammar.antt`) reads as its values.
+pub fn texts_are_read()
+    ensures { TextsAreRead }
+{}
 
 /// The law that the text of a value reads as that value, and what is printed reads as the values that were printed.
 pub fn printed_values_read_back()
