@@ -4,3 +4,4 @@ pub mod Dimensions
 pub mod Integers
 pub mod RoundTrip
 pub mod Texts
+pub mod Sound

@@ -25,10 +25,10 @@ use Rattle.value_text.specs.declared.numbers.Base.TheVariants.{Decimal, Hexadeci
 
 -- ---- tests
 
-second : {A : Type 0} (s t : Bool) (x y z : A) → s ≡ false → t ≡ true → cond s x (cond t y z) ≡ y
+pub second : {A : Type 0} (s t : Bool) (x y z : A) → s ≡ false → t ≡ true → cond s x (cond t y z) ≡ y
 second s t x y z e f = ap (λ b. cond b x (cond t y z)) e ∙ ap (λ b. cond b y z) f
 
-third : {A : Type 0} (s t : Bool) (x y z : A) → s ≡ false → t ≡ false → cond s x (cond t y z) ≡ z
+pub third : {A : Type 0} (s t : Bool) (x y z : A) → s ≡ false → t ≡ false → cond s x (cond t y z) ≡ z
 third s t x y z e f = ap (λ b. cond b x (cond t y z)) e ∙ ap (λ b. cond b y z) f
 
 never : (s t : Bool) → t ≡ false → (s && t) ≡ false
@@ -309,7 +309,7 @@ record Found (ty : ScalarType) (word rest : List ℕ) (value : Scalar) : Type 0 
   pub spelled : spelled_at (word ++ rest) ≡ Ok (record { form = form; length = length word })
   pub is : (position : ℕ) → value_as ty position form ≡ Ok value
 
-integer_word : (negative : Bool) (base : Base) (digits : List ℕ) (named : Option IntType) (rest : List ℕ)
+pub integer_word : (negative : Bool) (base : Base) (digits : List ℕ) (named : Option IntType) (rest : List ℕ)
     → (sign negative ++ (prefix base ++ (digits ++ suffix named))) ++ rest ≡ sign negative ++ (prefix base ++ (digits ++ (suffix named ++ rest)))
 integer_word negative base digits named rest =
     append_assoc (sign negative) (prefix base ++ (digits ++ suffix named)) rest
@@ -319,7 +319,7 @@ sign_len : (negative : Bool) → length (sign negative) ≡ one_if negative
 sign_len true = refl
 sign_len false = refl
 
-prefix_len_is : (base : Base) → length (prefix base) ≡ prefix_of base
+pub prefix_len_is : (base : Base) → length (prefix base) ≡ prefix_of base
 prefix_len_is Decimal = refl
 prefix_len_is Hexadecimal = refl
 prefix_len_is Binary = refl

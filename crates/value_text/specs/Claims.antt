@@ -14,6 +14,10 @@ use Rattle.value_text.specs.Reading.{Reads, value_in}
 abbrev pub TextsAreRead : Type 0
 TextsAreRead = (types : List ScalarType) (bytes : List ℕ) (values : List Scalar) → Text types bytes values → Reads types bytes values
 
+-- and nothing else reads as values
+abbrev pub OnlyTextsAreRead : Type 0
+OnlyTextsAreRead = (types : List ScalarType) (bytes : List ℕ) (values : List Scalar) → Reads types bytes values → Text types bytes values
+
 -- the text of a value reads as that value
 abbrev pub TextReadsBack : Type 0
 TextReadsBack = (value : Scalar) → FitsType value → Reads (type_of value ∷ []) (text_of value) (value ∷ [])
