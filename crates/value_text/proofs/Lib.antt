@@ -3,3 +3,5 @@ pub mod Values
 pub mod Dimensions
 pub mod Integers
 pub mod RoundTrip
+pub mod Texts
+pub mod Sound

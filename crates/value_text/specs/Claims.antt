@@ -4,9 +4,19 @@ use Rattle.fut_scalar.specs.Integers.{FitsType, integer_of, width_of}
 use Rattle.fut_scalar.specs.declared.scalar.IntType.{IntType}
 use Rattle.fut_scalar.specs.declared.scalar.Scalar.{Scalar}
 use Rattle.fut_scalar.specs.declared.scalar.Scalar.TheVariants as scalar
+use Rattle.fut_scalar.specs.declared.scalar.ScalarType.{ScalarType}
 use Rattle.fut_arithmetic.specs.Types.{type_of}
+use Rattle.value_text.specs.Grammar.{Text}
 use Rattle.value_text.specs.Printing.{text_of, output_of}
 use Rattle.value_text.specs.Reading.{Reads, value_in}
+
+-- a text of the grammar reads as its values
+abbrev pub TextsAreRead : Type 0
+TextsAreRead = (types : List ScalarType) (bytes : List ℕ) (values : List Scalar) → Text types bytes values → Reads types bytes values
+
+-- and nothing else reads as values
+abbrev pub OnlyTextsAreRead : Type 0
+OnlyTextsAreRead = (types : List ScalarType) (bytes : List ℕ) (values : List Scalar) → Reads types bytes values → Text types bytes values
 
 -- the text of a value reads as that value
 abbrev pub TextReadsBack : Type 0

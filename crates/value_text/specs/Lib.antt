@@ -4,5 +4,6 @@ pub mod Numbers
 pub mod Empties
 pub mod Spelled
 pub mod Reading
+pub mod Grammar
 pub mod Printing
 pub mod Claims

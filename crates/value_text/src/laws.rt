@@ -1,5 +1,11 @@
 // Laws of the text of values, each carried by a call.
-ghost use Rattle.value_text.specs.Claims.{FoundIntegersStand, IntegersAreFound, OutputReadsBack, TextReadsBack};
+ghost use Rattle.value_text.specs.Claims.{FoundIntegersStand, IntegersAreFound, OnlyTextsAreRead, OutputReadsBack, TextReadsBack, TextsAreRead};
+
+/// The law that a text of the grammar (`specs/Grammar.antt`) reads as its values, and no other text as any.
+pub fn texts_are_read()
+    ensures all { TextsAreRead }
+    ensures only { OnlyTextsAreRead }
+{}
 
 /// The law that the text of a value reads as that value, and what is printed reads as the values that were printed.
 pub fn printed_values_read_back()

@@ -3,7 +3,8 @@
 //! The text of a program's input is one value for each parameter: an integer with an optional `-`, in decimal, hexadecimal
 //! or binary, with an optional type behind it, or `true` or `false`. Blanks and comments may stand between. The theorem of
 //! this crate is the contract of [`read_args`]: the values are those that the text reads as (`specs/Reading.antt`), or the
-//! refusal is the first that there is; and [`printed_values_read_back`] says that printing and reading belong together.
+//! refusal is the first that there is. [`texts_are_read`] says that what is read is exactly the grammar of
+//! `specs/Grammar.antt`, and [`printed_values_read_back`] that printing and reading belong together.
 #![tactic(auto)]
 
 mod empties;
@@ -16,6 +17,6 @@ mod spelled;
 mod wanted;
 mod words;
 
-pub use laws::{integers_are_kept, printed_values_read_back};
+pub use laws::{integers_are_kept, printed_values_read_back, texts_are_read};
 pub use printing::{print_value, print_values};
 pub use reading::{TextErr, read_args};
