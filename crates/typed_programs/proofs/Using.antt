@@ -1,6 +1,6 @@
 -- A definition without written type parameters may be used at the type that its name has.
 use Rattle.std.proofs.Common.{◌≡◌, Bool, true, false, ℕ, zero, suc, ◌+◌, ◌≤◌, ◌<◌, List, [], ◌∷◌, length, map, take, slice_index_or, refl, sym, ◌∙◌, ap, subst, arith}
-use mathlib.Core.Logic.{inl}
+use mathlib.Core.Logic.{inl, inr}
 use Rattle.fut_scalar.specs.declared.place.BindId.{BindId}
 use Rattle.fut_scalar.specs.declared.scalar.ScalarType.{ScalarType}
 use Rattle.fut_flat.specs.declared.pat.Head.{Head}
@@ -20,6 +20,8 @@ use Rattle.fut_typing.specs.Program.{defined, program_of, program_numbers, defin
 use Rattle.fut_typing.specs.Exact.{behind, scope_behind}
 use Rattle.fut_typing.proofs.Local.{uses_here, uses_other}
 use Rattle.type_graph.specs.declared.Node.{Node}
+use Rattle.type_scopes.specs.declared.Inference.{Inference}
+use Rattle.type_infer.specs.Inferring.{Infers}
 use Rattle.type_homes.specs.Listed.{AreHomes}
 use Rattle.typed_meaning.specs.Meant.{No_sizes}
 use Rattle.typed_meaning.specs.Programs.{Definitions_meant, None_has, One_each}
@@ -127,6 +129,21 @@ outside_heads flat nodes at some lt h long = inl (λ other. heads_are_types flat
 
 pub plain_heads : (ds : List Definition) (at : ℕ) (some : Definition) → at < length ds → length (slice_index_or ds at some).heads.now ≤ 0 → (other : Definition) → has_types (parameters (slice_index_or ds at other).heads.now) ≡ false
 plain_heads ds at some lt none other = heads_are_none (slice_index_or ds at other).heads.now (subst (λ (d : Definition). length d.heads.now ≤ 0) (same_at ds at some other lt) none)
+
+some_definition : (ds : List Definition) (at : ℕ) → at < length ds → Definition
+some_definition [] at lt = absurd (let z : at < 0 = lt in omega arith)
+some_definition (d ∷ ds) at lt = d
+
+-- an entry's definition is not outside
+pub not_outside : (flat : Flat) (inference : Inference) (at : ℕ) → at < length flat.definitions.now → Infers (program_of flat) inference → ((other : Definition) → has_types (parameters (slice_index_or flat.definitions.now at other).heads.now) ≡ false)
+    → (params : List ScalarType) (tuple : Bool) (results : List ScalarType) → Type_is inference.nodes (number_of flat at) params tuple results → Is_outside flat inference.nodes at → ⊥
+not_outside flat inference at lt infers plain params tuple results is (inl types) = let some : Definition = some_definition flat.definitions.now at lt in let e : true ≡ false = sym (types some) ∙ plain some in cc
+not_outside flat inference at lt infers plain params tuple results is (inr none) =
+    let n : ℕ = number_of flat at in
+    let below : n < 0 + program_numbers (program_of flat) = behind_below flat.definitions.now at 0 lt in
+    let has = infers.typing.holds infers.typing.some.0 infers.typing.some.1 in
+    let comes = has.comes n (omega (arith, below)) in
+    none (has.types n) comes params tuple results (is (has.types n) comes)
 
 pub counted : (flat : Flat) (at : ℕ) (homes : List ℕ) → AreHomes homes (map defined (take at flat.definitions.now)) → length homes ≡ number_of flat at
 counted flat at homes are = let b : behind (map defined (take at flat.definitions.now)) 0 ≡ 0 + program_numbers (map defined (take at flat.definitions.now)) = behind_counted (take at flat.definitions.now) 0 in

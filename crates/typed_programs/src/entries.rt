@@ -188,6 +188,7 @@ pub fn entry_type(
     requires built { Is_built flat.now }
     requires at { at < length flat.now.definitions.now }
     ensures ok { IfOk result (λ entry. May_be_used flat.now inference.now.nodes at entry.params entry.tuple entry.results) }
+    ensures within { IfOk result (λ entry. Is_outside flat.now inference.now.nodes at → ⊥) }
     ensures outside { IfErr result (Because (Is_outside flat.now inference.now.nodes at)) }
 {
     // Of a built program these are type parameters alone.

@@ -1,10 +1,10 @@
 // The integer types of a program's numbers, of which literals without suffix have theirs.
-ghost use Rattle.std.specs.Prelude.{◌≡◌, IfOk, length};
+ghost use Rattle.std.specs.Prelude.{◌≡◌, IfErr, IfOk, length};
 ghost use Rattle.fut_typing.specs.Program.{program_of};
 ghost use Rattle.type_graph.specs.Graph.{IsGraph};
 ghost use Rattle.type_infer.specs.Inferring.{Infers, Told_by};
 ghost use Rattle.built_forms.specs.Built.{Is_built};
-ghost use Rattle.typed_programs.specs.Typed.{Nodes_tell, Typed_by};
+ghost use Rattle.typed_programs.specs.Typed.{Lost_where, Nodes_tell, Typed_by};
 
 use crate::forms::integer_of;
 use fut_flat::Flat;
@@ -24,7 +24,8 @@ pub enum IntegersErr {
 /// The integer types of all nodes.
 fn integers_of(alloc: Global, inference: &Inference<'_>) -> Result<List<IntType>, IntegersErr>
     requires { IsGraph inference.now.nodes }
-    ensures { IfOk result (λ integers. Nodes_tell inference.now.nodes integers (length inference.now.nodes)) }
+    ensures ok { IfOk result (λ integers. Nodes_tell inference.now.nodes integers (length inference.now.nodes)) }
+    ensures err { IfErr result (Lost_where inference.now.nodes) }
 {
     let mut integers = List::new(alloc);
     let mut node: u32 = 0;
@@ -50,7 +51,8 @@ pub fn integer_types(
 ) -> Result<List<IntType>, IntegersErr>
     requires infers { Infers (program_of flat.now) inference.now }
     requires built { Is_built flat.now }
-    ensures { IfOk result (λ integers. Told_by (Typed_by flat.now inference.now integers) inference.now) }
+    ensures ok { IfOk result (λ integers. Told_by (Typed_by flat.now inference.now integers) inference.now) }
+    ensures err { IfErr result (Lost_where inference.now.nodes) }
 {
     let _flat = flat;
     integers_of(alloc, inference)

@@ -12,3 +12,6 @@ loop-node-preserved c =
       told = nodes_more c.args.inference.now.nodes c.loop-node.integers c.push.new.self c.in-Some.integer c.loop-node.node c.loop-node.invariant.long c.in-Ok.ensures.ok c.loop-node.invariant.told
           (λ t h. integer_tells c.type_at.result c.in-Some.integer (sym c.integer_of.ensures ∙ c.in-Some.is) c.args.inference.now.nodes t (c.type_at.ensures.made t h));
     }
+
+pub returns-in-None-clause-err : goal.returns-in-None-clause-err
+returns-in-None-clause-err c = record { node = c.loop-node.node; form = c.type_at.result; within = omega (arith, c.loop-node-test.true, c.len.ensures); made = c.type_at.ensures.made; none = sym c.integer_of.ensures ∙ c.in-None.is }
