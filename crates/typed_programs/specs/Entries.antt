@@ -83,7 +83,7 @@ pub record Pushed (nodes : List Node) (n : ℕ) (old new : List ScalarType) : Ty
 abbrev pub Parameters_are : List Node → ℕ → List ScalarType → ℕ → Type 0
 Parameters_are nodes n params m = (t : Ty) → Comes_to nodes n t → (u : Ty) × Comes_to nodes m u × (t ≡ arrows (scalar_tys params) u)
 
--- the types of so many nodes in a row are these, or are not all scalars
+-- the types of so many nodes in a row are these scalars, or are not all scalars
 abbrev pub Row_is : List Node → ℕ → ℕ → List ScalarType → Type 0
 Row_is nodes x n ss = (length ss ≡ n) × ((ts : Tys) → Row_comes nodes x n ts → ts ≡ scalar_tys ss)
 

@@ -33,15 +33,15 @@ pub record Typed_by (flat : Flat) (inference : Inference) (integers : List IntTy
   pub typed : Is_typed N kind.Data kinds types (integer_at integers) flat
   pub walkable : Is_walkable N kinds types flat
 
--- a type of integers is this one
+-- if it is a type of integers, and no variable, it is this one
 abbrev pub Is_integer : IntType → Ty → Type 0
 Is_integer integer t = (K : Kinds) → HasKind K kind.Integer t → ((v : ℕ) → t ≡ Var v → ⊥) → t ≡ scalar_ty (scalar.Int integer)
 
--- of the first nodes
+-- the list tells the integer types of the first nodes
 abbrev pub Nodes_tell : List Node → List IntType → ℕ → Type 0
 Nodes_tell nodes integers many = (n : ℕ) → n < many → (t : Ty) → Comes_to nodes n t → Is_integer (integer_at integers n) t
 
--- what is said of the type of some node is said of no type that inference comes to
+-- some node is made by an integer type with parts, or by a type parameter that stands for integers alone
 pub record Is_odd (nodes : List Node) : Type 0 where
   pub node : ℕ
   pub form : Form
