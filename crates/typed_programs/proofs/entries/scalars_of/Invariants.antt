@@ -1,0 +1,5 @@
+use Rattle.typed_programs.proofs.EntryTypes.{Row_begins}
+use Rattle.typed_programs.proofs.entries.scalars_of.Given as goal
+
+abbrev pub invariant-loop-at : goal.invariant-loop-at
+invariant-loop-at l = Row_begins l.inference.nodes l.first l.count l.at l.scalars

@@ -1,0 +1,202 @@
+// The types of definitions from which a run may begin, read off the graph.
+ghost use Rattle.std.specs.Prelude.{◌≡◌, ◌<◌, ◌≤◌, ◌+◌, [], IfOk, IfErr, OnOk, length};
+ghost use Rattle.fut_typing.specs.Program.{program_of};
+ghost use Rattle.type_graph.specs.Graph.{IsGraph};
+ghost use Rattle.type_infer.specs.Inferring.{Infers};
+ghost use Rattle.built_forms.specs.Built.{Is_built};
+ghost use Rattle.typed_programs.specs.Entries.{Because, Is_outside, May_be_used, No_entry_type, No_function, No_results, No_scalar, No_scalars, Parameters_are, Pushed, Results_at, Row_is, Type_is, number_of};
+
+use crate::forms::{function_of, scalar_of, tuple_of};
+use fut_flat::Flat;
+use fut_scalar::{List, ScalarType};
+use std::alloc::Global;
+use type_homes::homes;
+use type_infer::type_at;
+use type_scopes::Inference;
+
+/// A type from which a run may begin: parameters are scalars, and so is the result, or it is a tuple of two or more.
+#[derive(Drop)]
+pub struct EntryType {
+    pub params: List<ScalarType>,
+    /// Whether the result is a tuple; else there is one.
+    pub tuple: bool,
+    pub results: List<ScalarType>,
+}
+
+/// Why a run may not begin at a definition.
+#[derive(Clone, Copy)]
+pub enum EntryTypeErr {
+    /// It has written type parameters, or its type is no type from which a run may begin.
+    Outside,
+    Memory,
+}
+
+/// Puts the scalar type of a node behind others.
+fn push_scalar(
+    inference: &Inference<'_>,
+    node: u32,
+    scalars: &mut List<ScalarType>,
+) -> Result<(), EntryTypeErr>
+    requires graph { IsGraph inference.now.nodes }
+    requires node { node < length inference.now.nodes }
+    ensures ok { OnOk result (Pushed inference.now.nodes node scalars.old scalars.new) }
+    ensures err { IfErr result (Because (No_scalar inference.now.nodes node)) }
+{
+    match scalar_of(type_at(inference, node)) {
+        Some(scalar) => match scalars.push(scalar) {
+            Ok(()) => Ok(()),
+            Err(_) => Err(EntryTypeErr::Memory),
+        },
+        None => Err(EntryTypeErr::Outside),
+    }
+}
+
+/// The types of a function's parameters, and the node of its result's type.
+fn params_of(
+    inference: &Inference<'_>,
+    number: u32,
+    params: &mut List<ScalarType>,
+) -> Result<u32, EntryTypeErr>
+    requires graph { IsGraph inference.now.nodes }
+    requires number { number < length inference.now.nodes }
+    requires none { params.old ≡ [] }
+    ensures within { IfOk result (λ node. node < length inference.now.nodes) }
+    ensures ok { IfOk result (λ node. Parameters_are inference.now.nodes number params.new node) }
+    ensures result { IfOk result (No_function inference.now.nodes) }
+    ensures err { IfErr result (Because (No_entry_type inference.now.nodes number)) }
+{
+    let mut node = number;
+    for _ in 0..inference.nodes.len() {
+        match function_of(type_at(inference, node)) {
+            Some(first) => match push_scalar(inference, first, params) {
+                Ok(()) => node = first + 1,
+                Err(error) => return Err(error),
+            },
+            None => return Ok(node),
+        }
+    }
+    Err(EntryTypeErr::Memory)
+}
+
+/// The scalar types of so many nodes in a row.
+fn scalars_of(
+    inference: &Inference<'_>,
+    first: u32,
+    count: u32,
+    scalars: &mut List<ScalarType>,
+) -> Result<(), EntryTypeErr>
+    requires graph { IsGraph inference.now.nodes }
+    requires within { first + count ≤ length inference.now.nodes }
+    requires none { scalars.old ≡ [] }
+    ensures ok { OnOk result (Row_is inference.now.nodes first count scalars.new) }
+    ensures err { IfErr result (Because (No_scalars inference.now.nodes first count)) }
+{
+    for at in 0..count {
+        match push_scalar(inference, first + at, scalars) {
+            Ok(()) => {}
+            Err(error) => return Err(error),
+        }
+    }
+    Ok(())
+}
+
+/// The scalar types of a result, and whether it is a tuple.
+fn results_of(
+    inference: &Inference<'_>,
+    node: u32,
+    results: &mut List<ScalarType>,
+) -> Result<bool, EntryTypeErr>
+    requires graph { IsGraph inference.now.nodes }
+    requires node { node < length inference.now.nodes }
+    requires none { results.old ≡ [] }
+    ensures ok { IfOk result (λ tuple. Results_at inference.now.nodes node tuple results.new) }
+    ensures err { IfErr result (Because (No_results inference.now.nodes node)) }
+{
+    match tuple_of(type_at(inference, node)) {
+        Some((first, count)) => {
+            if count < 2 {
+                return Err(EntryTypeErr::Outside);
+            }
+            match scalars_of(inference, first, count, results) {
+                Ok(()) => Ok(true),
+                Err(error) => Err(error),
+            }
+        }
+        None => match push_scalar(inference, node, results) {
+            Ok(()) => Ok(false),
+            Err(error) => Err(error),
+        },
+    }
+}
+
+/// The type of a node, as one from which a run may begin.
+fn entry_type_of(
+    alloc: Global,
+    inference: &Inference<'_>,
+    number: u32,
+) -> Result<EntryType, EntryTypeErr>
+    requires graph { IsGraph inference.now.nodes }
+    requires number { number < length inference.now.nodes }
+    ensures ok { IfOk result (λ entry. Type_is inference.now.nodes number entry.params entry.tuple entry.results) }
+    ensures err { IfErr result (Because (No_entry_type inference.now.nodes number)) }
+{
+    let mut params = List::new(alloc);
+    let mut results = List::new(alloc);
+    match params_of(inference, number, &mut params) {
+        Ok(node) => match results_of(inference, node, &mut results) {
+            Ok(tuple) => Ok(EntryType {
+                params,
+                tuple,
+                results,
+            }),
+            Err(error) => Err(error),
+        },
+        Err(error) => Err(error),
+    }
+}
+
+/// The number of the name of a definition: those before it have as many.
+fn number_of_name(alloc: Global, flat: &Flat<'_>, at: usize) -> Result<u32, EntryTypeErr>
+    requires { at < length flat.now.definitions.now }
+    ensures ok { IfOk result (λ number. number ≡ number_of flat.now at) }
+    ensures err { IfErr result (Because ⊥) }
+{
+    let before = Flat {
+        definitions: &flat.definitions[..at],
+        names: flat.names,
+    };
+    match homes(alloc, &before) {
+        Ok(homes) => {
+            if homes.len() >= 4294967296 {
+                return Err(EntryTypeErr::Memory);
+            }
+            Ok(homes.len() as u32)
+        }
+        Err(_) => Err(EntryTypeErr::Memory),
+    }
+}
+
+/// The type of a definition, `at` in the row of definitions, as one from which a run may begin: in each typing that the graph
+/// shows it may be used at this type. The cost is linear.
+pub fn entry_type(
+    alloc: Global,
+    flat: &Flat<'_>,
+    inference: &Inference<'_>,
+    at: usize,
+) -> Result<EntryType, EntryTypeErr>
+    requires infers { Infers (program_of flat.now) inference.now }
+    requires built { Is_built flat.now }
+    requires at { at < length flat.now.definitions.now }
+    ensures ok { IfOk result (λ entry. May_be_used flat.now inference.now.nodes at entry.params entry.tuple entry.results) }
+    ensures within { IfOk result (λ entry. Is_outside flat.now inference.now.nodes at → ⊥) }
+    ensures outside { IfErr result (Because (Is_outside flat.now inference.now.nodes at)) }
+{
+    // Of a built program these are type parameters alone.
+    if flat.definitions[at].heads.len() > 0 {
+        return Err(EntryTypeErr::Outside);
+    }
+    match number_of_name(alloc, flat, at) {
+        Ok(number) => entry_type_of(alloc, inference, number),
+        Err(error) => Err(error),
+    }
+}
