@@ -1,9 +1,7 @@
 -- Tokens have one answer.
-use Rattle.std.proofs.Common.{◌≡◌, ◌≤◌, ◌<◌, ℕ, List, [], ◌∷◌, Result, Ok, Err, refl, sym, ◌∙◌, ap, subst, arith}
-use Rattle.std.specs.Prelude.{Option, None, Some}
+use Rattle.std.proofs.Common.{◌≡◌, List, [], ◌∷◌, Result, Ok, Err, sym, ◌∙◌, ap, subst, arith}
 use Rattle.fut_ast.specs.Grammar.{Derives}
 use Rattle.fut_ast.specs.declared.module.Program.{Program}
-use Rattle.fut_scalar.specs.declared.place.Place.{Place}
 use Rattle.fut_token.specs.declared.token.Token.{Token}
 use Rattle.fut_lexer.proofs.Readings.{one_reading}
 use Rattle.fut_typing.proofs.Programs.{no_type_or_typing, place_or_typing}
@@ -17,7 +15,6 @@ use Rattle.fut_typing.specs.Answers.{Typing_is, NoType, FunctionPlace, Ambiguous
 use Rattle.module_scopes.specs.Names.{Refusal}
 use Rattle.module_scopes.specs.Programs.{FlatProgram, resolve_program}
 use Rattle.module_elab.specs.declared.prelude.TheConstants.{PRELUDE}
-use Rattle.unbuilt_tokens.specs.Unbuilt.{first_unbuilt}
 use Rattle.front.specs.Acceptance.{IsParsed, IsPrelude, IsResolved, IsSurelyAcceptable, IsUntyped, Resolves, Unaccepted, Unspelled, definitions_of, prelude_file}
 use Rattle.front.specs.declared.refusals.NameErr.TheVariants as names
 use Rattle.front_types.specs.declared.typed.TypeErr.TheVariants as types

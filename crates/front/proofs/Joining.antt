@@ -1,5 +1,5 @@
 -- What the stages give, put together.
-use Rattle.std.proofs.Common.{◌≡◌, List, [], ◌∷◌, map, Result, Ok, Err, refl, sym, ◌∙◌, ap, subst}
+use Rattle.std.proofs.Common.{◌≡◌, List, [], ◌∷◌, map, Result, Ok, refl, sym, ◌∙◌, ap, subst}
 use Rattle.std.specs.Prelude.{None}
 use Rattle.unbuilt_tokens.specs.Unbuilt.{first_unbuilt}
 use Rattle.fut_ast.specs.declared.module.Program.{Program}

@@ -1,5 +1,5 @@
 -- When the tokens of a file are an accepted program, and why others are not. The prelude is file 0, the file itself file 1.
-use Rattle.std.specs.Prelude.{◌≡◌, ◌≤◌, ◌<◌, ℕ, List, [], ◌∷◌, map, Option, None, Some, Result, Ok, Err, true}
+use Rattle.std.specs.Prelude.{◌≡◌, ◌≤◌, ◌<◌, ℕ, List, [], ◌∷◌, map, None, Some, Result, Ok, Err, true}
 use Rattle.fut_scalar.specs.declared.place.Place.{Place}
 use Rattle.fut_token.specs.declared.token.Token.{Token}
 use Rattle.fut_lexer.specs.Lexing.{HasTokens}

@@ -1,5 +1,5 @@
 -- What the stages of the front answer.
-use Rattle.std.specs.Prelude.{◌≡◌, List, Result, Ok, Err}
+use Rattle.std.specs.Prelude.{◌≡◌, List, Result, Err}
 use Rattle.fut_token.specs.declared.token.Token.{Token}
 use Rattle.fut_ast.specs.declared.module.Program.{Program}
 use Rattle.fut_parser.specs.declared.programs.ParseErr.{ParseErr}

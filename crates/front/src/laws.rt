@@ -1,10 +1,15 @@
 // Laws of acceptance.
-ghost use Rattle.std.specs.Prelude.{◌≡◌, List, Result};
+ghost use Rattle.std.specs.Prelude.{◌≡◌, ℕ, List, Result};
+ghost use Rattle.entry_names.specs.Entries.{Begins_at, Begins_nowhere};
+ghost use Rattle.fut_ast.specs.Sorts.{Text};
 ghost use Rattle.fut_ast.specs.declared.module.Program.{Program};
+ghost use Rattle.fut_flat.specs.declared.program.Flat.{Flat};
 ghost use Rattle.fut_token.specs.declared.token.Token.{Token};
+ghost use Rattle.module_elab.specs.Elaborated.{program_of as flat_of};
 ghost use Rattle.module_scopes.specs.Names.{Refusal};
 ghost use Rattle.module_scopes.specs.Programs.{FlatProgram};
 ghost use Rattle.front.specs.Acceptance.{IsParsed, IsResolved, IsSurelyAcceptable, Resolves, Unaccepted};
+ghost use Rattle.front.specs.Entries.{HasEntry, HasNoEntry};
 ghost use Rattle.front.specs.declared.refusals.Refused.{Refused};
 
 /// Tokens spell one program, and its names are resolved in one way. Where they have a flat program with a typing, however
@@ -14,4 +19,10 @@ pub fn tokens_have_one_answer()
     ensures resolves { (p : Program) (a b : Result FlatProgram Refusal) → Resolves p a → Resolves p b → a ≡ b }
     ensures resolved { (tokens : List Token) (a b : Result FlatProgram Refusal) → IsResolved tokens a → IsResolved tokens b → a ≡ b }
     ensures accepted { (tokens : List Token) (flat : FlatProgram) → IsSurelyAcceptable tokens flat → (refused : Refused) → Unaccepted tokens refused → ⊥ }
+{}
+
+/// Where a run may begin is told alike by a program in the arena and by what it is resolved to.
+pub fn entries_are_those_of_the_program()
+    ensures somewhere { (flat : Flat) (name : Text) (at : ℕ) → Begins_at flat name at → HasEntry (flat_of flat) name at }
+    ensures nowhere { (flat : Flat) (name : Text) → Begins_nowhere flat name → HasNoEntry (flat_of flat) name }
 {}

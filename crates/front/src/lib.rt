@@ -1,4 +1,4 @@
-//! The front: from the tokens of a file to an accepted program, and to the definition that a run begins at.
+//! The front: from the tokens of a file to an accepted program, and the laws that its answer is the only one.
 //!
 //! What [`accept`] answers is told by `specs/Acceptance.antt`: the tokens spell a program and no other; no token of a form
 //! that is not built stands in it; its names are bound behind the prelude; and it has a typing. A refusal comes only where
@@ -12,6 +12,6 @@ mod refusals;
 
 pub use accepting::accept;
 pub use front_types::{Accepted, TypeErr};
-pub use laws::tokens_have_one_answer;
+pub use laws::{entries_are_those_of_the_program, tokens_have_one_answer};
 pub use reading::{Prelude, read_prelude};
 pub use refusals::{NameErr, Refused};

@@ -8,11 +8,12 @@ ghost use Rattle.front_types.specs.Mistyped.{Mistyped};
 
 use built_forms::is_built;
 use fut_flat::Flat;
-use fut_scalar::Place;
+use fut_scalar::{IntType, List, Place};
 use std::alloc::Global;
 use type_infer::{InferErr, infer, new_inference};
 use type_places::places;
 use type_scopes::Inference;
+use typed_programs::integer_types;
 
 /// A program that has a typing.
 #[derive(Drop)]
@@ -20,6 +21,8 @@ pub struct Accepted<'a> {
     pub flat: Flat<'a>,
     /// The types of all its numbers.
     pub inference: Inference<'a>,
+    /// The integer type of each number that has one.
+    pub integers: List<IntType>,
 }
 
 /// Why a program has no typing to go on with, and where that shows.
@@ -78,7 +81,14 @@ pub fn typed_program<'a>(alloc: Global, flat: Flat<'a>) -> Result<Accepted<'a>, 
     }
     let mut inference = new_inference(alloc);
     match infer(alloc, &flat, &mut inference) {
-        Ok(()) => Ok(Accepted { flat, inference }),
+        Ok(()) => match integer_types(alloc, &flat, &inference) {
+            Ok(integers) => Ok(Accepted {
+                flat,
+                inference,
+                integers,
+            }),
+            Err(_) => Err(TypeErr::Memory),
+        },
         Err(err) => {
             let place = place_of(alloc, &flat, number_of(err));
             Err(placed(err, place))
