@@ -10,7 +10,6 @@ use Rattle.fut_flat.specs.declared.prim.Ref.{Ref}
 use Rattle.fut_flat.specs.declared.prim.Ref.TheVariants as ref
 use Rattle.fut_flat.specs.Erased.{FlatTerm, FlatPattern}
 use Rattle.fut_flat.specs.Terms.{Patterns, no_pattern, pattern_and, Bound_pattern, Wild_pattern, Tuple_pattern, Record_pattern, Typed_pattern, Operation, Tuple_of, Record_of, Project, Replace, Ascribe, Coerce, Declared, Assert}
-use Rattle.fut_meaning.specs.Values.{is_before}
 
 mutual
   pub data Known : Type 0 where
@@ -26,7 +25,7 @@ mutual
     known_none : Knowns
     known_and : Known → Knowns → Knowns
 
-  -- in order of their names
+  -- as they are written
   pub data Known_fields : Type 0 where
     known_no_field : Known_fields
     known_field : Text → Known → Known_fields → Known_fields
@@ -77,13 +76,9 @@ known_tuple ss = cond (all_data ss) Data (Known_tuple ss)
 abbrev pub known_record : Known_fields → Known
 known_record fs = cond (fields_data fs) Data (Known_record fs)
 
-abbrev pub known_with : Text → Known → Known_fields → Known_fields
-known_with f s known_no_field = known_field f s known_no_field
-known_with f s (known_field g u fs) = cond (is_before f g) (known_field f s (known_field g u fs)) (known_field g u (known_with f s fs))
-
 abbrev pub and_known : Text → Known → Option Known_fields → Option Known_fields
 and_known f s None = None
-and_known f s (Some fs) = Some (known_with f s fs)
+and_known f s (Some fs) = Some (known_field f s fs)
 
 abbrev pub known_fields : List Text → Knowns → Option Known_fields
 known_fields [] known_none = Some known_no_field
@@ -107,7 +102,7 @@ known_part f s = None
 
 abbrev pub known_replaced : Text → Known → Known_fields → Known_fields
 known_replaced f s known_no_field = known_no_field
-known_replaced f s (known_field g u fs) = cond (bytes_eq g f) (known_field g s fs) (known_field g u (known_replaced f s fs))
+known_replaced f s (known_field g u fs) = known_field g (cond (bytes_eq g f) s u) (known_replaced f s fs)
 
 abbrev pub replaced_in : Text → Known → Known → Option Known
 replaced_in f Data Data = Some Data

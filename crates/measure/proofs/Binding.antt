@@ -1,7 +1,7 @@
 -- The names of patterns, one part after the other.
 use Rattle.std.proofs.Common.{◌≡◌, ℕ, zero, suc, ◌+◌, ◌<◌, ◌≤◌, List, [], ◌∷◌, map, length, get_or, drop, Option, Some, None, refl, sym, ap, ◌∙◌, subst, arith, Ok, Err}
 use Rattle.std.specs.Prelude.{Result, IfOk, IfErr}
-use Rattle.std.proofs.Math.Seq.{drop-cons}
+use Rattle.reach.proofs.Lists.{one_more, drop_end}
 use Rattle.std.specs.Borrow.{Bor}
 use Rattle.fut_scalar.specs.declared.place.BindId.{BindId}
 use Rattle.fut_ast.specs.Sorts.{Text}
@@ -52,15 +52,6 @@ data_record p fs sc is = sym (ap (λ z. data_bound z sc) (record_is p fs is))
 
 pub data_typed : (p : Pat) (q : Bor Pat) (t : Bor TypeExp) (sc : Scope) → p.form ≡ form.Typed q t → data_bound (pattern_of q.now) sc ≡ data_bound (pattern_of p) sc
 data_typed p q t sc is = sym (ap (λ z. data_bound z sc) (pattern_typed p q t is))
-
-pub drop_end : {X : Type 0} (n : ℕ) (xs : List X) → length xs ≤ n → drop n xs ≡ []
-drop_end zero [] h = refl
-drop_end zero (x ∷ xs) h = absurd (omega (arith, h))
-drop_end (suc n) [] h = refl
-drop_end (suc n) (x ∷ xs) h = drop_end n xs (omega (arith, h))
-
-pub one_more : {X : Type 0} (xs : List X) (i : ℕ) (d : X) → i < length xs → drop i xs ≡ get_or xs i d ∷ drop (i + 1) xs
-one_more xs i d lt = let e : suc i ≡ i + 1 = omega arith in drop-cons xs i d lt ∙ ap (λ z. get_or xs i d ∷ drop z xs) e
 
 module _ {X : Type 0} (f : X → FlatPattern) (xs : List X) where
   pub data_step : (i : ℕ) (d : X) (sc inner : Scope) → i < length xs → inner ≡ data_bound (f (get_or xs i d)) sc → all_data_bound (patterns (map f (drop i xs))) sc ≡ all_data_bound (patterns (map f (drop (i + 1) xs))) inner

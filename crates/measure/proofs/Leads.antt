@@ -12,7 +12,7 @@ use Rattle.measure.specs.declared.stop.Stop.{Stop}
 use Rattle.measure.specs.declared.walked.Row.{Row as Held_row}
 use Rattle.measure.specs.Answers.{Ended, ended_at, is_stuck, no_memory_left, Let_to, let_bound, let_stopped, let_unbound, let_memory, Leads}
 use Rattle.measure.proofs.Walks.{within}
-use Rattle.measure.proofs.Binding.{one_more}
+use Rattle.reach.proofs.Lists.{one_more}
 
 -- nothing was had so far
 from_none : (P : ℕ → ℕ → Type 0) (m d : ℕ) → P m d → P (0 + m) (max 0 d)

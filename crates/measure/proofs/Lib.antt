@@ -11,3 +11,5 @@ pub mod Leads
 pub mod Forms
 pub mod Rows
 pub mod Running
+pub mod Tabling
+pub mod Definitions

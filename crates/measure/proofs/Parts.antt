@@ -6,11 +6,10 @@ use Rattle.fut_flat.specs.Erased.{texts}
 use Rattle.std.proofs.lemmas.List.{length-map}
 use Rattle.measure.specs.declared.stop.Stop.{Stop}
 use Rattle.std.proofs.Common.{◌≡◌, ℕ, suc, ◌+◌, ◌<◌, ◌≤◌, List, [], ◌∷◌, map, length, get_or, drop, Option, Some, None, Bool, true, false, cond, refl, sym, ap, ◌∙◌, subst, arith, Ok, Err}
-use Rattle.fut_meaning.specs.Knowns.{Known, Data, Known_tuple, Known_record, Known_function, Known_primitive, Knowns, is_data, all_data, data_of, known_tuple, known_fields, and_known, known_with, fields_data, known_part, known_part_from, known_result, with_known, known_none, known_and, Known_fields, known_no_field, known_field, some_record}
+use Rattle.fut_meaning.specs.Knowns.{Known, Data, Known_tuple, Known_record, Known_function, Known_primitive, Knowns, is_data, all_data, data_of, known_tuple, known_fields, and_known, known_part, known_part_from, known_record, known_replaced, replaced_in, known_result, with_known, known_none, known_and, Known_fields, known_no_field, known_field, some_record}
 use Rattle.std.specs.Prelude.{decimal}
 use Rattle.std.specs.Str.{bytes_eq}
 use Rattle.std.proofs.Common.{◌++◌}
-use Rattle.fut_meaning.specs.Values.{is_before}
 use Rattle.fut_scalar.specs.declared.place.BindId.{BindId}
 use Rattle.fut_flat.specs.declared.prim.Ref.{Ref}
 use Rattle.fut_flat.specs.declared.act.Act.{Act}
@@ -18,11 +17,11 @@ use Rattle.fut_flat.specs.declared.act.Act.TheVariants as act
 use Rattle.fut_flat.specs.declared.ty.TypeExp.{TypeExp}
 use Rattle.fut_flat.specs.Erased.{operation_of, type_of}
 use Rattle.fut_flat.specs.Terms.{Operation, Ascribe, Assert, Coerce, Declared}
-use Rattle.measure.specs.declared.stop.Stop.TheVariants.{Lost}
-use Rattle.measure.specs.Answers.{one_or_data, Known_to, known_is, not_known}
+use Rattle.measure.specs.declared.stop.Stop.TheVariants.{Lost, Memory}
+use Rattle.measure.specs.Answers.{one_or_data, Known_to, known_is, not_known, no_memory_to_know}
 use Rattle.measure.specs.Held.{known_of, knowns}
 use Rattle.measure.specs.declared.known.Known.{Known as Held_known}
-use Rattle.measure.proofs.Binding.{one_more, drop_end}
+use Rattle.reach.proofs.Lists.{one_more, drop_end}
 
 pub data_is : (s : Held_known) (k : Known) → known_of s ≡ k → is_data (known_of s) ≡ is_data k
 data_is s k e = ap is_data e
@@ -85,46 +84,6 @@ unequal_fields (f ∷ fs) (s ∷ ss) h = ap (and_known f (known_of s)) (unequal_
 
 pub unequal_record : (names : List (Bor Text)) (ss : List Held_known) → (length names ≡ length ss → ⊥) → some_record (known_fields (texts names) (Parts_of ss)) ≡ None
 unequal_record names ss h = ap some_record (unequal_fields (texts names) ss (λ e. h (sym (length-map names (λ (x : Bor Text). x.now)) ∙ e)))
-
--- ---- records of data
-
-pub data Data_fields : Option Known_fields → Type 0 where
-  data_fields : {fs : Known_fields} → fields_data fs ≡ true → Data_fields (Some fs)
-
-first_data : (a b : Bool) → cond a b false ≡ true → a ≡ true
-first_data true b h = refl
-first_data false b h = h
-
-rest_data : (a b : Bool) → cond a b false ≡ true → b ≡ true
-rest_data true b h = h
-rest_data false b h = absurd (let z : false ≡ true = h in cc)
-
-both_data : {a b : Bool} → a ≡ true → b ≡ true → cond a b false ≡ true
-both_data {b = b} h k = ap (λ z. cond z b false) h ∙ k
-
-data_with : (f : Text) (s : Known) (fs : Known_fields) → is_data s ≡ true → fields_data fs ≡ true → fields_data (known_with f s fs) ≡ true
-data_with f s known_no_field h k = both_data h refl
-data_with f s (known_field g u fs) h k = by_order (is_before f g) (data_with f s fs h (rest_data (is_data u) (fields_data fs) k))
-  where
-    by_order : (b : Bool) → fields_data (known_with f s fs) ≡ true → fields_data (cond b (known_field f s (known_field g u fs)) (known_field g u (known_with f s fs))) ≡ true
-    by_order true r = both_data h k
-    by_order false r = both_data (first_data (is_data u) (fields_data fs) k) r
-
-all_fields_data : (names : List Text) (ss : List Held_known) → length names ≡ length ss → all_data (Parts_of ss) ≡ true → Data_fields (known_fields names (Parts_of ss))
-unfolding knowns
-all_fields_data [] [] e h = data_fields refl
-all_fields_data [] (s ∷ ss) e h = absurd (omega (arith, e))
-all_fields_data (f ∷ fs) [] e h = absurd (omega (arith, e))
-all_fields_data (f ∷ fs) (s ∷ ss) e h = more (known_fields fs (Parts_of ss)) (all_fields_data fs ss (omega (arith, e)) (rest_data (is_data (known_of s)) (all_data (Parts_of ss)) h))
-  where
-    more : (o : Option Known_fields) → Data_fields o → Data_fields (and_known f (known_of s) o)
-    more _ (data_fields {fs = gs} d) = data_fields (data_with f (known_of s) gs (first_data (is_data (known_of s)) (all_data (Parts_of ss)) h) d)
-
-record_of_data : (o : Option Known_fields) → Data_fields o → some_record o ≡ Some Data
-record_of_data _ (data_fields {fs = fs} d) = ap (λ z. Some (cond z Data (Known_record fs))) d
-
-pub data_record : (names : List (Bor Text)) (ss : List Held_known) (s : Held_known) → length names ≡ length ss → true ≡ all_data (Parts_of ss) → known_of s ≡ Data → Known_to (some_record (known_fields (texts names) (Parts_of ss))) (Ok s)
-data_record names ss s e h d = known_is (record_of_data _ (all_fields_data (texts names) ss (length-map names (λ (x : Bor Text). x.now) ∙ e) (sym h)) ∙ ap Some (sym d))
 
 -- ---- one more argument
 
@@ -276,24 +235,51 @@ result_other (act.Index ps) ss t r p a c d s u = refl
 result_other act.Update ss t r p a c d s u = refl
 result_other (act.Range b e) ss t r p a c d s u = refl
 
--- a field that is replaced: data in data, until records that hold functions are built
-pub replaced_data : (a : Act) (ss : List Held_known) (f : Bor Text) → a ≡ act.Replace f → true ≡ all_data (Parts_of ss) → known_result (operation_of a) (Parts_of ss) ≡ Some Data
-unfolding known_result knowns
-replaced_data a [] f e h = result_is a [] (act.Replace f) _ e refl
-replaced_data a (x ∷ []) f e h = result_is a (x ∷ []) (act.Replace f) _ e (ap (λ z. cond z (Some Data) None) (sym h))
-replaced_data a (x ∷ y ∷ []) f e h = result_is a (x ∷ y ∷ []) (act.Replace f) _ e (by_both (known_of x) (known_of y) h)
-  where
-    by_both : (k k' : Known) → true ≡ cond (is_data k) (cond (is_data k') true false) false → Rattle.fut_meaning.specs.Knowns.replaced_in f.now k k' ≡ Some Data
-    by_both Data Data h = refl
-    by_both Data (Known_tuple ss) h = absurd (let z : true ≡ false = h in cc)
-    by_both Data (Known_record fs) h = absurd (let z : true ≡ false = h in cc)
-    by_both Data (Known_function ps e sc) h = absurd (let z : true ≡ false = h in cc)
-    by_both Data (Known_primitive p ss) h = absurd (let z : true ≡ false = h in cc)
-    by_both (Known_tuple ss) k' h = absurd (let z : true ≡ false = h in cc)
-    by_both (Known_record fs) k' h = absurd (let z : true ≡ false = h in cc)
-    by_both (Known_function ps e sc) k' h = absurd (let z : true ≡ false = h in cc)
-    by_both (Known_primitive p ss) k' h = absurd (let z : true ≡ false = h in cc)
-replaced_data a (x ∷ y ∷ w ∷ ss) f e h = result_is a (x ∷ y ∷ w ∷ ss) (act.Replace f) _ e (ap (λ z. cond z (Some Data) None) (sym h))
+-- ---- a field that is replaced
 
-pub replaced_is : (a : Act) (ss : List Held_known) (f : Bor Text) (s : Held_known) → a ≡ act.Replace f → true ≡ all_data (Parts_of ss) → known_of s ≡ Data → Known_to (known_result (operation_of a) (Parts_of ss)) (Ok s)
-replaced_is a ss f s e h d = known_is (replaced_data a ss f e h ∙ ap Some (sym d))
+pub result_replaced : (a : Act) (ss : List Held_known) (f : Bor Text) (d d' : Held_known) → a ≡ act.Replace f → length ss ≡ 2 → known_result (operation_of a) (Parts_of ss) ≡ replaced_in f.now (known_of (get_or ss 0 d)) (known_of (get_or ss 1 d'))
+unfolding known_result knowns
+result_replaced a [] f d d' e n = absurd (omega (arith, n))
+result_replaced a (x ∷ []) f d d' e n = absurd (omega (arith, n))
+result_replaced a (x ∷ y ∷ []) f d d' e n = result_is a (x ∷ y ∷ []) (act.Replace f) _ e refl
+result_replaced a (x ∷ y ∷ w ∷ ss) f d d' e n = absurd (omega (arith, n))
+
+pub result_unreplaced : (a : Act) (ss : List Held_known) (f : Bor Text) → a ≡ act.Replace f → (length ss ≡ 2 → ⊥) → known_result (operation_of a) (Parts_of ss) ≡ data_of (Parts_of ss)
+unfolding known_result knowns
+result_unreplaced a [] f e n = result_is a [] (act.Replace f) _ e refl
+result_unreplaced a (x ∷ []) f e n = result_is a (x ∷ []) (act.Replace f) _ e refl
+result_unreplaced a (x ∷ y ∷ []) f e n = absurd (n refl)
+result_unreplaced a (x ∷ y ∷ w ∷ ss) f e n = result_is a (x ∷ y ∷ w ∷ ss) (act.Replace f) _ e refl
+
+data_in : (f : Text) (k : Known) → is_data k ≡ true → replaced_in f Data k ≡ Some Data
+data_in f Data h = refl
+data_in f (Known_tuple ss) h = absurd (let z : false ≡ true = h in cc)
+data_in f (Known_record fs) h = absurd (let z : false ≡ true = h in cc)
+data_in f (Known_function ps e sc) h = absurd (let z : false ≡ true = h in cc)
+data_in f (Known_primitive p ss) h = absurd (let z : false ≡ true = h in cc)
+
+function_in : (f : Text) (k : Known) → is_data k ≡ false → replaced_in f Data k ≡ None
+function_in f Data h = absurd (let z : true ≡ false = h in cc)
+function_in f (Known_tuple ss) h = refl
+function_in f (Known_record fs) h = refl
+function_in f (Known_function ps e sc) h = refl
+function_in f (Known_primitive p ss) h = refl
+
+module _ (f : Text) (u k : Known) where
+  pub replaced_data : (s : Held_known) → known_of s ≡ u → u ≡ Data → is_data k ≡ true → Known_to (replaced_in f u k) (Ok s)
+  replaced_data s e q h = known_is (ap (λ z. replaced_in f z k) q ∙ data_in f k h ∙ ap Some (sym (e ∙ q)))
+
+  pub replaced_by_function : u ≡ Data → is_data k ≡ false → Known_to (replaced_in f u k) (Err Lost)
+  replaced_by_function q h = not_known (ap (λ z. replaced_in f z k) q ∙ function_in f k h)
+
+  pub replaced_field : (s : Held_known) (fs gs : Known_fields) → u ≡ Known_record fs → gs ≡ known_replaced f k fs → known_of s ≡ known_record gs → Known_to (replaced_in f u k) (Ok s)
+  replaced_field s fs gs q e r = known_is (ap (λ z. replaced_in f z k) q ∙ sym (ap (λ z. Some (known_record z)) e) ∙ ap Some (sym r))
+
+  pub replaced_other : (w : Known) → u ≡ w → replaced_in f w k ≡ None → Known_to (replaced_in f u k) (Err Lost)
+  replaced_other w q e = not_known (ap (λ z. replaced_in f z k) q ∙ e)
+
+pub no_memory_for : (o : Option Known) (r : Stop) → r ≡ Memory → Known_to o (Err r)
+no_memory_for o r e = subst (λ z. Known_to o (Err z)) (sym e) no_memory_to_know
+
+pub record_made : (names : List (Bor Text)) (ss : List Held_known) (s : Held_known) (fs : Known_fields) → known_fields (texts names) (Parts_of ss) ≡ Some fs → known_of s ≡ known_record fs → Known_to (some_record (known_fields (texts names) (Parts_of ss))) (Ok s)
+record_made names ss s fs e r = known_is (ap some_record e ∙ ap Some (sym r))

@@ -9,6 +9,7 @@ mod operations;
 mod patterns;
 mod peel;
 mod primitives;
+mod program;
 mod records;
 mod scope;
 mod stop;
@@ -16,4 +17,8 @@ mod tops;
 mod walk;
 mod walked;
 
+pub use program::{measure, measure_or_lost};
 pub use stop::Stop;
+
+#[cfg(test)]
+mod tests;

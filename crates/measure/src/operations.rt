@@ -2,27 +2,16 @@
 ghost use Rattle.std.specs.Prelude.{◌≡◌, map};
 ghost use Rattle.fut_flat.specs.Erased.{operation_of, texts};
 ghost use Rattle.fut_flat.specs.Terms.{Assert};
-ghost use Rattle.fut_meaning.specs.Knowns.{all_data, data_of, is_data, known_fields, known_part, known_part_from, known_result, known_tuple, some_record};
+ghost use Rattle.fut_meaning.specs.Knowns.{all_data, data_of, is_data, known_fields, known_part, known_part_from, known_result, known_tuple, replaced_in, some_record};
 ghost use Rattle.measure.specs.Held.{known_of, knowns, maybe_known};
 ghost use Rattle.measure.specs.Answers.{Known_to, one_or_data};
 
-use crate::known::{Known, KnownForm};
-use crate::records::field_known;
+use crate::known::{Known, KnownForm, is_data};
+use crate::records::{field_known, fields_of, known_record, with_field};
 use crate::stop::Stop;
+use bumpalo::Bump;
 use fut_flat::Act;
 use itoa::Buffer;
-
-pub fn is_data(known: Known<'_>) -> bool
-    ensures { result ≡ is_data (known_of known.entry) }
-{
-    match known.form {
-        KnownForm::Data => true,
-        KnownForm::Tuple(_) => false,
-        KnownForm::Record(_) => false,
-        KnownForm::Function(_, _, _) => false,
-        KnownForm::Primitive(_, _) => false,
-    }
-}
 
 fn all_data(parts: &[Known<'_>]) -> bool
     ensures { result ≡ all_data (knowns (map known_of parts.now)) }
@@ -63,19 +52,40 @@ fn tuple_of<'a>(parts: &'a [Known<'a>]) -> Known<'a>
     }
 }
 
-// A record that holds a function is not built yet, which is answered as a want of memory.
-fn record_of<'a>(names: &[&str], parts: &[Known<'a>]) -> Result<Known<'a>, Stop>
+fn record_of<'a>(bump: &'a Bump, names: &[&'a str], parts: &[Known<'a>]) -> Result<Known<'a>, Stop>
     ensures { Known_to (some_record (known_fields (texts names.now) (knowns (map known_of parts.now)))) result }
 {
     if names.len() != parts.len() {
         return Err(Stop::Lost);
     }
-    if all_data(parts) {
-        Ok(Known {
-            form: KnownForm::Data,
-        })
-    } else {
-        Err(Stop::Memory)
+    let fields = fields_of(bump, names, parts)?;
+    Ok(known_record(fields))
+}
+
+// A record with another value of a field.
+fn replaced<'a>(
+    bump: &'a Bump,
+    name: &str,
+    whole: Known<'a>,
+    known: Known<'a>,
+) -> Result<Known<'a>, Stop>
+    ensures { Known_to (replaced_in name.now (known_of whole.entry) (known_of known.entry)) result }
+{
+    match whole.form {
+        KnownForm::Data => {
+            if is_data(known) {
+                Ok(whole)
+            } else {
+                Err(Stop::Lost)
+            }
+        }
+        KnownForm::Record(fields) => {
+            let made = with_field(bump, fields, name, known)?;
+            Ok(known_record(made))
+        }
+        KnownForm::Tuple(_) => Err(Stop::Lost),
+        KnownForm::Function(_, _, _) => Err(Stop::Lost),
+        KnownForm::Primitive(_, _) => Err(Stop::Lost),
     }
 }
 
@@ -110,12 +120,16 @@ fn part_of<'a>(known: Known<'a>, name: &str) -> Result<Known<'a>, Stop>
 }
 
 /// What is known of the value of an operation on these parts.
-pub fn result_of<'a>(act: &Act<'_>, parts: &'a [Known<'a>]) -> Result<Known<'a>, Stop>
+pub fn result_of<'a>(
+    bump: &'a Bump,
+    act: &Act<'a>,
+    parts: &'a [Known<'a>],
+) -> Result<Known<'a>, Stop>
     ensures { Known_to (known_result (operation_of act.now) (knowns (map known_of parts.now))) result }
 {
     match *act {
         Act::Tuple => Ok(tuple_of(parts)),
-        Act::Record(names) => record_of(names, parts),
+        Act::Record(names) => record_of(bump, names, parts),
         Act::Project(name) => {
             if parts.len() == 1 {
                 part_of(parts[0], name)
@@ -123,14 +137,11 @@ pub fn result_of<'a>(act: &Act<'_>, parts: &'a [Known<'a>]) -> Result<Known<'a>,
                 data_of(parts)
             }
         }
-        // a record that holds a function is not built yet
-        Act::Replace(_) => {
-            if all_data(parts) {
-                Ok(Known {
-                    form: KnownForm::Data,
-                })
+        Act::Replace(name) => {
+            if parts.len() == 2 {
+                replaced(bump, name, parts[0], parts[1])
             } else {
-                Err(Stop::Memory)
+                data_of(parts)
             }
         }
         Act::Ascribe(_) => same_of(parts),

@@ -1,6 +1,6 @@
 // Local names.
 ghost use Rattle.std.specs.Prelude.{◌≡◌, IfOk, IfErr};
-ghost use Rattle.fut_meaning.specs.Knowns.{find, known_as};
+ghost use Rattle.fut_meaning.specs.Knowns.{empty, find, known_as};
 ghost use Rattle.measure.specs.Held.{known_of, scope_of, maybe_known};
 ghost use Rattle.measure.specs.declared.stop.Stop.TheVariants as stop;
 
@@ -22,6 +22,21 @@ pub fn find<'a>(scope: &'a Scope<'a>, number: BindId) -> Option<Known<'a>>
         current = *rest;
     }
     None
+}
+
+/// No names.
+#[tactic(auto, using(crate::proofs::Mirror::scope_empty))]
+pub fn no_scope<'a>(bump: &'a Bump) -> Result<&'a Scope<'a>, Stop>
+    ensures ok { IfOk result (λ scope. scope_of scope.now ≡ empty) }
+    ensures err { IfErr result (λ e. e ≡ stop.Memory) }
+{
+    match bump.try_alloc_slice_copy(&[Scope::Empty]) {
+        Ok(cells) => {
+            let cells: &'a [Scope<'a>] = cells;
+            Ok(&cells[0])
+        }
+        Err(_) => Err(Stop::Memory),
+    }
 }
 
 /// The names with one more.

@@ -1,6 +1,7 @@
 // Why a walk ends before its end.
 ghost use Rattle.std.specs.Prelude.{◌≡◌};
 
+use fut_scalar::NoMemory;
 use std::alloc::{AllocError, AllocFailed};
 
 /// Why a walk ends before its end.
@@ -31,6 +32,16 @@ impl<T: Drop> From<AllocFailed<T>> for Stop {
     ghost from_gives = { λ _ e. e ≡ Stop.Memory };
 
     fn from(_error: AllocFailed<T>) -> Self {
+        Stop::Memory
+    }
+}
+
+impl From<NoMemory> for Stop {
+    ghost use Rattle.measure.specs.declared.stop.Stop.{Stop};
+
+    ghost from_gives = { λ _ e. e ≡ Stop.Memory };
+
+    fn from(_error: NoMemory) -> Self {
         Stop::Memory
     }
 }

@@ -10,8 +10,8 @@ ghost use Rattle.fut_meaning.specs.Walk.{is_let, is_visit};
 ghost use Rattle.measure.specs.Plain.{Plain};
 ghost use Rattle.measure.specs.Tables.{Kept};
 
-use crate::known::{Known, KnownForm, Scope};
-use crate::operations::{is_data, result_of};
+use crate::known::{Known, KnownForm, Scope, is_data};
+use crate::operations::result_of;
 use crate::patterns::{bind, bind_data};
 use crate::peel::peeled;
 use crate::primitives::{parameters_of, with_known};
@@ -118,7 +118,7 @@ fn walk_strict<'a>(
     ensures flat { IfOk result (λ r. level + r.depth ≤ 1000) }
 {
     let made = walk_parts(tops, nested, level + 1, spent + 1, scope, parts)?;
-    let known = result_of(act, made.knowns)?;
+    let known = result_of(tops.bump, act, made.knowns)?;
     Ok(Walked {
         known,
         nodes: 1 + made.nodes,

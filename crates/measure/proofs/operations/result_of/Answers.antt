@@ -1,7 +1,6 @@
 use Rattle.std.proofs.Common.{Some, refl, sym, ap, ◌∙◌}
-use Rattle.measure.specs.Answers.{known_is, no_memory_to_know}
-use Rattle.measure.proofs.Mirror.{known_data}
-use Rattle.measure.proofs.Parts.{known_as_wanted, result_tuple, result_record, result_projected, result_unprojected, result_ascribed, result_coerced, result_declared, result_asserted, result_other, replaced_is}
+use Rattle.measure.specs.Answers.{known_is}
+use Rattle.measure.proofs.Parts.{known_as_wanted, result_tuple, result_record, result_projected, result_unprojected, result_ascribed, result_coerced, result_declared, result_asserted, result_other, result_replaced, result_unreplaced}
 use Rattle.measure.proofs.operations.result_of.Goals as goal
 
 pub returns-in-Tuple : goal.returns-in-Tuple
@@ -16,11 +15,11 @@ returns-then-parts-eq1 c = known_as_wanted (result_projected _ _ _ _ c.in-Projec
 pub returns-else-parts-eq1 : goal.returns-else-parts-eq1
 returns-else-parts-eq1 c = known_as_wanted (result_unprojected _ _ _ c.in-Project.is c.if-parts-eq1.false) c.data_of.ensures
 
-pub returns-then-all_data : goal.returns-then-all_data
-returns-then-all_data c = replaced_is _ _ _ _ c.in-Replace.is (sym c.if-all_data.true ∙ c.all_data.ensures) (known_data _ refl)
+pub returns-then-parts-eq2 : goal.returns-then-parts-eq2
+returns-then-parts-eq2 c = known_as_wanted (result_replaced _ _ _ _ _ c.in-Replace.is c.if-parts-eq2.true) c.replaced.ensures
 
-pub returns-else-all_data : goal.returns-else-all_data
-returns-else-all_data c = no_memory_to_know
+pub returns-else-parts-eq2 : goal.returns-else-parts-eq2
+returns-else-parts-eq2 c = known_as_wanted (result_unreplaced _ _ _ c.in-Replace.is c.if-parts-eq2.false) c.data_of-else-parts-eq2.ensures
 
 pub returns-in-Ascribe : goal.returns-in-Ascribe
 returns-in-Ascribe c = known_as_wanted (result_ascribed _ _ _ c.in-Ascribe.is) c.same_of.ensures

@@ -1,7 +1,7 @@
 use Rattle.std.proofs.Common.{sym, ap}
 use Rattle.fut_meaning.specs.Knowns.{is_data}
 use Rattle.measure.proofs.Mirror.{known_data, known_tuple, known_record, known_function, known_primitive}
-use Rattle.measure.proofs.operations.is_data.Goals as goal
+use Rattle.measure.proofs.known.is_data.Goals as goal
 
 pub returns-in-Data : goal.returns-in-Data
 returns-in-Data c = sym (ap is_data (known_data _ c.in-Data.is))
