@@ -8,4 +8,5 @@
 mod known;
 mod laws;
 
+pub use known::{Field, Function, Known, KnownForm, Scope};
 pub use laws::{names_rise, unfolding_adds_no_outcome, unfolding_loses_no_outcome};

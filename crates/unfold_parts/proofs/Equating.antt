@@ -1,0 +1,140 @@
+-- Comparisons, one part after the other.
+use Rattle.std.proofs.Common.{◌≡◌, ℕ, suc, ◌+◌, ◌<◌, ◌≤◌, ◌++◌, List, [], ◌∷◌, map, length, get_or, drop, take, true, Ok, Err, refl, sym, ap, ◌∙◌, subst, append_assoc, append-nil, le_refl}
+use Rattle.std.specs.Borrow.{Bor}
+use Rattle.std.specs.Prelude.{Result}
+use Rattle.std.specs.Str.{bytes_eq}
+use Rattle.std.proofs.lemmas.List.{drop_all, take_all}
+use mathlib.Core.List.{cons≢nil, head-eq_of_cons-eq, tail-eq_of_cons-eq}
+use Rattle.fut_scalar.specs.declared.operator.BinOp.TheVariants as binary
+use Rattle.fut_scalar.specs.declared.place.Place.{Place}
+use Rattle.fut_scalar.specs.declared.scalar.Scalar.TheVariants as scalar
+use Rattle.fut_ast.specs.Sorts.{Text}
+use Rattle.fut_blocks.specs.declared.block.Atom.{Atom}
+use Rattle.fut_blocks.specs.declared.block.Atom.TheVariants as atom
+use Rattle.fut_blocks.specs.declared.block.Operation.TheVariants as operation
+use Rattle.fut_blocks.specs.Plain.{Operate}
+use Rattle.unfold.proofs.Mirror.{known_scalar, known_tuple, known_record, field_is}
+use Rattle.unfold.specs.Held.{known_of, field_of, fields_known}
+use Rattle.unfold.specs.Knowns.{Known, Scalar_known, Tuple_known, Record_known, knowns}
+use Rattle.unfold.specs.Unfolding.{Bindings, step, both_hold, Equals, e_scalars, e_tuples, e_records, All_equal, e_none, e_more, Fields_equal, e_no_field, e_field}
+use Rattle.unfold.specs.declared.known.Field.{Field}
+use Rattle.unfold.specs.declared.known.Known.{Known as Held_known}
+use Rattle.unfold.specs.declared.known.KnownForm.TheVariants as form
+use Rattle.unfold_parts.specs.Answers.{Answered, answered, unanswered, Computed, computed, not_computed, Equal_to, All_compared, none_compared, one_compared, All_hold, none_fails, one_holds, Same_names, no_names, same_name}
+use Rattle.unfold_parts.specs.declared.refusal.Refusal.{Refusal}
+use Rattle.unfold_parts.proofs.Lists.{one_more}
+
+pub unequal_is : {A : Type 0} (Gives : Bindings → A → ℕ → Type 0) (before after : Bindings) (next : ℕ) (r : Refusal) → Answered Gives before after next (Err r)
+unequal_is Gives before after next r = unanswered
+
+values_are : (fs : List Field) → map (λ (f : Field). known_of f.known) fs ≡ map (λ (f : Text × Known). f.1) (map field_of fs)
+values_are [] = refl
+values_are (f ∷ fs) = ap (λ z. known_of f.known ∷ z) (values_are fs) ∙ ap (λ z. z.1 ∷ map (λ (f : Text × Known). f.1) (map field_of fs)) (sym (field_is f))
+
+-- ---- comparisons, and that all of them hold
+
+grouped : (bs cs ds es : Bindings) → bs ++ ((cs ++ ds) ++ es) ≡ (bs ++ cs) ++ (ds ++ es)
+grouped bs cs ds es = ap (λ z. bs ++ z) (append_assoc cs ds es) ∙ sym (append_assoc bs cs (ds ++ es))
+
+module _ (at : Place) where
+  all_equal : {ss ts : List Known} {n n1 n2 : ℕ} {bs cs : Bindings} {us : List Atom} {w : Atom} → All_compared at ss ts n bs us n1 → All_hold us n1 cs w n2 → All_equal at (knowns ss) (knowns ts) n (bs ++ cs) w n2
+  all_equal none_compared none_fails = e_none
+  all_equal (one_compared {s} {t} {ss} {ts} {n} {n1} {n2} {bs} {cs} {u} h hs) (one_holds {w = w} {n1 = m} {bs = ds} k) = subst (λ z. All_equal at (knowns (s ∷ ss)) (knowns (t ∷ ts)) n z (atom.Name m) (suc m)) (grouped bs cs ds (step (m ∷ []) (both_hold u w))) (e_more h (all_equal hs k) (le_refl m))
+
+  fields_equal : {fs gs : List (Text × Known)} {ss ts : List Known} {n n1 n2 : ℕ} {bs cs : Bindings} {us : List Atom} {w : Atom} → Same_names fs gs → ss ≡ map (λ (f : Text × Known). f.1) fs → ts ≡ map (λ (f : Text × Known). f.1) gs → All_compared at ss ts n bs us n1 → All_hold us n1 cs w n2 → Fields_equal at (fields_known fs) (fields_known gs) n (bs ++ cs) w n2
+  unfolding fields_known
+  fields_equal no_names e q none_compared none_fails = e_no_field
+  fields_equal no_names e q (one_compared h hs) k = absurd (cons≢nil e)
+  fields_equal (same_name i is) e q none_compared k = absurd (cons≢nil (sym e))
+  fields_equal (same_name {f = f} {g} {fs} {gs} i is) e q (one_compared {s} {t} {ss} {ts} {n} {n1} {n2} {bs} {cs} {u} h hs) (one_holds {w = w} {n1 = m} {bs = ds} k) =
+      subst (λ z. Fields_equal at (fields_known (f ∷ fs)) (fields_known (g ∷ gs)) n z (atom.Name m) (suc m)) (grouped bs cs ds (step (m ∷ []) (both_hold u w)))
+      (e_field i (subst (λ z. Equals at z g.1 n bs u n1) (head-eq_of_cons-eq e) (subst (λ z. Equals at s z n bs u n1) (head-eq_of_cons-eq q) h)) (fields_equal is (tail-eq_of_cons-eq e) (tail-eq_of_cons-eq q) hs k) (le_refl m))
+
+  -- ---- by form
+
+  module _ (left right : Held_known) (n mid next : ℕ) (before between after : Bindings) (r : Result Atom Refusal) where
+    as_known : (s t : Known) → known_of left ≡ s → known_of right ≡ t → Equal_to at s t n before after next r → Equal_to at (known_of left) (known_of right) n before after next r
+    as_known s t e q h = subst (λ z. Equal_to at z (known_of right) n before after next r) (sym e) (subst (λ z. Equal_to at s z n before after next r) (sym q) h)
+
+    pub scalars_equal : (u w : Atom) → left.form ≡ form.Scalar u → right.form ≡ form.Scalar w → Computed (Operate (operation.Binary binary.Eq at u w)) n before after next r → Equal_to at (known_of left) (known_of right) n before after next r
+    scalars_equal u w i j h = as_known (Scalar_known u) (Scalar_known w) (known_scalar left u i) (known_scalar right w j) (by_step r h)
+      where
+        by_step : (r : Result Atom Refusal) → Computed (Operate (operation.Binary binary.Eq at u w)) n before after next r → Equal_to at (Scalar_known u) (Scalar_known w) n before after next r
+        by_step _ (computed e q) = answered (step (n ∷ []) (Operate (operation.Binary binary.Eq at u w))) e (subst (λ z. Equals at (Scalar_known u) (Scalar_known w) n (step (n ∷ []) (Operate (operation.Binary binary.Eq at u w))) (atom.Name n) z) (sym q) (e_scalars (le_refl n)))
+        by_step _ not_computed = unanswered
+
+    pub tuples_equal : (ls rs : Bor (List Held_known)) (us : Bor (List Atom)) → left.form ≡ form.Tuple ls → right.form ≡ form.Tuple rs → Answered (λ bs (vs : Bor (List Atom)) m. All_compared at (map known_of ls.now) (map known_of rs.now) n bs vs.now m) before between mid (Ok us) → Answered (All_hold us.now mid) between after next r → Equal_to at (known_of left) (known_of right) n before after next r
+    tuples_equal ls rs us i j h k = as_known (Tuple_known (knowns (map known_of ls.now))) (Tuple_known (knowns (map known_of rs.now))) (known_tuple left ls i) (known_tuple right rs j) (both r h k)
+      where
+        both : (r : Result Atom Refusal) → Answered (λ bs (vs : Bor (List Atom)) m. All_compared at (map known_of ls.now) (map known_of rs.now) n bs vs.now m) before between mid (Ok us) → Answered (All_hold us.now mid) between after next r → Equal_to at (Tuple_known (knowns (map known_of ls.now))) (Tuple_known (knowns (map known_of rs.now))) n before after next r
+        both _ (answered bs e x) (answered cs q y) = answered (bs ++ cs) (q ∙ ap (λ z. z ++ cs) e ∙ append_assoc before bs cs) (e_tuples (all_equal x y))
+        both _ h unanswered = unanswered
+
+    pub records_equal : (ls rs : Bor (List Field)) (us : Bor (List Atom)) → left.form ≡ form.Record ls → right.form ≡ form.Record rs → Same_names (map field_of ls.now) (map field_of rs.now) → Answered (λ bs (vs : Bor (List Atom)) m. All_compared at (map (λ (f : Field). known_of f.known) ls.now) (map (λ (f : Field). known_of f.known) rs.now) n bs vs.now m) before between mid (Ok us) → Answered (All_hold us.now mid) between after next r → Equal_to at (known_of left) (known_of right) n before after next r
+    records_equal ls rs us i j same h k = as_known (Record_known (fields_known (map field_of ls.now))) (Record_known (fields_known (map field_of rs.now))) (known_record left ls i) (known_record right rs j) (both r h k)
+      where
+        both : (r : Result Atom Refusal) → Answered (λ bs (vs : Bor (List Atom)) m. All_compared at (map (λ (f : Field). known_of f.known) ls.now) (map (λ (f : Field). known_of f.known) rs.now) n bs vs.now m) before between mid (Ok us) → Answered (All_hold us.now mid) between after next r → Equal_to at (Record_known (fields_known (map field_of ls.now))) (Record_known (fields_known (map field_of rs.now))) n before after next r
+        both _ (answered bs e x) (answered cs q y) = answered (bs ++ cs) (q ∙ ap (λ z. z ++ cs) e ∙ append_assoc before bs cs) (e_records (fields_equal same (values_are ls.now) (values_are rs.now) x y))
+        both _ h unanswered = unanswered
+
+-- ---- parts, one after the other
+
+-- what is compared of the parts from one on leads to all of them
+pub data Compared_so_far (at : Place) (ls rs : List Held_known) (n i j next : ℕ) (before now : Bindings) (us : List Atom) : Type 0 where
+  compared_so_far : (bs : Bindings) → now ≡ before ++ bs → ((cs : Bindings) (vs : List Atom) (m : ℕ) → All_compared at (map known_of (drop i ls)) (map known_of (drop j rs)) next cs vs m → All_compared at (map known_of ls) (map known_of rs) n (bs ++ cs) (us ++ vs) m) → Compared_so_far at ls rs n i j next before now us
+
+module _ (at : Place) (ls rs : List Held_known) (n : ℕ) where
+  pub compared_start : (before : Bindings) → Compared_so_far at ls rs n 0 0 n before before []
+  compared_start before = compared_so_far [] (sym (append-nil before)) (λ cs vs m h. h)
+
+  pub compared_on : (i j mid next : ℕ) (before between after : Bindings) (us us' : List Atom) (u : Atom) (l r : Held_known) → i < length ls → j < length rs → Compared_so_far at ls rs n i j mid before between us → Equal_to at (known_of (get_or ls i l)) (known_of (get_or rs j r)) mid between after next (Ok u) → us' ≡ us ++ u ∷ [] → Compared_so_far at ls rs n (i + 1) (j + 1) next before after us'
+  compared_on i j mid next before between after us us' u l r lt lt' (compared_so_far bs e f) (answered cs q h) g = compared_so_far (bs ++ cs) (q ∙ ap (λ z. z ++ cs) e ∙ append_assoc before bs cs) rest
+    where
+      rest : (ds : Bindings) (vs : List Atom) (m : ℕ) → All_compared at (map known_of (drop (i + 1) ls)) (map known_of (drop (j + 1) rs)) next ds vs m → All_compared at (map known_of ls) (map known_of rs) n ((bs ++ cs) ++ ds) (us' ++ vs) m
+      rest ds vs m k = subst (λ z. All_compared at (map known_of ls) (map known_of rs) n z (us' ++ vs) m) (sym (append_assoc bs cs ds)) (subst (λ z. All_compared at (map known_of ls) (map known_of rs) n (bs ++ (cs ++ ds)) z m) (sym (ap (λ z. z ++ vs) g ∙ append_assoc us (u ∷ []) vs)) (f (cs ++ ds) (u ∷ vs) m (subst (λ z. All_compared at (map known_of z) (map known_of (drop j rs)) mid (cs ++ ds) (u ∷ vs) m) (sym (one_more ls i l lt)) (subst (λ z. All_compared at (map known_of (get_or ls i l ∷ drop (i + 1) ls)) (map known_of z) mid (cs ++ ds) (u ∷ vs) m) (sym (one_more rs j r lt')) (one_compared h k)))))
+
+  pub compared_end : (i j next : ℕ) (before after : Bindings) (us : List Atom) (row : Bor (List Atom)) → length ls ≤ i → length rs ≤ j → Compared_so_far at ls rs n i j next before after us → row.now ≡ us → Answered (λ bs (vs : Bor (List Atom)) m. All_compared at (map known_of ls) (map known_of rs) n bs vs.now m) before after next (Ok row)
+  compared_end i j next before after us row le le' (compared_so_far bs e f) q = answered bs e (subst (λ z. All_compared at (map known_of ls) (map known_of rs) n bs z next) (sym q) (subst (λ z. All_compared at (map known_of ls) (map known_of rs) n bs z next) (append-nil us) (subst (λ z. All_compared at (map known_of ls) (map known_of rs) n z (us ++ []) next) (append-nil bs) (f [] [] next (subst (λ z. All_compared at (map known_of z) (map known_of (drop j rs)) next [] [] next) (sym (drop_all i ls le)) (subst (λ z. All_compared at (map known_of []) (map known_of z) next [] [] next) (sym (drop_all j rs le')) none_compared))))))
+
+-- the comparisons of what the fields hold
+pub fields_compared : (at : Place) (fs gs : List Field) (ls rs : List Held_known) (n next : ℕ) (before after : Bindings) (r : Result (Bor (List Atom)) Refusal) → map known_of ls ≡ map (λ (f : Field). known_of f.known) fs → map known_of rs ≡ map (λ (f : Field). known_of f.known) gs → Answered (λ bs (vs : Bor (List Atom)) m. All_compared at (map known_of ls) (map known_of rs) n bs vs.now m) before after next r → Answered (λ bs (vs : Bor (List Atom)) m. All_compared at (map (λ (f : Field). known_of f.known) fs) (map (λ (f : Field). known_of f.known) gs) n bs vs.now m) before after next r
+fields_compared at fs gs ls rs n next before after r e q h = subst (λ z. Answered (λ bs (vs : Bor (List Atom)) m. All_compared at z (map (λ (f : Field). known_of f.known) gs) n bs vs.now m) before after next r) e (subst (λ z. Answered (λ bs (vs : Bor (List Atom)) m. All_compared at (map known_of ls) z n bs vs.now m) before after next r) q h)
+
+known_values : (fs : List Field) → map known_of (map (λ (f : Field). f.known) fs) ≡ map (λ (f : Field). known_of f.known) fs
+known_values [] = refl
+known_values (f ∷ fs) = ap (λ z. known_of f.known ∷ z) (known_values fs)
+
+pub values_known : (fs : List Field) (ss : List Held_known) (i : ℕ) → ss ≡ map (λ (f : Field). f.known) (take i fs) → length fs ≤ i → map known_of ss ≡ map (λ (f : Field). known_of f.known) fs
+values_known fs ss i e le = ap (map known_of) (e ∙ ap (map (λ (f : Field). f.known)) (take_all i fs le)) ∙ known_values fs
+
+-- ---- names of fields
+
+module _ (fs gs : List Field) where
+  abbrev pub Names_lead : ℕ → ℕ → Type 0
+  Names_lead i j = Same_names (map field_of (drop i fs)) (map field_of (drop j gs)) → Same_names (map field_of fs) (map field_of gs)
+
+  pub names_on : (i j : ℕ) (f g : Field) → i < length fs → j < length gs → bytes_eq (get_or fs i f).name.now (get_or gs j g).name.now ≡ true → Names_lead i j → Names_lead (i + 1) (j + 1)
+  names_on i j f g lt lt' e l h = l (subst (λ z. Same_names (map field_of z) (map field_of (drop j gs))) (sym (one_more fs i f lt)) (subst (λ z. Same_names (map field_of (get_or fs i f ∷ drop (i + 1) fs)) (map field_of z)) (sym (one_more gs j g lt')) (same_name (ap (λ z. bytes_eq z.0 (field_of (get_or gs j g)).0) (field_is (get_or fs i f)) ∙ ap (λ z. bytes_eq (get_or fs i f).name.now z.0) (field_is (get_or gs j g)) ∙ e) h)))
+
+  pub names_end : (i j : ℕ) → length fs ≤ i → length gs ≤ j → Names_lead i j → Same_names (map field_of fs) (map field_of gs)
+  names_end i j le le' l = l (subst (λ z. Same_names (map field_of z) (map field_of (drop j gs))) (sym (drop_all i fs le)) (subst (λ z. Same_names (map field_of []) (map field_of z)) (sym (drop_all j gs le')) no_names))
+
+-- ---- that all hold, from the last one on
+
+pub data Held_so_far (us : List Atom) (n next : ℕ) (before now : Bindings) (w : Atom) : Type 0 where
+  held_so_far : (bs : Bindings) → now ≡ before ++ bs → All_hold us n bs w next → Held_so_far us n next before now w
+
+module _ (us : List Atom) (n : ℕ) (before : Bindings) where
+  pub held_start : (i : ℕ) → length us ≤ i → Held_so_far (drop i us) n n before before (atom.Constant (scalar.Bool true))
+  held_start i le = held_so_far [] (sym (append-nil before)) (subst (λ z. All_hold z n [] (atom.Constant (scalar.Bool true)) n) (sym (drop_all i us le)) none_fails)
+
+  pub held_on : (i j mid next : ℕ) (between after : Bindings) (d w x : Atom) → i < length us → j ≡ i + 1 → Held_so_far (drop j us) n mid before between w → Computed (both_hold (get_or us i d) w) mid between after next (Ok x) → Held_so_far (drop i us) n next before after x
+  held_on i j mid next between after d w _ lt g (held_so_far bs e h) (computed q k) =
+      let rest : All_hold (drop (i + 1) us) n bs w mid = subst (λ z. All_hold (drop z us) n bs w mid) g h in
+      held_so_far (bs ++ step (mid ∷ []) (both_hold (get_or us i d) w)) (q ∙ ap (λ z. z ++ step (mid ∷ []) (both_hold (get_or us i d) w)) e ∙ append_assoc before bs (step (mid ∷ []) (both_hold (get_or us i d) w)))
+      (subst (λ z. All_hold z n (bs ++ step (mid ∷ []) (both_hold (get_or us i d) w)) (atom.Name mid) next) (sym (one_more us i d lt)) (subst (All_hold (get_or us i d ∷ drop (i + 1) us) n (bs ++ step (mid ∷ []) (both_hold (get_or us i d) w)) (atom.Name mid)) (sym k) (one_holds rest)))
+
+  pub held_end : (i next : ℕ) (after : Bindings) (w : Atom) → i ≡ 0 → Held_so_far (drop i us) n next before after w → Answered (All_hold us n) before after next (Ok w)
+  held_end i next after w z (held_so_far bs e h) = answered bs e (subst (λ k. All_hold (drop k us) n bs w next) z h)
+
+pub ruleset equating = (unequal_is, scalars_equal, tuples_equal, records_equal, fields_compared)

@@ -1,0 +1,12 @@
+pub mod Lists
+pub mod Finding
+pub mod Tabling
+pub mod Using
+pub mod Stepping
+pub mod Layings
+pub mod Naming
+pub mod Parting
+pub mod Fielding
+pub mod Binding
+pub mod Operated
+pub mod Equating

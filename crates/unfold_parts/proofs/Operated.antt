@@ -1,0 +1,279 @@
+-- Operations, each by its form.
+use Rattle.std.proofs.Common.{◌≡◌, ℕ, suc, ◌+◌, ◌*◌, ◌<◌, ◌^◌, ◌%◌, ◌++◌, List, [], ◌∷◌, map, length, get_or, Bool, nat_lt, Option, Some, Ok, Err, pos, refl, sym, ap, ◌∙◌, subst, append_assoc, append-nil, le_refl, lt-ltb, le-ltb, arith}
+use Rattle.std.specs.Borrow.{Bor}
+use Rattle.std.specs.Prelude.{IfOk, Result, unsigned_abs}
+use Rattle.std.specs.Int.{int_rem_euclid}
+use Rattle.std.proofs.Math.IntN.{pos-+ℤ-pos}
+use Rattle.std.proofs.lemmas.Int.{int_rem_euclid_is}
+use Rattle.std.proofs.lemmas.List.{map-append, length-map}
+use Rattle.std.proofs.lemmas.Nat.{pow_pos}
+use Rattle.fut_scalar.specs.Integers.{width_of}
+use Rattle.fut_scalar.specs.declared.operator.BinOp.{BinOp}
+use Rattle.fut_scalar.specs.declared.operator.BinOp.TheVariants as binary
+use Rattle.fut_scalar.specs.declared.operator.UnOp.{UnOp}
+use Rattle.fut_scalar.specs.declared.operator.UnOp.TheVariants as unary
+use Rattle.fut_scalar.specs.declared.place.BindId.{BindId}
+use Rattle.fut_scalar.specs.declared.place.Place.{Place}
+use Rattle.fut_scalar.specs.declared.scalar.IntType.{IntType}
+use Rattle.fut_scalar.specs.declared.scalar.Scalar.TheVariants as scalar
+use Rattle.fut_scalar.specs.declared.scalar.ScalarType.{ScalarType}
+use Rattle.fut_ast.specs.Sorts.{Text}
+use Rattle.fut_flat.specs.declared.act.Act.{Act}
+use Rattle.fut_flat.specs.declared.act.Act.TheVariants as flat
+use Rattle.fut_flat.specs.declared.prim.Primitive.{Primitive}
+use Rattle.fut_flat.specs.declared.prim.Primitive.TheVariants as prim
+use Rattle.fut_flat.specs.declared.prim.Ref.{Ref}
+use Rattle.fut_flat.specs.declared.ty.TypeExp.{TypeExp}
+use Rattle.fut_flat.specs.Erased.{operation_of, texts, type_of}
+use Rattle.fut_flat.specs.Terms.{Operation, Integer, Truth, Tuple_of, Record_of, Binary, Negate, Complement, Project, Replace, Ascribe, Coerce, Declared, Assert}
+use Rattle.fut_blocks.proofs.Layers.{binding_of-made, action_of-Operate}
+use Rattle.fut_blocks.specs.declared.block.Act.TheVariants as act
+use Rattle.fut_blocks.specs.declared.block.Atom.{Atom}
+use Rattle.fut_blocks.specs.declared.block.Atom.TheVariants as atom
+use Rattle.fut_blocks.specs.declared.block.Operation.TheVariants as operation
+use Rattle.fut_blocks.specs.declared.block.Step.{roll-Step}
+use Rattle.fut_blocks.specs.Meaning.{fitted}
+use Rattle.fut_blocks.specs.Plain.{Action, Operate, action_of, binding_of}
+use Rattle.fut_meaning.specs.Operations.{arity}
+use Rattle.fut_meaning.specs.Operators.{integer}
+use Rattle.unfold.proofs.Mirror.{known_scalar, known_tuple, known_record, known_primitive}
+use Rattle.unfold.specs.Held.{known_of, field_of, fields_known}
+use Rattle.unfold.specs.Knowns.{Known, Scalar_known, Record_known, Primitive_known, listed, knowns, replaced, part}
+use Rattle.unfold.specs.Unfolding.{Bindings, step, named, literal_type, Operates, o_integer, o_truth, o_tuple, o_record, o_binary, o_equal, o_unequal, o_negate, o_complement, o_project, o_replace, o_ascribe, o_coerce, o_declared, o_assert, Primitive_operates, p_convert, p_min, p_max, p_abs, p_popc, Applies, a_primitive_waits, a_primitive}
+use Rattle.unfold.specs.declared.known.Field.{Field}
+use Rattle.unfold.specs.declared.known.Known.{Known as Held_known}
+use Rattle.unfold.specs.declared.known.KnownForm.TheVariants as form
+use Rattle.unfold_parts.specs.Answers.{Answered, answered, unanswered, Pushed, pushed, Computed, computed, Is_step, is_step, On_one, on_one, On_two, on_two, At_once, Operated, Operated_primitive, Applied_primitive, Equal_to}
+use Rattle.unfold_parts.specs.Parts.{Is_one, one, Is_scalar, a_scalar, Is_one_scalar, one_scalar, Is_two_scalars, two_scalars, Is_record, is_record}
+use Rattle.unfold_parts.specs.declared.parts.Scalars.{Scalars}
+use Rattle.unfold_parts.proofs.Parting.{two_are}
+use Rattle.unfold_parts.specs.declared.refusal.Refusal.{Refusal}
+
+-- ---- answers
+
+pub unanswered_is : {A : Type 0} (Gives : Bindings → A → ℕ → Type 0) (before after : Bindings) (next : ℕ) (r : Refusal) → Answered Gives before after next (Err r)
+unanswered_is Gives before after next r = unanswered
+
+-- what gives one thing gives another
+pub answered_as : {A : Type 0} {P Q : Bindings → A → ℕ → Type 0} {before after : Bindings} {next : ℕ} {r : Result A Refusal} → ((bs : Bindings) (a : A) (n : ℕ) → P bs a n → Q bs a n) → Answered P before after next r → Answered Q before after next r
+answered_as f (answered bs e h) = answered bs e (f bs _ _ h)
+answered_as f unanswered = unanswered
+
+no_steps : {A : Type 0} (Gives : Bindings → A → ℕ → Type 0) (before : Bindings) (n : ℕ) (a : A) → Gives [] a n → Answered Gives before before n (Ok a)
+no_steps Gives before n a h = answered [] (sym (append-nil before)) h
+
+-- an answer without steps
+at_once_is : (t : IntType) (o : Operation Ref BindId) (at : Place) (ss : List Known) (n : ℕ) (before : Bindings) (r : Result Held_known Refusal) → At_once t o ss r → Operated t o at ss n before before n r
+at_once_is t o at ss n before (Ok s) h = no_steps (λ bs (s : Held_known) next. Operates t o at ss n bs (known_of s) next) before n s (h at n)
+at_once_is t o at ss n before (Err r) h = unanswered
+
+-- ---- single steps
+
+pub computed_known : (a : Action) (n next : ℕ) (before after : Bindings) (u : Atom) (s : Held_known) → Computed a n before after next (Ok u) → s.form ≡ form.Scalar u → Answered (λ bs (s : Held_known) next. Is_step a n bs (known_of s) next) before after next (Ok s)
+computed_known a n next before after _ s (computed e q) i = answered (step (n ∷ []) a) e (subst (λ z. Is_step a n (step (n ∷ []) a) (known_of s) z) (sym q) (subst (λ z. Is_step a n (step (n ∷ []) a) z (suc n)) (sym (known_scalar s (atom.Name n) i)) is_step))
+
+module _ (ss : List Known) (n next : ℕ) (before after : Bindings) (r : Result Held_known Refusal) where
+  abbrev pub Steps : Action → Type 0
+  Steps a = Answered (λ bs (s : Held_known) next. Is_step a n bs (known_of s) next) before after next r
+
+  pub unary_ok : (op : UnOp) (u : Atom) → Is_one_scalar ss (Some u) → Steps (Operate (operation.Unary op u)) → Answered (λ bs (s : Held_known) next. On_one op ss n bs (known_of s) next) before after next r
+  unary_ok op u (one_scalar e) h = answered_as (λ bs s m x. on_one e x) h
+
+  pub binary_ok : (op : BinOp) (at : Place) (p : Scalars) → Is_two_scalars ss (Some p) → Steps (Operate (operation.Binary op at p.first p.second)) → Answered (λ bs (s : Held_known) next. On_two op at ss n bs (known_of s) next) before after next r
+  binary_ok op at p (two_scalars e) h = answered_as (λ bs s m x. on_two e x) h
+
+  pub convert_ok : (to from : ScalarType) (at : Place) (u : Atom) → Is_one_scalar ss (Some u) → Steps (Operate (operation.Convert to u)) → Operated_primitive (prim.Convert to from) at ss n before after next r
+  convert_ok to from at u (one_scalar e) h = answered_as (λ bs s m x. by_step bs (known_of s) m e x) h
+    where
+      by_step : (bs : Bindings) (s : Known) (m : ℕ) → ss ≡ Scalar_known u ∷ [] → Is_step (Operate (operation.Convert to u)) n bs s m → Primitive_operates (prim.Convert to from) at ss n bs s m
+      by_step _ _ _ e is_step = subst (λ z. Primitive_operates (prim.Convert to from) at z n (step (n ∷ []) (Operate (operation.Convert to u))) (named n) (suc n)) (sym e) (p_convert (le_refl n))
+
+-- ---- operations on one scalar and on two
+
+on_one_as : (Q : List Known → ℕ → Bindings → Known → ℕ → Type 0) (op : UnOp) → ((u : Atom) (n : ℕ) → Q (Scalar_known u ∷ []) n (step (n ∷ []) (Operate (operation.Unary op u))) (named n) (suc n)) → (ss : List Known) (n : ℕ) (bs : Bindings) (s : Known) (m : ℕ) → On_one op ss n bs s m → Q ss n bs s m
+on_one_as Q op q ss n _ _ _ (on_one {u} e is_step) = subst (λ z. Q z n (step (n ∷ []) (Operate (operation.Unary op u))) (named n) (suc n)) (sym e) (q u n)
+
+on_two_as : (Q : List Known → ℕ → Bindings → Known → ℕ → Type 0) (op : BinOp) (at : Place) → ((u w : Atom) (n : ℕ) → Q (Scalar_known u ∷ Scalar_known w ∷ []) n (step (n ∷ []) (Operate (operation.Binary op at u w))) (named n) (suc n)) → (ss : List Known) (n : ℕ) (bs : Bindings) (s : Known) (m : ℕ) → On_two op at ss n bs s m → Q ss n bs s m
+on_two_as Q op at q ss n _ _ _ (on_two {u} {w} e is_step) = subst (λ z. Q z n (step (n ∷ []) (Operate (operation.Binary op at u w))) (named n) (suc n)) (sym e) (q u w n)
+
+module _ (ss : List Known) (n next : ℕ) (before after : Bindings) (r : Result Held_known Refusal) where
+  abbrev pub One : UnOp → Type 0
+  One op = Answered (λ bs (s : Held_known) next. On_one op ss n bs (known_of s) next) before after next r
+
+  abbrev pub Two : BinOp → Place → Type 0
+  Two op at = Answered (λ bs (s : Held_known) next. On_two op at ss n bs (known_of s) next) before after next r
+
+  pub negated : (t : IntType) (at : Place) → One unary.Neg → Operated t Negate at ss n before after next r
+  negated t at h = answered_as (λ bs s m x. on_one_as (Operates t Negate at) unary.Neg (λ u k. o_negate (le_refl k)) ss n bs (known_of s) m x) h
+
+  pub complemented : (t : IntType) (at : Place) → One unary.Not → Operated t Complement at ss n before after next r
+  complemented t at h = answered_as (λ bs s m x. on_one_as (Operates t Complement at) unary.Not (λ u k. o_complement (le_refl k)) ss n bs (known_of s) m x) h
+
+  pub abs_ok : (t : IntType) (at : Place) → One unary.Abs → Operated_primitive (prim.Abs t) at ss n before after next r
+  abs_ok t at h = answered_as (λ bs s m x. on_one_as (Primitive_operates (prim.Abs t) at) unary.Abs (λ u k. p_abs (le_refl k)) ss n bs (known_of s) m x) h
+
+  pub popc_ok : (t : IntType) (at : Place) → One unary.Popc → Operated_primitive (prim.Popc t) at ss n before after next r
+  popc_ok t at h = answered_as (λ bs s m x. on_one_as (Primitive_operates (prim.Popc t) at) unary.Popc (λ u k. p_popc (le_refl k)) ss n bs (known_of s) m x) h
+
+  pub binary_is : (t : IntType) (op : BinOp) (at : Place) → Two op at → Operated t (Binary op) at ss n before after next r
+  binary_is t op at h = answered_as (λ bs s m x. on_two_as (Operates t (Binary op) at) op at (λ u w k. o_binary (le_refl k)) ss n bs (known_of s) m x) h
+
+  pub min_ok : (t : IntType) (at : Place) → Two binary.Min at → Operated_primitive (prim.Min t) at ss n before after next r
+  min_ok t at h = answered_as (λ bs s m x. on_two_as (Primitive_operates (prim.Min t) at) binary.Min at (λ u w k. p_min (le_refl k)) ss n bs (known_of s) m x) h
+
+  pub max_ok : (t : IntType) (at : Place) → Two binary.Max at → Operated_primitive (prim.Max t) at ss n before after next r
+  max_ok t at h = answered_as (λ bs s m x. on_two_as (Primitive_operates (prim.Max t) at) binary.Max at (λ u w k. p_max (le_refl k)) ss n bs (known_of s) m x) h
+
+-- ---- equality and assertions
+
+module _ (t : IntType) (at : Place) (ss : List Held_known) (c d : Held_known) (n mid next : ℕ) (before between after : Bindings) (s : Held_known) where
+  pub equal_ok : (u : Atom) → length ss ≡ 2 → Equal_to at (known_of (get_or ss 0 c)) (known_of (get_or ss 1 d)) n before after next (Ok u) → s.form ≡ form.Scalar u → Operated t (Binary binary.Eq) at (map known_of ss) n before after next (Ok s)
+  equal_ok u i2 (answered bs q h) i = answered bs q (subst (λ z. Operates t (Binary binary.Eq) at z n bs (known_of s) next) (sym (two_are ss c d i2)) (subst (λ z. Operates t (Binary binary.Eq) at (known_of (get_or ss 0 c) ∷ known_of (get_or ss 1 d) ∷ []) n bs z next) (sym (known_scalar s u i)) (o_equal h)))
+
+  pub unequal_ok : (u w : Atom) → length ss ≡ 2 → Equal_to at (known_of (get_or ss 0 c)) (known_of (get_or ss 1 d)) n before between mid (Ok u) → Computed (Operate (operation.Unary unary.Not u)) mid between after next (Ok w) → s.form ≡ form.Scalar w → Operated t (Binary binary.Ne) at (map known_of ss) n before after next (Ok s)
+  unequal_ok u _ i2 (answered bs q h) (computed k l) i = answered (bs ++ step (mid ∷ []) (Operate (operation.Unary unary.Not u))) (k ∙ ap (λ z. z ++ step (mid ∷ []) (Operate (operation.Unary unary.Not u))) q ∙ append_assoc before bs (step (mid ∷ []) (Operate (operation.Unary unary.Not u)))) (subst (λ z. Operates t (Binary binary.Ne) at z n (bs ++ step (mid ∷ []) (Operate (operation.Unary unary.Not u))) (known_of s) next) (sym (two_are ss c d i2)) (subst (λ z. Operates t (Binary binary.Ne) at (known_of (get_or ss 0 c) ∷ known_of (get_or ss 1 d) ∷ []) n (bs ++ step (mid ∷ []) (Operate (operation.Unary unary.Not u))) (known_of s) z) (sym l) (subst (λ z. Operates t (Binary binary.Ne) at (known_of (get_or ss 0 c) ∷ known_of (get_or ss 1 d) ∷ []) n (bs ++ step (mid ∷ []) (Operate (operation.Unary unary.Not u))) z (suc mid)) (sym (known_scalar s (atom.Name mid) i)) (o_unequal h (le_refl mid)))))
+
+pub assert_ok : (t : IntType) (at : Place) (ss : List Held_known) (c d : Held_known) (n : ℕ) (before after : Bindings) (u : Atom) (none : Bor (List ℕ)) (x : Unit {0}) → length ss ≡ 2 → Is_scalar (known_of (get_or ss 0 c)) (Some u) → none.now ≡ [] → Pushed (binding_of (roll-Step record { names = none; act = act.Operate (operation.Assert at u) })) before after (Ok x) → Operated t Assert at (map known_of ss) n before after n (Ok (get_or ss 1 d))
+assert_ok t at ss c d n before after u none x i2 (a_scalar q) k (pushed h) = answered (step [] (Operate (operation.Assert at u))) (h ∙ ap (λ z. before ++ z ∷ []) (binding_of-made (record { names = none; act = act.Operate (operation.Assert at u) }) ∙ ap (λ z. (z, action_of (act.Operate (operation.Assert at u)))) k ∙ ap (λ z. ([], z)) (action_of-Operate (operation.Assert at u)))) (subst (λ z. Operates t Assert at z n (step [] (Operate (operation.Assert at u))) (known_of (get_or ss 1 d)) n) (sym (two_are ss c d i2 ∙ ap (λ z. z ∷ known_of (get_or ss 1 d) ∷ []) q)) o_assert)
+
+pub ruleset stepped = (unanswered_is, computed_known, unary_ok, binary_ok, binary_is, equal_ok, unequal_ok, assert_ok)
+
+-- ---- operations without steps
+
+at_zero : (m k : ℕ) → 0 < k → unsigned_abs (int_rem_euclid (pos m) (pos k)) ≡ m % k
+at_zero m k some = let e : m + 0 * k ≡ m = omega arith in ap unsigned_abs (int_rem_euclid_is (pos m) (pos k) k 0 m some refl (pos-+ℤ-pos m (0 * k) ∙ ap pos e))
+
+fitted_integer : (t : IntType) (m : ℕ) → fitted (scalar.Int t m) ≡ integer t (pos m)
+fitted_integer t m = ap (scalar.Int t) (sym (at_zero m (2 ^ width_of t) (pow_pos (width_of t))))
+
+no_parts : (ss : List Held_known) → (0 < length ss → ⊥) → map known_of ss ≡ []
+no_parts [] h = refl
+no_parts (s ∷ ss) h = absurd (h (omega arith))
+
+module _ (t : IntType) (ss : List Held_known) (s : Held_known) where
+  pub literal_ok : (m : ℕ) (suffix : Option IntType) (u : IntType) → (0 < length ss → ⊥) → u ≡ literal_type t suffix → s.form ≡ form.Scalar (atom.Constant (scalar.Int u m)) → At_once t (Integer m suffix) (map known_of ss) (Ok s)
+  literal_ok m suffix u h e i at n = subst (λ z. Operates t (Integer m suffix) at z n [] (known_of s) n) (sym (no_parts ss h)) (subst (λ z. Operates t (Integer m suffix) at [] n [] z n) (sym (known_scalar s _ i)) (o_integer (fitted_integer u m ∙ ap (λ z. integer z (pos m)) e)))
+
+  pub truth_ok : (b : Bool) → (0 < length ss → ⊥) → s.form ≡ form.Scalar (atom.Constant (scalar.Bool b)) → At_once t (Truth b) (map known_of ss) (Ok s)
+  truth_ok b h i at n = subst (λ z. Operates t (Truth b) at z n [] (known_of s) n) (sym (no_parts ss h)) (subst (λ z. Operates t (Truth b) at [] n [] z n) (sym (known_scalar s _ i)) o_truth)
+
+pub project_ok : (t : IntType) (f : Text) (ss : List Known) (whole : Held_known) (r : Result Held_known Refusal) → Is_one ss (Some whole) → IfOk r (λ s. part f (known_of whole) ≡ Some (known_of s)) → At_once t (Project f) ss r
+project_ok t f ss whole (Ok s) (one e) h = λ at n. subst (λ z. Operates t (Project f) at z n [] (known_of s) n) (sym e) (o_project h)
+project_ok t f ss whole (Err r) h k = tt
+
+pub replace_ok : (t : IntType) (f : Text) (ss : List Held_known) (c d : Held_known) (fs gs : Bor (List Field)) (s : Held_known) → length ss ≡ 2 → (get_or ss 0 c).form ≡ form.Record fs → s.form ≡ form.Record gs → fields_known (map field_of gs.now) ≡ replaced f (known_of (get_or ss 1 d)) (fields_known (map field_of fs.now)) → At_once t (Replace f) (map known_of ss) (Ok s)
+replace_ok t f ss c d fs gs s i2 i j q at n = subst (λ z. Operates t (Replace f) at z n [] (known_of s) n) (sym (two_are ss c d i2 ∙ ap (λ z. z ∷ known_of (get_or ss 1 d) ∷ []) (known_record (get_or ss 0 c) fs i))) (subst (λ z. Operates t (Replace f) at (Record_known (fields_known (map field_of fs.now)) ∷ known_of (get_or ss 1 d) ∷ []) n [] z n) (sym (known_record s gs j ∙ ap Record_known q)) o_replace)
+
+pub one_is : (ss : List Known) (s : Held_known) → Is_one ss (Some s) → ss ≡ known_of s ∷ []
+one_is ss s (one e) = e
+
+pub ruleset at_once = (literal_ok, truth_ok, project_ok, replace_ok)
+
+-- ---- by act
+
+module _ (t : IntType) (a : Act) (at : Place) (n : ℕ) (before : Bindings) where
+  module _ (ss : List Known) (next : ℕ) (after : Bindings) (r : Result Held_known Refusal) where
+    as_act : (o : Operation Ref BindId) → operation_of a ≡ o → Operated t o at ss n before after next r → Operated t (operation_of a) at ss n before after next r
+    as_act o e h = subst (λ z. Operated t z at ss n before after next r) (sym e) h
+
+    pub act_binary : (op : BinOp) → a ≡ flat.Binary op → Operated t (Binary op) at ss n before after next r → Operated t (operation_of a) at ss n before after next r
+    act_binary op e h = as_act (Binary op) (ap operation_of e) h
+
+    pub act_negate : a ≡ flat.Negate → One ss n next before after r unary.Neg → Operated t (operation_of a) at ss n before after next r
+    act_negate e h = as_act Negate (ap operation_of e) (negated ss n next before after r t at h)
+
+    pub act_complement : a ≡ flat.Complement → One ss n next before after r unary.Not → Operated t (operation_of a) at ss n before after next r
+    act_complement e h = as_act Complement (ap operation_of e) (complemented ss n next before after r t at h)
+
+    pub act_assert : a ≡ flat.Assert → Operated t Assert at ss n before after next r → Operated t (operation_of a) at ss n before after next r
+    act_assert e h = as_act Assert (ap operation_of e) h
+
+  module _ (ss : List Known) (r : Result Held_known Refusal) where
+    now_as : (o : Operation Ref BindId) → operation_of a ≡ o → At_once t o ss r → Operated t (operation_of a) at ss n before before n r
+    now_as o e h = as_act ss n before r o e (at_once_is t o at ss n before r h)
+
+    pub act_integer : (m : ℕ) (suffix : Option IntType) → a ≡ flat.Int m suffix → At_once t (Integer m suffix) ss r → Operated t (operation_of a) at ss n before before n r
+    act_integer m suffix e h = now_as (Integer m suffix) (ap operation_of e) h
+
+    pub act_truth : (b : Bool) → a ≡ flat.Truth b → At_once t (Truth b) ss r → Operated t (operation_of a) at ss n before before n r
+    act_truth b e h = now_as (Truth b) (ap operation_of e) h
+
+    pub act_project : (f : Bor Text) → a ≡ flat.Project f → At_once t (Project f.now) ss r → Operated t (operation_of a) at ss n before before n r
+    act_project f e h = now_as (Project f.now) (ap operation_of e) h
+
+    pub act_replace : (f : Bor Text) → a ≡ flat.Replace f → At_once t (Replace f.now) ss r → Operated t (operation_of a) at ss n before before n r
+    act_replace f e h = now_as (Replace f.now) (ap operation_of e) h
+
+    pub act_record : (fs : Bor (List (Bor Text))) → a ≡ flat.Record fs → IfOk r (λ s. Is_record (texts fs.now) ss (known_of s)) → Operated t (operation_of a) at ss n before before n r
+    act_record fs e h = now_as (Record_of (texts fs.now)) (ap operation_of e) (made r h)
+      where
+        made : (r : Result Held_known Refusal) → IfOk r (λ s. Is_record (texts fs.now) ss (known_of s)) → At_once t (Record_of (texts fs.now)) ss r
+        made (Ok s) (is_record q i) = λ at n. subst (λ z. Operates t (Record_of (texts fs.now)) at ss n [] z n) (sym i) (o_record q)
+        made (Err r) h = tt
+
+    -- what has one part is as that part
+    same_as : (o : Operation Ref BindId) → ((at : Place) (n : ℕ) (s : Known) → Operates t o at (s ∷ []) n [] s n) → (r : Result Held_known Refusal) → IfOk r (λ s. ss ≡ known_of s ∷ []) → At_once t o ss r
+    same_as o f (Ok s) e = λ at n. subst (λ z. Operates t o at z n [] (known_of s) n) (sym e) (f at n (known_of s))
+    same_as o f (Err r) e = tt
+
+    pub act_ascribe : (u : Bor TypeExp) → a ≡ flat.Ascribe u → IfOk r (λ s. ss ≡ known_of s ∷ []) → Operated t (operation_of a) at ss n before before n r
+    act_ascribe u e h = now_as (Ascribe (type_of u.now)) (ap operation_of e) (same_as (Ascribe (type_of u.now)) (λ at n s. o_ascribe) r h)
+
+    pub act_coerce : (u : Bor TypeExp) → a ≡ flat.Coerce u → IfOk r (λ s. ss ≡ known_of s ∷ []) → Operated t (operation_of a) at ss n before before n r
+    act_coerce u e h = now_as (Coerce (type_of u.now)) (ap operation_of e) (same_as (Coerce (type_of u.now)) (λ at n s. o_coerce) r h)
+
+    pub act_declared : (u : Bor TypeExp) → a ≡ flat.Declared u → IfOk r (λ s. ss ≡ known_of s ∷ []) → Operated t (operation_of a) at ss n before before n r
+    act_declared u e h = now_as (Declared (type_of u.now)) (ap operation_of e) (same_as (Declared (type_of u.now)) (λ at n s. o_declared) r h)
+
+  pub act_tuple : (ss : Bor (List Held_known)) (s : Held_known) → a ≡ flat.Tuple → s.form ≡ form.Tuple ss → Operated t (operation_of a) at (map known_of ss.now) n before before n (Ok s)
+  act_tuple ss s e i = now_as (map known_of ss.now) (Ok s) Tuple_of (ap operation_of e) (λ at n. subst (λ z. Operates t Tuple_of at (map known_of ss.now) n [] z n) (sym (known_tuple s ss i)) o_tuple)
+
+pub ruleset acts = (unanswered_is, act_binary, act_negate, act_complement, act_assert, act_integer, act_truth, act_project, act_replace, act_record, act_ascribe, act_coerce, act_declared, act_tuple)
+
+-- ---- primitives
+
+module _ (p : Primitive) (at : Place) (ss : List Known) (n next : ℕ) (before after : Bindings) (r : Result Held_known Refusal) where
+  as_primitive : (q : Primitive) → p ≡ q → Operated_primitive q at ss n before after next r → Operated_primitive p at ss n before after next r
+  as_primitive q e h = subst (λ z. Operated_primitive z at ss n before after next r) (sym e) h
+
+  pub primitive_convert : (to from : ScalarType) → p ≡ prim.Convert to from → Operated_primitive (prim.Convert to from) at ss n before after next r → Operated_primitive p at ss n before after next r
+  primitive_convert to from e h = as_primitive (prim.Convert to from) e h
+
+  pub primitive_min : (t : IntType) → p ≡ prim.Min t → Two ss n next before after r binary.Min at → Operated_primitive p at ss n before after next r
+  primitive_min t e h = as_primitive (prim.Min t) e (min_ok ss n next before after r t at h)
+
+  pub primitive_max : (t : IntType) → p ≡ prim.Max t → Two ss n next before after r binary.Max at → Operated_primitive p at ss n before after next r
+  primitive_max t e h = as_primitive (prim.Max t) e (max_ok ss n next before after r t at h)
+
+  pub primitive_abs : (t : IntType) → p ≡ prim.Abs t → One ss n next before after r unary.Abs → Operated_primitive p at ss n before after next r
+  primitive_abs t e h = as_primitive (prim.Abs t) e (abs_ok ss n next before after r t at h)
+
+  pub primitive_popc : (t : IntType) → p ≡ prim.Popc t → One ss n next before after r unary.Popc → Operated_primitive p at ss n before after next r
+  primitive_popc t e h = as_primitive (prim.Popc t) e (popc_ok ss n next before after r t at h)
+
+-- ---- primitives applied
+
+listed_knowns : (ss : List Known) → listed (knowns ss) ≡ ss
+listed_knowns [] = refl
+listed_knowns (s ∷ ss) = ap (λ z. s ∷ z) (listed_knowns ss)
+
+module _ (p : Primitive) (at : Place) (given : List Held_known) (s : Held_known) (arguments : List Held_known) (n : ℕ) (e : arguments ≡ given ++ s ∷ []) where
+  all_are : map known_of arguments ≡ listed (knowns (map known_of given)) ++ known_of s ∷ []
+  all_are = ap (map known_of) e ∙ map-append known_of given (s ∷ []) ∙ ap (λ z. z ++ known_of s ∷ []) (sym (listed_knowns (map known_of given)))
+
+  as_many : length (listed (knowns (map known_of given)) ++ known_of s ∷ []) ≡ length arguments
+  as_many = ap length (sym all_are) ∙ length-map arguments known_of
+
+  pub primitive_waits : (row : Bor (List Held_known)) (before : Bindings) (w : Held_known) → row.now ≡ arguments → length arguments < arity p → w.form ≡ form.Primitive p at row → Applied_primitive p at (knowns (map known_of given)) (known_of s) n before before n (Ok w)
+  primitive_waits row before w q lt i integer_at tops = no_steps (λ bs (s' : Held_known) next. Applies integer_at tops (Primitive_known p at (knowns (map known_of given))) (known_of s) n bs (known_of s') next) before n w
+      (subst (λ z. Applies integer_at tops (Primitive_known p at (knowns (map known_of given))) (known_of s) n [] z n)
+      (sym (known_primitive w p at row i ∙ ap (λ z. Primitive_known p at (knowns (map known_of z))) q ∙ ap (λ z. Primitive_known p at (knowns z)) all_are))
+      (a_primitive_waits (ap (λ z. nat_lt z (arity p)) as_many ∙ lt-ltb _ _ lt)))
+
+  pub primitive_runs : (before after : Bindings) (next : ℕ) (r : Result Held_known Refusal) → (length arguments < arity p → ⊥) → Operated_primitive p at (map known_of arguments) n before after next r → Applied_primitive p at (knowns (map known_of given)) (known_of s) n before after next r
+  primitive_runs before after next r ge h integer_at tops = answered_as (λ bs w m x. a_primitive (ap (λ z. nat_lt z (arity p)) as_many ∙ le-ltb _ _ (omega (arith, ge))) (subst (λ z. Primitive_operates p at z n bs (known_of w) m) all_are x)) h
+
+pub applied_err : (p : Primitive) (at : Place) (given : List Held_known) (s : Known) (n next : ℕ) (before after : Bindings) (r : Refusal) → Applied_primitive p at (knowns (map known_of given)) s n before after next (Err r)
+applied_err p at given s n next before after r integer_at tops = unanswered
+
+pub ruleset primitives = (unanswered_is, convert_ok, primitive_convert, primitive_min, primitive_max, primitive_abs, primitive_popc)

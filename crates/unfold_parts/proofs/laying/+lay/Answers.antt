@@ -1,0 +1,24 @@
+use Rattle.std.proofs.Common.{refl, sym, ◌∙◌, arith}
+use Rattle.unfold_parts.proofs.Layings.{laid_one, leads_start, all_lead_on, all_lead_end, fields_lead_on, fields_lead_end}
+use Rattle.unfold_parts.proofs.laying.+lay.Goals as goal
+
+pub lay_behind-returns-in-Scalar-form : goal.lay_behind-returns-in-Scalar-form
+lay_behind-returns-in-Scalar-form t c = laid_one _ _ _ _ _ _ _ c.in-Scalar.is c.in-Scalar-form.is c.put.ensures
+
+pub lay_all-loop-like-preserved : goal.lay_all-loop-like-preserved
+lay_all-loop-like-preserved t c = (omega (arith, c.loop-like.invariant.0), all_lead_on _ _ _ _ _ _ _ _ _ _ c.loop-like-test.true (omega (arith, c.loop-like.invariant.0, c.loop-like-test.true, c.if-likes-parts.false)) c.loop-like.invariant.1 c.in_ok-lay_behind.ensures)
+
+pub lay_all-returns : goal.lay_all-returns
+lay_all-returns t c = all_lead_end _ _ _ _ _ _ _ (omega (arith, c.loop-like-test.false)) (omega (arith, c.loop-like.invariant.0, c.loop-like-test.false, c.if-likes-parts.false)) c.loop-like.invariant.1
+
+pub lay_fields-loop-like-preserved : goal.lay_fields-loop-like-preserved
+lay_fields-loop-like-preserved t c = (omega (arith, c.loop-like.invariant.0), fields_lead_on _ _ _ _ _ _ _ _ _ _ c.loop-like-test.true (omega (arith, c.loop-like.invariant.0, c.loop-like-test.true, c.if-likes-fields.false)) (sym c.eq.ensures ∙ c.if-eq.true) c.loop-like.invariant.1 c.in_ok-lay_behind.ensures)
+
+pub lay_fields-returns : goal.lay_fields-returns
+lay_fields-returns t c = fields_lead_end _ _ _ _ _ _ _ (omega (arith, c.loop-like-test.false)) (omega (arith, c.loop-like.invariant.0, c.loop-like-test.false, c.if-likes-fields.false)) c.loop-like.invariant.1
+
+pub lay_all-loop-like-init : goal.lay_all-loop-like-init
+lay_all-loop-like-init t c = (refl, leads_start _ _)
+
+pub lay_fields-loop-like-init : goal.lay_fields-loop-like-init
+lay_fields-loop-like-init t c = (refl, leads_start _ _)

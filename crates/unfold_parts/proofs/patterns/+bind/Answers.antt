@@ -1,0 +1,36 @@
+use Rattle.std.proofs.Common.{refl, arith}
+use Rattle.unfold_parts.proofs.Binding.{bound_name, bound_wild, bound_typed, bound_tuple, bound_record, all_lead_on, all_lead_end, fields_lead_on, fields_lead_end}
+use Rattle.unfold_parts.proofs.patterns.+bind.Goals as goal
+
+pub bind-returns-in-Bound : goal.bind-returns-in-Bound
+bind-returns-in-Bound t c = bound_name _ _ _ _ _ c.in-Bound.is c.bound.ensures
+
+pub bind-returns-in-Wild : goal.bind-returns-in-Wild
+bind-returns-in-Wild t c = bound_wild _ _ _ _ c.in-Wild.is refl
+
+pub bind-returns-in-Typed : goal.bind-returns-in-Typed
+bind-returns-in-Typed t c = bound_typed _ _ _ _ _ _ c.in-Typed.is c.bind.ensures
+
+pub bind-returns-in-Tuple-form : goal.bind-returns-in-Tuple-form
+bind-returns-in-Tuple-form t c = bound_tuple _ _ _ _ _ _ c.in-Tuple.is c.in-Tuple-form.is c.bind_all.ensures
+
+pub bind-returns-in-Record-form : goal.bind-returns-in-Record-form
+bind-returns-in-Record-form t c = bound_record _ _ _ _ _ _ c.in-Record.is c.in-Record-form.is c.bind_fields.ensures
+
+pub bind_all-loop-part-init : goal.bind_all-loop-part-init
+bind_all-loop-part-init t c = (refl, λ inner h. h)
+
+pub bind_all-loop-part-preserved : goal.bind_all-loop-part-preserved
+bind_all-loop-part-preserved t c = (omega (arith, c.loop-part.invariant.0), all_lead_on _ _ _ _ _ _ _ _ _ c.loop-part-test.true (omega (arith, c.loop-part.invariant.0, c.loop-part-test.true, c.if-parts-given.false)) c.loop-part.invariant.1 c.in_ok-bind.ensures)
+
+pub bind_all-returns : goal.bind_all-returns
+bind_all-returns t c = all_lead_end _ _ _ _ _ _ (omega (arith, c.loop-part-test.false)) (omega (arith, c.loop-part.invariant.0, c.loop-part-test.false, c.if-parts-given.false)) c.loop-part.invariant.1
+
+pub bind_fields-loop-field-init : goal.bind_fields-loop-field-init
+bind_fields-loop-field-init t c = λ inner h. h
+
+pub bind_fields-loop-field-preserved : goal.bind_fields-loop-field-preserved
+bind_fields-loop-field-preserved t c = fields_lead_on _ _ _ _ _ _ _ _ c.loop-field-test.true c.in-Some.ensures c.loop-field.invariant c.in_ok-bind.ensures
+
+pub bind_fields-returns : goal.bind_fields-returns
+bind_fields-returns t c = fields_lead_end _ _ _ _ _ (omega (arith, c.loop-field-test.false)) c.loop-field.invariant

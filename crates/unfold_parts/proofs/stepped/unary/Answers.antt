@@ -1,0 +1,5 @@
+use Rattle.unfold_parts.proofs.Operated.{unary_ok}
+use Rattle.unfold_parts.proofs.stepped.unary.Goals as goal
+
+pub returns-in-Some : goal.returns-in-Some
+returns-in-Some c = unary_ok _ _ _ _ _ _ _ _ c.in-Some.ensures c.computed.ensures

@@ -1,0 +1,8 @@
+-- What may be known.
+use Rattle.std.specs.Prelude.{Option, option_map}
+use Rattle.unfold.specs.Knowns.{Known}
+use Rattle.unfold.specs.declared.known.Known.{Known as Held_known}
+use Rattle.unfold.specs.Held.{known_of}
+
+abbrev pub maybe_known : Option Held_known → Option Known
+maybe_known = option_map known_of

@@ -1,0 +1,143 @@
+// Whether data is equal.
+ghost use Rattle.std.specs.Prelude.{◌≡◌, true, IfOk, OnOk, map};
+ghost use Rattle.unfold.specs.Held.{field_of, known_of};
+ghost use Rattle.unfold.specs.declared.known.Field.{Field as Held_field};
+ghost use Rattle.unfold_parts.specs.Answers.{All_compared, All_hold, Answered, Equal_to, Same_names};
+ghost use Rattle.unfold_parts.specs.States.{steps_of};
+
+use crate::laying::MOST_DEEP;
+use crate::refusal::Refusal;
+use crate::steps::Unfolding;
+use bumpalo::Bump;
+use bumpalo::collections::into_bump_slice;
+use fut_blocks::{Atom, Operation};
+use fut_scalar::{BinOp, Place, Scalar};
+use unfold::{Field, Known, KnownForm};
+
+/// Whether data is equal: the comparisons of all components, each of which has to hold. It lies inside `deep` others.
+#[cycle(equal)]
+#[tactic(auto, using(crate::proofs::Equating::equating))]
+pub fn equal<'a>(
+    work: &mut Unfolding<'a>,
+    deep: u32,
+    place: Place,
+    left: Known<'a>,
+    right: Known<'a>,
+) -> Result<Atom, Refusal>
+    ensures { Equal_to place (known_of left.entry) (known_of right.entry) work.old.next (steps_of work.old) (steps_of work.new) work.new.next result }
+{
+    if deep >= MOST_DEEP {
+        return Err(Refusal::Memory);
+    }
+    match left.form {
+        KnownForm::Scalar(first) => match right.form {
+            KnownForm::Scalar(second) => {
+                work.compute(Operation::Binary(BinOp::Eq, place, first, second))
+            }
+            _ => Err(Refusal::Lost),
+        },
+        KnownForm::Tuple(lefts) => match right.form {
+            KnownForm::Tuple(rights) => {
+                let truths = compare_all(work, deep + 1, place, lefts, rights)?;
+                all_hold(work, truths)
+            }
+            _ => Err(Refusal::Lost),
+        },
+        KnownForm::Record(lefts) => match right.form {
+            KnownForm::Record(rights) => {
+                let truths = compare_fields(work, deep + 1, place, lefts, rights)?;
+                all_hold(work, truths)
+            }
+            _ => Err(Refusal::Lost),
+        },
+        _ => Err(Refusal::Lost),
+    }
+}
+
+#[cycle(equal)]
+#[tactic(auto, using(crate::proofs::Equating::equating))]
+fn compare_all<'a>(
+    work: &mut Unfolding<'a>,
+    deep: u32,
+    place: Place,
+    lefts: &'a [Known<'a>],
+    rights: &'a [Known<'a>],
+) -> Result<&'a [Atom], Refusal>
+    ensures { Answered (λ bs us next. All_compared place (map known_of lefts.now) (map known_of rights.now) work.old.next bs us.now next) (steps_of work.old) (steps_of work.new) work.new.next result }
+{
+    if lefts.len() != rights.len() {
+        return Err(Refusal::Lost);
+    }
+    let mut truths = Vec::new(work.bump);
+    let mut at = 0;
+    for left in lefts {
+        let truth = equal(work, deep, place, *left, rights[at])?;
+        truths.push(truth)?;
+        at += 1;
+    }
+    Ok(into_bump_slice(truths))
+}
+
+// The fields of two records, which have the same names.
+#[cycle(equal)]
+#[tactic(auto, using(crate::proofs::Equating::equating))]
+fn compare_fields<'a>(
+    work: &mut Unfolding<'a>,
+    deep: u32,
+    place: Place,
+    lefts: &'a [Field<'a>],
+    rights: &'a [Field<'a>],
+) -> Result<&'a [Atom], Refusal>
+    ensures compared { Answered (λ bs us next. All_compared place (map (λ (f : Held_field). known_of f.known) lefts.now) (map (λ (f : Held_field). known_of f.known) rights.now) work.old.next bs us.now next) (steps_of work.old) (steps_of work.new) work.new.next result }
+    ensures named { OnOk result (Same_names (map field_of lefts.now) (map field_of rights.now)) }
+{
+    if !same_names(lefts, rights) {
+        return Err(Refusal::Lost);
+    }
+    let lefts = values(work.bump, lefts)?;
+    let rights = values(work.bump, rights)?;
+    compare_all(work, deep, place, lefts, rights)
+}
+
+// What is known of the fields.
+fn values<'a>(bump: &'a Bump, fields: &'a [Field<'a>]) -> Result<&'a [Known<'a>], Refusal>
+    ensures { IfOk result (λ ss. map known_of ss.now ≡ map (λ (f : Held_field). known_of f.known) fields.now) }
+{
+    let mut values = Vec::new(bump);
+    for field in fields {
+        values.push(field.known)?;
+    }
+    Ok(into_bump_slice(values))
+}
+
+// Whether two records have fields of the same names.
+fn same_names<'a>(lefts: &'a [Field<'a>], rights: &'a [Field<'a>]) -> bool
+    ensures { result ≡ true → Same_names (map field_of lefts.now) (map field_of rights.now) }
+{
+    if lefts.len() != rights.len() {
+        return false;
+    }
+    let mut at = 0;
+    for left in lefts {
+        if left.name == rights[at].name {
+            at += 1;
+        } else {
+            return false;
+        }
+    }
+    true
+}
+
+// Whether all hold.
+#[tactic(auto, using(crate::proofs::Equating::equating))]
+fn all_hold<'a>(work: &mut Unfolding<'a>, truths: &'a [Atom]) -> Result<Atom, Refusal>
+    ensures { Answered (All_hold truths.now work.old.next) (steps_of work.old) (steps_of work.new) work.new.next result }
+{
+    let mut all = Atom::Constant(Scalar::Bool(true));
+    let mut at = truths.len();
+    while at > 0 {
+        at -= 1;
+        all = work.both_hold(truths[at], all)?;
+    }
+    Ok(all)
+}

@@ -1,0 +1,97 @@
+// Parts of values, by how many there are.
+ghost use Rattle.std.specs.Prelude.{◌≡◌, IfOk, Some, map};
+ghost use Rattle.unfold.specs.Held.{known_of};
+ghost use Rattle.unfold.specs.Knowns.{knowns, part, part_from};
+ghost use Rattle.unfold_parts.specs.Parts.{Is_one, Is_one_scalar, Is_scalar, Is_two_scalars};
+
+use crate::records::field_known;
+use crate::refusal::Refusal;
+use fut_blocks::Atom;
+use itoa::Buffer;
+use unfold::{Known, KnownForm};
+
+#[derive(Clone, Copy)]
+pub struct Scalars {
+    pub first: Atom,
+    pub second: Atom,
+}
+
+/// The only part.
+#[tactic(auto, using(crate::proofs::Parting::parting))]
+pub fn one<'a>(parts: &'a [Known<'a>]) -> Option<Known<'a>>
+    ensures { Is_one (map known_of parts.now) result }
+{
+    if parts.len() == 1 {
+        Some(parts[0])
+    } else {
+        None
+    }
+}
+
+/// The name or constant of a scalar.
+#[tactic(auto, using(crate::proofs::Parting::parting, unfold::proofs::Mirror::known_scalar))]
+pub fn scalar(known: Known<'_>) -> Option<Atom>
+    ensures { Is_scalar (known_of known.entry) result }
+{
+    match known.form {
+        KnownForm::Scalar(atom) => Some(atom),
+        _ => None,
+    }
+}
+
+/// The only part, a scalar.
+#[tactic(auto, using(crate::proofs::Parting::parting))]
+pub fn one_scalar<'a>(parts: &'a [Known<'a>]) -> Option<Atom>
+    ensures { Is_one_scalar (map known_of parts.now) result }
+{
+    match one(parts) {
+        Some(known) => scalar(known),
+        None => None,
+    }
+}
+
+/// Both parts, where there are two, and they are scalars.
+#[tactic(auto, using(crate::proofs::Parting::parting))]
+pub fn two_scalars<'a>(parts: &'a [Known<'a>]) -> Option<Scalars>
+    ensures { Is_two_scalars (map known_of parts.now) result }
+{
+    if parts.len() != 2 {
+        return None;
+    }
+    match scalar(parts[0]) {
+        Some(first) => match scalar(parts[1]) {
+            Some(second) => Some(Scalars { first, second }),
+            None => None,
+        },
+        None => None,
+    }
+}
+
+// The part of a tuple whose position is spelled so.
+fn position<'a>(parts: &'a [Known<'a>], name: &str) -> Result<Known<'a>, Refusal>
+    ensures { IfOk result (λ s. part_from 0 name.now (knowns (map known_of parts.now)) ≡ Some (known_of s)) }
+{
+    let mut buffer = Buffer::new();
+    let mut at: usize = 0;
+    for known in parts {
+        if buffer.format(at) == name {
+            return Ok(*known);
+        }
+        at += 1;
+    }
+    Err(Refusal::Lost)
+}
+
+/// The part of that name: of a tuple by its position, of a record by its field.
+pub fn part<'a>(known: Known<'a>, name: &str) -> Result<Known<'a>, Refusal>
+    ensures { IfOk result (λ s. part name.now (known_of known.entry) ≡ Some (known_of s)) }
+{
+    match known.form {
+        KnownForm::Tuple(parts) => position(parts, name),
+        KnownForm::Record(fields) => match field_known(fields, name) {
+            Some(part) => Ok(part),
+            None => Err(Refusal::Lost),
+        },
+        _ => Err(Refusal::Lost),
+    }
+}

@@ -1,0 +1,45 @@
+// Local names.
+ghost use Rattle.std.specs.Prelude.{◌≡◌, IfOk};
+ghost use Rattle.unfold.specs.Held.{known_of, scope_of};
+ghost use Rattle.unfold.specs.Knowns.{name_and};
+ghost use Rattle.unfold_parts.specs.Held.{maybe_known};
+ghost use Rattle.unfold_parts.specs.Locals.{local};
+
+use crate::refusal::Refusal;
+use bumpalo::Bump;
+use fut_scalar::BindId;
+use unfold::{Known, Scope};
+
+/// What is known of a local name.
+#[tactic(auto, using(crate::proofs::Finding::finding))]
+pub fn find<'a>(scope: &'a Scope<'a>, number: BindId) -> Option<Known<'a>>
+    ensures { maybe_known result ≡ local (scope_of scope.now) number.0 }
+{
+    let mut current = *scope;
+    while let Scope::Bind(bind, known, rest) = current {
+        if bind.0 == number.0 {
+            return Some(known);
+        }
+        current = *rest;
+    }
+    None
+}
+
+/// The names with one more.
+#[tactic(auto, using(unfold::proofs::Mirror::mirrors))]
+pub fn bound<'a>(
+    bump: &'a Bump,
+    bind: BindId,
+    known: Known<'a>,
+    scope: &'a Scope<'a>,
+) -> Result<&'a Scope<'a>, Refusal>
+    ensures { IfOk result (λ inner. scope_of inner.now ≡ name_and bind (known_of known.entry) (scope_of scope.now)) }
+{
+    match bump.try_alloc_slice_copy(&[Scope::Bind(bind, known, scope)]) {
+        Ok(cells) => {
+            let cells: &'a [Scope<'a>] = cells;
+            Ok(&cells[0])
+        }
+        Err(_) => Err(Refusal::Memory),
+    }
+}

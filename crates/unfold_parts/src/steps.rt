@@ -1,0 +1,116 @@
+// The steps so far.
+ghost use Rattle.std.specs.Prelude.{◌≡◌, ◌∷◌, [], IfOk, length};
+ghost use Rattle.fut_blocks.specs.Plain.{Give, Operate, binding_of, body_of};
+ghost use Rattle.unfold.specs.Unfolding.{both_hold};
+ghost use Rattle.unfold_parts.specs.Answers.{Blocked, Computed, Named_as, Pushed};
+ghost use Rattle.unfold_parts.specs.States.{steps_of};
+
+use crate::refusal::Refusal;
+use bumpalo::Bump;
+use fut_blocks::{Act, Atom, Block, Operation, Step};
+use fut_scalar::Scalar;
+
+/// The steps so far, in their order, and the next name that may be taken.
+#[derive(Drop)]
+pub struct Unfolding<'a> {
+    pub bump: &'a Bump,
+    pub next: u32,
+    pub steps: Vec<Step<'a>, &'a Bump>,
+}
+
+impl<'a> Unfolding<'a> {
+    /// A new name.
+    #[tactic(auto, using(crate::proofs::Stepping::stepping))]
+    pub fn name(&mut self) -> Result<u32, Refusal>
+        ensures name { Named_as self.old.next self.new.next result }
+        ensures steps { steps_of self.new ≡ steps_of self.old }
+    {
+        let name = self.next;
+        match name.checked_add(1) {
+            Some(next) => {
+                self.next = next;
+                Ok(name)
+            }
+            None => Err(Refusal::Memory),
+        }
+    }
+
+    /// One more step.
+    #[tactic(auto, using(crate::proofs::Stepping::stepping))]
+    pub fn push(&mut self, step: Step<'a>) -> Result<(), Refusal>
+        ensures steps { Pushed (binding_of step.entry) (steps_of self.old) (steps_of self.new) result }
+        ensures next { self.new.next ≡ self.old.next }
+    {
+        match self.steps.push(step) {
+            Ok(()) => Ok(()),
+            Err(_) => Err(Refusal::Memory),
+        }
+    }
+
+    /// One more step, which gives a scalar a new name.
+    #[tactic(auto, using(crate::proofs::Stepping::stepping))]
+    pub fn compute(&mut self, operation: Operation) -> Result<Atom, Refusal>
+        ensures { Computed (Operate operation) self.old.next (steps_of self.old) (steps_of self.new) self.new.next result }
+    {
+        let name = self.name()?;
+        let names = self.bump.try_alloc_slice_copy(&[name])?;
+        self.push(Step {
+            names,
+            act: Act::Operate(operation),
+        })?;
+        Ok(Atom::Name(name))
+    }
+
+    /// How many steps there are.
+    pub fn mark(&self) -> usize
+        ensures { result ≡ length (steps_of self.now) }
+    {
+        self.steps.len()
+    }
+
+    /// The steps from the mark on as a block with these results, which are steps no longer.
+    #[tactic(auto, using(crate::proofs::Stepping::blocks))]
+    pub fn block(&mut self, mark: usize, results: &'a [Atom]) -> Result<&'a Block<'a>, Refusal>
+        ensures block { Blocked mark results.now (steps_of self.old) (steps_of self.new) result }
+        ensures next { self.new.next ≡ self.old.next }
+    {
+        if mark > self.steps.len() {
+            return Err(Refusal::Lost);
+        }
+        let steps = self.bump.try_alloc_slice_copy(&self.steps[mark..])?;
+        self.steps.truncate(mark);
+        let cells = self.bump.try_alloc_slice_copy(&[Block { steps, results }])?;
+        let cells: &'a [Block<'a>] = cells;
+        Ok(&cells[0])
+    }
+
+    // A block without steps.
+    #[tactic(auto, using(crate::proofs::Stepping::stepping))]
+    fn giving(&self, atom: Atom) -> Result<&'a Block<'a>, Refusal>
+        ensures { IfOk result (λ b. body_of b.now ≡ Give (atom ∷ [])) }
+    {
+        let results = self.bump.try_alloc_slice_copy(&[atom])?;
+        let cells = self.bump.try_alloc_slice_copy(&[Block {
+            steps: &[],
+            results,
+        }])?;
+        let cells: &'a [Block<'a>] = cells;
+        Ok(&cells[0])
+    }
+
+    /// One more step, which says whether both truth values hold.
+    #[tactic(auto, using(crate::proofs::Stepping::stepping))]
+    pub fn both_hold(&mut self, first: Atom, second: Atom) -> Result<Atom, Refusal>
+        ensures { Computed (both_hold first second) self.old.next (steps_of self.old) (steps_of self.new) self.new.next result }
+    {
+        let name = self.name()?;
+        let names = self.bump.try_alloc_slice_copy(&[name])?;
+        let yes = self.giving(second)?;
+        let no = self.giving(Atom::Constant(Scalar::Bool(false)))?;
+        self.push(Step {
+            names,
+            act: Act::If(first, yes, no),
+        })?;
+        Ok(Atom::Name(name))
+    }
+}

@@ -1,0 +1,123 @@
+-- Parts and rows of lets, one after the other.
+use Rattle.std.proofs.Common.{◌≡◌, ℕ, ◌+◌, ◌<◌, ◌≤◌, ◌++◌, List, [], ◌∷◌, map, length, get_or, drop, Ok, Err, refl, sym, ap, ◌∙◌, subst, arith, append_assoc, append-nil}
+use mathlib.Core.List.{map-append}
+use Rattle.std.specs.Prelude.{Result}
+use Rattle.std.specs.Borrow.{Bor}
+use Rattle.fut_flat.specs.declared.exp.Exp.{Exp}
+use Rattle.fut_flat.specs.declared.exp.Form.TheVariants as form
+use Rattle.fut_flat.specs.declared.exp.Let.{Let as LetTree}
+use Rattle.fut_flat.specs.Erased.{FlatTerm, Row, lets, parameters, pattern_of, term_of, terms}
+use Rattle.fut_flat.specs.Numbers.{all_numbers, pattern_numbers}
+use Rattle.fut_flat.specs.Terms.{Let}
+use Rattle.fut_flat.proofs.ErasedForms.{row_of, row_is, term_lets}
+use Rattle.fut_numbers.proofs.PatternNumbers.{drop_end, one_more}
+use Rattle.unfold.specs.Held.{known_of, scope_of}
+use Rattle.unfold.specs.Knowns.{Known, Scope}
+use Rattle.unfold.specs.Unfolding.{Bindings, Unfold_all, Unfolds, u_let, u_more, u_none}
+use Rattle.unfold.specs.declared.known.Known.{Known as Held_known}
+use Rattle.unfold.specs.declared.known.Scope.{Scope as Held_scope}
+use Rattle.unfold_parts.specs.Answers.{Bound_to, bound_to}
+use Rattle.unfold_parts.specs.States.{steps_of}
+use Rattle.unfold_parts.specs.declared.refusal.Refusal.{Refusal}
+use Rattle.unfold_parts.specs.declared.steps.Unfolding.{Unfolding}
+use Rattle.unfold_program.specs.declared.walked.Context.{Context}
+use Rattle.unfold_program.specs.declared.walked.Row.{Row as Held_row}
+use Rattle.unfold_program.specs.declared.walked.Walked.{Walked}
+use Rattle.unfold_program.specs.Answers.{Unfolded, unfolded, refused, All_unfolded, all_unfolded, all_refused, Leads, Row_unfolded, row_unfolded, row_refused, defined, told}
+use Rattle.unfold_program.proofs.Growing.{grown, not_grown, moved}
+
+-- ---- parts
+
+-- what all parts unfold to, once the rest is
+pub data Parts_lead (c : Context) (sc : Scope) (lo : ℕ) (es : List Exp) (old now : Unfolding) (done : List Held_known) (at i : ℕ) : Type 0 where
+  parts_lead : (bs : Bindings) → steps_of now ≡ steps_of old ++ bs → ((cs : Bindings) (ss : List Known) (m : ℕ) → Unfold_all (told c) (defined c) sc at (terms (map term_of (drop i es))) now.next cs ss m → Unfold_all (told c) (defined c) sc lo (terms (map term_of es)) old.next (bs ++ cs) (map known_of done ++ ss) m) → at + all_numbers (terms (map term_of (drop i es))) ≡ lo + all_numbers (terms (map term_of es)) → Parts_lead c sc lo es old now done at i
+
+module _ (c : Context) (sc : Scope) (lo : ℕ) (es : List Exp) (old : Unfolding) where
+  pub parts_start : (done : List Held_known) → done ≡ [] → Parts_lead c sc lo es old old done lo 0
+  parts_start done e = subst (λ z. Parts_lead c sc lo es old old z lo 0) (sym e) (parts_lead [] (not_grown (steps_of old) (steps_of old) refl) (λ cs ss m u. u) refl)
+
+  pub parts_more : (now new : Unfolding) (done done' : List Held_known) (at i : ℕ) (d : Exp) (r : Walked) → i < length es → Parts_lead c sc lo es old now done at i → Unfolded c sc at (term_of (get_or es i d)) now new (Ok r) → done' ≡ done ++ r.known ∷ [] → Parts_lead c sc lo es old new done' r.at (i + 1)
+  unfolding terms
+  parts_more now new done done' at i d r lt (parts_lead bs g f h) (unfolded cs g' u h') e =
+      parts_lead (bs ++ cs) (grown (steps_of old) (steps_of now) (steps_of new) bs cs g g')
+      (λ ds ss m v. subst (λ z. Unfold_all (told c) (defined c) sc lo (terms (map term_of es)) old.next z (map known_of done' ++ ss) m) (sym (append_assoc bs cs ds)) (subst (λ z. Unfold_all (told c) (defined c) sc lo (terms (map term_of es)) old.next (bs ++ (cs ++ ds)) z m) (list ss) (f (cs ++ ds) (known_of r.known ∷ ss) m (subst (λ z. Unfold_all (told c) (defined c) sc at (terms (map term_of z)) now.next (cs ++ ds) (known_of r.known ∷ ss) m) (sym (one_more es i d lt)) (u_more u (subst (λ z. Unfold_all (told c) (defined c) sc z (terms (map term_of (drop (i + 1) es))) new.next ds ss m) h' v))))))
+      (omega (arith, h, h', ap (λ z. all_numbers (terms (map term_of z))) (one_more es i d lt)))
+    where
+      list : (ss : List Known) → map known_of done ++ known_of r.known ∷ ss ≡ map known_of done' ++ ss
+      list ss = sym (append_assoc (map known_of done) (known_of r.known ∷ []) ss) ∙ sym (ap (λ z. z ++ ss) (ap (map known_of) e ∙ map-append known_of done (r.known ∷ [])))
+
+  pub parts_done : (now : Unfolding) (done : List Held_known) (at i : ℕ) (all : Bor (List Held_known)) → length es ≤ i → Parts_lead c sc lo es old now done at i → all.now ≡ done → All_unfolded c sc lo (terms (map term_of es)) old now (Ok (record { knowns = all; at = at }))
+  unfolding terms
+  parts_done now done at i all le (parts_lead bs g f h) e =
+      all_unfolded bs g
+      (subst (λ z. Unfold_all (told c) (defined c) sc lo (terms (map term_of es)) old.next z (map known_of all.now) now.next) (append-nil bs) (subst (λ z. Unfold_all (told c) (defined c) sc lo (terms (map term_of es)) old.next (bs ++ []) z now.next) (append-nil (map known_of done) ∙ ap (map known_of) (sym e)) (f [] [] now.next (subst (λ z. Unfold_all (told c) (defined c) sc at (terms (map term_of z)) now.next [] [] now.next) (sym (drop_end i es le)) u_none))))
+      (omega (arith, h, ap (λ z. all_numbers (terms (map term_of z))) (drop_end i es le)))
+
+  pub parts_err : (new : Unfolding) (r : Refusal) → All_unfolded c sc lo (terms (map term_of es)) old new (Err r)
+  parts_err new r = all_refused
+
+pub ruleset parts = (parts_start, parts_more, parts_done, parts_err)
+
+-- ---- lets
+
+module _ {c : Context} {sc : Scope} {lo : ℕ} {e : FlatTerm} {n : ℕ} where
+  pub leads_start : Leads c sc lo e n [] sc lo e n
+  leads_start = record { unfolds = λ cs s m u. u; behind = refl }
+
+  pub leads_on : {sc1 sc2 : Scope} {lo1 lo2 n1 n2 : ℕ} {e1 e2 : FlatTerm} {bs cs : Bindings} → Leads c sc lo e n bs sc1 lo1 e1 n1 → Leads c sc1 lo1 e1 n1 cs sc2 lo2 e2 n2 → Leads c sc lo e n (bs ++ cs) sc2 lo2 e2 n2
+  leads_on {bs = bs} {cs} a b = record {
+    unfolds = λ ds s m u. subst (λ z. Unfolds (told c) (defined c) sc lo e n z s m) (sym (append_assoc bs cs ds)) (a.unfolds (cs ++ ds) s m (b.unfolds ds s m u));
+    behind = b.behind ∙ a.behind;
+  }
+
+module _ (c : Context) (row : Held_row) (l : LetTree) (old new : Unfolding) where
+  pub let_ok : (first value : ℕ) (r : Walked) (inner : Bor Held_scope) → first ≡ row.at + 1 → value ≡ first + pattern_numbers (pattern_of l.pat) → Unfolded c (scope_of row.scope.now) value (term_of l.value) old new (Ok r) → Bound_to (pattern_of l.pat) (known_of r.known) (scope_of row.scope.now) (Ok inner) → Row_unfolded c row (row_of l ∷ []) old new (Ok (record { scope = inner; at = r.at }))
+  unfolding lets
+  let_ok first value r inner q q' (unfolded bs g u h) (bound_to b) = row_unfolded bs g (λ body. subst (λ (z : Row). Leads c (scope_of row.scope.now) row.at (Let z.0 z.1 body) old.next bs (scope_of inner.now) r.at body new.next) (sym (row_is l)) (one body))
+    where
+      one : (body : FlatTerm) → Leads c (scope_of row.scope.now) row.at (Let (record { sizes = l.sizes.now; parameters = parameters l.heads.now; is_function = l.is_function; pattern = pattern_of l.pat }) (term_of l.value) body) old.next bs (scope_of inner.now) r.at body new.next
+      one body = record { unfolds = λ cs s m v. u_let (moved c (omega (arith, q, q')) u) b (moved c (omega (arith, q, q', h)) v); behind = omega (arith, q, q', h) }
+
+pub row_err : (c : Context) (row : Held_row) (ls : List Row) (old new : Unfolding) (r : Refusal) → Row_unfolded c row ls old new (Err r)
+row_err c row ls old new r = row_refused
+
+pub ruleset one_lets = (let_ok, row_err)
+
+-- how far a row has come, whatever stands behind it
+pub data Row_leads (c : Context) (row : Held_row) (ls : List LetTree) (old now : Unfolding) (at : Held_row) (i : ℕ) : Type 0 where
+  row_leads : (bs : Bindings) → steps_of now ≡ steps_of old ++ bs → ((body : FlatTerm) → Leads c (scope_of row.scope.now) row.at (lets (map row_of ls) body) old.next bs (scope_of at.scope.now) at.at (lets (map row_of (drop i ls)) body) now.next) → Row_leads c row ls old now at i
+
+module _ (c : Context) (row : Held_row) (ls : List LetTree) (old : Unfolding) where
+  pub row_start : Row_leads c row ls old old row 0
+  row_start = row_leads [] (not_grown (steps_of old) (steps_of old) refl) (λ body. leads_start)
+
+  pub row_more : (now new : Unfolding) (at at' : Held_row) (i : ℕ) (d : LetTree) → i < length ls → Row_leads c row ls old now at i → Row_unfolded c at (row_of (get_or ls i d) ∷ []) now new (Ok at') → Row_leads c row ls old new at' (i + 1)
+  unfolding lets
+  row_more now new at at' i d lt (row_leads bs g f) (row_unfolded cs g' k) =
+      row_leads (bs ++ cs) (grown (steps_of old) (steps_of now) (steps_of new) bs cs g g')
+      (λ body. leads_on (subst (λ z. Leads c (scope_of row.scope.now) row.at (lets (map row_of ls) body) old.next bs (scope_of at.scope.now) at.at (lets (map row_of z) body) now.next) (one_more ls i d lt) (f body)) (k (lets (map row_of (drop (i + 1) ls)) body)))
+
+  pub row_done : (now : Unfolding) (at : Held_row) (i : ℕ) → length ls ≤ i → Row_leads c row ls old now at i → Row_unfolded c row (map row_of ls) old now (Ok at)
+  unfolding lets
+  row_done now at i le (row_leads bs g f) = row_unfolded bs g (λ body. subst (λ z. Leads c (scope_of row.scope.now) row.at (lets (map row_of ls) body) old.next bs (scope_of at.scope.now) at.at (lets (map row_of z) body) now.next) (drop_end i ls le) (f body))
+
+pub ruleset rows = (row_start, row_more, row_done, row_err)
+
+-- how far rows behind each other have come
+pub data Lets_lead (c : Context) (sc : Scope) (lo : ℕ) (e : FlatTerm) (old now : Unfolding) (row : Held_row) (rest : Exp) : Type 0 where
+  lets_lead : (bs : Bindings) → steps_of now ≡ steps_of old ++ bs → Leads c sc lo e old.next bs (scope_of row.scope.now) row.at (term_of rest) now.next → Lets_lead c sc lo e old now row rest
+
+module _ (c : Context) (lo : ℕ) (old : Unfolding) where
+  pub lets_start : (sc : Bor Held_scope) (e : Exp) → Lets_lead c (scope_of sc.now) lo (term_of e) old old (record { scope = sc; at = lo }) e
+  lets_start sc e = lets_lead [] (not_grown (steps_of old) (steps_of old) refl) leads_start
+
+  module _ (sc : Scope) (e : FlatTerm) where
+    pub lets_more : (now new : Unfolding) (row row' : Held_row) (rest : Exp) (ls : Bor (List LetTree)) (b : Bor Exp) → Lets_lead c sc lo e old now row rest → rest.form ≡ form.Lets ls b → Row_unfolded c row (map row_of ls.now) now new (Ok row') → Lets_lead c sc lo e old new row' b.now
+    lets_more now new row row' rest ls b (lets_lead bs g a) is (row_unfolded cs g' k) =
+        lets_lead (bs ++ cs) (grown (steps_of old) (steps_of now) (steps_of new) bs cs g g') (leads_on (subst (λ z. Leads c sc lo e old.next bs (scope_of row.scope.now) row.at z now.next) (term_lets rest ls b is) a) (k (term_of b.now)))
+
+    pub lets_done : (now new : Unfolding) (row : Held_row) (rest : Exp) (r : Result Walked Refusal) → Lets_lead c sc lo e old now row rest → Unfolded c (scope_of row.scope.now) row.at (term_of rest) now new r → Unfolded c sc lo e old new r
+    lets_done now new row rest _ (lets_lead bs g a) (unfolded {r = r} cs g' u h) = unfolded (bs ++ cs) (grown (steps_of old) (steps_of now) (steps_of new) bs cs g g') (a.unfolds cs (known_of r.known) new.next u) (omega (arith, h, a.behind))
+    lets_done now new row rest _ a refused = refused
+
+pub ruleset whole_rows = (lets_start, lets_more, lets_done)

@@ -1,0 +1,226 @@
+// The public call: the definitions that the entry reaches, and then the entry, applied to its parameters.
+ghost use Rattle.std.specs.Prelude.{◌≡◌, ◌≤◌, [], IfOk, length, map};
+ghost use Rattle.fut_flat.specs.Erased.{term_of};
+ghost use Rattle.fut_meaning.specs.Flats.{flat_tops, named_terms};
+ghost use Rattle.reach.specs.Reach.{Reached, named_term};
+ghost use Rattle.unfold.specs.Held.{known_of, scope_of};
+ghost use Rattle.unfold.specs.Knowns.{knowns, no_name};
+ghost use Rattle.unfold.specs.Programs.{Program_unfolds};
+ghost use Rattle.unfold.specs.Shapes.{Shape};
+ghost use Rattle.unfold_parts.specs.Layouts.{shapes_of};
+ghost use Rattle.unfold_parts.specs.States.{steps_of};
+ghost use Rattle.unfold_parts.specs.Tables.{Kept, integer_at};
+ghost use Rattle.unfold_program.specs.Answers.{defined};
+ghost use Rattle.unfold_program.specs.Whole.{All_applied, Defined_to, Definitions_to, Entry_to, Finished, Given_to, Unfolds_to, scalars};
+
+use crate::walk::{apply, walk};
+use crate::walked::Context;
+use bumpalo::Bump;
+use bumpalo::collections::into_bump_slice;
+use fut_blocks::{Atom, Program};
+use fut_flat::{Definition, Flat};
+use fut_numbers::{after, after_exp};
+use fut_scalar::{BindId, IntType, Scalar, ScalarType};
+use reach::{above, reached};
+use unfold::{Known, KnownForm, Scope};
+use unfold_parts::{Refusal, Tops, Unfolding, lay};
+
+/// What is known of some definitions, and the number of the next one.
+#[derive(Drop)]
+struct Made<'a> {
+    context: Context<'a>,
+    at: u32,
+}
+
+/// New names for the parameters, and what is known of them.
+#[derive(Clone, Copy)]
+struct Given<'a> {
+    names: &'a [u32],
+    arguments: &'a [Known<'a>],
+}
+
+/// The blocks of a program from an entry on, whose parameters are scalars of the types `types`. An integer without a suffix
+/// has the type that `integer_types` has for the number of its node, and `i32` where it has none.
+///
+/// # Errors
+///
+/// - `Lost`: the program is not typed, its entry is none of its definitions, or takes other arguments, or gives a function.
+/// - `Memory`: no memory or no name is left, or the program has more nodes or is deeper than a measured one.
+#[tactic(auto, using(crate::proofs::Programs::whole_err))]
+pub fn unfold<'a>(
+    bump: &'a Bump,
+    integer_types: &'a [IntType],
+    flat: &Flat<'a>,
+    entry: BindId,
+    types: &'a [ScalarType],
+) -> Result<Program<'a>, Refusal>
+    ensures { Unfolds_to (integer_at integer_types.now) (flat_tops 0 (named_terms flat.now)) entry.0 types.now result }
+{
+    let mut state = Unfolding {
+        bump,
+        next: 0,
+        steps: Vec::new(bump),
+    };
+    let given = parameters(types.len(), &mut state)?;
+    let count = above(flat.definitions);
+    let flags = reached(bump, flat.definitions, count, entry)?;
+    let nothing = nothing_known(bump)?;
+    let context = Context {
+        tops: Tops::new(bump, nothing),
+        types: integer_types,
+    };
+    let made = unfold_definitions(context, entry, flags, nothing, flat.definitions, &mut state)?;
+    let result = unfold_entry(&made.context, entry, given.arguments, &mut state)?;
+    finish(given.names, types, result, &mut state)
+}
+
+#[tactic(auto, using(unfold::proofs::Mirror::scope_empty))]
+fn nothing_known<'a>(bump: &'a Bump) -> Result<&'a Scope<'a>, Refusal>
+    ensures { IfOk result (λ nothing. scope_of nothing.now ≡ no_name) }
+{
+    let cells: &'a [Scope<'a>] = bump.try_alloc_slice_copy(&[Scope::Empty])?;
+    Ok(&cells[0])
+}
+
+// So many scalars, whichever.
+fn scalars<'a>(bump: &'a Bump, count: usize) -> Result<&'a [Known<'a>], Refusal>
+    ensures { IfOk result (λ row. shapes_of (knowns (map known_of row.now)) ≡ scalars count) }
+{
+    let mut row = Vec::new(bump);
+    for _ in 0..count {
+        row.push(Known {
+            form: KnownForm::Scalar(Atom::Constant(Scalar::Bool(true))),
+        })?;
+    }
+    Ok(into_bump_slice(row))
+}
+
+// New names for so many scalars.
+#[tactic(auto, using(crate::proofs::Programs::given_err))]
+fn parameters<'a>(count: usize, state: &mut Unfolding<'a>) -> Result<Given<'a>, Refusal>
+    ensures given { Given_to count state.old.next state.new.next result }
+    ensures steps { steps_of state.new ≡ steps_of state.old }
+{
+    let row = scalars(state.bump, count)?;
+    let made = state.fresh(Known {
+        form: KnownForm::Tuple(row),
+    })?;
+    match made.known.form {
+        KnownForm::Tuple(arguments) => Ok(Given {
+            names: made.names,
+            arguments,
+        }),
+        _ => Err(Refusal::Lost),
+    }
+}
+
+// One more definition, if it is reached.
+#[tactic(auto, using(crate::proofs::Programs::define_err, crate::proofs::Programs::define_passed, crate::proofs::Programs::define_ok))]
+fn unfold_definition<'a>(
+    made: Made<'a>,
+    reached: bool,
+    nothing: &'a Scope<'a>,
+    definition: &Definition<'a>,
+    state: &mut Unfolding<'a>,
+) -> Result<Made<'a>, Refusal>
+    requires kept { Kept made.context.tops }
+    requires nothing { scope_of nothing.now ≡ no_name }
+    ensures defined { Defined_to definition.now.bind (term_of definition.now.value.now) reached made.entry state.old state.new result }
+    ensures kept { IfOk result (λ r. Kept r.context.tops) }
+{
+    let Made { context, at } = made;
+    let first = after(at, 1)?;
+    if !reached {
+        let next = after_exp(first, definition.value)?;
+        return Ok(Made { context, at: next });
+    }
+    let r = walk(&context, 0, nothing, first, definition.value, state)?;
+    let Context { tops, types } = context;
+    let tops = tops.with(definition.bind, r.known)?;
+    Ok(Made {
+        context: Context { tops, types },
+        at: r.at,
+    })
+}
+
+// The definitions that are reached, in their order.
+#[tactic(auto, using(crate::proofs::Programs::definitions_err))]
+fn unfold_definitions<'a>(
+    context: Context<'a>,
+    entry: BindId,
+    flags: &[bool],
+    nothing: &'a Scope<'a>,
+    definitions: &[Definition<'a>],
+    state: &mut Unfolding<'a>,
+) -> Result<Made<'a>, Refusal>
+    requires kept { Kept context.tops }
+    requires none { defined context ≡ [] }
+    requires nothing { scope_of nothing.now ≡ no_name }
+    requires flags { Reached entry.0 definitions.now flags.now }
+    requires length { length flags.now ≡ length definitions.now }
+    ensures defined { Definitions_to context.entry.types.now entry.0 (flat_tops 0 (map named_term definitions.now)) state.old state.new result }
+    ensures kept { IfOk result (λ r. Kept r.context.tops) }
+{
+    let mut made = Made { context, at: 0 };
+    let mut at = 0;
+    for definition in definitions {
+        made = unfold_definition(made, flags[at], nothing, definition, state)?;
+        at += 1;
+    }
+    Ok(made)
+}
+
+// The entry, applied to its arguments.
+#[tactic(auto, using(crate::proofs::Programs::entry_err, crate::proofs::Programs::entry_ok))]
+fn unfold_entry<'a>(
+    context: &Context<'a>,
+    entry: BindId,
+    arguments: &'a [Known<'a>],
+    state: &mut Unfolding<'a>,
+) -> Result<Known<'a>, Refusal>
+    requires kept { Kept context.now.tops }
+    ensures { Entry_to context.now entry.0 (map known_of arguments.now) state.old state.new result }
+{
+    match context.tops.of(entry) {
+        Some(function) => apply_all(context, function, arguments, state),
+        None => Err(Refusal::Lost),
+    }
+}
+
+// A function applied to arguments, one after the other.
+#[tactic(auto, using(crate::proofs::Programs::all_err))]
+fn apply_all<'a>(
+    context: &Context<'a>,
+    function: Known<'a>,
+    arguments: &'a [Known<'a>],
+    state: &mut Unfolding<'a>,
+) -> Result<Known<'a>, Refusal>
+    requires kept { Kept context.now.tops }
+    ensures { All_applied context.now (map known_of arguments.now) (known_of function.entry) state.old state.new result }
+{
+    let mut made = function;
+    for argument in arguments {
+        made = apply(context, 0, made, *argument, state)?;
+    }
+    Ok(made)
+}
+
+// The steps as the body of a program, whose results are the components of what is known of its result.
+#[tactic(auto, using(crate::proofs::Programs::finish_err))]
+fn finish<'a>(
+    params: &'a [u32],
+    types: &'a [ScalarType],
+    known: Known<'a>,
+    state: &mut Unfolding<'a>,
+) -> Result<Program<'a>, Refusal>
+    ensures { Finished params.now types.now (known_of known.entry) state.old result }
+{
+    let results = lay(state.bump, known, known)?;
+    let body = state.block(0, results)?;
+    Ok(Program {
+        params,
+        types,
+        body: *body,
+        names: state.next,
+    })
+}

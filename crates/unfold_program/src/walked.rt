@@ -1,0 +1,52 @@
+// What unfolding a part of a program gives.
+use fut_blocks::{Atom, Block};
+use fut_scalar::IntType;
+use unfold::{Known, Scope};
+use unfold_parts::Tops;
+
+/// The most applications, operations and blocks that lie inside each other. A measured program has no more.
+pub const MOST_DEPTH: u32 = 1_000;
+
+/// What is known of the definitions, and the types of integers without a suffix, by the numbers of their nodes.
+#[derive(Drop)]
+pub struct Context<'a> {
+    pub tops: Tops<'a>,
+    pub types: &'a [IntType],
+}
+
+/// What is known of a term's value, and the number of the node behind the term.
+#[derive(Clone, Copy)]
+pub struct Walked<'a> {
+    pub known: Known<'a>,
+    pub at: u32,
+}
+
+/// What is known of several values, and the number of the node behind them.
+#[derive(Clone, Copy)]
+pub struct Parts<'a> {
+    pub knowns: &'a [Known<'a>],
+    pub at: u32,
+}
+
+/// A term as a block of its own.
+#[derive(Clone, Copy)]
+pub struct Branch<'a> {
+    pub known: Known<'a>,
+    pub block: &'a Block<'a>,
+    pub at: u32,
+}
+
+/// How far a row of `let`s has come: the names so far, and the number of the next node.
+#[derive(Clone, Copy)]
+pub struct Row<'a> {
+    pub scope: &'a Scope<'a>,
+    pub at: u32,
+}
+
+/// What a loop begins with: the components of its first value, the names of its parameters, and the local names inside.
+#[derive(Clone, Copy)]
+pub struct Entered<'a> {
+    pub first: &'a [Atom],
+    pub params: &'a [u32],
+    pub scope: &'a Scope<'a>,
+}
