@@ -14,11 +14,13 @@ use fut_blocks::{Atom, Operation};
 use fut_scalar::{BinOp, Place, Scalar};
 use unfold::{Field, Known, KnownForm};
 
-/// Whether data is equal: the comparisons of all components, each of which has to hold. It lies inside `deep` others.
+/// Whether data is equal: the comparisons of all components, each of which has to hold. It lies inside `deep` others, and
+/// there is room for so many parts.
 #[cycle(equal)]
 #[tactic(auto, using(crate::proofs::Equating::equating))]
 pub fn equal<'a>(
     work: &mut Unfolding<'a>,
+    room: &mut u32,
     deep: u32,
     place: Place,
     left: Known<'a>,
@@ -29,6 +31,10 @@ pub fn equal<'a>(
     if deep >= MOST_DEEP {
         return Err(Refusal::Memory);
     }
+    if *room == 0 {
+        return Err(Refusal::Memory);
+    }
+    *room -= 1;
     match left.form {
         KnownForm::Scalar(first) => match right.form {
             KnownForm::Scalar(second) => {
@@ -38,14 +44,14 @@ pub fn equal<'a>(
         },
         KnownForm::Tuple(lefts) => match right.form {
             KnownForm::Tuple(rights) => {
-                let truths = compare_all(work, deep + 1, place, lefts, rights)?;
+                let truths = compare_all(work, room, deep + 1, place, lefts, rights)?;
                 all_hold(work, truths)
             }
             _ => Err(Refusal::Lost),
         },
         KnownForm::Record(lefts) => match right.form {
             KnownForm::Record(rights) => {
-                let truths = compare_fields(work, deep + 1, place, lefts, rights)?;
+                let truths = compare_fields(work, room, deep + 1, place, lefts, rights)?;
                 all_hold(work, truths)
             }
             _ => Err(Refusal::Lost),
@@ -58,6 +64,7 @@ pub fn equal<'a>(
 #[tactic(auto, using(crate::proofs::Equating::equating))]
 fn compare_all<'a>(
     work: &mut Unfolding<'a>,
+    room: &mut u32,
     deep: u32,
     place: Place,
     lefts: &'a [Known<'a>],
@@ -71,7 +78,7 @@ fn compare_all<'a>(
     let mut truths = Vec::new(work.bump);
     let mut at = 0;
     for left in lefts {
-        let truth = equal(work, deep, place, *left, rights[at])?;
+        let truth = equal(work, room, deep, place, *left, rights[at])?;
         truths.push(truth)?;
         at += 1;
     }
@@ -83,6 +90,7 @@ fn compare_all<'a>(
 #[tactic(auto, using(crate::proofs::Equating::equating))]
 fn compare_fields<'a>(
     work: &mut Unfolding<'a>,
+    room: &mut u32,
     deep: u32,
     place: Place,
     lefts: &'a [Field<'a>],
@@ -96,7 +104,7 @@ fn compare_fields<'a>(
     }
     let lefts = values(work.bump, lefts)?;
     let rights = values(work.bump, rights)?;
-    compare_all(work, deep, place, lefts, rights)
+    compare_all(work, room, deep, place, lefts, rights)
 }
 
 // What is known of the fields.

@@ -6,7 +6,7 @@ ghost use Rattle.unfold.specs.Shapes.{All_laid, Fields_laid, Laid, Scalar_shape}
 ghost use Rattle.unfold_parts.specs.Layouts.{Has_names, Renewed, field_shapes_of, numbers_from, shape_of, shapes_of};
 ghost use Rattle.unfold_parts.specs.States.{steps_of};
 
-use crate::laying::MOST_DEEP;
+use crate::laying::{MOST_DEEP, MOST_PARTS};
 use crate::refusal::Refusal;
 use crate::steps::Unfolding;
 use bumpalo::Bump;
@@ -49,7 +49,8 @@ impl<'a> Unfolding<'a> {
     {
         let bump = self.bump;
         let first = self.next;
-        let made = rename(bump, 0, like, first)?;
+        let mut room = MOST_PARTS;
+        let made = rename(&mut room, bump, 0, like, first)?;
         let names = names_between(bump, first, made.next)?;
         self.next = made.next;
         Ok(Fresh {
@@ -89,6 +90,7 @@ fn rename_scalar<'a>(name: u32) -> Result<Renamed<'a>, Refusal>
 #[cycle(rename)]
 #[tactic(auto, using(crate::proofs::Naming::names_laid))]
 fn rename<'a>(
+    room: &mut u32,
     bump: &'a Bump,
     deep: u32,
     like: Known<'a>,
@@ -99,10 +101,14 @@ fn rename<'a>(
     if deep >= MOST_DEEP {
         return Err(Refusal::Memory);
     }
+    if *room == 0 {
+        return Err(Refusal::Memory);
+    }
+    *room -= 1;
     match like.form {
         KnownForm::Scalar(_) => rename_scalar(first),
         KnownForm::Tuple(likes) => {
-            let made = rename_all(bump, deep + 1, likes, first)?;
+            let made = rename_all(room, bump, deep + 1, likes, first)?;
             Ok(Renamed {
                 known: Known {
                     form: KnownForm::Tuple(made.parts),
@@ -111,7 +117,7 @@ fn rename<'a>(
             })
         }
         KnownForm::Record(likes) => {
-            let made = rename_fields(bump, deep + 1, likes, first)?;
+            let made = rename_fields(room, bump, deep + 1, likes, first)?;
             Ok(Renamed {
                 known: Known {
                     form: KnownForm::Record(made.fields),
@@ -126,6 +132,7 @@ fn rename<'a>(
 #[cycle(rename)]
 #[tactic(auto, using(crate::proofs::Naming::names_laid))]
 fn rename_all<'a>(
+    room: &mut u32,
     bump: &'a Bump,
     deep: u32,
     likes: &'a [Known<'a>],
@@ -136,7 +143,7 @@ fn rename_all<'a>(
     let mut parts = Vec::new(bump);
     let mut next = first;
     for like in likes {
-        let made = rename(bump, deep, *like, next)?;
+        let made = rename(room, bump, deep, *like, next)?;
         parts.push(made.known)?;
         next = made.next;
     }
@@ -149,6 +156,7 @@ fn rename_all<'a>(
 #[cycle(rename)]
 #[tactic(auto, using(crate::proofs::Naming::names_laid))]
 fn rename_fields<'a>(
+    room: &mut u32,
     bump: &'a Bump,
     deep: u32,
     likes: &'a [Field<'a>],
@@ -159,7 +167,7 @@ fn rename_fields<'a>(
     let mut fields = Vec::new(bump);
     let mut next = first;
     for like in likes {
-        let made = rename(bump, deep, like.known, next)?;
+        let made = rename(room, bump, deep, like.known, next)?;
         fields.push(Field {
             name: like.name,
             known: made.known,

@@ -13,13 +13,17 @@ use unfold::{Field, Known, KnownForm};
 /// How deep data may lie in other data.
 pub const MOST_DEEP: u32 = 1_000;
 
+/// How many parts data may have, with the parts of its parts: shared ones count each time.
+pub const MOST_PARTS: u32 = 1_048_576;
+
 /// The components of data, which has to be of the same shape as `like`.
 #[tactic(auto, using(crate::proofs::Layings::layings))]
 pub fn lay<'a>(bump: &'a Bump, like: Known<'a>, known: Known<'a>) -> Result<&'a [Atom], Refusal>
     ensures { Laid_to (shape_of (known_of like.entry)) (known_of known.entry) result }
 {
     let mut atoms = Vec::new(bump);
-    lay_behind(0, like, known, &mut atoms)?;
+    let mut room = MOST_PARTS;
+    lay_behind(&mut room, 0, like, known, &mut atoms)?;
     Ok(into_bump_slice(atoms))
 }
 
@@ -27,6 +31,7 @@ pub fn lay<'a>(bump: &'a Bump, like: Known<'a>, known: Known<'a>) -> Result<&'a 
 #[cycle(lay)]
 #[tactic(auto, using(crate::proofs::Layings::layings))]
 fn lay_behind<'a>(
+    room: &mut u32,
     deep: u32,
     like: Known<'a>,
     known: Known<'a>,
@@ -37,17 +42,21 @@ fn lay_behind<'a>(
     if deep >= MOST_DEEP {
         return Err(Refusal::Memory);
     }
+    if *room == 0 {
+        return Err(Refusal::Memory);
+    }
+    *room -= 1;
     match like.form {
         KnownForm::Scalar(_) => match known.form {
             KnownForm::Scalar(atom) => put(atom, atoms),
             _ => Err(Refusal::Lost),
         },
         KnownForm::Tuple(likes) => match known.form {
-            KnownForm::Tuple(parts) => lay_all(deep + 1, likes, parts, atoms),
+            KnownForm::Tuple(parts) => lay_all(room, deep + 1, likes, parts, atoms),
             _ => Err(Refusal::Lost),
         },
         KnownForm::Record(likes) => match known.form {
-            KnownForm::Record(fields) => lay_fields(deep + 1, likes, fields, atoms),
+            KnownForm::Record(fields) => lay_fields(room, deep + 1, likes, fields, atoms),
             _ => Err(Refusal::Lost),
         },
         _ => Err(Refusal::Lost),
@@ -57,6 +66,7 @@ fn lay_behind<'a>(
 #[cycle(lay)]
 #[tactic(auto, using(crate::proofs::Layings::layings))]
 fn lay_all<'a>(
+    room: &mut u32,
     deep: u32,
     likes: &'a [Known<'a>],
     parts: &'a [Known<'a>],
@@ -69,7 +79,7 @@ fn lay_all<'a>(
     }
     let mut at = 0;
     for like in likes {
-        lay_behind(deep, *like, parts[at], atoms)?;
+        lay_behind(room, deep, *like, parts[at], atoms)?;
         at += 1;
     }
     Ok(())
@@ -78,6 +88,7 @@ fn lay_all<'a>(
 #[cycle(lay)]
 #[tactic(auto, using(crate::proofs::Layings::layings))]
 fn lay_fields<'a>(
+    room: &mut u32,
     deep: u32,
     likes: &'a [Field<'a>],
     fields: &'a [Field<'a>],
@@ -91,7 +102,7 @@ fn lay_fields<'a>(
     let mut at = 0;
     for like in likes {
         if like.name == fields[at].name {
-            lay_behind(deep, like.known, fields[at].known, atoms)?;
+            lay_behind(room, deep, like.known, fields[at].known, atoms)?;
             at += 1;
         } else {
             return Err(Refusal::Lost);

@@ -10,6 +10,7 @@ ghost use Rattle.unfold_parts.specs.Tables.{integer_at};
 ghost use Rattle.unfold_parts.specs.States.{steps_of};
 
 use crate::equality::equal;
+use crate::laying::MOST_PARTS;
 use crate::parts::{one, part, scalar};
 use crate::records::{record_of, replaced};
 use crate::refusal::Refusal;
@@ -118,7 +119,8 @@ fn equal_parts<'a>(
     if parts.len() != 2 {
         return Err(Refusal::Lost);
     }
-    let atom = equal(work, 0, mark, parts[0], parts[1])?;
+    let mut room = MOST_PARTS;
+    let atom = equal(work, &mut room, 0, mark, parts[0], parts[1])?;
     Ok(Known {
         form: KnownForm::Scalar(atom),
     })
@@ -136,7 +138,8 @@ fn unequal_parts<'a>(
     if parts.len() != 2 {
         return Err(Refusal::Lost);
     }
-    let are_equal = equal(work, 0, mark, parts[0], parts[1])?;
+    let mut room = MOST_PARTS;
+    let are_equal = equal(work, &mut room, 0, mark, parts[0], parts[1])?;
     let atom = work.compute(Operation::Unary(UnOp::Not, are_equal))?;
     Ok(Known {
         form: KnownForm::Scalar(atom),

@@ -9,7 +9,7 @@ use std::alloc::{AllocError, AllocFailed};
 pub enum Refusal {
     /// A term has no way on, which no typed program comes to that was measured.
     Lost,
-    /// No memory, or no name, is left, or data lies more than 1,000 deep.
+    /// No memory, or no name, is left, or data lies more than 1,000 deep or has more than 1,048,576 parts.
     Memory,
 }
 
