@@ -16,7 +16,7 @@ use Rattle.fut_flat.specs.declared.act.Act.{Act}
 use Rattle.fut_flat.specs.declared.act.Act.TheVariants as act
 use Rattle.fut_flat.specs.declared.ty.TypeExp.{TypeExp}
 use Rattle.fut_flat.specs.Erased.{operation_of, type_of}
-use Rattle.fut_flat.specs.Terms.{Operation, Ascribe, Assert, Coerce, Declared}
+use Rattle.fut_flat.specs.Terms.{Operation, Ascribe, Assert, Coerce, Declared, Project, Replace}
 use Rattle.measure.specs.declared.stop.Stop.TheVariants.{Lost, Memory}
 use Rattle.measure.specs.Answers.{one_or_data, Known_to, known_is, not_known, no_memory_to_know}
 use Rattle.measure.specs.Held.{known_of, knowns}
@@ -144,17 +144,20 @@ pub result_declared : (a : Act) (ss : List Held_known) (t : Bor TypeExp) → a �
 unfolding known_result
 result_declared a ss t e = result_is a ss (act.Declared t) _ e (one_part (Declared (type_of t.now)) (λ s. refl) refl (λ s s' ss. refl) ss)
 
-pub result_projected : (a : Act) (ss : List Held_known) (f : Bor Text) (d : Held_known) → a ≡ act.Project f → length ss ≡ 1 → known_result (operation_of a) (Parts_of ss) ≡ known_part f.now (known_of (get_or ss 0 d))
-unfolding known_result knowns
-result_projected a [] f d e n = absurd (omega (arith, n))
-result_projected a (x ∷ []) f d e n = result_is a (x ∷ []) (act.Project f) _ e refl
-result_projected a (x ∷ y ∷ ss) f d e n = absurd (omega (arith, n))
+pub result_projected : (a : Act) (ss : List Held_known) (f : Bor Text) → a ≡ act.Project f → known_result (operation_of a) (Parts_of ss) ≡ known_result (Project f.now) (Parts_of ss)
+result_projected a ss f e = ap (λ z. known_result (operation_of z) (Parts_of ss)) e
 
-pub result_unprojected : (a : Act) (ss : List Held_known) (f : Bor Text) → a ≡ act.Project f → (length ss ≡ 1 → ⊥) → known_result (operation_of a) (Parts_of ss) ≡ data_of (Parts_of ss)
+pub projected_one : (ss : List Held_known) (f : Text) (d : Held_known) → length ss ≡ 1 → known_result (Project f) (Parts_of ss) ≡ known_part f (known_of (get_or ss 0 d))
 unfolding known_result knowns
-result_unprojected a [] f e n = result_is a [] (act.Project f) _ e refl
-result_unprojected a (x ∷ []) f e n = absurd (n refl)
-result_unprojected a (x ∷ y ∷ ss) f e n = result_is a (x ∷ y ∷ ss) (act.Project f) _ e refl
+projected_one [] f d n = absurd (omega (arith, n))
+projected_one (x ∷ []) f d n = refl
+projected_one (x ∷ y ∷ ss) f d n = absurd (omega (arith, n))
+
+pub projected_other : (ss : List Held_known) (f : Text) → (length ss ≡ 1 → ⊥) → known_result (Project f) (Parts_of ss) ≡ data_of (Parts_of ss)
+unfolding known_result knowns
+projected_other [] f n = refl
+projected_other (x ∷ []) f n = absurd (n refl)
+projected_other (x ∷ y ∷ ss) f n = refl
 
 -- ---- assertions
 
@@ -237,19 +240,22 @@ result_other (act.Range b e) ss t r p a c d s u = refl
 
 -- ---- a field that is replaced
 
-pub result_replaced : (a : Act) (ss : List Held_known) (f : Bor Text) (d d' : Held_known) → a ≡ act.Replace f → length ss ≡ 2 → known_result (operation_of a) (Parts_of ss) ≡ replaced_in f.now (known_of (get_or ss 0 d)) (known_of (get_or ss 1 d'))
-unfolding known_result knowns
-result_replaced a [] f d d' e n = absurd (omega (arith, n))
-result_replaced a (x ∷ []) f d d' e n = absurd (omega (arith, n))
-result_replaced a (x ∷ y ∷ []) f d d' e n = result_is a (x ∷ y ∷ []) (act.Replace f) _ e refl
-result_replaced a (x ∷ y ∷ w ∷ ss) f d d' e n = absurd (omega (arith, n))
+pub result_replaced : (a : Act) (ss : List Held_known) (f : Bor Text) → a ≡ act.Replace f → known_result (operation_of a) (Parts_of ss) ≡ known_result (Replace f.now) (Parts_of ss)
+result_replaced a ss f e = ap (λ z. known_result (operation_of z) (Parts_of ss)) e
 
-pub result_unreplaced : (a : Act) (ss : List Held_known) (f : Bor Text) → a ≡ act.Replace f → (length ss ≡ 2 → ⊥) → known_result (operation_of a) (Parts_of ss) ≡ data_of (Parts_of ss)
+pub replaced_two : (ss : List Held_known) (f : Text) (d d' : Held_known) → length ss ≡ 2 → known_result (Replace f) (Parts_of ss) ≡ replaced_in f (known_of (get_or ss 0 d)) (known_of (get_or ss 1 d'))
 unfolding known_result knowns
-result_unreplaced a [] f e n = result_is a [] (act.Replace f) _ e refl
-result_unreplaced a (x ∷ []) f e n = result_is a (x ∷ []) (act.Replace f) _ e refl
-result_unreplaced a (x ∷ y ∷ []) f e n = absurd (n refl)
-result_unreplaced a (x ∷ y ∷ w ∷ ss) f e n = result_is a (x ∷ y ∷ w ∷ ss) (act.Replace f) _ e refl
+replaced_two [] f d d' n = absurd (omega (arith, n))
+replaced_two (x ∷ []) f d d' n = absurd (omega (arith, n))
+replaced_two (x ∷ y ∷ []) f d d' n = refl
+replaced_two (x ∷ y ∷ w ∷ ss) f d d' n = absurd (omega (arith, n))
+
+pub replaced_otherwise : (ss : List Held_known) (f : Text) → (length ss ≡ 2 → ⊥) → known_result (Replace f) (Parts_of ss) ≡ data_of (Parts_of ss)
+unfolding known_result knowns
+replaced_otherwise [] f n = refl
+replaced_otherwise (x ∷ []) f n = refl
+replaced_otherwise (x ∷ y ∷ []) f n = absurd (n refl)
+replaced_otherwise (x ∷ y ∷ w ∷ ss) f n = refl
 
 data_in : (f : Text) (k : Known) → is_data k ≡ true → replaced_in f Data k ≡ Some Data
 data_in f Data h = refl

@@ -1,7 +1,7 @@
 // What is known of the values of operations.
 ghost use Rattle.std.specs.Prelude.{◌≡◌, map};
 ghost use Rattle.fut_flat.specs.Erased.{operation_of, texts};
-ghost use Rattle.fut_flat.specs.Terms.{Assert};
+ghost use Rattle.fut_flat.specs.Terms.{Assert, Project, Replace};
 ghost use Rattle.fut_meaning.specs.Knowns.{all_data, data_of, is_data, known_fields, known_part, known_part_from, known_result, known_tuple, replaced_in, some_record};
 ghost use Rattle.measure.specs.Held.{known_of, knowns, maybe_known};
 ghost use Rattle.measure.specs.Answers.{Known_to, one_or_data};
@@ -119,6 +119,26 @@ fn part_of<'a>(known: Known<'a>, name: &str) -> Result<Known<'a>, Stop>
     }
 }
 
+fn projected<'a>(name: &str, parts: &'a [Known<'a>]) -> Result<Known<'a>, Stop>
+    ensures { Known_to (known_result (Project name.now) (knowns (map known_of parts.now))) result }
+{
+    if parts.len() == 1 {
+        part_of(parts[0], name)
+    } else {
+        data_of(parts)
+    }
+}
+
+fn with_replaced<'a>(bump: &'a Bump, name: &str, parts: &'a [Known<'a>]) -> Result<Known<'a>, Stop>
+    ensures { Known_to (known_result (Replace name.now) (knowns (map known_of parts.now))) result }
+{
+    if parts.len() == 2 {
+        replaced(bump, name, parts[0], parts[1])
+    } else {
+        data_of(parts)
+    }
+}
+
 /// What is known of the value of an operation on these parts.
 pub fn result_of<'a>(
     bump: &'a Bump,
@@ -130,20 +150,8 @@ pub fn result_of<'a>(
     match *act {
         Act::Tuple => Ok(tuple_of(parts)),
         Act::Record(names) => record_of(bump, names, parts),
-        Act::Project(name) => {
-            if parts.len() == 1 {
-                part_of(parts[0], name)
-            } else {
-                data_of(parts)
-            }
-        }
-        Act::Replace(name) => {
-            if parts.len() == 2 {
-                replaced(bump, name, parts[0], parts[1])
-            } else {
-                data_of(parts)
-            }
-        }
+        Act::Project(name) => projected(name, parts),
+        Act::Replace(name) => with_replaced(bump, name, parts),
         Act::Ascribe(_) => same_of(parts),
         Act::Coerce(_) => same_of(parts),
         Act::Declared(_) => same_of(parts),

@@ -20,7 +20,6 @@ use fut_flat::{Definition, Flat};
 use fut_meaning::{MeasureErr, Measured};
 use fut_scalar::BindId;
 use reach::{above, reached};
-use std::alloc::Global;
 
 /// What is known of the definitions, and their visits.
 #[derive(Drop)]
@@ -119,11 +118,11 @@ fn walk_entry(
     }
 }
 
-// The definitions that are reached, and then the entry.
+/// The measure of a program, or why its walk stops: `Lost` where it comes to what no typed program has.
 #[tactic(auto, using(crate::proofs::Definitions::programs))]
-fn walk_program<'a>(
+pub fn measure_or_lost<'a>(
     bump: &'a Bump,
-    flat: &'a Flat<'a>,
+    flat: &Flat<'a>,
     entry: BindId,
     arguments: u32,
 ) -> Result<Measured, Stop>
@@ -136,21 +135,8 @@ fn walk_program<'a>(
     walk_entry(&made, flat, entry, arguments)
 }
 
-/// The measure of a program, or why its walk stops: `Lost` where it comes to what no typed program has.
-pub fn measure_or_lost<'a>(
-    alloc: Global,
-    flat: &'a Flat<'a>,
-    entry: BindId,
-    arguments: u32,
-) -> Result<Measured, Stop>
-    ensures { Program_to entry.0 arguments (flat_tops 0 (named_terms flat.now)) result }
-{
-    let bump = Bump::new(alloc);
-    walk_program(&bump, flat, entry, arguments)
-}
-
 /// The measure of a program from an entry on, which takes so many arguments: the visits of the walk, and how many of them
-/// lie inside each other.
+/// lie inside each other. What the walk needs of memory stays in the arena.
 ///
 /// # Errors
 ///
@@ -159,15 +145,15 @@ pub fn measure_or_lost<'a>(
 /// - `Memory`: no memory.
 #[tactic(auto, using(crate::proofs::Definitions::measures))]
 pub fn measure<'a>(
-    alloc: Global,
-    flat: &'a Flat<'a>,
+    bump: &'a Bump,
+    flat: &Flat<'a>,
     entry: BindId,
     arguments: u32,
 ) -> Result<Measured, MeasureErr>
     requires found { Program_lost entry.0 arguments (flat_tops 0 (named_terms flat.now)) → ⊥ }
     ensures { Measures (flat_tops 0 (named_terms flat.now)) entry.0 arguments result }
 {
-    match measure_or_lost(alloc, flat, entry, arguments) {
+    match measure_or_lost(bump, flat, entry, arguments) {
         Ok(measured) => Ok(measured),
         Err(Stop::Nodes) => Err(MeasureErr::Nodes),
         Err(Stop::Depth) => Err(MeasureErr::Depth),

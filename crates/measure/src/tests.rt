@@ -1,10 +1,10 @@
 // Small programs with the visits of their walks, counted by hand. Each is entered at definition 9, with one argument.
 use crate::program::measure_or_lost;
 use crate::stop::Stop;
+use bumpalo::Bump;
 use fut_flat::{Act, Definition, Exp, Flat, Form, Let, Pat, PatForm, Ref};
 use fut_meaning::Measured;
 use fut_scalar::{BinOp, BindId, Place};
-use std::alloc::Global;
 use std::test::Fail;
 
 const AT: Place = Place {
@@ -151,32 +151,33 @@ const IN_RECORD: Definition<'static> = define!(
     )
 );
 
-fn measured(alloc: Global, definitions: &[Definition<'_>]) -> Result<Measured, Stop> {
+fn measured<'a>(bump: &'a Bump, definitions: &'a [Definition<'a>]) -> Result<Measured, Stop> {
     let flat = Flat {
         definitions,
         names: &[],
     };
-    measure_or_lost(alloc, &flat, BindId(9), 1)
+    measure_or_lost(bump, &flat, BindId(9), 1)
 }
 
 #[test]
 fn functions_are_followed(rt: HostRuntime) -> Result<(), Fail> {
+    let bump = Bump::new(rt.alloc());
     assert!(rt;
-        measured(rt.alloc(), &[DOUBLE, IN_TUPLE])
+        measured(&bump, &[DOUBLE, IN_TUPLE])
             == Ok(Measured {
                 nodes: 12,
                 depth: 4
             })
     );
     assert!(rt;
-        measured(rt.alloc(), &[DOUBLE, IN_RECORD])
+        measured(&bump, &[DOUBLE, IN_RECORD])
             == Ok(Measured {
                 nodes: 13,
                 depth: 5
             })
     );
     assert!(rt;
-        measured(rt.alloc(), &[DOUBLE, TWICE, CAPTURED])
+        measured(&bump, &[DOUBLE, TWICE, CAPTURED])
             == Ok(Measured {
                 nodes: 37,
                 depth: 7
@@ -187,7 +188,8 @@ fn functions_are_followed(rt: HostRuntime) -> Result<(), Fail> {
 
 #[test]
 fn doublings_are_refused(rt: HostRuntime) -> Result<(), Fail> {
-    assert!(rt; measured(rt.alloc(), &[DOUBLE, TWICE, FORTY]) == Err(Stop::Nodes));
-    assert!(rt; measured(rt.alloc(), &[TWICE, FORTY]) == Err(Stop::Lost));
+    let bump = Bump::new(rt.alloc());
+    assert!(rt; measured(&bump, &[DOUBLE, TWICE, FORTY]) == Err(Stop::Nodes));
+    assert!(rt; measured(&bump, &[TWICE, FORTY]) == Err(Stop::Lost));
     Ok(())
 }
