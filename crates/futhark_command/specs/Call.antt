@@ -3,9 +3,9 @@ use Rattle.std.specs.Prelude.{◌≡◌, ◌⊎◌, ℕ, ◌+◌, cond, List, []
 use Rattle.std.specs.Str.{bytes_eq, is_utf8}
 use Rattle.fut_io.specs.Outside.{SinkSeen, Took, TookPart}
 use Rattle.futhark_core.specs.Row.{Outside, RunRow}
-use Rattle.futhark_core.specs.Comes.{Stage, Then, Comes, NoFault, Agrees, ends_with, Complete}
-use Rattle.futhark_core.specs.declared.status.Status.{Status}
-use Rattle.futhark_core.specs.declared.status.Status.TheVariants.{Done, Usage, WriteFault, Memory}
+use Rattle.futhark_core.specs.Comes.{Stage, Then, Ending, Told, Comes, NoFault, Agrees, Complete}
+use Rattle.futhark_status.specs.declared.status.Status.{Status}
+use Rattle.futhark_status.specs.declared.status.Status.TheVariants.{Done, Usage, WriteFault, Memory}
 use Rattle.futhark_command.specs.declared.told.TheConstants.{HELP, VERSION}
 
 -- the number of the first word that is no UTF-8; that of the first of the words is given
@@ -66,19 +66,19 @@ abbrev pub Texts : List (List ℕ) → Stage (List (List ℕ))
 Texts words (Ok same) = (bad_word 1 words ≡ None) × (same ≡ words)
 Texts words (Err status) = (number : ℕ) × (bad_word 1 words ≡ Some number) × (status ≡ Usage number)
 
-abbrev pub Asked : Option (List ℕ) → List (List ℕ) → Option (List (List ℕ × List ℕ)) → Option (List ℕ) → Stage (List ℕ)
-Asked (Some text) words files left end = end ≡ Ok text
+abbrev pub Asked : Option (List ℕ) → List (List ℕ) → Option (List (List ℕ × List ℕ)) → Option (List ℕ) → Stage Ending
+Asked (Some text) words files left end = end ≡ Ok Told
 Asked None words files left end = Comes words files left end
 
--- the call with these words over these files and this input comes to a text for out, or to a status
-abbrev pub CallComes : List (List ℕ) → Option (List (List ℕ × List ℕ)) → Option (List ℕ) → Stage (List ℕ)
+-- the call with these words over these files and this input comes to an end, or to a status
+abbrev pub CallComes : List (List ℕ) → Option (List (List ℕ × List ℕ)) → Option (List ℕ) → Stage Ending
 CallComes words files left = Then (Texts words) (λ texts. Asked (text_asked texts) texts files left)
 
 abbrev pub AskedComplete : Option (List ℕ) → Status → List (List ℕ) → Outside → Outside → Type 0
 AskedComplete (Some text) status words old new = NoFault old new → status ≡ Done
 AskedComplete None status words old new = Complete status words old new
 
--- Where the call comes to an end by what is told, and no fault rose, that is its status, or memory ran out.
+-- Where the call comes to an end by what is told, and no fault rose, its status agrees with that, or memory ran out.
 abbrev pub CallComplete : Status → Option (List (List ℕ)) → Outside → Outside → Type 0
-CallComplete status told old new = (words : List (List ℕ)) → told ≡ Some words → (end : Result (List ℕ) Status) →
-    CallComes words old.loader.files old.input.left end → NoFault old new → Agrees status (ends_with end) ⊎ (status ≡ Memory)
+CallComplete status told old new = (words : List (List ℕ)) → told ≡ Some words → (end : Result Ending Status) →
+    CallComes words old.loader.files old.input.left end → NoFault old new → Agrees status end ⊎ (status ≡ Memory)

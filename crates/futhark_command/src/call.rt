@@ -1,13 +1,14 @@
 // A call of the program.
 ghost use Rattle.std.specs.Prelude.{◌≡◌};
-ghost use Rattle.futhark_core.specs.Report.{Reported};
+ghost use Rattle.futhark_status.specs.Report.{Reported};
 ghost use Rattle.futhark_command.specs.Call.{text_asked, AskedComplete, AskedRow, CallComplete, CallRow, WrittenRow};
 
 use crate::gather::{WordsErr, all_words};
 use crate::told::text_asked;
 use fut_io::{Loader, Sink, Source, Words, write_all};
 use fut_scalar::{List, Name};
-use futhark_core::{Status, report, run_futhark};
+use futhark_core::run_futhark;
+use futhark_status::{Status, report};
 use std::alloc::Global;
 
 /// Writes a text on out.

@@ -6,13 +6,15 @@ use fut_scalar::{List, Name};
 
 /// What `--help` writes.
 pub const HELP: &str = "\
-usage: futhark run FILE
+usage: futhark run FILE [--entry NAME] [--turns NUMBER]
        futhark check FILE
        futhark --help
        futhark --version
 
-`run` reads the arguments of the function `main` of FILE from standard input,
-and writes its result on standard output.
+`run` reads the arguments of an entry point of FILE from standard input, and
+writes its result on standard output, a tuple with a line for each part. The
+entry point is `main`, or the declaration `entry` of this name. Each `while`
+may take 1073741824 turns, or as many as are given.
 `check` writes `accepted` on standard output where FILE could be run, and reads
 no input.
 
@@ -25,12 +27,16 @@ The exit status, and for each but 0 a line on standard error:
    1  the words are none of the above
    2  FILE can't be loaded
    3  FILE is no program, or one of a part of Futhark that is not built yet
-   4  a name of the program is not bound
-   9  FILE has over 4194304 bytes or nests over 200 deep, or the input has over
+   4  a name of the program is not bound, or bound twice
+   5  the program has no type
+   8  there is no such entry point, or it takes or gives other than scalars
+   9  FILE has over 4194304 bytes or nests over 200 deep, its functions unfolded
+      have over 1048576 nodes or nest over 1000 deep, or the input has over
       67108864 bytes
   10  standard input failed
-  11  the input is not the arguments of the program
+  11  the input is not the arguments of the entry point
   12  the program failed, as at a division by zero
+  13  a `while` has spent its turns
   14  standard output failed
   15  out of memory
 ";

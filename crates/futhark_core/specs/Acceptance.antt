@@ -1,129 +1,56 @@
 -- When a source is accepted, and why another one is not.
-use Rattle.std.specs.Prelude.{◌≡◌, ◌≤◌, ◌<◌, ℕ, true, cond, List, Option, Some, None}
-use Rattle.fut_scalar.specs.declared.place.Place.{Place}
+use Rattle.std.specs.Prelude.{◌≡◌, ℕ, List, [], ◌∷◌}
 use Rattle.fut_token.specs.declared.token.Token.{Token}
 use Rattle.fut_io.specs.Outside.{LoaderSeen, Loaded, LoadFailed, LoadOver}
 use Rattle.fut_lexer.specs.Lexing.{HasTokens, RefusesText}
 use Rattle.fut_lexer.specs.declared.lexer.LexErr.{LexErr}
 use Rattle.fut_lexer.specs.declared.lexer.LexErr.TheVariants as lex
-use Rattle.fut_ast.specs.Grammar.{Derives}
-use Rattle.fut_ast.specs.LeftOut.{begins_left_out}
-use Rattle.fut_ast.specs.Nesting.{Too_deep}
 use Rattle.fut_ast.specs.declared.module.Program.{Program}
-use Rattle.fut_parser.specs.Places.{Ends, place_of}
-use Rattle.fut_parser.specs.declared.programs.ParseErr.{ParseErr}
-use Rattle.fut_parser.specs.declared.programs.ParseErr.TheVariants as parse
-use Rattle.futhark_core.specs.Built.{IsText}
-use Rattle.futhark_core.specs.BuiltReading.{beginning, stop_of}
-use Rattle.futhark_core.specs.Forms.{Main, is_built_program, main_of}
-use Rattle.futhark_core.specs.Meaning.{Unbound, first_of, names_of, unbound_of}
-use Rattle.futhark_core.specs.declared.status.ModErr.TheVariants as names
-use Rattle.futhark_core.specs.declared.status.Why.{Why}
-use Rattle.futhark_core.specs.declared.status.Why.TheVariants as why
+use Rattle.fut_flat.specs.declared.program.Flat.{Flat}
+use Rattle.module_elab.specs.Elaborated.{program_of}
+use Rattle.front.specs.Acceptance.{named_file, IsAcceptable, Unaccepted}
+use Rattle.front.specs.declared.refusals.Refused.TheVariants as refused
+use Rattle.futhark_status.specs.declared.status.Why.{Why}
+use Rattle.futhark_status.specs.declared.status.Why.TheVariants as why
 
--- the named file is the first in load order
-abbrev pub first_file : ℕ
-first_file = 1
+-- what is accepted: the files in their order, the prelude first, and the flat program to which their names are resolved
+pub record Source : Type 0 where
+  pub files : List Program
+  pub flat : Flat
 
--- ---- the grammar
+-- the tokens are this source, which has a typing
+pub record AcceptedTokens (tokens : List Token) (source : Source) : Type 0 where
+  pub acceptable : IsAcceptable tokens (program_of source.flat)
+  pub files : source.files ≡ acceptable.resolved.resolves.prelude ∷ acceptable.resolved.program ∷ []
 
--- the tokens spell this program and no other, nested at most 200 deep
-pub record IsParsed (tokens : List Token) (program : Program) : Type 0 where
-  pub height : ℕ
-  pub spelled : Derives tokens program height
-  pub flat : height ≤ 201
-  pub only : (other : Program) (h : ℕ) → Derives tokens other h → other ≡ program
-
--- this is the place of one of the tokens, or of the last one, and of the tokens from there on this holds
-abbrev pub StandsAt : List Token → Place → (List Token → Type 0) → Type 0
-StandsAt tokens place Holds = (rest : List Token) × Ends tokens rest × (place ≡ place_of first_file tokens rest) × Holds rest
-
--- the tokens are no program
-pub record IsNoProgram (tokens : List Token) (place : Place) (Holds : List Token → Type 0) : Type 0 where
-  pub none : (program : Program) (h : ℕ) → Derives tokens program h → ⊥
-  pub stands : StandsAt tokens place Holds
-
--- the nodes of the tokens are nested too deep
-pub record IsTooDeep (tokens : List Token) (place : Place) : Type 0 where
-  pub deep : (program : Program) (h : ℕ) → Derives tokens program h → 201 < h
-  pub stands : StandsAt tokens place (Too_deep tokens)
-
--- why the tokens spell no program that is nested at most 200 deep
-abbrev pub Unspelled : List Token → ParseErr → Type 0
-Unspelled tokens (parse.Syntax place) = IsNoProgram tokens place (λ rest. Unit {0})
-Unspelled tokens (parse.LeftOut place what) = IsNoProgram tokens place (λ rest. begins_left_out what rest ≡ true)
-Unspelled tokens (parse.TooDeep place) = IsTooDeep tokens place
-Unspelled tokens parse.Memory = ⊥
-
--- ---- programs
-
--- the tokens are a text of the part that is built, and so are all forms of the program
-pub record IsBuilt (tokens : List Token) (program : Program) : Type 0 where
-  pub text : IsText tokens
-  pub forms : is_built_program program ≡ true
-
--- where the tokens leave the part that is built; a program of another form leaves it at once
-abbrev pub unbuilt_at : List Token → Program → Option Place
-unbuilt_at tokens program = first_of (stop_of first_file tokens) (cond (is_built_program program) None (Some (beginning first_file)))
-
-pub record IsUnbuilt (tokens : List Token) (program : Program) (place : Place) : Type 0 where
-  pub unbuilt : IsBuilt tokens program → ⊥
-  pub stop : unbuilt_at tokens program ≡ Some place
-
-abbrev pub unbound_main : Option Main → Unbound
-unbound_main None = None
-unbound_main (Some main) = unbound_of main.1 (names_of main.0)
-
--- the first name of a program that is not bound, and its place
-abbrev pub unbound_in : Program → Unbound
-unbound_in program = unbound_main (main_of program)
-
--- ---- what is accepted
-
--- the tokens spell this program, which is built and whose names are bound
-pub record AcceptedTokens (tokens : List Token) (program : Program) : Type 0 where
-  pub parsed : IsParsed tokens program
-  pub built : IsBuilt tokens program
-  pub bound : unbound_in program ≡ None
-
-pub record AcceptedText (text : List ℕ) (program : Program) : Type 0 where
+pub record AcceptedText (text : List ℕ) (source : Source) : Type 0 where
   pub tokens : List Token
-  pub lexed : HasTokens first_file text tokens
-  pub accepted : AcceptedTokens tokens program
+  pub lexed : HasTokens named_file text tokens
+  pub accepted : AcceptedTokens tokens source
 
--- the file's text spells this program, which is built and whose names are bound
-pub record AcceptedFile (file : List ℕ) (old new : LoaderSeen) (program : Program) : Type 0 where
+pub record AcceptedFile (file : List ℕ) (old new : LoaderSeen) (source : Source) : Type 0 where
   pub text : List ℕ
   pub loaded : Loaded old new file text
-  pub accepted : AcceptedText text program
+  pub accepted : AcceptedText text source
 
 -- ---- what is not accepted, and why
 
--- it is not built, or this name is the first that is not bound
-abbrev pub UnacceptedProgram : List Token → Program → Why → Type 0
-UnacceptedProgram tokens program (why.NotBuilt place) = IsUnbuilt tokens program place
-UnacceptedProgram tokens program (why.Names (names.Unbound name place)) = IsBuilt tokens program × (unbound_in program ≡ Some (name, place))
-UnacceptedProgram tokens program reason = ⊥
-
--- they spell a program, which is not accepted
-pub record SpelledUnaccepted (tokens : List Token) (reason : Why) : Type 0 where
-  pub program : Program
-  pub parsed : IsParsed tokens program
-  pub unaccepted : UnacceptedProgram tokens program reason
-
 abbrev pub UnacceptedTokens : List Token → Why → Type 0
-UnacceptedTokens tokens (why.Parse err) = Unspelled tokens err
-UnacceptedTokens tokens reason = SpelledUnaccepted tokens reason
+UnacceptedTokens tokens (why.Parse err) = Unaccepted tokens (refused.Parse err)
+UnacceptedTokens tokens (why.NotBuilt place) = Unaccepted tokens (refused.NotBuilt place)
+UnacceptedTokens tokens (why.Names err) = Unaccepted tokens (refused.Names err)
+UnacceptedTokens tokens (why.Types err) = Unaccepted tokens (refused.Types err)
+UnacceptedTokens tokens reason = ⊥
 
 -- it has tokens, which are not accepted
 pub record LexedUnaccepted (text : List ℕ) (reason : Why) : Type 0 where
   pub tokens : List Token
-  pub lexed : HasTokens first_file text tokens
+  pub lexed : HasTokens named_file text tokens
   pub unaccepted : UnacceptedTokens tokens reason
 
 abbrev pub Unlexed : List ℕ → LexErr → Type 0
 Unlexed text lex.Memory = ⊥
-Unlexed text err = RefusesText first_file text err
+Unlexed text err = RefusesText named_file text err
 
 abbrev pub UnacceptedText : List ℕ → Why → Type 0
 UnacceptedText text (why.Lex err) = Unlexed text err

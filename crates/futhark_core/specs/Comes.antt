@@ -1,32 +1,47 @@
 -- What a run comes to, from its words, its files and its input alone: where nothing outside fails and memory is there.
 --
--- A run goes by stages, one after another. Each gives something to the next, or ends the run with a status.
+-- A run goes by stages, one after another. Each gives something to the next, or ends the run with a status. What is said of
+-- types is said of each way to number names and records; what is said of an entry, of each typing that shows it.
 use Rattle.std.specs.Prelude.{◌≡◌, ◌≤◌, ◌<◌, ◌⊎◌, ℕ, List, length, Option, Some, None, Result, Ok, Err}
+use Rattle.fut_scalar.specs.declared.place.Place.{Place}
 use Rattle.fut_scalar.specs.declared.report.Report.{Report}
 use Rattle.fut_scalar.specs.declared.scalar.Scalar.{Scalar}
-use Rattle.fut_scalar.specs.declared.place.Place.{Place}
 use Rattle.fut_token.specs.declared.token.Token.{Token}
 use Rattle.fut_io.specs.Counts.{Rose}
 use Rattle.fut_io.specs.Outside.{file_at}
 use Rattle.fut_lexer.specs.Lexing.{HasTokens, RefusesText}
 use Rattle.fut_lexer.specs.declared.lexer.LexErr.{LexErr}
 use Rattle.fut_ast.specs.Grammar.{Derives}
+use Rattle.fut_ast.specs.Sorts.{Text as Name}
 use Rattle.fut_ast.specs.declared.module.Program.{Program}
 use Rattle.fut_parser.specs.declared.programs.ParseErr.{ParseErr}
-use Rattle.futhark_core.specs.CommandLine.{command_of}
-use Rattle.futhark_core.specs.Forms.{params_of}
-use Rattle.futhark_core.specs.Acceptance.{IsBuilt, first_file, unbound_in, unbuilt_at}
-use Rattle.futhark_core.specs.Meaning.{Means, Gives, Fails, output_of}
-use Rattle.futhark_core.specs.Arguments.{ReadsInput, RefusesInput}
-use Rattle.futhark_core.specs.Row.{Outside, accepted_text, most_input, status_for}
-use Rattle.futhark_core.specs.declared.words.Action.{Action}
-use Rattle.futhark_core.specs.declared.words.Action.TheVariants.{Run, Check}
-use Rattle.futhark_core.specs.declared.status.TextErr.{TextErr}
-use Rattle.futhark_core.specs.declared.status.ModErr.TheVariants as names
-use Rattle.futhark_core.specs.declared.status.Why.TheVariants as why
-use Rattle.futhark_core.specs.declared.status.LimitKind.TheVariants as limit
-use Rattle.futhark_core.specs.declared.status.Status.{Status}
-use Rattle.futhark_core.specs.declared.status.Status.TheVariants.{Done, Usage, Limit, Input, Failure, Memory}
+use Rattle.fut_typing.specs.Names.{Names as Numbering, AreNames}
+use Rattle.fut_typing.specs.Program.{Defined}
+use Rattle.fut_typing.specs.Answers.{NoType, FunctionPlace, Ambiguous}
+use Rattle.module_scopes.specs.Names as refusal
+use Rattle.module_scopes.specs.Programs.{FlatProgram}
+use Rattle.module_elab.specs.Elaborated.{program_of as flat_of}
+use Rattle.unbuilt_tokens.specs.Unbuilt.{first_unbuilt}
+use Rattle.front.specs.Acceptance.{Resolves, Typable, definitions_of, named_file}
+use Rattle.front.specs.Entries.{HasEntry, HasNoEntry}
+use Rattle.front.specs.declared.refusals.NameErr.{NameErr}
+use Rattle.front.specs.declared.refusals.NameErr.TheVariants as names
+use Rattle.front_types.specs.declared.typed.TypeErr.{TypeErr}
+use Rattle.front_types.specs.declared.typed.TypeErr.TheVariants as types
+use Rattle.command_words.specs.CommandLine.{Command, command_of}
+use Rattle.command_words.specs.declared.words.Action.{Action}
+use Rattle.command_words.specs.declared.words.Action.TheVariants.{Run, Check}
+use Rattle.value_text.specs.Reading.{Reads, Refuses}
+use Rattle.value_text.specs.declared.reading.TextErr.{TextErr}
+use Rattle.futhark_status.specs.declared.status.EntryErr.TheVariants.{NoEntry, OutsideProfile}
+use Rattle.futhark_status.specs.declared.status.LimitKind.TheVariants as limit
+use Rattle.futhark_status.specs.declared.status.Why.TheVariants as why
+use Rattle.futhark_status.specs.declared.status.Status.{Status}
+use Rattle.futhark_status.specs.declared.status.Status.TheVariants.{Done, Usage, Entry, Limit, Input, Failure, Turns, Memory}
+use Rattle.futhark_core.specs.Acceptance.{Source}
+use Rattle.futhark_core.specs.Entering.{IsOutside}
+use Rattle.futhark_core.specs.Meaning.{Entered, IsEntered}
+use Rattle.futhark_core.specs.Row.{Outside, most_input, status_for}
 
 -- what a stage comes to: something for the next one, or the status that ends the run
 abbrev pub Stage : Type 0 → Type 1
@@ -41,77 +56,113 @@ Onward (Err status) next end = end ≡ Err status
 abbrev pub Then : {A B : Type 0} → Stage A → (A → Stage B) → Stage B
 Then {A} first next end = (middle : Result A Status) × first middle × Onward middle next end
 
+-- ---- the source
+
 -- the words ask for something to be done with a file, or break a rule
-abbrev pub Commanded : List (List ℕ) → Stage (Action × List ℕ)
+abbrev pub Commanded : List Name → Stage Command
 Commanded words (Ok command) = command_of words ≡ Ok command
 Commanded words (Err status) = (word : ℕ) × (command_of words ≡ Err word) × (status ≡ Usage word)
 
 -- a told file holds a text, which may be too long
-abbrev pub FileHeld : Option (List (List ℕ × List ℕ)) → List ℕ → Stage (List ℕ)
+abbrev pub FileHeld : Option (List (List ℕ × List ℕ)) → Name → Stage (List ℕ)
 FileHeld None file end = ⊥
 FileHeld (Some files) file (Ok text) = (file_at files file ≡ Some text) × (length text ≤ 4194304)
 FileHeld (Some files) file (Err status) = (text : List ℕ) × (file_at files file ≡ Some text) × (4194304 < length text) × (status ≡ Limit limit.FileBytes)
 
 -- the text has tokens, or is refused
-abbrev pub Tokenized : List ℕ → List ℕ → Stage (List Token)
-Tokenized file text (Ok tokens) = HasTokens first_file text tokens
-Tokenized file text (Err status) = (err : LexErr) × RefusesText first_file text err × (status ≡ status_for (why.Lex err) file)
+abbrev pub Tokenized : Name → List ℕ → Stage (List Token)
+Tokenized file text (Ok tokens) = HasTokens named_file text tokens
+Tokenized file text (Err status) = (err : LexErr) × RefusesText named_file text err × (status ≡ status_for (why.Lex err) file)
 
 -- the status is the parser's refusal of this file; which one, and at which token, its row says
-abbrev pub ParserRefusal : List ℕ → Status → Type 0
+abbrev pub ParserRefusal : Name → Status → Type 0
 ParserRefusal file status = (err : ParseErr) × (status ≡ status_for (why.Parse err) file)
 
 -- the tokens spell a program that is nested at most 200 deep, or none
-abbrev pub Parsed : List ℕ → List Token → Stage Program
+abbrev pub Parsed : Name → List Token → Stage Program
 Parsed file tokens (Ok program) = (h : ℕ) × (h ≤ 201) × Derives tokens program h
 Parsed file tokens (Err status) = ((program : Program) (h : ℕ) → h ≤ 201 → Derives tokens program h → ⊥) × ParserRefusal file status
 
--- the program is built, or its tokens leave the part that is built
-abbrev pub Built : List ℕ → List Token → Program → Stage Program
-Built file tokens program (Ok same) = IsBuilt tokens program × (same ≡ program)
-Built file tokens program (Err status) = (place : Place) × (unbuilt_at tokens program ≡ Some place) × (status ≡ status_for (why.NotBuilt place) file)
+-- no token of a form stands among them that is not built, or one does
+abbrev pub Built : Name → List Token → Program → Stage Program
+Built file tokens program (Ok same) = (first_unbuilt tokens ≡ None) × (same ≡ program)
+Built file tokens program (Err status) = (place : Place) × (first_unbuilt tokens ≡ Some place) × (status ≡ status_for (why.NotBuilt place) file)
 
--- the program's names are bound, or one is not
-abbrev pub Bound : List ℕ → Program → Stage Program
-Bound file program (Ok same) = (unbound_in program ≡ None) × (same ≡ program)
-Bound file program (Err status) = (name : List ℕ) × (place : Place) × (unbound_in program ≡ Some (name, place))
-    × (status ≡ status_for (why.Names (names.Unbound name place)) file)
+-- this refusal of names, as it is answered
+abbrev pub refusal_of : NameErr → refusal.Refusal
+refusal_of (names.Unbound name at) = refusal.Unbound name at
+refusal_of (names.Twice name at) = refusal.Twice name at
+refusal_of (names.NoMember name at) = refusal.NoMember name at
+
+-- behind the prelude the program's names are bound, or one is refused
+abbrev pub Named : Name → Program → Stage FlatProgram
+Named file program (Ok flat) = Resolves program (Ok flat)
+Named file program (Err status) = (err : NameErr) × Resolves program (Err (refusal_of err)) × (status ≡ status_for (why.Names err) file)
+
+-- this is what the definitions lack
+abbrev pub Lacks : TypeErr → Numbering → List Defined → Type 0
+Lacks (types.NoType at) N ds = NoType N ds
+Lacks (types.FunctionPlace at) N ds = FunctionPlace N ds
+Lacks (types.Ambiguous at) N ds = Ambiguous N ds
+Lacks types.Memory N ds = ⊥
+
+-- the flat program has a typing, or lacks one
+abbrev pub Typed : Name → FlatProgram → Stage FlatProgram
+Typed file flat (Ok same) = ((N : Numbering) → AreNames N → Typable N (definitions_of flat)) × (same ≡ flat)
+Typed file flat (Err status) = (err : TypeErr) × ((N : Numbering) → AreNames N → Lacks err N (definitions_of flat)) × (status ≡ status_for (why.Types err) file)
 
 -- the file's text is accepted
-abbrev pub Accepted : Option (List (List ℕ × List ℕ)) → List ℕ → Stage Program
+abbrev pub Accepted : Option (List (List ℕ × List ℕ)) → Name → Stage FlatProgram
 Accepted files file =
     Then (FileHeld files file) (λ text.
     Then (Tokenized file text) (λ tokens.
     Then (Parsed file tokens) (λ parsed.
-    Then (Built file tokens parsed) (λ built. Bound file built))))
+    Then (Built file tokens parsed) (λ built.
+    Then (Named file built) (λ flat. Typed file flat)))))
 
--- the told input reads as arguments of the program, or is refused, or is too long
-abbrev pub Argued : Program → Option (List ℕ) → Stage (List Scalar)
-Argued program None end = ⊥
-Argued program (Some bytes) (Ok values) = (length bytes ≤ most_input) × ReadsInput (params_of program) bytes values
-Argued program (Some bytes) (Err status) = ((most_input < length bytes) × (status ≡ Limit limit.InputBytes))
-    ⊎ ((err : TextErr) × (length bytes ≤ most_input) × RefusesInput (params_of program) bytes err × (status ≡ Input err))
+-- ---- what is done with it
 
--- the program means a value, whose text is the run's, or a failure
-abbrev pub Evaluated : List ℕ → Program → List Scalar → Stage (List ℕ)
-Evaluated file program values (Ok text) = (value : Scalar) × Means program values (Gives value) × (text ≡ output_of value)
-Evaluated file program values (Err status) = (report : Report) × Means program values (Fails report) × (status ≡ Failure report file)
+-- how a run ends whose source is accepted and has its entry: it tells so, it was run, or its input is refused with a status
+pub data Ending : Type 0 where
+  Told : Ending
+  Ran : Ending
+  Unread : Status → Ending
 
-abbrev pub Checked : Stage (List ℕ)
-Checked (Ok text) = text ≡ accepted_text
-Checked (Err status) = ⊥
+-- this holds of the entry of this name, however it is read off
+abbrev pub Of_entries : FlatProgram → Name → (Entered → Type 0) → Type 0
+Of_entries flat name P = (source : Source) → flat_of source.flat ≡ flat → (e : Entered) → IsEntered source name e → P e
+
+-- a run may begin at a definition of this name, or at none
+abbrev pub Entering : FlatProgram → Name → Stage FlatProgram
+Entering flat name (Ok same) = ((at : ℕ) × HasEntry flat name at) × ((source : Source) → flat_of source.flat ≡ flat → IsOutside source name → ⊥) × (same ≡ flat)
+Entering flat name (Err status) = (HasNoEntry flat name × (status ≡ Entry NoEntry name))
+    ⊎ (((at : ℕ) × HasEntry flat name at) × Of_entries flat name (λ e. ⊥) × (status ≡ Entry OutsideProfile name))
+
+-- the told input reads as arguments, or is too long or refused
+abbrev pub Argued : FlatProgram → Name → Option (List ℕ) → Stage Ending
+Argued flat name None end = ⊥
+Argued flat name (Some bytes) (Ok Told) = ⊥
+Argued flat name (Some bytes) (Ok Ran) = (length bytes ≤ most_input) × Of_entries flat name (λ e. (values : List Scalar) × Reads e.params bytes values)
+Argued flat name (Some bytes) (Ok (Unread status)) = ((most_input < length bytes) × (status ≡ Limit limit.InputBytes))
+    ⊎ ((err : TextErr) × (length bytes ≤ most_input) × Of_entries flat name (λ e. Refuses e.params bytes err) × (status ≡ Input err))
+Argued flat name (Some bytes) (Err status) = ⊥
 
 -- an accepted program is run on the input, or is told to be accepted
-abbrev pub Acted : Action → List ℕ → Option (List ℕ) → Program → Stage (List ℕ)
-Acted Run file left program = Then (Argued program left) (λ values. Evaluated file program values)
-Acted Check file left program = Checked
+abbrev pub Done_with : Action → Command → Option (List ℕ) → FlatProgram → Stage Ending
+Done_with Run asked left flat = Then (Entering flat asked.entry) (λ entered. Argued entered asked.entry left)
+Done_with Check asked left flat = λ end. end ≡ Ok Told
 
--- The run of these words over these files and this input comes to a text for out, or to a status.
+abbrev pub Acted : Command → Option (List ℕ) → FlatProgram → Stage Ending
+Acted asked left flat = Done_with asked.action asked left flat
+
+-- The run of these words over these files and this input comes to an end, or to a status.
 -- Where a stage would ask what is not told, it comes to nothing.
-abbrev pub Comes : List (List ℕ) → Option (List (List ℕ × List ℕ)) → Option (List ℕ) → Stage (List ℕ)
+abbrev pub Comes : List Name → Option (List (List ℕ × List ℕ)) → Option (List ℕ) → Stage Ending
 Comes words files left =
     Then (Commanded words) (λ command.
-    Then (Accepted files command.1) (λ program. Acted command.0 command.1 left program))
+    Then (Accepted files command.file) (λ flat. Acted command left flat))
+
+-- ---- which status stands for it
 
 -- no count of faults rose
 pub record NoFault (old new : Outside) : Type 0 where
@@ -119,16 +170,32 @@ pub record NoFault (old new : Outside) : Type 0 where
   pub input : Rose old.input.faults new.input.faults → ⊥
   pub out : Rose old.out.faults new.out.faults → ⊥
 
--- a run that comes to a text writes it whole
-abbrev pub ends_with : Result (List ℕ) Status → Status
-ends_with (Ok text) = Done
-ends_with (Err status) = status
+-- with its functions unfolded the program passes a limit; that is asked before the input is read
+abbrev pub IsLimit : Status → Type 0
+IsLimit status = (status ≡ Limit limit.Nodes) ⊎ (status ≡ Limit limit.Depth)
 
--- the status is this end, or both are the parser's refusal of one file
-abbrev pub Agrees : Status → Status → Type 0
-Agrees status end = (status ≡ end) ⊎ ((file : List ℕ) × ParserRefusal file status × ParserRefusal file end)
+-- a run ends with a result or a failure that is allowed, as its row says
+abbrev pub IsRun : Status → Type 0
+IsRun status = (status ≡ Done) ⊎ (((report : Report) × (path : Name) × (status ≡ Failure report path)) ⊎ ((report : Report) × (path : Name) × (status ≡ Turns report path)))
 
--- Where the run comes to an end by what is told, and no fault rose, that is its status, or memory ran out.
-abbrev pub Complete : Status → List (List ℕ) → Outside → Outside → Type 0
-Complete status words old new = (end : Result (List ℕ) Status) → Comes words old.loader.files old.input.left end → NoFault old new →
-    Agrees status (ends_with end) ⊎ (status ≡ Memory)
+-- both say the same of types, perhaps at other places
+abbrev pub AlikeTypes : TypeErr → TypeErr → Type 0
+AlikeTypes (types.NoType at) (types.NoType place) = Unit {0}
+AlikeTypes (types.FunctionPlace at) (types.FunctionPlace place) = Unit {0}
+AlikeTypes (types.Ambiguous at) (types.Ambiguous place) = Unit {0}
+AlikeTypes err other = ⊥
+
+-- both are refusals of one file by the parser, or because of its types
+abbrev pub Alike : Status → Status → Type 0
+Alike status end = ((file : Name) × ParserRefusal file status × ParserRefusal file end)
+    ⊎ ((file : Name) × (err : TypeErr) × (other : TypeErr) × AlikeTypes err other × (status ≡ status_for (why.Types err) file) × (end ≡ status_for (why.Types other) file))
+
+abbrev pub Agrees : Status → Result Ending Status → Type 0
+Agrees status (Ok Told) = status ≡ Done
+Agrees status (Ok Ran) = IsRun status ⊎ IsLimit status
+Agrees status (Ok (Unread end)) = (status ≡ end) ⊎ IsLimit status
+Agrees status (Err end) = (status ≡ end) ⊎ Alike status end
+
+-- Where the run comes to an end by what is told, and no fault rose, its status agrees with that, or memory ran out.
+abbrev pub Complete : Status → List Name → Outside → Outside → Type 0
+Complete status words old new = (end : Result Ending Status) → Comes words old.loader.files old.input.left end → NoFault old new → Agrees status end ⊎ (status ≡ Memory)

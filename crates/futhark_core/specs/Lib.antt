@@ -1,12 +1,6 @@
-pub mod CommandLine
-pub mod Forms
-pub mod Built
-pub mod BuiltReading
-pub mod Meaning
-pub mod Status
 pub mod Acceptance
-pub mod Arguments
-pub mod Report
+pub mod Meaning
+pub mod Entering
 pub mod Row
 pub mod Comes
 pub mod Private

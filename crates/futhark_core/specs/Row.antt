@@ -1,26 +1,32 @@
 -- What each status of a run says of its words and of the outside before and after it.
-use Rattle.std.specs.Prelude.{◌≡◌, ◌≤◌, ◌⊎◌, ℕ, List, length, Ok, Err, codes}
-use Rattle.fut_scalar.specs.declared.place.Place.{Place}
-use Rattle.fut_scalar.specs.declared.report.Report.{Report}
-use Rattle.fut_scalar.specs.declared.scalar.Scalar.{Scalar}
+use Rattle.std.specs.Prelude.{◌≡◌, ◌≤◌, ◌⊎◌, ℕ, List, length, codes, Ok, Err}
 use Rattle.fut_io.specs.Counts.{Rose}
 use Rattle.fut_io.specs.Outside.{LoaderSeen, SourceSeen, SinkSeen, AllRead, ReadPart, ReadPast, Took, TookPart}
-use Rattle.fut_ast.specs.declared.module.Program.{Program}
+use Rattle.fut_scalar.specs.declared.place.Place.{Place}
+use Rattle.fut_scalar.specs.declared.report.FailKind.TheVariants as fail
+use Rattle.fut_scalar.specs.declared.report.Report.{Report}
+use Rattle.fut_scalar.specs.declared.scalar.Scalar.{Scalar}
 use Rattle.fut_parser.specs.declared.programs.ParseErr.TheVariants as parse
-use Rattle.futhark_core.specs.CommandLine.{command_of}
-use Rattle.futhark_core.specs.Forms.{params_of}
-use Rattle.futhark_core.specs.Acceptance.{AcceptedFile, UnacceptedFile}
-use Rattle.futhark_core.specs.Arguments.{ReadsInput, RefusesInput}
-use Rattle.futhark_core.specs.Meaning.{Means, Outcome, Gives, Fails, output_of}
-use Rattle.futhark_core.specs.declared.words.Action.{Action}
-use Rattle.futhark_core.specs.declared.words.Action.TheVariants.{Run, Check}
-use Rattle.futhark_core.specs.declared.status.TextErr.{TextErr}
-use Rattle.futhark_core.specs.declared.status.TextErr.TheVariants as text
-use Rattle.futhark_core.specs.declared.status.Why.{Why}
-use Rattle.futhark_core.specs.declared.status.Why.TheVariants as why
-use Rattle.futhark_core.specs.declared.status.LimitKind.TheVariants as limit
-use Rattle.futhark_core.specs.declared.status.Status.{Status}
-use Rattle.futhark_core.specs.declared.status.Status.TheVariants.{Done, Usage, LoadFault, Text, Names, Limit, ReadFault, Input, Failure, WriteFault, Memory}
+use Rattle.fut_meaning.specs.declared.measured.Measured.{Measured}
+use Rattle.fut_meaning.specs.declared.measured.MeasureErr.{MeasureErr}
+use Rattle.fut_meaning.specs.declared.measured.MeasureErr.TheVariants as measure
+use Rattle.fut_meaning.specs.Measures.{Measures}
+use Rattle.value_text.specs.Printing.{output_of}
+use Rattle.value_text.specs.Reading.{Reads, Refuses}
+use Rattle.value_text.specs.declared.reading.TextErr.{TextErr}
+use Rattle.value_text.specs.declared.reading.TextErr.TheVariants as text
+use Rattle.command_words.specs.CommandLine.{Command, command_of}
+use Rattle.command_words.specs.declared.words.Action.{Action}
+use Rattle.command_words.specs.declared.words.Action.TheVariants.{Run, Check}
+use Rattle.futhark_status.specs.declared.status.EntryErr.{EntryErr}
+use Rattle.futhark_status.specs.declared.status.LimitKind.TheVariants as limit
+use Rattle.futhark_status.specs.declared.status.Why.{Why}
+use Rattle.futhark_status.specs.declared.status.Why.TheVariants as why
+use Rattle.futhark_status.specs.declared.status.Status.{Status}
+use Rattle.futhark_status.specs.declared.status.Status.TheVariants.{Done, Usage, LoadFault, Text, Names, Types, Entry, Limit, ReadFault, Input, Failure, Turns, WriteFault, Memory}
+use Rattle.futhark_core.specs.Acceptance.{Source, AcceptedFile, UnacceptedFile}
+use Rattle.futhark_core.specs.Entering.{NotEntered}
+use Rattle.futhark_core.specs.Meaning.{Entered, IsEntered, Outcome, Gives, Fails, Allows, tops_of}
 
 -- what a run meets outside
 pub record Outside : Type 0 where
@@ -41,8 +47,9 @@ pub record UsageRow (words : List (List ℕ)) (old new : Outside) (word : ℕ) :
 
 -- the source was not accepted, before anything else was touched
 pub record FrontRow (reason : Why) (words : List (List ℕ)) (old new : Outside) (path : List ℕ) : Type 0 where
-  pub action : Action
-  pub command : command_of words ≡ Ok (action, path)
+  pub asked : Command
+  pub command : command_of words ≡ Ok asked
+  pub path_is : path ≡ asked.file
   pub unaccepted : UnacceptedFile path old.loader new.loader reason
   pub input : new.input ≡ old.input
   pub out : new.out ≡ old.out
@@ -73,83 +80,119 @@ abbrev pub NamesRow : Why → List (List ℕ) → Outside → Outside → List �
 NamesRow (why.Names err) words old new path = FrontRow (why.Names err) words old new path
 NamesRow reason words old new path = ⊥
 
--- the words name a file whose program is accepted, and what is done with it
-pub record Started (words : List (List ℕ)) (old new : Outside) (action : Action) (file : List ℕ) (program : Program) : Type 0 where
-  pub command : command_of words ≡ Ok (action, file)
-  pub accepted : AcceptedFile file old.loader new.loader program
+abbrev pub TypesRow : Why → List (List ℕ) → Outside → Outside → List ℕ → Type 0
+TypesRow (why.Types err) words old new path = FrontRow (why.Types err) words old new path
+TypesRow reason words old new path = ⊥
 
--- the words ask for a run of a file whose program is accepted
-pub record HasStarted (words : List (List ℕ)) (old new : Outside) : Type 0 where
-  pub file : List ℕ
-  pub program : Program
-  pub started : Started words old new Run file program
+-- the words ask for something to be done with a file, whose source is accepted
+pub record Started (words : List (List ℕ)) (old new : Outside) (asked : Command) (source : Source) : Type 0 where
+  pub command : command_of words ≡ Ok asked
+  pub accepted : AcceptedFile asked.file old.loader new.loader source
+
+-- ---- a run
 
 -- what a program meets outside: its input and out
 pub record Streams : Type 0 where
   pub input : SourceSeen
   pub out : SinkSeen
 
--- ---- a run
+-- no entry, before anything else was touched
+pub record EntryRow (asked : Command) (source : Source) (old new : Streams) (err : EntryErr) (name : List ℕ) : Type 0 where
+  pub name_is : name ≡ asked.entry
+  pub not_entered : NotEntered source asked.entry err
+  pub quiet : new ≡ old
 
-pub record InputBytesRow (old new : Streams) : Type 0 where
+-- with its functions unfolded the program passes a limit, before anything else was touched
+pub record MeasureRow (asked : Command) (source : Source) (old new : Streams) (err : MeasureErr) : Type 0 where
+  pub entered : Entered
+  pub is_entered : IsEntered source asked.entry entered
+  pub past : Measures (tops_of source) entered.number (length entered.params) (Err err)
+  pub quiet : new ≡ old
+
+-- the entry is found, and the program unfolded from it is within the limits
+pub record IsReady (asked : Command) (source : Source) (e : Entered) : Type 0 where
+  pub entered : IsEntered source asked.entry e
+  pub measured : Measured
+  pub measures : Measures (tops_of source) e.number (length e.params) (Ok measured)
+
+pub record InputBytesRow (asked : Command) (source : Source) (old new : Streams) : Type 0 where
+  pub entered : Entered
+  pub ready : IsReady asked source entered
   pub past : ReadPast old.input new.input most_input
   pub out : new.out ≡ old.out
 
 -- the input has failed, behind some of what was left
-pub record ReadFaultRow (old new : Streams) : Type 0 where
+pub record ReadFaultRow (asked : Command) (source : Source) (old new : Streams) : Type 0 where
+  pub entered : Entered
+  pub ready : IsReady asked source entered
   pub faults : Rose old.input.faults new.input.faults
   pub read : ReadPart old.input new.input
   pub out : new.out ≡ old.out
 
 -- the whole input was read, and is refused as arguments
-pub record UnreadInput (program : Program) (old new : Streams) (err : TextErr) : Type 0 where
+pub record UnreadInput (asked : Command) (source : Source) (old new : Streams) (err : TextErr) : Type 0 where
+  pub entered : Entered
+  pub ready : IsReady asked source entered
   pub bytes : List ℕ
   pub read : AllRead old.input new.input bytes
   pub short : length bytes ≤ most_input
-  pub refuses : RefusesInput (params_of program) bytes err
+  pub refuses : Refuses entered.params bytes err
   pub out : new.out ≡ old.out
 
-abbrev pub InputRow : Program → Streams → Streams → TextErr → Type 0
-InputRow program old new text.Memory = ⊥
-InputRow program old new err = UnreadInput program old new err
+abbrev pub InputRow : Command → Source → Streams → Streams → TextErr → Type 0
+InputRow asked source old new text.Memory = ⊥
+InputRow asked source old new err = UnreadInput asked source old new err
 
--- the program comes to this outcome for the values that the whole input reads as
-pub record ComesTo (program : Program) (old new : SourceSeen) (outcome : Outcome) : Type 0 where
+-- the whole input was read, it reads as arguments, and the files allow this outcome for them
+pub record ComesTo (asked : Command) (source : Source) (old new : SourceSeen) (outcome : Outcome) : Type 0 where
+  pub entered : Entered
+  pub ready : IsReady asked source entered
   pub bytes : List ℕ
-  pub values : List Scalar
   pub read : AllRead old new bytes
   pub short : length bytes ≤ most_input
-  pub reads : ReadsInput (params_of program) bytes values
-  pub means : Means program values outcome
+  pub arguments : List Scalar
+  pub reads : Reads entered.params bytes arguments
+  pub allows : Allows source entered asked.turns arguments outcome
 
--- out grew by exactly the text of the value that the program means and a newline
-pub record DoneRow (program : Program) (old new : Streams) : Type 0 where
-  pub value : Scalar
-  pub comes : ComesTo program old.input new.input (Gives value)
-  pub out : Took old.out new.out (output_of value)
+-- out grew by exactly the lines of a result that the files allow
+pub record DoneRow (asked : Command) (source : Source) (old new : Streams) : Type 0 where
+  pub components : List Scalar
+  pub comes : ComesTo asked source old.input new.input (Gives components)
+  pub out : Took old.out new.out (output_of components)
 
--- out has failed, and grew by a prefix of that
-pub record WriteFaultRow (program : Program) (old new : Streams) : Type 0 where
-  pub value : Scalar
-  pub comes : ComesTo program old.input new.input (Gives value)
-  pub out : TookPart old.out new.out (output_of value)
+-- out has failed, and grew by a prefix of them
+pub record WriteFaultRow (asked : Command) (source : Source) (old new : Streams) : Type 0 where
+  pub components : List Scalar
+  pub comes : ComesTo asked source old.input new.input (Gives components)
+  pub out : TookPart old.out new.out (output_of components)
 
--- the program means this failure, in its file
-pub record FailureRow (file : List ℕ) (program : Program) (old new : Streams) (report : Report) (path : List ℕ) : Type 0 where
-  pub path_is : path ≡ file
-  pub comes : ComesTo program old.input new.input (Fails report)
+-- the files allow this failure, in the named file or the prelude
+pub record FailureRow (asked : Command) (source : Source) (old new : Streams) (report : Report) (path : List ℕ) : Type 0 where
+  pub path_is : path ≡ asked.file
+  pub comes : ComesTo asked source old.input new.input (Fails report)
   pub out : new.out ≡ old.out
 
--- what each status of a run says once the program is accepted
-abbrev pub ProgramRow : Status → List ℕ → Program → Streams → Streams → Type 0
-ProgramRow Done file program old new = DoneRow program old new
-ProgramRow (Limit limit.InputBytes) file program old new = InputBytesRow old new
-ProgramRow ReadFault file program old new = ReadFaultRow old new
-ProgramRow (Input err) file program old new = InputRow program old new err
-ProgramRow (Failure report path) file program old new = FailureRow file program old new report path
-ProgramRow WriteFault file program old new = WriteFaultRow program old new
-ProgramRow Memory file program old new = new.out ≡ old.out
-ProgramRow status file program old new = ⊥
+-- turns that are spent have a status of their own
+abbrev pub FailedRow : Command → Source → Streams → Streams → Report → List ℕ → Type 0
+FailedRow asked source old new report path = (report.kind ≡ fail.Turns → ⊥) × FailureRow asked source old new report path
+
+abbrev pub TurnsRow : Command → Source → Streams → Streams → Report → List ℕ → Type 0
+TurnsRow asked source old new report path = (report.kind ≡ fail.Turns) × FailureRow asked source old new report path
+
+-- what each status of a run says once the source is accepted
+abbrev pub ProgramRow : Status → Command → Source → Streams → Streams → Type 0
+ProgramRow Done asked source old new = DoneRow asked source old new
+ProgramRow (Entry err name) asked source old new = EntryRow asked source old new err name
+ProgramRow (Limit limit.Nodes) asked source old new = MeasureRow asked source old new measure.Nodes
+ProgramRow (Limit limit.Depth) asked source old new = MeasureRow asked source old new measure.Depth
+ProgramRow (Limit limit.InputBytes) asked source old new = InputBytesRow asked source old new
+ProgramRow ReadFault asked source old new = ReadFaultRow asked source old new
+ProgramRow (Input err) asked source old new = InputRow asked source old new err
+ProgramRow (Failure report path) asked source old new = FailedRow asked source old new report path
+ProgramRow (Turns report path) asked source old new = TurnsRow asked source old new report path
+ProgramRow WriteFault asked source old new = WriteFaultRow asked source old new
+ProgramRow Memory asked source old new = (new.out ≡ old.out) × ((new.input ≡ old.input) ⊎ ((e : Entered) × IsReady asked source e))
+ProgramRow status asked source old new = ⊥
 
 -- ---- a check
 
@@ -165,7 +208,7 @@ pub record CheckFaultRow (old new : Streams) : Type 0 where
   pub input : new.input ≡ old.input
   pub out : TookPart old.out new.out accepted_text
 
--- what each status of a check says once the program is accepted: nothing is read, and nothing else can come
+-- what each status of a check says once the source is accepted: nothing is read, and nothing else can come
 abbrev pub CheckRow : Status → Streams → Streams → Type 0
 CheckRow Done old new = CheckedRow old new
 CheckRow WriteFault old new = CheckFaultRow old new
@@ -173,17 +216,25 @@ CheckRow status old new = ⊥
 
 -- ---- all
 
-abbrev pub ActionRow : Action → Status → List ℕ → Program → Streams → Streams → Type 0
-ActionRow Run status file program old new = ProgramRow status file program old new
-ActionRow Check status file program old new = CheckRow status old new
+abbrev pub ActionRow : Action → Status → Command → Source → Streams → Streams → Type 0
+ActionRow Run status asked source old new = ProgramRow status asked source old new
+ActionRow Check status asked source old new = CheckRow status old new
 
--- the words name a file whose program is accepted, and then this was its end
+-- the words name a file whose source is accepted, and then this was its end
 pub record ProgramEnded (status : Status) (words : List (List ℕ)) (old new : Outside) : Type 0 where
-  pub action : Action
-  pub file : List ℕ
-  pub program : Program
-  pub started : Started words old new action file program
-  pub ended : ActionRow action status file program (record { input = old.input; out = old.out }) (record { input = new.input; out = new.out })
+  pub asked : Command
+  pub source : Source
+  pub started : Started words old new asked source
+  pub ended : ActionRow asked.action status asked source (record { input = old.input; out = old.out }) (record { input = new.input; out = new.out })
+
+-- the words ask for a run of an accepted source from an entry within the limits
+pub record HasStarted (words : List (List ℕ)) (old new : Outside) : Type 0 where
+  pub asked : Command
+  pub source : Source
+  pub started : Started words old new asked source
+  pub action : asked.action ≡ Run
+  pub entered : Entered
+  pub ready : IsReady asked source entered
 
 -- memory may run out at any time before anything is written; input was read only where a run had started
 pub record MemoryRow (words : List (List ℕ)) (old new : Outside) : Type 0 where
@@ -200,6 +251,7 @@ status_for (why.Parse (parse.TooDeep place)) path = Limit limit.Nesting
 status_for (why.Parse err) path = Text (record { why = why.Parse err; path = path })
 status_for (why.NotBuilt place) path = Text (record { why = why.NotBuilt place; path = path })
 status_for (why.Names err) path = Names (record { why = why.Names err; path = path })
+status_for (why.Types err) path = Types (record { why = why.Types err; path = path })
 status_for why.Memory path = Memory
 
 -- each status comes only where its row holds
@@ -208,6 +260,7 @@ RunRow (Usage word) words old new = UsageRow words old new word
 RunRow (LoadFault refused) words old new = LoadRow refused.why words old new refused.path
 RunRow (Text refused) words old new = TextRow refused.why words old new refused.path
 RunRow (Names refused) words old new = NamesRow refused.why words old new refused.path
+RunRow (Types refused) words old new = TypesRow refused.why words old new refused.path
 RunRow (Limit limit.FileBytes) words old new = FileBytesRow words old new
 RunRow (Limit limit.Nesting) words old new = NestingRow words old new
 RunRow Memory words old new = MemoryRow words old new

@@ -3,20 +3,9 @@
 //! The theorem of the project is the contract of [`run_futhark`].
 #![tactic(auto)]
 
-mod arguments;
-mod evaluator;
-mod forms;
-mod front;
-mod integer;
-mod line;
-mod output;
-mod reading;
+mod file;
+mod program;
 mod run;
-mod scope;
-mod stack;
-mod status;
-mod words;
+mod statuses;
 
-pub use line::report;
 pub use run::run_futhark;
-pub use status::{LimitKind, ModErr, Refused, Status, TextErr, Why, code};

@@ -3,7 +3,7 @@
 
 use fut_io::{FileLoader, StdSink, StdSource, StdWords};
 use futhark_command::run_command_line;
-use futhark_core::code;
+use futhark_status::code;
 use std::process::ExitCode;
 
 fn main(rt: HostRuntime) -> ExitCode {

@@ -1,7 +1,7 @@
 // A call of the program over objects in memory.
 use fut_io::{MemLoader, MemSink, MemSource, MemWords};
 use futhark_command::run_command_line;
-use futhark_core::code;
+use futhark_status::code;
 use shown::Shown;
 use std::alloc::Global;
 

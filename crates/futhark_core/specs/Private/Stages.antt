@@ -1,29 +1,36 @@
 -- What each stage of a run answers.
-use Rattle.std.specs.Prelude.{◌≡◌, ◌⊎◌, ℕ, List, length, Some, IsSome}
+use Rattle.std.specs.Prelude.{◌≡◌, ◌⊎◌, ◌∷◌, [], ℕ, List, length, All, Ok}
+use Rattle.fut_scalar.specs.Integers.{FitsType}
+use Rattle.fut_scalar.specs.declared.report.FailKind.{FailKind}
+use Rattle.fut_scalar.specs.declared.report.FailKind.TheVariants as fail
+use Rattle.fut_scalar.specs.declared.report.Report.{Report}
 use Rattle.fut_scalar.specs.declared.scalar.Scalar.{Scalar}
+use Rattle.fut_scalar.specs.declared.scalar.ScalarType.{ScalarType}
 use Rattle.fut_token.specs.declared.token.Token.{Token}
 use Rattle.fut_io.specs.Outside.{LoaderSeen, Loaded}
 use Rattle.fut_lexer.specs.Lexing.{HasTokens}
-use Rattle.fut_ast.specs.Sorts.{SourcePat, SourceExp}
-use Rattle.fut_ast.specs.declared.module.Program.{Program}
-use Rattle.fut_parser.specs.Private.Answers.{RefusesTokens}
-use Rattle.fut_parser.specs.declared.programs.ParseErr.{ParseErr}
-use Rattle.fut_parser.specs.declared.programs.ParseErr.TheVariants as parse
-use Rattle.futhark_core.specs.Acceptance.{AcceptedTokens, UnacceptedFile, UnacceptedProgram, UnacceptedTokens, Unspelled, first_file}
-use Rattle.futhark_core.specs.Forms.{main_of}
-use Rattle.futhark_core.specs.Meaning.{Unbound, Wrong, arguments, value_of}
-use Rattle.futhark_core.specs.Row.{ActionRow, Streams, status_for}
-use Rattle.futhark_core.specs.declared.words.Action.{Action}
-use Rattle.futhark_core.specs.declared.status.ModErr.{ModErr}
-use Rattle.futhark_core.specs.declared.status.ModErr.TheVariants as names
-use Rattle.futhark_core.specs.declared.status.Status.{Status}
-use Rattle.futhark_core.specs.declared.status.Status.TheVariants.{Failure, Input, Memory}
-use Rattle.futhark_core.specs.declared.status.TextErr.{TextErr}
-use Rattle.futhark_core.specs.declared.status.TextErr.TheVariants as text
-use Rattle.futhark_core.specs.declared.status.Why.{Why}
-use Rattle.futhark_core.specs.declared.status.Why.TheVariants as why
-use Rattle.futhark_core.specs.declared.evaluator.EvalErr.{EvalErr}
-use Rattle.futhark_core.specs.declared.evaluator.EvalErr.TheVariants as err
+use Rattle.fut_meaning.specs.Outcomes.{Val, Fail}
+use Rattle.fut_blocks.specs.declared.block.Program.{Program}
+use Rattle.fut_blocks.specs.Programs.{Program_means, NeverWrong, Rising, AreOf}
+use Rattle.fut_eval.specs.declared.program.EvalErr.{EvalErr}
+use Rattle.fut_eval.specs.declared.program.EvalErr.TheVariants as eval
+use Rattle.front.specs.Acceptance.{named_file}
+use Rattle.front.specs.declared.refusals.Refused.{Refused}
+use Rattle.front.specs.declared.refusals.Refused.TheVariants as refused
+use Rattle.value_text.specs.declared.reading.TextErr.{TextErr}
+use Rattle.value_text.specs.declared.reading.TextErr.TheVariants as text
+use Rattle.command_words.specs.CommandLine.{Command}
+use Rattle.futhark_status.specs.declared.status.EntryErr.{EntryErr}
+use Rattle.futhark_status.specs.declared.status.LimitKind.TheVariants as limit
+use Rattle.plain_runs.specs.declared.preparing.PrepareErr.{PrepareErr}
+use Rattle.plain_runs.specs.declared.preparing.PrepareErr.TheVariants as prepare
+use Rattle.futhark_status.specs.declared.status.Why.{Why}
+use Rattle.futhark_status.specs.declared.status.Why.TheVariants as why
+use Rattle.futhark_status.specs.declared.status.Status.{Status}
+use Rattle.futhark_status.specs.declared.status.Status.TheVariants.{Entry, Limit, Input, Failure, Turns, Memory}
+use Rattle.futhark_core.specs.Acceptance.{Source, AcceptedTokens, UnacceptedTokens, UnacceptedFile}
+use Rattle.futhark_core.specs.Meaning.{Entered, Gives, Fails, Allows}
+use Rattle.futhark_core.specs.Row.{Streams, ActionRow, status_for}
 
 -- ---- from a file to its tokens
 
@@ -31,61 +38,72 @@ use Rattle.futhark_core.specs.declared.evaluator.EvalErr.TheVariants as err
 pub record IsLexed (file : List ℕ) (old new : LoaderSeen) (tokens : List Token) : Type 0 where
   pub text : List ℕ
   pub loaded : Loaded old new file text
-  pub lexed : HasTokens first_file text tokens
+  pub lexed : HasTokens named_file text tokens
 
 -- why it gave none: memory ran out, or it is not accepted
 abbrev pub ExplainsFile : List ℕ → LoaderSeen → LoaderSeen → Why → Type 0
 ExplainsFile file old new why.Memory = new ≡ old
 ExplainsFile file old new reason = UnacceptedFile file old new reason
 
--- ---- from tokens to their program
+-- ---- statuses
 
--- why there is none: memory ran out, or the tokens spell none; and where reading from left to right is refused so
-abbrev pub ExplainsUnspelled : List Token → ParseErr → Type 0
-ExplainsUnspelled tokens parse.Memory = Unit {0}
-ExplainsUnspelled tokens err = Unspelled tokens err × RefusesTokens first_file tokens err
+abbrev pub why_of : Refused → Why
+why_of (refused.Parse err) = why.Parse err
+why_of (refused.NotBuilt at) = why.NotBuilt at
+why_of (refused.Names err) = why.Names err
+why_of (refused.Types err) = why.Types err
+why_of refused.Memory = why.Memory
 
--- the first name that is not bound, or memory ran out
-abbrev pub NamesNothing : Unbound → ModErr → Type 0
-NamesNothing first (names.Unbound name place) = first ≡ Some (name, place)
-NamesNothing first names.Memory = Unit {0}
+-- a `while` that has spent its turns has a status of its own
+abbrev pub kind_status : FailKind → Report → List ℕ → Status
+kind_status fail.Turns report path = Turns report path
+kind_status kind report path = Failure report path
 
-abbrev pub ExplainsProgram : List Token → Program → Why → Type 0
-ExplainsProgram tokens program why.Memory = Unit {0}
-ExplainsProgram tokens program reason = UnacceptedProgram tokens program reason
+abbrev pub report_status : Report → List ℕ → Status
+report_status report path = kind_status report.kind report path
 
--- why tokens gave no program: memory ran out, or they are not accepted. A refusal of the parser is the one that reading
--- them from left to right gives.
-abbrev pub ExplainsTokens : List Token → Why → Type 0
-ExplainsTokens tokens why.Memory = Unit {0}
-ExplainsTokens tokens (why.Parse parse.Memory) = ⊥
-ExplainsTokens tokens (why.Parse err) = Unspelled tokens err × RefusesTokens first_file tokens err
-ExplainsTokens tokens reason = UnacceptedTokens tokens reason
-
--- ---- from tokens to a status
-
--- a program that is accepted has its `main`, and comes to a value or a failure for each list of arguments of its length
-pub record IsRunnable (program : Program) : Type 0 where
-  pub main : IsSome (main_of program)
-  pub sure : (params : List SourcePat) (body : SourceExp) (values : List Scalar) → main_of program ≡ Some (params, body) →
-      length values ≡ length params → value_of body (arguments params values) ≡ Wrong → ⊥
-
--- the status of a program that has no value; one that is accepted is never wrong
+-- the status of a program that has no result
 abbrev pub failed_status : EvalErr → List ℕ → Status
-failed_status (err.Failed report) path = Failure report path
-failed_status err.Wrong path = Memory
-failed_status err.Memory path = Memory
+failed_status (eval.Failed report) path = report_status report path
+failed_status eval.Memory path = Memory
 
 -- the status of an input that gives no arguments
 abbrev pub input_status : TextErr → Status
 input_status text.Memory = Memory
 input_status err = Input err
 
+-- the status of a program that is not ready
+abbrev pub unprepared : PrepareErr → Status
+unprepared prepare.Nodes = Limit limit.Nodes
+unprepared prepare.Depth = Limit limit.Depth
+unprepared prepare.Memory = Memory
+
+-- the status of a source without an entry, or memory ran out
+abbrev pub IsUnentered : EntryErr → List ℕ → Status → Type 0
+IsUnentered err name status = (status ≡ Entry err name) ⊎ (status ≡ Memory)
+
+-- ---- a program that is ready
+
+-- its blocks never go wrong, and what they allow, the source allows
+pub record Runs_for (source : Source) (e : Entered) (turns : ℕ) (p : Program) : Type 0 where
+  pub gives : (arguments : List Scalar) → AreOf e.params arguments → (vs : List Scalar) (f : ℕ) → Program_means turns p arguments (Val vs) f → Allows source e turns arguments (Gives vs)
+  pub fails : (arguments : List Scalar) → AreOf e.params arguments → (r : Report) (f : ℕ) → Program_means turns p arguments (Fail r) f → Allows source e turns arguments (Fails r)
+
+abbrev pub Never_wrong_for : List ScalarType → ℕ → Program → Type 0
+Never_wrong_for params turns p = (arguments : List Scalar) → AreOf params arguments → NeverWrong turns p arguments
+
+-- ---- from tokens to a status
+
+-- why tokens gave no source: memory ran out, or they are not accepted
+abbrev pub ExplainsTokens : List Token → Why → Type 0
+ExplainsTokens tokens why.Memory = Unit {0}
+ExplainsTokens tokens reason = UnacceptedTokens tokens reason
+
 -- the tokens are accepted, and then this was the end
-pub record TokensActed (action : Action) (status : Status) (path : List ℕ) (tokens : List Token) (old new : Streams) : Type 0 where
-  pub program : Program
-  pub accepted : AcceptedTokens tokens program
-  pub ended : ActionRow action status path program old new
+pub record TokensActed (asked : Command) (status : Status) (tokens : List Token) (old new : Streams) : Type 0 where
+  pub source : Source
+  pub accepted : AcceptedTokens tokens source
+  pub ended : ActionRow asked.action status asked source old new
 
 -- they are not, and nothing was touched
 pub record TokensRefused (status : Status) (path : List ℕ) (tokens : List Token) (old new : Streams) : Type 0 where
@@ -94,5 +112,5 @@ pub record TokensRefused (status : Status) (path : List ℕ) (tokens : List Toke
   pub is : status ≡ status_for reason path
   pub quiet : new ≡ old
 
-abbrev pub TokensRow : Action → Status → List ℕ → List Token → Streams → Streams → Type 0
-TokensRow action status path tokens old new = TokensActed action status path tokens old new ⊎ TokensRefused status path tokens old new
+abbrev pub TokensRow : Command → Status → List Token → Streams → Streams → Type 0
+TokensRow asked status tokens old new = TokensActed asked status tokens old new ⊎ TokensRefused status asked.file tokens old new

@@ -1,5 +1,27 @@
-use Rattle.futhark_core.proofs.RowLaws.{runnable}
+use Rattle.std.proofs.Common.{◌∷◌, [], refl, inl, inr}
+use Rattle.futhark_status.specs.declared.status.Why.TheVariants as why
+use Rattle.futhark_core.specs.Private.Stages.{why_of}
+use Rattle.futhark_core.proofs.RowLaws.{told_why}
 use Rattle.futhark_core.proofs.run.run_tokens.Goals as goal
 
-pub act-requires : goal.act-requires
-act-requires g c = runnable _ c.in-Ok.program c.in-Ok.ensures.accepted
+pub returns-in_default : goal.returns-in_default
+returns-in_default g c = inr (record { reason = why.Memory; explains = tt; is = refl; quiet = refl })
+
+pub returns-in-Ok-accept : goal.returns-in-Ok-accept
+returns-in-Ok-accept g c =
+    let acceptable = c.in-Ok-accept.ensures.accepted.acceptable in
+    let files = acceptable.resolved.resolves.prelude ∷ acceptable.resolved.program ∷ [] in
+    inl (record {
+      source = record { files = files; flat = c.in-Ok-accept.accepted.flat };
+      accepted = record { acceptable = acceptable; files = refl };
+      ended = c.act.ensures (record { files = files; flat = c.in-Ok-accept.accepted.flat }) refl acceptable.resolved.resolves.resolved;
+    })
+
+pub returns : goal.returns
+returns g c =
+    inr (record {
+      reason = why_of c.in-Err.refused;
+      explains = told_why _ _ c.in-Err.ensures.refused;
+      is = rw (c.status_of.ensures, c.why_of.ensures, c.requires.path) refl;
+      quiet = refl;
+    })

@@ -1,0 +1,409 @@
+-- A row of a run in which no fault rose agrees with all that the run comes to.
+use Rattle.std.proofs.Common.{◌≡◌, ◌≤◌, ◌<◌, ℕ, List, length, refl, sym, ap, subst, ◌∙◌, arith, inl, inr, ◌⊎◌}
+use Rattle.std.specs.Prelude.{Option, None, Some, IfSome, Result, Ok, Err}
+use Rattle.fut_scalar.specs.declared.scalar.Scalar.{Scalar}
+use Rattle.fut_token.specs.declared.token.Token.{Token}
+use Rattle.fut_io.specs.Outside.{Loaded}
+use Rattle.fut_lexer.specs.declared.lexer.LexErr.{LexErr}
+use Rattle.fut_lexer.specs.declared.lexer.LexErr.TheVariants as lex
+use Rattle.fut_ast.specs.Grammar.{Derives}
+use Rattle.fut_ast.specs.declared.module.Program.{Program}
+use Rattle.fut_parser.specs.declared.programs.ParseErr.{ParseErr}
+use Rattle.fut_parser.specs.declared.programs.ParseErr.TheVariants as parse
+use Rattle.module_scopes.specs.Names.{Refusal}
+use Rattle.module_scopes.specs.Programs.{FlatProgram}
+use Rattle.module_elab.specs.Elaborated.{program_of as flat_of}
+use Rattle.front_types.specs.declared.typed.TypeErr.{TypeErr}
+use Rattle.front_types.specs.declared.typed.TypeErr.TheVariants as types
+use Rattle.front.specs.Acceptance.{IsResolved, IsUntyped, Unaccepted, Unspelled}
+use Rattle.front.specs.Entries.{HasEntry, HasNoEntry}
+use Rattle.front.specs.declared.refusals.NameErr.{NameErr}
+use Rattle.front.specs.declared.refusals.NameErr.TheVariants as names
+use Rattle.front.specs.declared.refusals.Refused.TheVariants as refused
+use Rattle.front.proofs.Entering.{has_entry, has_no_entry}
+use Rattle.command_words.specs.CommandLine.{Command, command_of}
+use Rattle.command_words.specs.declared.words.Action.{Action}
+use Rattle.command_words.specs.declared.words.Action.TheVariants.{Run, Check}
+use Rattle.value_text.specs.Reading.{Reads, Refuses}
+use Rattle.value_text.specs.declared.reading.TextErr.{TextErr}
+use Rattle.value_text.specs.declared.reading.TextErr.TheVariants as text
+use Rattle.futhark_status.specs.declared.status.EntryErr.{EntryErr}
+use Rattle.futhark_status.specs.declared.status.EntryErr.TheVariants.{NoEntry, OutsideProfile}
+use Rattle.futhark_status.specs.declared.status.LimitKind.TheVariants as limit
+use Rattle.futhark_status.specs.declared.status.Why.{Why}
+use Rattle.futhark_status.specs.declared.status.Why.TheVariants as why
+use Rattle.futhark_status.specs.declared.status.Status.{Status}
+use Rattle.futhark_status.specs.declared.status.Status.TheVariants.{Done, Usage, LoadFault, Text, Names, Types, Entry, Limit, ReadFault, Input, Failure, Turns, WriteFault, Memory}
+use Rattle.futhark_core.specs.Acceptance.{Source, Unlexed, UnacceptedTokens, LexedUnaccepted}
+use Rattle.futhark_core.specs.Entering.{NotEntered}
+use Rattle.futhark_core.specs.Meaning.{Entered, IsEntered}
+use Rattle.futhark_core.specs.Row.{Outside, Streams, RunRow, TextRow, NamesRow, TypesRow, LoadRow, FrontRow, Started, InputRow, ActionRow, ProgramRow, CheckRow, status_for}
+use Rattle.futhark_core.specs.Comes.{Accepted, Acted, Agrees, Done_with, Argued, Built, Comes, Commanded, Complete, Ending, Entering, FileHeld, IsLimit, IsRun, Lacks, Named, NoFault, Onward, Parsed, ParserRefusal, Ran, Then, Told, Tokenized, Typed, Unread, refusal_of}
+use Rattle.futhark_core.proofs.Settling.{EndsAs, Holds, Settles, TypesRefusal, built_err, built_ok, commanded_err, commanded_ok, held_err, held_ok, named_err, named_ok, parsed_none, parsed_ok, then_ends, then_err, then_ok, tokenized_err, tokenized_ok, typed_err, typed_ok}
+
+-- ---- entries
+
+module _ (source : Source) (name : List ℕ) where
+  abbrev flat : FlatProgram
+  flat = flat_of source.flat
+
+  -- where there is none, there is none
+  none_or_one : (at : ℕ) → HasNoEntry flat name → HasEntry flat name at → ⊥
+  none_or_one at none one = let fails = none at one.definition one.is in let holds = one.entry in absurd cc
+
+  module _ (e : Entered) (is : IsEntered source name e) where
+    here : HasEntry flat name is.at
+    here = has_entry source.flat name is.at is.begins
+
+    -- it goes on to what the arguments come to
+    behind_entry : (left : Option (List ℕ)) (end : Result Ending Status) (P : Type 0) → Then (Entering flat name) (λ entered. Argued entered name left) end → (Argued flat name left end → P) → P
+    behind_entry left end P run next = go run.0 run.1 run.2
+      where
+        go : (middle : Result FlatProgram Status) → Entering flat name middle → Onward middle (λ entered. Argued entered name left) end → P
+        go (Ok same) p on = next (subst (λ f. Argued f name left end) p.2 on)
+        go (Err status) (inl p) on = absurd (none_or_one is.at p.0 here)
+        go (Err status) (inr p) on = absurd (p.1 source refl e is)
+
+    -- a limit of the program agrees with each end behind the entry
+    past_limit : (status : Status) → IsLimit status → (left : Option (List ℕ)) (end : Result Ending Status) → Argued flat name left end → Agrees status end
+    past_limit status past None end p = absurd p
+    past_limit status past (Some left) (Ok Told) p = absurd p
+    past_limit status past (Some left) (Ok Ran) p = inr past
+    past_limit status past (Some left) (Ok (Unread st)) p = inr past
+    past_limit status past (Some left) (Err st) p = absurd p
+
+    -- the input is too long
+    too_long : (left : Option (List ℕ)) → IfSome left (λ left. 67108864 < length left) → (end : Result Ending Status) → Argued flat name left end → Agrees (Limit limit.InputBytes) end
+    too_long None long end p = absurd p
+    too_long (Some left) long (Ok Told) p = absurd p
+    too_long (Some left) long (Ok Ran) p = let few = p.0 in absurd (omega arith)
+    too_long (Some left) long (Ok (Unread st)) (inl p) = inl (sym p.1)
+    too_long (Some left) long (Ok (Unread st)) (inr p) = let few = p.1 in absurd (omega arith)
+    too_long (Some left) long (Err st) p = absurd p
+
+    -- the input is refused
+    refused_input : (err : TextErr) (bytes : List ℕ) (left : Option (List ℕ)) → IfSome left (λ left. bytes ≡ left) → length bytes ≤ 67108864 → Refuses e.params bytes err → (end : Result Ending Status) → Argued flat name left end → Agrees (Input err) end
+    refused_input err bytes None all short refuses end p = absurd p
+    refused_input err bytes (Some left) all short refuses (Ok Told) p = absurd p
+    refused_input err bytes (Some left) all short refuses (Ok Ran) p =
+        let own = rw all at refuses in let reads = p.1 source refl e is in let other = reads.1 in absurd cc
+    refused_input err bytes (Some left) all short refuses (Ok (Unread st)) (inl p) = let l = ap length all in let many = p.0 in absurd (omega arith)
+    refused_input err bytes (Some left) all short refuses (Ok (Unread st)) (inr p) =
+        let own = rw all at refuses in let other = p.2 source refl e is in let same : p.0 ≡ err = cc in inl (ap Input (sym same) ∙ sym p.3)
+    refused_input err bytes (Some left) all short refuses (Err st) p = absurd p
+
+    -- the program was run
+    ran_to : (status : Status) → IsRun status → (bytes : List ℕ) (values : List Scalar) (left : Option (List ℕ)) → IfSome left (λ left. bytes ≡ left) → length bytes ≤ 67108864 → Reads e.params bytes values → (end : Result Ending Status) → Argued flat name left end → Agrees status end
+    ran_to status run bytes values None all short reads end p = absurd p
+    ran_to status run bytes values (Some left) all short reads (Ok Told) p = absurd p
+    ran_to status run bytes values (Some left) all short reads (Ok Ran) p = inl run
+    ran_to status run bytes values (Some left) all short reads (Ok (Unread st)) (inl p) = let l = ap length all in let many = p.0 in absurd (omega arith)
+    ran_to status run bytes values (Some left) all short reads (Ok (Unread st)) (inr p) =
+        let own = rw all at reads in let other = p.2 source refl e is in absurd cc
+    ran_to status run bytes values (Some left) all short reads (Err st) p = absurd p
+
+  -- no entry
+  unentered : (err : EntryErr) → NotEntered source name err → (left : Option (List ℕ)) (end : Result Ending Status) → Then (Entering flat name) (λ entered. Argued entered name left) end → Agrees (Entry err name) end
+  unentered NoEntry none left end run = go run.0 run.1 run.2
+    where
+      go : (middle : Result FlatProgram Status) → Entering flat name middle → Onward middle (λ entered. Argued entered name left) end → Agrees (Entry NoEntry name) end
+      go (Ok same) p on = absurd (none_or_one p.0.0 (has_no_entry source.flat name none) p.0.1)
+      go (Err st) (inl p) on = subst (Agrees (Entry NoEntry name)) (sym on) (inl (sym p.1))
+      go (Err st) (inr p) on = absurd (none_or_one p.0.0 (has_no_entry source.flat name none) p.0.1)
+  unentered OutsideProfile outside left end run = go run.0 run.1 run.2
+    where
+      go : (middle : Result FlatProgram Status) → Entering flat name middle → Onward middle (λ entered. Argued entered name left) end → Agrees (Entry OutsideProfile name) end
+      go (Ok same) p on = absurd (p.1 source refl outside)
+      go (Err st) (inl p) on = absurd (none_or_one outside.at p.0 (has_entry source.flat name outside.at outside.begins))
+      go (Err st) (inr p) on = subst (Agrees (Entry OutsideProfile name)) (sym on) (inl (sym p.2))
+
+-- ---- why tokens are not accepted
+
+unnamed : (tokens : List Token) (err : NameErr) → Unaccepted tokens (refused.Names err) → IsResolved tokens (Err (refusal_of err))
+unnamed tokens (names.Unbound name at) u = u
+unnamed tokens (names.Twice name at) u = u
+unnamed tokens (names.NoMember name at) u = u
+
+untyped_so : (tokens : List Token) (err : TypeErr) → Unaccepted tokens (refused.Types err) → IsUntyped tokens (Lacks err)
+untyped_so tokens (types.NoType at) u = u
+untyped_so tokens (types.FunctionPlace at) u = u
+untyped_so tokens (types.Ambiguous at) u = u
+untyped_so tokens types.Memory u = absurd u
+
+module _ (words : List (List ℕ)) (old new : Outside) (quiet : NoFault old new) where
+  abbrev files : Option (List (List ℕ × List ℕ))
+  files = old.loader.files
+
+  -- the status agrees with all that the run comes to
+  abbrev Ends : Status → Type 0
+  Ends status = Holds (Comes words files old.input.left) (Agrees status)
+
+  usage : (word : ℕ) → command_of words ≡ Err word → Ends (Usage word)
+  usage word e a comes = subst (Agrees (Usage word)) (sym (then_err (Commanded words) _ (Usage word) (commanded_err words word e) a comes)) (inl refl)
+
+  module _ (asked : Command) (command : command_of words ≡ Ok asked) where
+    -- of the accepted file this holds, so of the whole
+    onward : (P : Result Ending Status → Type 0) → Holds (Then (Accepted files asked.file) (λ flat. Acted asked old.input.left flat)) P → Holds (Comes words files old.input.left) P
+    onward P h = then_ok (Commanded words) _ P asked (commanded_ok words asked command) h
+
+    -- the source is refused with this status
+    refused_with : (status : Status) → Settles (Accepted files asked.file) (Err status) → Ends status
+    refused_with status settles a comes = subst (Agrees status)
+        (sym (onward (λ end. end ≡ Err status) (then_err (Accepted files asked.file) _ status settles) a comes)) (inl refl)
+
+    -- the parser refuses the source
+    unspelled : (err : ParseErr) → Holds (Accepted files asked.file) (EndsAs (ParserRefusal asked.file)) → Ends (status_for (why.Parse err) asked.file)
+    unspelled err ends a comes = go a (onward (EndsAs (ParserRefusal asked.file)) (then_ends (Accepted files asked.file) _ (ParserRefusal asked.file) ends) a comes)
+      where
+        go : (a : Result Ending Status) → EndsAs (ParserRefusal asked.file) a → Agrees (status_for (why.Parse err) asked.file) a
+        go (Ok end) p = absurd p
+        go (Err status) p = inr (inl (asked.file, (err, refl), p))
+
+    -- its types are refused
+    untyped : (err : TypeErr) → Holds (Accepted files asked.file) (EndsAs (TypesRefusal asked.file err)) → Ends (status_for (why.Types err) asked.file)
+    untyped err ends a comes = go a (onward (EndsAs (TypesRefusal asked.file err)) (then_ends (Accepted files asked.file) _ (TypesRefusal asked.file err) ends) a comes)
+      where
+        go : (a : Result Ending Status) → EndsAs (TypesRefusal asked.file err) a → Agrees (status_for (why.Types err) asked.file) a
+        go (Ok end) p = absurd p
+        go (Err status) p = inr (inr (asked.file, err, p.0, p.1, refl, p.2))
+
+    file_too_long : Settles (FileHeld files asked.file) (Err (Limit limit.FileBytes)) → Ends (Limit limit.FileBytes)
+    file_too_long settles = refused_with (Limit limit.FileBytes) (then_err (FileHeld files asked.file) _ (Limit limit.FileBytes) settles)
+
+    module _ (body : List ℕ) (loaded : Loaded old.loader new.loader asked.file body) where
+      abbrev held : Settles (FileHeld files asked.file) (Ok body)
+      held = held_ok files asked.file body loaded.file loaded.short
+
+      text_refused : (status : Status) → Settles (Tokenized asked.file body) (Err status) → Ends status
+      text_refused status settles = refused_with status (then_ok (FileHeld files asked.file) _ (λ end. end ≡ Err status) body held (then_err (Tokenized asked.file body) _ status settles))
+
+      lexed : (err : LexErr) → Unlexed body err → Ends (status_for (why.Lex err) asked.file)
+      lexed lex.Memory h = absurd h
+      lexed (lex.NotUtf8 place) h = text_refused (status_for (why.Lex (lex.NotUtf8 place)) asked.file) (tokenized_err asked.file body (lex.NotUtf8 place) h)
+      lexed (lex.BadToken place) h = text_refused (status_for (why.Lex (lex.BadToken place)) asked.file) (tokenized_err asked.file body (lex.BadToken place) h)
+      lexed (lex.Float place) h = text_refused (status_for (why.Lex (lex.Float place)) asked.file) (tokenized_err asked.file body (lex.Float place) h)
+
+      module _ (tokens : List Token) (spelled : Settles (Tokenized asked.file body) (Ok tokens)) where
+        -- of what the tokens come to this holds, so of the file
+        from_tokens : (P : Result FlatProgram Status → Type 0)
+            → Holds (Then (Parsed asked.file tokens) (λ parsed. Then (Built asked.file tokens parsed) (λ built. Then (Named asked.file built) (λ flat. Typed asked.file flat)))) P
+            → Holds (Accepted files asked.file) P
+        from_tokens P h = then_ok (FileHeld files asked.file) _ P body held (then_ok (Tokenized asked.file body) _ P tokens spelled h)
+
+        tree_refused : (err : ParseErr) → ((program : Program) (h : ℕ) → h ≤ 201 → Derives tokens program h → ⊥) → Ends (status_for (why.Parse err) asked.file)
+        tree_refused err none = unspelled err (from_tokens (EndsAs (ParserRefusal asked.file)) (then_ends (Parsed asked.file tokens) _ (ParserRefusal asked.file) (parsed_none asked.file tokens none)))
+
+        parsed : (err : ParseErr) → Unspelled tokens err → Ends (status_for (why.Parse err) asked.file)
+        parsed (parse.Syntax place) h = tree_refused (parse.Syntax place) (λ program k le is. h.none program k is)
+        parsed (parse.LeftOut place what) h = tree_refused (parse.LeftOut place what) (λ program k le is. h.none program k is)
+        parsed (parse.TooDeep place) h = tree_refused (parse.TooDeep place) (λ program k le is. let deep = h.deep program k is in omega arith)
+        parsed parse.Memory h = absurd h
+
+        not_built : (place : _) → Unaccepted tokens (refused.NotBuilt place) → Ends (status_for (why.NotBuilt place) asked.file)
+        not_built place u =
+            let status = status_for (why.NotBuilt place) asked.file in
+            refused_with status (from_tokens (λ end. end ≡ Err status)
+            (then_ok (Parsed asked.file tokens) _ (λ end. end ≡ Err status) u.program (parsed_ok asked.file tokens u.program u.parsed)
+            (then_err (Built asked.file tokens u.program) _ status (built_err asked.file tokens u.program place u.unbuilt))))
+
+        -- of what its names come to this holds, so of the file
+        from_names : (answer : Result FlatProgram Refusal) (r : IsResolved tokens answer) (P : Result FlatProgram Status → Type 0)
+            → Holds (Then (Named asked.file r.program) (λ flat. Typed asked.file flat)) P → Holds (Accepted files asked.file) P
+        from_names answer r P h = from_tokens P
+            (then_ok (Parsed asked.file tokens) _ P r.program (parsed_ok asked.file tokens r.program r.spelled.parsed)
+            (then_ok (Built asked.file tokens r.program) _ P r.program (built_ok asked.file tokens r.program r.spelled.built) h))
+
+        named_so : (err : NameErr) → Unaccepted tokens (refused.Names err) → Ends (status_for (why.Names err) asked.file)
+        named_so err u =
+            let r = unnamed tokens err u in
+            let status = status_for (why.Names err) asked.file in
+            refused_with status (from_names (Err (refusal_of err)) r (λ end. end ≡ Err status)
+            (then_err (Named asked.file r.program) _ status (named_err asked.file r.program err r.resolves)))
+
+        typed_so : (err : TypeErr) → Unaccepted tokens (refused.Types err) → Ends (status_for (why.Types err) asked.file)
+        typed_so err u =
+            let t = untyped_so tokens err u in
+            untyped err (from_names (Ok t.flat) t.resolved (EndsAs (TypesRefusal asked.file err))
+            (then_ok (Named asked.file t.resolved.program) _ (EndsAs (TypesRefusal asked.file err)) t.flat (named_ok asked.file t.resolved.program t.flat t.resolved.resolves)
+            (typed_err asked.file t.flat err t.lacks)))
+
+        explained : (reason : Why) → UnacceptedTokens tokens reason → Ends (status_for reason asked.file)
+        explained (why.Parse err) u = parsed err u
+        explained (why.NotBuilt place) u = not_built place u
+        explained (why.Names err) u = named_so err u
+        explained (why.Types err) u = typed_so err u
+        explained why.Load u = absurd u
+        explained (why.Lex err) u = absurd u
+        explained why.FileBytes u = absurd u
+        explained why.Memory u = absurd u
+
+      of_tokens : (reason : Why) → LexedUnaccepted body reason → Ends (status_for reason asked.file)
+      of_tokens reason u = explained u.tokens (tokenized_ok asked.file body u.tokens u.lexed) reason u.unaccepted
+
+  -- a row of the front, whose path is that of the command
+  of_path : (asked : Command) (path : List ℕ) (reason : Why) → path ≡ asked.file → Ends (status_for reason asked.file) → Ends (status_for reason path)
+  of_path asked path reason is ends = subst (λ p. Ends (status_for reason p)) (sym is) ends
+
+  front_lex : (err : LexErr) (path : List ℕ) → FrontRow (why.Lex err) words old new path → Ends (status_for (why.Lex err) path)
+  front_lex err path row =
+      let u = rw row.path_is at row.unaccepted in
+      of_path row.asked path (why.Lex err) row.path_is (lexed row.asked row.command u.text u.loaded err u.unaccepted)
+
+  front_parse : (err : ParseErr) (path : List ℕ) → FrontRow (why.Parse err) words old new path → Ends (status_for (why.Parse err) path)
+  front_parse err path row =
+      let u = rw row.path_is at row.unaccepted in
+      of_path row.asked path (why.Parse err) row.path_is (of_tokens row.asked row.command u.text u.loaded (why.Parse err) u.unaccepted)
+
+  front_built : (place : _) (path : List ℕ) → FrontRow (why.NotBuilt place) words old new path → Ends (status_for (why.NotBuilt place) path)
+  front_built place path row =
+      let u = rw row.path_is at row.unaccepted in
+      of_path row.asked path (why.NotBuilt place) row.path_is (of_tokens row.asked row.command u.text u.loaded (why.NotBuilt place) u.unaccepted)
+
+  refused_text : (reason : Why) (path : List ℕ) → TextRow reason words old new path → Ends (Text (record { why = reason; path = path }))
+  refused_text (why.Lex err) path row = front_lex err path row
+  refused_text (why.Parse (parse.Syntax place)) path row = front_parse (parse.Syntax place) path row
+  refused_text (why.Parse (parse.LeftOut place what)) path row = front_parse (parse.LeftOut place what) path row
+  refused_text (why.Parse (parse.TooDeep place)) path row = absurd row
+  refused_text (why.Parse parse.Memory) path row = front_parse parse.Memory path row
+  refused_text (why.NotBuilt place) path row = front_built place path row
+  refused_text (why.Names err) path row = absurd row
+  refused_text (why.Types err) path row = absurd row
+  refused_text why.Load path row = absurd row
+  refused_text why.FileBytes path row = absurd row
+  refused_text why.Memory path row = absurd row
+
+  refused_names : (reason : Why) (path : List ℕ) → NamesRow reason words old new path → Ends (Names (record { why = reason; path = path }))
+  refused_names (why.Names err) path row =
+      let u = rw row.path_is at row.unaccepted in
+      of_path row.asked path (why.Names err) row.path_is (of_tokens row.asked row.command u.text u.loaded (why.Names err) u.unaccepted)
+  refused_names (why.Lex err) path row = absurd row
+  refused_names (why.Parse err) path row = absurd row
+  refused_names (why.NotBuilt place) path row = absurd row
+  refused_names (why.Types err) path row = absurd row
+  refused_names why.Load path row = absurd row
+  refused_names why.FileBytes path row = absurd row
+  refused_names why.Memory path row = absurd row
+
+  refused_types : (reason : Why) (path : List ℕ) → TypesRow reason words old new path → Ends (Types (record { why = reason; path = path }))
+  refused_types (why.Types err) path row =
+      let u = rw row.path_is at row.unaccepted in
+      of_path row.asked path (why.Types err) row.path_is (of_tokens row.asked row.command u.text u.loaded (why.Types err) u.unaccepted)
+  refused_types (why.Lex err) path row = absurd row
+  refused_types (why.Parse err) path row = absurd row
+  refused_types (why.NotBuilt place) path row = absurd row
+  refused_types (why.Names err) path row = absurd row
+  refused_types why.Load path row = absurd row
+  refused_types why.FileBytes path row = absurd row
+  refused_types why.Memory path row = absurd row
+
+  no_load : (reason : Why) (path : List ℕ) (status : Status) → LoadRow reason words old new path → Ends status
+  no_load why.Load path status row = absurd (quiet.loader row.unaccepted.faults)
+  no_load (why.Lex err) path status row = absurd row
+  no_load (why.Parse err) path status row = absurd row
+  no_load (why.NotBuilt place) path status row = absurd row
+  no_load (why.Names err) path status row = absurd row
+  no_load (why.Types err) path status row = absurd row
+  no_load why.FileBytes path status row = absurd row
+  no_load why.Memory path status row = absurd row
+
+  -- ---- an accepted source
+
+  abbrev before : Streams
+  before = record { input = old.input; out = old.out }
+
+  abbrev behind : Streams
+  behind = record { input = new.input; out = new.out }
+
+  module _ (asked : Command) (source : Source) (s : Started words old new asked source) where
+    accepted : Settles (Accepted files asked.file) (Ok (flat_of source.flat))
+    accepted =
+        let a = s.accepted in let t = a.accepted in let p = t.accepted.acceptable in
+        from_names asked s.command a.text a.loaded t.tokens (tokenized_ok asked.file a.text t.tokens t.lexed) (Ok (flat_of source.flat)) p.resolved (λ end. end ≡ Ok (flat_of source.flat))
+        (then_ok (Named asked.file p.resolved.program) _ (λ end. end ≡ Ok (flat_of source.flat)) (flat_of source.flat) (named_ok asked.file p.resolved.program (flat_of source.flat) p.resolved.resolves)
+        (typed_ok asked.file (flat_of source.flat) p.typed))
+
+    acted : (status : Status) → Holds (Acted asked old.input.left (flat_of source.flat)) (Agrees status) → Ends status
+    acted status h = onward asked s.command (Agrees status) (then_ok (Accepted files asked.file) _ (Agrees status) (flat_of source.flat) accepted h)
+
+  module _ (asked : Command) (source : Source) (s : Started words old new asked source) where
+    abbrev entry : List ℕ
+    entry = asked.entry
+
+    -- what is done is this
+    done : (action : Action) → asked.action ≡ action → (status : Status) → Holds (Done_with action asked old.input.left (flat_of source.flat)) (Agrees status) → Ends status
+    done action is status h = acted asked source s status (subst (λ x. Holds (Done_with x asked old.input.left (flat_of source.flat)) (Agrees status)) (sym is) h)
+
+    module _ (is_run : asked.action ≡ Run) where
+      -- the entry was found, and behind it this holds
+      entered : (status : Status) (e : Entered) → IsEntered source entry e → ((end : Result Ending Status) → Argued (flat_of source.flat) entry old.input.left end → Agrees status end) → Ends status
+      entered status e is h = done Run is_run status (λ end run. behind_entry source entry e is old.input.left end (Agrees status end) run (h end))
+
+      unread : (err : TextErr) → InputRow asked source before behind err → Ends (Input err)
+      unread text.Memory row = absurd row
+      unread err row = entered (Input err) row.entered row.ready.entered
+          (refused_input source entry row.entered row.ready.entered err row.bytes old.input.left row.read.all row.short row.refuses)
+
+      ran : (status : Status) → ProgramRow status asked source before behind → Ends status ⊎ (status ≡ Memory)
+      ran Done row =
+          let c = row.comes in
+          inl (entered Done c.entered c.ready.entered (ran_to source entry c.entered c.ready.entered Done (inl refl) c.bytes c.arguments old.input.left c.read.all c.short c.reads))
+      ran (Entry err name) row =
+          inl (done Run is_run (Entry err name) (λ end run. subst (λ n. Agrees (Entry err n) end) (sym row.name_is) (unentered source entry err row.not_entered old.input.left end run)))
+      ran (Limit limit.Nodes) row = inl (entered (Limit limit.Nodes) row.entered row.is_entered (past_limit source entry row.entered row.is_entered (Limit limit.Nodes) (inl refl) old.input.left))
+      ran (Limit limit.Depth) row = inl (entered (Limit limit.Depth) row.entered row.is_entered (past_limit source entry row.entered row.is_entered (Limit limit.Depth) (inr refl) old.input.left))
+      ran (Limit limit.InputBytes) row = inl (entered (Limit limit.InputBytes) row.entered row.ready.entered (too_long source entry row.entered row.ready.entered old.input.left row.past.long))
+      ran ReadFault row = absurd (quiet.input row.faults)
+      ran (Input err) row = inl (unread err row)
+      ran (Failure report path) row =
+          let c = row.1.comes in
+          inl (entered (Failure report path) c.entered c.ready.entered (ran_to source entry c.entered c.ready.entered (Failure report path) (inr (inl (report, path, refl))) c.bytes c.arguments old.input.left c.read.all c.short c.reads))
+      ran (Turns report path) row =
+          let c = row.1.comes in
+          inl (entered (Turns report path) c.entered c.ready.entered (ran_to source entry c.entered c.ready.entered (Turns report path) (inr (inr (report, path, refl))) c.bytes c.arguments old.input.left c.read.all c.short c.reads))
+      ran WriteFault row = absurd (quiet.out row.out.faults)
+      ran Memory row = inr refl
+      ran (Usage word) row = absurd row
+      ran (LoadFault refused) row = absurd row
+      ran (Text refused) row = absurd row
+      ran (Names refused) row = absurd row
+      ran (Types refused) row = absurd row
+      ran (Limit limit.FileBytes) row = absurd row
+      ran (Limit limit.Nesting) row = absurd row
+
+    module _ (is_check : asked.action ≡ Check) where
+      checked : (status : Status) → CheckRow status before behind → Ends status ⊎ (status ≡ Memory)
+      checked Done row = inl (done Check is_check Done (λ end told. subst (Agrees Done) (sym told) refl))
+      checked WriteFault row = absurd (quiet.out row.out.faults)
+      checked status row = absurd row
+
+    acts : (action : Action) → asked.action ≡ action → (status : Status) → ActionRow action status asked source before behind → Ends status ⊎ (status ≡ Memory)
+    acts Run is status row = ran is status row
+    acts Check is status row = checked is status row
+
+  ends : (status : Status) → RunRow status words old new → Ends status ⊎ (status ≡ Memory)
+  ends (Usage word) row = inl (usage word row.command)
+  ends (LoadFault refused) row = inl (no_load refused.why refused.path (LoadFault refused) row)
+  ends (Text refused) row = inl (refused_text refused.why refused.path row)
+  ends (Names refused) row = inl (refused_names refused.why refused.path row)
+  ends (Types refused) row = inl (refused_types refused.why refused.path row)
+  ends (Limit limit.FileBytes) row =
+      let f = row.row in let u = rw f.path_is at f.unaccepted in inl (file_too_long f.asked f.command (held_err files f.asked.file u.long))
+  ends (Limit limit.Nesting) row = inl (front_parse (parse.TooDeep row.place) row.path row.row)
+  ends (Limit limit.Nodes) row = acts row.asked row.source row.started row.asked.action refl (Limit limit.Nodes) row.ended
+  ends (Limit limit.Depth) row = acts row.asked row.source row.started row.asked.action refl (Limit limit.Depth) row.ended
+  ends (Limit limit.InputBytes) row = acts row.asked row.source row.started row.asked.action refl (Limit limit.InputBytes) row.ended
+  ends (Entry err name) row = acts row.asked row.source row.started row.asked.action refl (Entry err name) row.ended
+  ends ReadFault row = acts row.asked row.source row.started row.asked.action refl ReadFault row.ended
+  ends (Input err) row = acts row.asked row.source row.started row.asked.action refl (Input err) row.ended
+  ends (Failure report path) row = acts row.asked row.source row.started row.asked.action refl (Failure report path) row.ended
+  ends (Turns report path) row = acts row.asked row.source row.started row.asked.action refl (Turns report path) row.ended
+  ends WriteFault row = acts row.asked row.source row.started row.asked.action refl WriteFault row.ended
+  ends Done row = acts row.asked row.source row.started row.asked.action refl Done row.ended
+  ends Memory row = inr refl
+
+pub complete : (status : Status) (words : List (List ℕ)) (old new : Outside) → RunRow status words old new → Complete status words old new
+complete status words old new row end comes quiet = conclude (ends words old new quiet status row)
+  where
+    conclude : Ends words old new quiet status ⊎ (status ≡ Memory) → Agrees status end ⊎ (status ≡ Memory)
+    conclude (inl agrees) = inl (agrees end comes)
+    conclude (inr m) = inr m

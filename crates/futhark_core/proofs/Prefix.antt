@@ -1,8 +1,0 @@
--- A front of a list isn't longer than the list.
-use Rattle.std.proofs.Common.{◌≤◌, ℕ, List, length}
-use Rattle.std.specs.Prelude.{Bool}
-use Rattle.std.specs.List.{prefix_len}
-use Rattle.std.proofs.lemmas.List.Sums.{prefix_len-le-length}
-
-pub prefix_within : (p : ℕ → Bool) (xs : List ℕ) → prefix_len p xs ≤ length xs
-prefix_within p xs = prefix_len-le-length p xs

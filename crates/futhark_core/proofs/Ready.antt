@@ -1,0 +1,162 @@
+-- A prepared program is one that the row speaks of: its entry is typed, and what its blocks allow, the source allows.
+use Rattle.std.proofs.Common.{◌≡◌, ◌<◌, ◌⊎◌, inl, inr, ℕ, List, [], ◌∷◌, Bool, true, map, length, refl, sym, ap, ◌∙◌, subst, arith}
+use Rattle.std.proofs.lemmas.Option.{get_or_from_slice_get, slice_get_within}
+use Rattle.std.proofs.lemmas.List.{length-map}
+use Rattle.std.specs.Prelude.{Ok, Err, slice_index_or}
+use Rattle.fut_scalar.specs.declared.place.BindId.{BindId}
+use Rattle.fut_scalar.specs.declared.scalar.Scalar.{Scalar}
+use Rattle.fut_scalar.specs.declared.scalar.ScalarType.{ScalarType}
+use Rattle.fut_arithmetic.specs.Types.{type_of}
+use Rattle.fut_flat.specs.declared.program.Flat.{Flat}
+use Rattle.fut_flat.specs.declared.prim.Ref.{Ref}
+use Rattle.fut_meaning.specs.Datums.{as_values}
+use Rattle.fut_blocks.specs.declared.block.Program.{Program}
+use Rattle.fut_blocks.specs.Programs.{Rising, AreOf}
+use Rattle.module_scopes.specs.Programs.{resolve_program}
+use Rattle.module_elab.specs.Elaborated.{program_of as flat_of}
+use Rattle.fut_scalar.specs.declared.scalar.IntType.{IntType}
+use Rattle.type_infer.specs.Inferring.{Told_by}
+use Rattle.type_scopes.specs.declared.Inference.{Inference}
+use Rattle.typed_programs.specs.Typed.{Typed_by, integer_at}
+use Rattle.fut_types.specs.declared.Kind.TheVariants as kind
+use Rattle.fut_types.specs.Types.{Ty}
+use Rattle.fut_typing.specs.Names.{Names}
+use Rattle.fut_typing.specs.Scopes.{nothing}
+use Rattle.fut_typing.specs.Patterns.{arrows}
+use Rattle.fut_typing.specs.Program.{program_of}
+use Rattle.fut_typing.specs.Exact.{scope_behind}
+use Rattle.typed_programs.specs.Entries.{scalar_tys, Results_are, Is_outside, number_of}
+use Rattle.typed_programs.proofs.Using.{behind_below}
+use Rattle.unfold.specs.Shapes.{Shapes, no_shape, shape_and, Scalar_shape, All_split, split_none, split_more, split_scalar}
+use Rattle.unfold.proofs.Rising.{names_rise}
+use Rattle.unfold_program.specs.Whole.{scalars}
+use Rattle.plain_runs.specs.Claims.{Is_run, Is_usable, Runs_as}
+use Rattle.plain_runs.specs.Prepared.{Is_prepared, Is_past}
+use Rattle.plain_runs.specs.declared.preparing.PrepareErr.{PrepareErr}
+use Rattle.plain_runs.specs.declared.preparing.PrepareErr.TheVariants as prepare
+use Rattle.command_words.specs.CommandLine.{Command}
+use Rattle.entry_names.specs.Entries.{Begins_at}
+use Rattle.futhark_status.specs.declared.status.EntryErr.{EntryErr}
+use Rattle.futhark_status.specs.declared.status.Status.{Status}
+use Rattle.fut_meaning.specs.declared.measured.MeasureErr.TheVariants as measure
+use Rattle.fut_meaning.specs.Flats.{named_terms, flat_tops}
+use Rattle.fut_meaning.specs.Measures.{Measures}
+use Rattle.fut_flat.specs.Erased.{parameters}
+use Rattle.fut_flat.specs.declared.program.Definition.{Definition}
+use Rattle.fut_typing.specs.Free.{has_types}
+use Rattle.plain_runs.specs.Results.{scalar_datums}
+use Rattle.plain_runs.proofs.Runs.{run_is}
+use Rattle.futhark_core.specs.Acceptance.{Source}
+use Rattle.futhark_core.specs.Entering.{IsOutside, NotEntered}
+use Rattle.futhark_core.specs.Meaning.{Entered, IsTypedAs, IsEntered}
+use Rattle.futhark_core.specs.Row.{Streams, IsReady, ProgramRow}
+use Rattle.futhark_core.specs.Private.Stages.{Never_wrong_for, Runs_for, IsUnentered, unprepared}
+
+scalars_split : (cs : List Scalar) → All_split (scalars (length cs)) (as_values {P = Ref} {B = BindId} {S = Unit {0}} (scalar_datums cs)) cs []
+scalars_split [] = split_none
+scalars_split (c ∷ cs) = split_more split_scalar (scalars_split cs)
+
+lengths : (cs : List Scalar) (ss : List ScalarType) → AreOf ss cs → length cs ≡ length ss
+lengths cs ss e = sym (length-map cs type_of) ∙ ap length e
+
+module _ {flat : Flat} {inference : Inference} {integers : List IntType} {number : BindId} {params : List ScalarType} {tuple : Bool} {results : List ScalarType} (told : Told_by (Typed_by flat inference integers) inference) (usable : Is_usable flat inference number params tuple results) where
+  abbrev pub entered : Entered
+  entered = record { number = number.0; params = params; tuple = tuple; results = results; integer_at = integer_at integers }
+
+  abbrev N : Names
+  N = told.some.0
+
+  abbrev known : Typed_by flat inference integers N
+  known = told.holds N told.some.1
+
+  abbrev used : (u : Ty) × Results_are tuple results u × (scope_behind N kind.Data (program_of flat) 0 nothing).uses number.0 known.kinds known.types (arrows (scalar_tys params) u)
+  used =
+      let x = usable.usable.uses usable.definition N known.kinds known.types known.typed.typed known.comes in
+      (x.0, x.1, subst (λ z. (scope_behind N kind.Data (program_of flat) 0 nothing).uses z known.kinds known.types (arrows (scalar_tys params) x.0)) usable.is x.2)
+
+  pub typed_as : (source : Source) → source.flat ≡ flat → IsTypedAs source entered
+  typed_as source e = subst (λ (f : Flat). IsTypedAs (record { files = source.files; flat = f }) entered) (sym e) (record {
+    names = N;
+    are_names = told.some.1.names;
+    kinds = known.kinds;
+    types = known.types;
+    typing = known.typing;
+    typed = known.typed.typed;
+    told = known.typed.told;
+    result = used.0;
+    results_are = used.1;
+    uses = used.2;
+  })
+
+  -- a limit is passed, or memory ran out
+  pub unready : (asked : Command) (source : Source) (old : Streams) → source.flat ≡ flat → ((e : Entered) → e.number ≡ number.0 → IsTypedAs source e → IsEntered source asked.entry e) → (err : PrepareErr) → Is_past flat number params err → ProgramRow (unprepared err) asked source old old
+  unready asked source old same into prepare.Nodes past =
+      record { entered = entered; is_entered = into entered refl (typed_as source same); past = subst (λ (f : Flat). Measures (flat_tops 0 (named_terms f)) number.0 (length params) (Err measure.Nodes)) (sym same) past; quiet = refl }
+  unready asked source old same into prepare.Depth past =
+      record { entered = entered; is_entered = into entered refl (typed_as source same); past = subst (λ (f : Flat). Measures (flat_tops 0 (named_terms f)) number.0 (length params) (Err measure.Depth)) (sym same) past; quiet = refl }
+  unready asked source old same into prepare.Memory past = (refl, inl refl)
+
+  module _ {p : Program} (pr : Is_prepared flat integers number params p) where
+    abbrev is_run : Is_run flat inference integers number params tuple results (scalars (length params)) pr.blocks.shape p
+    is_run = record { typed = told; usable = usable; unfolds = pr.blocks.unfolds }
+
+    runs : (turns : ℕ) (arguments : List Scalar) → AreOf params arguments → Runs_as flat integers number tuple results p turns arguments
+    runs turns arguments of = run_is is_run turns arguments of (subst (λ n. All_split (scalars n) (as_values (scalar_datums arguments)) arguments []) (lengths arguments params of) (scalars_split arguments))
+
+    pub rising : Rising p
+    rising = names_rise (integer_at integers) _ number (scalars (length params)) pr.blocks.shape p pr.blocks.unfolds
+
+    pub never_wrong_for : (turns : ℕ) → Never_wrong_for params turns p
+    never_wrong_for turns arguments of = (runs turns arguments of).never_wrong
+
+    pub runs_for : (source : Source) → source.flat ≡ flat → resolve_program source.files ≡ Ok (flat_of source.flat) → (turns : ℕ) → Runs_for source entered turns p
+    runs_for source e resolved turns = subst (λ (f : Flat). Runs_for (record { files = source.files; flat = f }) entered turns p) (sym e) (record {
+      gives = λ arguments of vs f x. (runs turns arguments of).gives source.files (resolved ∙ ap (λ f. Ok (flat_of f)) e) vs f x;
+      fails = λ arguments of r f x. (runs turns arguments of).fails source.files (resolved ∙ ap (λ f. Ok (flat_of f)) e) r f x;
+    })
+
+    pub is_ready : (asked : Command) (source : Source) → source.flat ≡ flat → ((e : Entered) → e.number ≡ number.0 → IsTypedAs source e → IsEntered source asked.entry e) → IsReady asked source entered
+    is_ready asked source same into = record {
+      entered = into entered refl (typed_as source same);
+      measured = pr.measured;
+      measures = subst (λ (f : Flat). Measures (flat_tops 0 (named_terms f)) number.0 (length params) (Ok pr.measured)) (sym same) pr.measures;
+    }
+
+-- ---- entries
+
+pub into : (flat : Flat) (name : List ℕ) (at : ℕ) → Begins_at flat name at → (source : Source) → source.flat ≡ flat → (e : Entered) (other : Definition) → e.number ≡ (slice_index_or flat.definitions.now at other).bind.0 → IsTypedAs source e → IsEntered source name e
+into flat name at begins source same e other number typed = subst (λ (f : Flat). IsEntered (record { files = source.files; flat = f }) name e) (sym same) (record {
+  at = at;
+  begins = begins;
+  number = ap (λ (d : Definition). d.bind.0) (sym (get_or_from_slice_get flat.definitions.now at begins.definition other begins.is)) ∙ sym number;
+  typed = subst (λ (f : Flat). IsTypedAs (record { files = source.files; flat = f }) e) same typed;
+})
+
+-- the definition at this place of the row has no type from which a run may begin
+pub outside : (flat : Flat) (inference : Inference) (integers : List IntType) (name : List ℕ) (at : ℕ) → Told_by (Typed_by flat inference integers) inference → Begins_at flat name at → Is_outside flat inference.nodes at → (source : Source) → source.flat ≡ flat → IsOutside source name
+outside flat inference integers name at told begins x source same = subst (λ (f : Flat). IsOutside (record { files = source.files; flat = f }) name) (sym same) (either x)
+  where
+    here : (other : Definition) → slice_index_or flat.definitions.now at other ≡ begins.definition
+    here other = get_or_from_slice_get flat.definitions.now at begins.definition other begins.is
+
+    either : Is_outside flat inference.nodes at → IsOutside (record { files = source.files; flat = flat }) name
+    either (inl typed) = record { at = at; begins = begins; outside = inl (subst (λ (d : Definition). has_types (parameters d.heads.now) ≡ true) (here begins.definition) (typed begins.definition)) }
+    either (inr none) =
+        let N = told.some.0 in
+        let known = told.holds N told.some.1 in
+        let within : at < length flat.definitions.now = slice_get_within flat.definitions.now at begins.definition begins.is in
+        record {
+          at = at;
+          begins = begins;
+          outside = inr (record {
+            names = N;
+            are_names = told.some.1.names;
+            types = known.types;
+            typing = known.typing;
+            otherwise = λ params results tuple. none (known.types (number_of flat at)) (known.comes (number_of flat at) (let b = behind_below flat.definitions.now at 0 within in omega (arith, b))) params tuple results;
+          });
+        }
+
+pub unentered_row : (asked : Command) (source : Source) (old : Streams) (err : EntryErr) (status : Status) → IsUnentered err asked.entry status → NotEntered source asked.entry err → ProgramRow status asked source old old
+unentered_row asked source old err status (inl is) none = subst (λ (s : Status). ProgramRow s asked source old old) (sym is) (record { name_is = refl; not_entered = none; quiet = refl })
+unentered_row asked source old err status (inr is) none = subst (λ (s : Status). ProgramRow s asked source old old) (sym is) (refl, inl refl)

@@ -1,0 +1,184 @@
+-- Each stage of a run comes to one end, once something is known of it; and so do stages one after another.
+use Rattle.std.proofs.Common.{◌≡◌, ◌≤◌, ◌<◌, ℕ, List, length, sym, ap, subst, ◌∙◌, arith, refl}
+use Rattle.std.specs.Prelude.{Option, None, Some, IfSome, IsSomeAnd, Result, Ok, Err}
+use Rattle.fut_scalar.specs.declared.place.Place.{Place}
+use Rattle.fut_token.specs.declared.token.Token.{Token}
+use Rattle.fut_io.specs.Outside.{file_at}
+use Rattle.fut_lexer.specs.Lexing.{HasTokens, RefusesText}
+use Rattle.fut_lexer.specs.declared.lexer.LexErr.{LexErr}
+use Rattle.fut_lexer.proofs.Readings.{one_reading}
+use Rattle.fut_ast.specs.Grammar.{Derives}
+use Rattle.fut_ast.specs.declared.module.Program.{Program}
+use Rattle.fut_typing.specs.Names.{Names as Numbering, AreNames}
+use Rattle.fut_typing.specs.Program.{Defined}
+use Rattle.fut_typing.proofs.Programs.{no_type_or_typing, no_type_or_place, no_type_or_ambiguous, place_or_typing, place_or_ambiguous}
+use Rattle.fut_typing.proofs.Exclude.{typing_or_ambiguous}
+use Rattle.module_scopes.specs.Names.{Refusal}
+use Rattle.module_scopes.specs.Names as refusal
+use Rattle.module_scopes.specs.Programs.{FlatProgram}
+use Rattle.unbuilt_tokens.specs.Unbuilt.{first_unbuilt}
+use Rattle.front_types.specs.Mistyped.{Some_numbering}
+use Rattle.front_types.specs.declared.typed.TypeErr.{TypeErr}
+use Rattle.front_types.specs.declared.typed.TypeErr.TheVariants as types
+use Rattle.front.specs.Acceptance.{IsParsed, Resolves, Typable, definitions_of, named_file}
+use Rattle.front.specs.declared.refusals.NameErr.{NameErr}
+use Rattle.front.specs.declared.refusals.NameErr.TheVariants as names
+use Rattle.front.proofs.Answering.{resolves_once}
+use Rattle.command_words.specs.CommandLine.{Command, command_of}
+use Rattle.futhark_status.specs.declared.status.LimitKind.TheVariants as limit
+use Rattle.futhark_status.specs.declared.status.Why.TheVariants as why
+use Rattle.futhark_status.specs.declared.status.Status.{Status}
+use Rattle.futhark_status.specs.declared.status.Status.TheVariants.{Usage, Limit}
+use Rattle.futhark_core.specs.Row.{status_for}
+use Rattle.futhark_core.specs.Comes.{AlikeTypes, Built, Commanded, FileHeld, Lacks, Named, Onward, Parsed, ParserRefusal, Stage, Then, Tokenized, Typed, refusal_of}
+
+-- of all that the stage comes to this holds
+abbrev pub Holds : {A : Type 0} → Stage A → (Result A Status → Type 0) → Type 0
+Holds {A} stage P = (a : Result A Status) → stage a → P a
+
+-- the stage comes to this and to nothing else
+abbrev pub Settles : {A : Type 0} → Stage A → Result A Status → Type 0
+Settles {A} stage x = Holds stage (λ a. a ≡ x)
+
+-- the stage ends the run, with such a status
+abbrev pub EndsAs : {A : Type 0} → (Status → Type 0) → Result A Status → Type 0
+EndsAs {A} Q (Ok a) = ⊥
+EndsAs {A} Q (Err status) = Q status
+
+pub then_ok : {A B : Type 0} (first : Stage A) (next : A → Stage B) (P : Result B Status → Type 0) (m : A) → Settles first (Ok m) → Holds (next m) P → Holds (Then first next) P
+then_ok {A} {B} first next P m one more x run = more x (subst (λ (middle : Result A Status). Onward middle next x) (one run.0 run.1) run.2)
+
+pub then_err : {A B : Type 0} (first : Stage A) (next : A → Stage B) (status : Status) → Settles first (Err status) → Settles (Then first next) (Err status)
+then_err {A} {B} first next status one x run = subst (λ (middle : Result A Status). Onward middle next x) (one run.0 run.1) run.2
+
+pub then_ends : {A B : Type 0} (first : Stage A) (next : A → Stage B) (Q : Status → Type 0) → Holds first (EndsAs Q) → Holds (Then first next) (EndsAs Q)
+then_ends {A} {B} first next Q one x run = go run.0 (one run.0 run.1) run.2
+  where
+    go : (middle : Result A Status) → EndsAs Q middle → Onward middle next x → EndsAs Q x
+    go (Ok a) ends on = absurd ends
+    go (Err status) ends on = subst (λ (y : Result B Status). EndsAs Q y) (sym on) ends
+
+-- ---- the words and the file
+
+pub commanded_ok : (words : List (List ℕ)) (command : Command) → command_of words ≡ Ok command → Settles (Commanded words) (Ok command)
+commanded_ok words command e (Ok other) p = let same : other ≡ command = cc in ap Ok same
+commanded_ok words command e (Err status) p = let w = p.1 in absurd cc
+
+pub commanded_err : (words : List (List ℕ)) (word : ℕ) → command_of words ≡ Err word → Settles (Commanded words) (Err (Usage word))
+commanded_err words word e (Ok other) p = absurd cc
+commanded_err words word e (Err status) p = let w = p.1 in let same : p.0 ≡ word = cc in ap Err (p.2 ∙ ap Usage same)
+
+pub some_same : {A : Type 0} (x : A) (y : A) → Some x ≡ Some y → x ≡ y
+some_same x y e = cc
+
+pub held_ok : (files : Option (List (List ℕ × List ℕ))) (file text : List ℕ) → IfSome files (λ all. file_at all file ≡ Some text) → length text ≤ 4194304 →
+    Settles (FileHeld files file) (Ok text)
+held_ok None file text is short a p = absurd p
+held_ok (Some all) file text is short (Ok other) p = ap Ok (some_same other text (sym p.0 ∙ is))
+held_ok (Some all) file text is short (Err status) p =
+    let e = some_same p.0 text (sym p.1 ∙ is) in let many = p.2 in let l = ap length e in absurd (omega arith)
+
+pub held_err : (files : Option (List (List ℕ × List ℕ))) (file : List ℕ) → IfSome files (λ all. IsSomeAnd (file_at all file) (λ text. 4194304 < length text)) →
+    Settles (FileHeld files file) (Err (Limit limit.FileBytes))
+held_err None file long a p = absurd p
+held_err (Some all) file long (Err status) p = ap Err p.3
+held_err (Some all) file long (Ok text) p = let is = p.0 in let few = p.1 in let many = rw is at long in absurd (omega arith)
+
+-- ---- tokens and their program
+
+module _ (file text : List ℕ) where
+  pub tokenized_ok : (tokens : List Token) → HasTokens named_file text tokens → Settles (Tokenized file text) (Ok tokens)
+  tokenized_ok tokens is (Ok other) p = ap Ok (one_reading.one_list named_file text other tokens p is)
+  tokenized_ok tokens is (Err status) p = absurd (one_reading.not_both named_file text tokens p.0 is p.1)
+
+  pub tokenized_err : (err : LexErr) → RefusesText named_file text err → Settles (Tokenized file text) (Err (status_for (why.Lex err) file))
+  tokenized_err err is (Ok tokens) p = absurd (one_reading.not_both named_file text tokens err p is)
+  tokenized_err err is (Err status) p = ap Err (p.2 ∙ ap (λ (e : LexErr). status_for (why.Lex e) file) (one_reading.one_refusal named_file text p.0 err p.1 is))
+
+module _ (file : List ℕ) (tokens : List Token) where
+  pub parsed_ok : (program : Program) → IsParsed tokens program → Settles (Parsed file tokens) (Ok program)
+  parsed_ok program is (Ok other) p = ap Ok (is.only other p.0 p.2)
+  parsed_ok program is (Err status) p = absurd (p.0 program is.height is.flat is.spelled)
+
+  pub parsed_none : ((program : Program) (h : ℕ) → h ≤ 201 → Derives tokens program h → ⊥) → Holds (Parsed file tokens) (EndsAs (ParserRefusal file))
+  parsed_none none (Ok program) p = absurd (none program p.0 p.1 p.2)
+  parsed_none none (Err status) p = p.1
+
+  module _ (program : Program) where
+    pub built_ok : first_unbuilt tokens ≡ None → Settles (Built file tokens program) (Ok program)
+    built_ok none (Ok same) p = ap Ok p.1
+    built_ok none (Err status) p = let some = p.1 in absurd cc
+
+    pub built_err : (place : Place) → first_unbuilt tokens ≡ Some place → Settles (Built file tokens program) (Err (status_for (why.NotBuilt place) file))
+    built_err place is (Ok same) p = let none = p.0 in absurd cc
+    built_err place is (Err status) p = ap Err (p.2 ∙ ap (λ (x : Place). status_for (why.NotBuilt x) file) (some_same p.0 place (sym p.1 ∙ is)))
+
+-- ---- names
+
+-- a refusal of names, as it is answered; one of a form that is not built is none
+abbrev told_as : NameErr → Result FlatProgram Refusal → NameErr
+told_as other (Ok flat) = other
+told_as other (Err (refusal.Unbound name at)) = names.Unbound name at
+told_as other (Err (refusal.Twice name at)) = names.Twice name at
+told_as other (Err (refusal.NoMember name at)) = names.NoMember name at
+told_as other (Err (refusal.NotYet at)) = other
+
+told_back : (other err : NameErr) → told_as other (Err (refusal_of err)) ≡ err
+told_back other (names.Unbound name at) = refl
+told_back other (names.Twice name at) = refl
+told_back other (names.NoMember name at) = refl
+
+same_err : (err other : NameErr) → ◌≡◌ {A = Result FlatProgram Refusal} (Err (refusal_of err)) (Err (refusal_of other)) → err ≡ other
+same_err err other e = sym (told_back err err) ∙ ap (told_as err) e ∙ told_back err other
+
+flat_in : FlatProgram → Result FlatProgram Refusal → FlatProgram
+flat_in other (Ok flat) = flat
+flat_in other (Err e) = other
+
+module _ (file : List ℕ) (program : Program) where
+  pub named_ok : (flat : FlatProgram) → Resolves program (Ok flat) → Settles (Named file program) (Ok flat)
+  unfolding flat_in
+  named_ok flat is (Ok other) p = ap Ok (ap (flat_in other) (resolves_once program (Ok other) (Ok flat) p is))
+  named_ok flat is (Err status) p = let same = resolves_once program (Ok flat) (Err (refusal_of p.0)) is p.1 in absurd cc
+
+  pub named_err : (err : NameErr) → Resolves program (Err (refusal_of err)) → Settles (Named file program) (Err (status_for (why.Names err) file))
+  named_err err is (Ok flat) p = let same = resolves_once program (Ok flat) (Err (refusal_of err)) p is in absurd cc
+  named_err err is (Err status) p =
+      ap Err (p.2 ∙ ap (λ (e : NameErr). status_for (why.Names e) file) (same_err p.0 err (resolves_once program (Err (refusal_of p.0)) (Err (refusal_of err)) p.1 is)))
+
+-- ---- types
+
+module _ (N : Numbering) (are : AreNames N) (ds : List Defined) where
+  lacks_or_typing : (err : TypeErr) → Lacks err N ds → Typable N ds → ⊥
+  lacks_or_typing (types.NoType at) lacks t = no_type_or_typing N ds lacks t.0 t.1
+  lacks_or_typing (types.FunctionPlace at) lacks t = place_or_typing N ds lacks t.0 t.1
+  lacks_or_typing (types.Ambiguous at) lacks t = typing_or_ambiguous N are ds t.0 t.1 lacks
+  lacks_or_typing types.Memory lacks t = lacks
+
+  alike : (err other : TypeErr) → Lacks err N ds → Lacks other N ds → AlikeTypes err other
+  alike (types.NoType at) (types.NoType place) l m = tt
+  alike (types.NoType at) (types.FunctionPlace place) l m = no_type_or_place N ds l m
+  alike (types.NoType at) (types.Ambiguous place) l m = no_type_or_ambiguous N ds l m
+  alike (types.NoType at) types.Memory l m = m
+  alike (types.FunctionPlace at) (types.NoType place) l m = no_type_or_place N ds m l
+  alike (types.FunctionPlace at) (types.FunctionPlace place) l m = tt
+  alike (types.FunctionPlace at) (types.Ambiguous place) l m = place_or_ambiguous N ds l m
+  alike (types.FunctionPlace at) types.Memory l m = m
+  alike (types.Ambiguous at) (types.NoType place) l m = no_type_or_ambiguous N ds m l
+  alike (types.Ambiguous at) (types.FunctionPlace place) l m = place_or_ambiguous N ds m l
+  alike (types.Ambiguous at) (types.Ambiguous place) l m = tt
+  alike (types.Ambiguous at) types.Memory l m = m
+  alike types.Memory other l m = absurd l
+
+-- a refusal of types like this one
+abbrev pub TypesRefusal : List ℕ → TypeErr → Status → Type 0
+TypesRefusal file err status = (other : TypeErr) × AlikeTypes err other × (status ≡ status_for (why.Types other) file)
+
+module _ (file : List ℕ) (flat : FlatProgram) where
+  pub typed_ok : Some_numbering (λ N. Typable N (definitions_of flat)) → Settles (Typed file flat) (Ok flat)
+  typed_ok some (Ok same) p = ap Ok p.1
+  typed_ok some (Err status) p = absurd (lacks_or_typing some.0 some.1 (definitions_of flat) p.0 (p.1 some.0 some.1) some.2)
+
+  pub typed_err : (err : TypeErr) → Some_numbering (λ N. Lacks err N (definitions_of flat)) → Holds (Typed file flat) (EndsAs (TypesRefusal file err))
+  typed_err err some (Ok same) p = absurd (lacks_or_typing some.0 some.1 (definitions_of flat) err some.2 (p.0 some.0 some.1))
+  typed_err err some (Err status) p = (p.0, alike some.0 some.1 (definitions_of flat) err p.0 some.2 (p.1 some.0 some.1), p.2)

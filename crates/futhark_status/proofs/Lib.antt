@@ -1,0 +1,2 @@
+pub mod LinePieces
+pub mod Joined

@@ -1,0 +1,26 @@
+-- What unfolding answers is a program's blocks, with the types of integers as a typing tells them.
+use Rattle.std.proofs.Common.{◌≡◌, ℕ, List, length, refl, subst, get_or}
+use Rattle.std.specs.Prelude.{Result, Ok, Err, IfOk}
+use Rattle.fut_scalar.specs.declared.place.BindId.{BindId}
+use Rattle.fut_scalar.specs.declared.scalar.IntType.{IntType}
+use Rattle.fut_scalar.specs.declared.scalar.IntType.TheVariants.{I32}
+use Rattle.fut_scalar.specs.declared.scalar.ScalarType.{ScalarType}
+use Rattle.fut_flat.specs.declared.program.Flat.{Flat}
+use Rattle.fut_meaning.specs.Flats.{named_terms, flat_tops}
+use Rattle.fut_blocks.specs.declared.block.Program.{Program}
+use Rattle.typed_programs.specs.Typed.{integer_at}
+use Rattle.unfold.specs.Programs.{Program_unfolds}
+use Rattle.unfold.specs.Shapes.{Shape}
+use Rattle.unfold_program.specs.Whole.{scalars, Unfolds_to, unfolds_to, no_program}
+use Rattle.plain_runs.specs.Prepared.{Is_blocks}
+
+told : (integers : List IntType) (n : ℕ) → get_or integers n I32 ≡ integer_at integers n
+unfolding integer_at
+told integers n = refl
+
+told_so : (integers : List IntType) → (λ n. get_or integers n I32) ≡ integer_at integers
+told_so integers i n = told integers n i
+
+pub blocks : (flat : Flat) (integers : List IntType) (entry : BindId) (params : List ScalarType) (p : Program) → Unfolds_to (λ n. get_or integers n I32) (flat_tops 0 (named_terms flat)) entry.0 params (Ok p) → Is_blocks flat integers entry params p
+blocks flat integers entry params p (unfolds_to h u t) =
+    record { shape = h; unfolds = subst (λ f. Program_unfolds f (flat_tops 0 (named_terms flat)) entry.0 (scalars (length params)) h p) (told_so integers) u }

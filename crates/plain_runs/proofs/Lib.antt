@@ -1,0 +1,4 @@
+pub mod Data
+pub mod Runs
+pub mod Walks
+pub mod Blocks

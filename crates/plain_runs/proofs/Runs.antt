@@ -1,0 +1,156 @@
+-- What the blocks of a typed program allow, its files allow.
+use Rattle.std.proofs.Common.{◌≡◌, ℕ, List, [], ◌∷◌, Bool, true, false, map, refl, sym, ap, ◌∙◌, subst}
+use Rattle.fut_scalar.specs.declared.place.BindId.{BindId}
+use Rattle.fut_scalar.specs.declared.report.Report.{Report}
+use Rattle.fut_scalar.specs.declared.scalar.IntType.{IntType}
+use Rattle.fut_scalar.specs.declared.scalar.Scalar.{Scalar}
+use Rattle.fut_scalar.specs.declared.scalar.ScalarType.{ScalarType}
+use Rattle.fut_ast.specs.declared.module.Program.{Program as SourceProgram}
+use Rattle.fut_flat.specs.declared.prim.Ref.{Ref}
+use Rattle.fut_flat.specs.declared.program.Definition.{Definition}
+use Rattle.fut_flat.specs.declared.program.Flat.{Flat}
+use Rattle.fut_flat.specs.Erased.{parameters, term_of}
+use Rattle.fut_flat.specs.Terms.{Parameter, Size_parameter, Type_parameter, Use, Strict, Lambda, Apply, Let, If, Loop, Terms, no_term, term_and, Counted, Over, While}
+use Rattle.fut_flat.specs.Erased.{FlatTerm, FlatTurns}
+use Rattle.fut_typing.specs.Program.{Defined, defined, program_of as typing_of}
+use Rattle.fut_meaning.specs.Claims.{Safe}
+use Rattle.fut_meaning.specs.Datums.{Datum, Scalar_datum, as_value, as_values, all_values}
+use Rattle.fut_meaning.specs.Flats.{FlatValue, Named_term, named_terms, flat_tops, Flat_means, flat_names}
+use Rattle.fut_meaning.specs.Meaning.{plain}
+use Rattle.fut_meaning.specs.Outcomes.{Out, Val, Fail, Wrong}
+use Rattle.fut_meaning.specs.Sames.{Same_out, same_value, same_report, same_wrong, Right, right}
+use Rattle.fut_meaning.specs.Values.{listed}
+use Rattle.fut_blocks.specs.declared.block.Program.{Program}
+use Rattle.fut_blocks.specs.Meaning.{Component}
+use Rattle.fut_blocks.specs.Programs.{Program_means, AreOf}
+use Rattle.module_elab.specs.Elaborated.{definition_of, program_of}
+use Rattle.std.specs.Prelude.{Ok}
+use Rattle.module_scopes.specs.Programs.{FlatDefinition, resolve_program}
+use Rattle.module_meaning.specs.Sourced.{No_sizes as None_sized, named_values}
+use Rattle.module_meaning.specs.Sizeless.{Sizeless, All_sizeless, Turns_sizeless, Definitions_sizeless}
+use Rattle.module_meaning.proofs.Programs.{same_results, same_reports}
+use Rattle.typed_meaning.specs.Meant.{No_sizes, Meant, All_meant, Turns_meant}
+use Rattle.typed_meaning.specs.Programs.{Result_fits, Definitions_meant}
+use Rattle.typed_meaning.proofs.Programs.{never_wrong}
+use Rattle.std.specs.Prelude.{slice_index_or}
+use Rattle.fut_types.specs.declared.Kind.TheVariants as kind
+use Rattle.fut_types.specs.Types.{Ty}
+use Rattle.fut_typing.specs.Names.{Names}
+use Rattle.fut_typing.specs.Scopes.{nothing}
+use Rattle.fut_typing.specs.Patterns.{arrows}
+use Rattle.fut_typing.specs.Exact.{scope_behind}
+use Rattle.typed_programs.specs.Entries.{scalar_tys, Results_are}
+use Rattle.type_scopes.specs.declared.Inference.{Inference}
+use Rattle.typed_programs.specs.Typed.{Typed_by, integer_at}
+use Rattle.unfold.specs.Shapes.{Shape, Shapes, All_split, Is_value}
+use Rattle.unfold.proofs.Programs.{adds_no_outcome}
+use Rattle.plain_runs.specs.Allowed.{Allows_result, Allows_report}
+use Rattle.plain_runs.specs.Claims.{Is_run, Runs_as, BlocksMeanTheSource}
+use Rattle.plain_runs.specs.Results.{scalar_datums}
+use Rattle.plain_runs.proofs.Data.{arguments_fit, listed_scalars, results_are}
+
+-- ---- what the meaning knows binds no size
+
+no_sizes : (bs : List BindId) (ps : List (Parameter BindId)) → No_sizes bs ps → (bs ≡ []) × None_sized ps
+no_sizes [] [] n = (refl, tt)
+no_sizes [] (Size_parameter b ∷ ps) n = absurd n
+no_sizes [] (Type_parameter b lifted ∷ ps) n = (refl, (no_sizes [] ps n).1)
+no_sizes (b ∷ bs) ps n = absurd n
+
+module _ (P : ℕ → Type 0) where
+  mutual
+    sizeless : (t : FlatTerm) → Meant P t → Sizeless t
+    sizeless (Use r at k) m = tt
+    sizeless (Strict o mark ts) m = all_sizeless ts m.1
+    sizeless (Lambda ps e) m = sizeless e m.1
+    sizeless (Apply f e) m = (sizeless f m.0, sizeless e m.1)
+    sizeless (Let b v e) m = let n = no_sizes b.sizes b.parameters m.0 in (n.0, n.1, sizeless v m.1, sizeless e m.2)
+    sizeless (If c a b) m = (sizeless c m.0, sizeless a m.1, sizeless b m.2)
+    sizeless (Loop mark sizes p first turns body) m = ((no_sizes sizes [] m.0).0, sizeless first m.1, turns_sizeless turns m.2, sizeless body m.3)
+
+    all_sizeless : (ts : Terms Ref BindId) → All_meant P ts → All_sizeless ts
+    all_sizeless no_term m = tt
+    all_sizeless (term_and t ts) m = (sizeless t m.0, all_sizeless ts m.1)
+
+    turns_sizeless : (ts : FlatTurns) → Turns_meant P ts → Turns_sizeless ts
+    turns_sizeless (Counted i n) m = sizeless n m
+    turns_sizeless (Over p e) m = absurd m
+    turns_sizeless (While c) m = sizeless c m
+
+definitions_sizeless : (ds : List Definition) → Definitions_meant (map defined ds) → Definitions_sizeless (map definition_of ds)
+definitions_sizeless [] m = tt
+definitions_sizeless (d ∷ ds) m = ((no_sizes [] (parameters d.heads.now) m.0).1, sizeless (λ k. Unit {0}) (term_of d.value.now) m.1, definitions_sizeless ds m.2)
+
+named_are : (ds : List Definition) → named_values (map definition_of ds) ≡ map (λ (d : Definition). (d.bind, term_of d.value.now)) ds
+named_are [] = refl
+named_are (d ∷ ds) = ap (λ z. (d.bind, term_of d.value.now) ∷ z) (named_are ds)
+
+-- ---- runs
+
+module _ {flat : Flat} {inference : Inference} {integers : List IntType} {entry : BindId} {params : List ScalarType} {tuple : Bool} {results : List ScalarType} {hs : Shapes} {h : Shape} {p : Program} (r : Is_run flat inference integers entry params tuple results hs h p) (budget : ℕ) (arguments : List Scalar) (of : AreOf params arguments) (split : All_split hs (as_values (scalar_datums arguments)) arguments []) where
+  abbrev N : Names
+  N = r.typed.some.0
+
+  abbrev known : Typed_by flat inference integers N
+  known = r.typed.holds N r.typed.some.1
+
+  abbrev used : (u : Ty) × Results_are tuple results u × (scope_behind N kind.Data (typing_of flat) 0 nothing).uses (slice_index_or flat.definitions.now r.usable.at r.usable.definition).bind.0 known.kinds known.types (arrows (scalar_tys params) u)
+  used = r.usable.usable.uses r.usable.definition N known.kinds known.types known.typed.typed known.comes
+
+  abbrev values : List FlatValue
+  values = listed (as_values (scalar_datums arguments))
+
+  flat_allows : (o : Out (List Component)) (f : ℕ) → Program_means budget p arguments o f → Right (Is_value h) (Flat_means (integer_at integers) (plain false) budget (named_terms flat) entry values) o f
+  flat_allows o f x = adds_no_outcome (plain false) (integer_at integers) budget (named_terms flat) entry hs h p r.unfolds (as_values (scalar_datums arguments)) arguments split o f x
+
+  safe : Safe (Result_fits N (integer_at integers) (plain false) budget used.0) (Flat_means (integer_at integers) (plain false) budget (named_terms flat) entry values)
+  safe = never_wrong N r.typed.some.1.names _ known.kinds known.types (integer_at integers) false budget flat known.typed entry _ used.0 values (subst (λ z. (scope_behind N kind.Data (typing_of flat) 0 nothing).uses z known.kinds known.types (arrows (scalar_tys params) used.0)) r.usable.is used.2) (arguments_fit N (integer_at integers) (plain false) budget params arguments of)
+
+  no_size : Definitions_sizeless (program_of flat).definitions
+  no_size = definitions_sizeless flat.definitions.now known.typed.meant
+
+  wrong_never : (f : ℕ) → Right (Is_value h) (Flat_means (integer_at integers) (plain false) budget (named_terms flat) entry values) Wrong f → ⊥
+  wrong_never f (right o x s) = same s (safe o f x)
+    where
+      same : {o : Out FlatValue} → Same_out (Is_value h) Wrong o → Rattle.fut_meaning.specs.Claims.HasOut (Result_fits N (integer_at integers) (plain false) budget used.0) o → ⊥
+      same same_wrong k = k
+
+  module _ (ps : List SourceProgram) (resolved : resolve_program ps ≡ Ok (program_of flat)) where
+    result_of : (vs : List Scalar) (f : ℕ) (v : FlatValue) → Flat_means (integer_at integers) (plain false) budget (named_terms flat) entry values (Val v) f → Is_value h vs v → Allows_result ps (program_of flat) (integer_at integers) budget entry.0 arguments tuple vs × AreOf results vs
+    result_of vs f v x s =
+        let fit = safe (Val v) f x in
+        let is = results_are N (integer_at integers) (plain false) budget fit.0 tuple results used.0 used.1 s fit.1 in
+        let m : Rattle.fut_meaning.specs.Programs.Program_means (flat_names (integer_at integers)) (plain false) budget (flat_tops 0 (named_values (program_of flat).definitions)) entry.0 (all_values (map Scalar_datum arguments)) (Val (as_value is.result)) f =
+        subst (λ z. Rattle.fut_meaning.specs.Programs.Program_means (flat_names (integer_at integers)) (plain false) budget (flat_tops 0 z) entry.0 (all_values (map Scalar_datum arguments)) (Val (as_value is.result)) f) (sym (named_are flat.definitions.now))
+        (subst (λ z. Flat_means (integer_at integers) (plain false) budget (named_terms flat) entry z (Val (as_value is.result)) f) (listed_scalars arguments)
+        (subst (λ z. Flat_means (integer_at integers) (plain false) budget (named_terms flat) entry values (Val z) f) is.value x)) in
+        (record { result = is.result; is_result = is.is_result; words = f; means = (same_results ps (program_of flat) resolved no_size (integer_at integers) false budget entry.0 (map Scalar_datum arguments) is.result f).0 m }, is.are_of)
+
+    report_of : (k : Report) (f : ℕ) → Flat_means (integer_at integers) (plain false) budget (named_terms flat) entry values (Fail k) f → Allows_report ps (program_of flat) (integer_at integers) budget entry.0 arguments k
+    report_of k f x =
+        let m : Rattle.fut_meaning.specs.Programs.Program_means (flat_names (integer_at integers)) (plain false) budget (flat_tops 0 (named_values (program_of flat).definitions)) entry.0 (all_values (map Scalar_datum arguments)) (Fail k) f =
+        subst (λ z. Rattle.fut_meaning.specs.Programs.Program_means (flat_names (integer_at integers)) (plain false) budget (flat_tops 0 z) entry.0 (all_values (map Scalar_datum arguments)) (Fail k) f) (sym (named_are flat.definitions.now))
+        (subst (λ z. Flat_means (integer_at integers) (plain false) budget (named_terms flat) entry z (Fail k) f) (listed_scalars arguments) x) in
+        record { words = f; means = (same_reports ps (program_of flat) resolved no_size (integer_at integers) false budget entry.0 (map Scalar_datum arguments) k f).0 m }
+
+    gives_so : (vs : List Scalar) (f : ℕ) → Right (Is_value h) (Flat_means (integer_at integers) (plain false) budget (named_terms flat) entry values) (Val vs) f → Allows_result ps (program_of flat) (integer_at integers) budget entry.0 arguments tuple vs × AreOf results vs
+    gives_so vs f (right o x s) = same s x
+      where
+        same : {o : Out FlatValue} → Same_out (Is_value h) (Val vs) o → Flat_means (integer_at integers) (plain false) budget (named_terms flat) entry values o f → Allows_result ps (program_of flat) (integer_at integers) budget entry.0 arguments tuple vs × AreOf results vs
+        same (same_value {a' = v} s) x = result_of vs f v x s
+
+    fails_so : (k : Report) (f : ℕ) → Right (Is_value h) (Flat_means (integer_at integers) (plain false) budget (named_terms flat) entry values) (Fail k) f → Allows_report ps (program_of flat) (integer_at integers) budget entry.0 arguments k
+    fails_so k f (right o x s) = same s x
+      where
+        same : {o : Out FlatValue} → Same_out (Is_value h) (Fail k) o → Flat_means (integer_at integers) (plain false) budget (named_terms flat) entry values o f → Allows_report ps (program_of flat) (integer_at integers) budget entry.0 arguments k
+        same same_report x = report_of k f x
+
+  pub run_is : Runs_as flat integers entry tuple results p budget arguments
+  run_is = record {
+    never_wrong = λ f x. wrong_never f (flat_allows Wrong f x);
+    gives = λ ps resolved vs f x. gives_so ps resolved vs f (flat_allows (Val vs) f x);
+    fails = λ ps resolved k f x. fails_so ps resolved k f (flat_allows (Fail k) f x);
+  }
+
+pub blocks_mean_the_source : BlocksMeanTheSource
+blocks_mean_the_source flat inference integers entry params tuple results hs h p r budget arguments of split = run_is r budget arguments of split

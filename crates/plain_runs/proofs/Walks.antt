@@ -1,0 +1,35 @@
+-- The walk of a typed program is never lost.
+use Rattle.std.proofs.Common.{◌≡◌, ℕ, suc, List, [], ◌∷◌, Bool, length, refl, sym, subst, arith}
+use Rattle.fut_scalar.specs.declared.place.BindId.{BindId}
+use Rattle.fut_scalar.specs.declared.scalar.IntType.{IntType}
+use Rattle.fut_scalar.specs.declared.scalar.ScalarType.{ScalarType}
+use Rattle.fut_flat.specs.declared.program.Flat.{Flat}
+use Rattle.fut_typing.specs.Names.{count}
+use Rattle.fut_meaning.specs.Comes.{Program_lost}
+use Rattle.fut_meaning.specs.Flats.{flat_tops, named_terms}
+use Rattle.type_infer.specs.Inferring.{Told_by}
+use Rattle.type_scopes.specs.declared.Inference.{Inference}
+use Rattle.typed_meaning.proofs.Unlost.{walks_never_lost}
+use Rattle.fut_types.specs.declared.Kind.TheVariants as kind
+use Rattle.fut_typing.specs.Scopes.{nothing}
+use Rattle.fut_typing.specs.Patterns.{arrows}
+use Rattle.fut_typing.specs.Program.{program_of as typing_of}
+use Rattle.fut_typing.specs.Exact.{scope_behind}
+use Rattle.typed_programs.specs.Entries.{scalar_tys}
+use Rattle.plain_runs.specs.Claims.{Is_usable}
+use Rattle.typed_programs.specs.Typed.{Typed_by}
+
+count_is : (ss : List ScalarType) → count (scalar_tys ss) ≡ length ss
+unfolding scalar_tys
+count_is [] = refl
+count_is (s ∷ ss) = let h = count_is ss in omega (arith, h)
+
+pub never_lost : (flat : Flat) (inference : Inference) (integers : List IntType) (entry : BindId) (params : List ScalarType) (tuple : Bool) (results : List ScalarType) → Told_by (Typed_by flat inference integers) inference → Is_usable flat inference entry params tuple results
+    → Program_lost entry.0 (length params) (flat_tops 0 (named_terms flat)) → ⊥
+never_lost flat inference integers entry params tuple results told usable lost =
+    let N = told.some.0 in
+    let known = told.holds N told.some.1 in
+    let used = usable.usable.uses usable.definition N known.kinds known.types known.typed.typed known.comes in
+    walks_never_lost N told.some.1.names known.kinds known.types flat known.walkable entry (scalar_tys params) used.0
+    (subst (λ z. (scope_behind N kind.Data (typing_of flat) 0 nothing).uses z known.kinds known.types (arrows (scalar_tys params) used.0)) usable.is used.2) (usable.usable.takes_data known.kinds) (usable.usable.gives_data known.kinds used.0 used.1)
+    (subst (λ n. Program_lost entry.0 n (flat_tops 0 (named_terms flat))) (sym (count_is params)) lost)

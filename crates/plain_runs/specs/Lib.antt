@@ -1,0 +1,4 @@
+pub mod Results
+pub mod Allowed
+pub mod Claims
+pub mod Prepared
