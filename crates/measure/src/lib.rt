@@ -19,6 +19,3 @@ mod walked;
 
 pub use program::{measure, measure_or_lost};
 pub use stop::Stop;
-
-#[cfg(test)]
-mod tests;
