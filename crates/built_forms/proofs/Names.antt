@@ -1,7 +1,7 @@
 -- Type parameters alone, and numbers that rise.
-use Rattle.std.proofs.Common.{◌≡◌, ℕ, suc, ◌+◌, ◌<◌, ◌≤◌, List, [], ◌∷◌, ◌++◌, length, take, slice_index_or, refl, sym, subst, arith}
+use Rattle.std.proofs.Common.{◌≡◌, ℕ, zero, suc, ◌<◌, ◌≤◌, List, [], ◌∷◌, length, slice_index_or, refl, sym, subst, arith}
+use native.Mathlib.Decide.{ℕ_discrete}
 use Rattle.std.specs.List.{All}
-use Rattle.std.proofs.Math.Seq.{take-suc}
 use Rattle.fut_scalar.specs.declared.place.BindId.{BindId}
 use Rattle.fut_flat.specs.declared.pat.Head.{Head}
 use Rattle.fut_flat.specs.declared.pat.HeadForm.{HeadForm}
@@ -12,7 +12,8 @@ use Rattle.fut_flat.specs.Erased.{parameter_form, parameters}
 use Rattle.typed_meaning.specs.Meant.{No_sizes}
 use Rattle.typed_meaning.specs.Programs.{None_has, One_each}
 use Rattle.built_forms.specs.Trees.{Heads_built}
-use Rattle.built_forms.proofs.Forms.{first_of, others}
+use Rattle.built_forms.specs.Built.{Numbers_rise}
+use Rattle.built_forms.proofs.Forms.{first_of, others, all_more}
 
 abbrev pub Is_type : HeadForm → Type 0
 Is_type (head.Size b) = ⊥
@@ -34,33 +35,39 @@ unfolding Heads_built
 types_only [] a = tt
 types_only (h ∷ hs) a = types_more h.form (parameters hs) (first_of Has_type h hs a) (types_only hs (others Has_type h hs a))
 
+types_were : (f : HeadForm) (ps : List (Parameter BindId)) → No_sizes [] (parameter_form f ∷ ps) → Is_type f × No_sizes [] ps
+types_were (head.Size b) ps h = absurd h
+types_were (head.Var b lifted) ps h = (tt, h)
+
+pub types_alone : (hs : List Head) → Heads_built hs → All Has_type hs
+unfolding Heads_built
+types_alone [] a = λ k d lt. absurd (omega arith)
+types_alone (h ∷ hs) a = let t = types_were h.form (parameters hs) a in all_more Has_type h hs t.0 (types_alone hs t.1)
+
+is_type_at : (f : HeadForm) (b : BindId) → f ≡ head.Size b → Is_type f → ⊥
+is_type_at f b e t = subst Is_type e t
+
+pub size_stands : (hs : List Head) (i : ℕ) (d : Head) (b : BindId) → i < length hs → (slice_index_or hs i d).form ≡ head.Size b → Heads_built hs → ⊥
+size_stands hs i d b lt e h = is_type_at (slice_index_or hs i d).form b e (types_alone hs h i d lt)
+
 -- ---- numbers
 
-abbrev Each : {X : Type 0} → (X → Type 0) → List X → Type 0
-Each P [] = Unit {0}
-Each P (x ∷ xs) = P x × Each P xs
+-- of the first `n` each is below the next
+abbrev pub Steps_up : ℕ → List Definition → Type 0
+Steps_up n ds = (k : ℕ) (d : Definition) → suc k < n → (slice_index_or ds k d).bind.0 < (slice_index_or ds (suc k) d).bind.0
 
-abbrev pub Below : ℕ → Definition → Type 0
-Below k d = d.bind.0 < k
+pub rising : (ds : List Definition) (n : ℕ) → length ds ≤ n → Steps_up n ds → Numbers_rise ds
+rising ds n all steps i zero d lt within = absurd (omega arith)
+rising ds n all steps i (suc j) d lt within = elim (ℕ_discrete i j) as (λ x. (slice_index_or ds i d).bind.0 < (slice_index_or ds (suc j) d).bind.0) [
+  | yes e ↦ subst (λ k. (slice_index_or ds k d).bind.0 < (slice_index_or ds (suc j) d).bind.0) (sym e) (steps j d (omega arith))
+  | no ne ↦ let before : (slice_index_or ds i d).bind.0 < (slice_index_or ds j d).bind.0 = rising ds n all steps i j d (omega arith) (omega arith) in let next : (slice_index_or ds j d).bind.0 < (slice_index_or ds (suc j) d).bind.0 = steps j d (omega arith) in omega arith
+]
 
-none_more : (k : ℕ) (ds : List Definition) (d : Definition) → None_has k ds → (d.bind.0 ≡ k → ⊥) → None_has k (ds ++ d ∷ [])
-none_more k [] d h n = (n, tt)
-none_more k (e ∷ ds) d h n = (h.0, none_more k ds d h.1 n)
+later : (k : ℕ) (ds : List Definition) → All (λ (e : Definition). k < e.bind.0) ds → None_has k ds
+later k [] h = tt
+later k (d ∷ ds) h = ((λ e. let lt : k < d.bind.0 = first_of (λ (e : Definition). k < e.bind.0) d ds h in omega arith), later k ds (others (λ (e : Definition). k < e.bind.0) d ds h))
 
-one_more : (free : ℕ) (ds : List Definition) (d : Definition) → One_each ds → Each (Below free) ds → free ≤ d.bind.0 → One_each (ds ++ d ∷ [])
-one_more free [] d h b le = (tt, tt)
-one_more free (e ∷ ds) d h b le = (none_more e.bind.0 ds d h.0 (λ eq. let lt : e.bind.0 < free = b.0 in let is : d.bind.0 ≡ e.bind.0 = eq in omega arith), one_more free ds d h.1 b.1 le)
-
-below_more : (free next : ℕ) (ds : List Definition) (d : Definition) → Each (Below free) ds → free ≤ next → d.bind.0 < next → Each (Below next) (ds ++ d ∷ [])
-below_more free next [] d b le lt = (lt, tt)
-below_more free next (e ∷ ds) d b le lt = ((let z : e.bind.0 < free = b.0 in omega arith), below_more free next ds d b.1 le lt)
-
-abbrev pub Rising : ℕ → List Definition → Type 0
-Rising free ds = One_each ds × Each (Below free) ds
-
-pub rising_more : (free : ℕ) (ds : List Definition) (i : ℕ) (d : Definition) → i < length ds → Rising free (take i ds) → free ≤ (slice_index_or ds i d).bind.0 → Rising ((slice_index_or ds i d).bind.0 + 1) (take (i + 1) ds)
-rising_more free ds i d lt r le =
-    let x : Definition = slice_index_or ds i d in
-    let one : suc i ≡ i + 1 = omega arith in
-    subst (λ n. Rising (x.bind.0 + 1) (take n ds)) one (subst (Rising (x.bind.0 + 1)) (sym (take-suc ds i d lt))
-    (one_more free (take i ds) x r.0 r.1 le, below_more free (x.bind.0 + 1) (take i ds) x r.1 (omega arith) (omega arith)))
+-- so each has a number of its own
+pub once_each : (ds : List Definition) → Numbers_rise ds → One_each ds
+once_each [] h = tt
+once_each (d ∷ ds) h = (later d.bind.0 ds (λ k e lt. h 0 (suc k) e (omega arith) (omega arith)), once_each ds (λ i j e lt within. h (suc i) (suc j) e (omega arith) (omega arith)))

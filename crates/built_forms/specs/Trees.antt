@@ -1,5 +1,5 @@
 -- Trees that have only forms that are built, as terms and as code holds them.
-use Rattle.std.specs.Prelude.{◌≡◌, ℕ, List, []}
+use Rattle.std.specs.Prelude.{◌≡◌, ◌≤◌, ℕ, List, []}
 use Rattle.fut_scalar.specs.declared.place.BindId.{BindId}
 use Rattle.fut_flat.specs.declared.act.Act.{Act}
 use Rattle.fut_flat.specs.declared.exp.Exp.{Exp}
@@ -14,6 +14,9 @@ use Rattle.fut_flat.specs.Erased.{FlatTerm, FlatTurns, operation_of, parameters,
 use Rattle.fut_flat.proofs.ErasedForms.{loop_of, turns_of}
 use Rattle.typed_meaning.specs.Meant.{No_sizes, Operation_meant, Use_meant, Meant, Turns_meant}
 use Rattle.typed_meaning.specs.Walkable.{Operation_walkable, Use_walkable, Walkable, Turns_walkable}
+
+unfoldable pub Is_digit : ℕ → Type 0
+Is_digit c = (48 ≤ c) × (c ≤ 57)
 
 -- any name may be used
 abbrev pub any : ℕ → Type 0

@@ -3,19 +3,21 @@
 //! It stands behind a check of the tokens, which refuses each text of a form that is not built yet, and goes once all are.
 #![tactic(auto)]
 
-ghost use Rattle.std.specs.Prelude.{◌≡◌, true};
+ghost use Rattle.std.specs.Prelude.{◌≡◌, true, false};
 ghost use Rattle.built_forms.specs.Built.{Is_built};
 
 mod definitions;
 mod operations;
+mod positions;
 mod terms;
 
-use crate::definitions::{are_built, have_own_numbers};
+use crate::definitions::{are_built, numbers_rise};
 use fut_flat::Flat;
 
-/// Whether a program has only forms that are built, and a number of its own for each definition. The cost is linear.
+/// Whether a program has only forms that are built, and numbers of its definitions that rise. The cost is linear.
 pub fn is_built(flat: &Flat<'_>) -> bool
-    ensures { result ≡ true → Is_built flat.now }
+    ensures built { result ≡ true → Is_built flat.now }
+    ensures unbuilt { result ≡ false → Is_built flat.now → ⊥ }
 {
-    are_built(flat.definitions) && have_own_numbers(flat.definitions)
+    are_built(flat.definitions) && numbers_rise(flat.definitions)
 }

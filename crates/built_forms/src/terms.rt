@@ -1,5 +1,5 @@
 // Expressions. A row of `let`s is gone over by a loop, however long it is.
-ghost use Rattle.std.specs.Prelude.{◌≡◌, [], true};
+ghost use Rattle.std.specs.Prelude.{◌≡◌, [], true, false};
 ghost use Rattle.std.specs.List.{All};
 ghost use Rattle.built_forms.specs.Trees.{Exp_built, Let_built, Loop_built, Loop_turns_built};
 
@@ -9,7 +9,8 @@ use fut_scalar::BindId;
 
 /// Whether no names of sizes are bound.
 fn no_sizes(sizes: &[BindId]) -> bool
-    ensures { result ≡ true → sizes.now ≡ [] }
+    ensures built { result ≡ true → sizes.now ≡ [] }
+    ensures unbuilt { result ≡ false → (sizes.now ≡ []) → ⊥ }
 {
     sizes.is_empty()
 }
@@ -17,7 +18,8 @@ fn no_sizes(sizes: &[BindId]) -> bool
 /// Whether an expression has only forms that are built.
 #[cycle(term)]
 pub(crate) fn exp_is_built(exp: &Exp<'_>) -> bool
-    ensures { result ≡ true → Exp_built exp.now }
+    ensures built { result ≡ true → Exp_built exp.now }
+    ensures unbuilt { result ≡ false → Exp_built exp.now → ⊥ }
 {
     match exp.form {
         Form::Use(used, _) => use_is_built(used),
@@ -32,7 +34,8 @@ pub(crate) fn exp_is_built(exp: &Exp<'_>) -> bool
 
 #[cycle(term)]
 fn parts_are_built(parts: &[Exp<'_>]) -> bool
-    ensures { result ≡ true → All Exp_built parts.now }
+    ensures built { result ≡ true → All Exp_built parts.now }
+    ensures unbuilt { result ≡ false → All Exp_built parts.now → ⊥ }
 {
     for part in parts {
         if !exp_is_built(part) {
@@ -44,7 +47,8 @@ fn parts_are_built(parts: &[Exp<'_>]) -> bool
 
 #[cycle(term)]
 fn lets_are_built(lets: &[Let<'_>]) -> bool
-    ensures { result ≡ true → All Let_built lets.now }
+    ensures built { result ≡ true → All Let_built lets.now }
+    ensures unbuilt { result ≡ false → All Let_built lets.now → ⊥ }
 {
     for one in lets {
         if !let_is_built(one) {
@@ -57,14 +61,16 @@ fn lets_are_built(lets: &[Let<'_>]) -> bool
 #[cycle(term)]
 #[tactic(auto, unfolding(crate::specs::Trees::Let_built))]
 fn let_is_built(one: &Let<'_>) -> bool
-    ensures { result ≡ true → Let_built one.now }
+    ensures built { result ≡ true → Let_built one.now }
+    ensures unbuilt { result ≡ false → Let_built one.now → ⊥ }
 {
     no_sizes(one.sizes) && heads_are_built(one.heads) && exp_is_built(&one.value)
 }
 
 #[cycle(term)]
 fn loop_is_built(turning: &Loop<'_>) -> bool
-    ensures { result ≡ true → Loop_built turning.now }
+    ensures built { result ≡ true → Loop_built turning.now }
+    ensures unbuilt { result ≡ false → Loop_built turning.now → ⊥ }
 {
     if !no_sizes(turning.sizes) {
         return false;
@@ -78,7 +84,8 @@ fn loop_is_built(turning: &Loop<'_>) -> bool
 /// Whether what says how often a loop turns is built: all but going over an array.
 #[cycle(term)]
 fn turns_are_built(turning: &Loop<'_>) -> bool
-    ensures { result ≡ true → Loop_turns_built turning.now.form }
+    ensures built { result ≡ true → Loop_turns_built turning.now.form }
+    ensures unbuilt { result ≡ false → Loop_turns_built turning.now.form → ⊥ }
 {
     match turning.form {
         LoopForm::For(_, bound) => exp_is_built(&bound),

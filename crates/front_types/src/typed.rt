@@ -34,7 +34,8 @@ pub enum TypeErr {
     FunctionPlace { at: Place },
     /// It has many, and what the principal one leaves undetermined has no default.
     Ambiguous { at: Place },
-    /// Memory ran out, or a form stands in it that is not built. Those are refused by their tokens before.
+    /// Memory ran out. It is answered too where a form stands in the program that is not built, which its tokens tell
+    /// before; where a number of a refusal has no place, and where an integer type has parts, neither of which comes.
     Memory,
 }
 

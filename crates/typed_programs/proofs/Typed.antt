@@ -29,6 +29,7 @@ use Rattle.typed_meaning.proofs.Literals.{literal_kept}
 use Rattle.built_forms.specs.Built.{Is_built}
 use Rattle.typed_programs.specs.Typed.{integer_at, Typed_by, Is_integer, Nodes_tell}
 use Rattle.typed_programs.proofs.Integral.{integral}
+use Rattle.built_forms.proofs.Names.{once_each}
 
 -- ---- where defaults are put in, no variable is of integers
 same_variable : (v w : ℕ) → Var v ≡ Var w → v ≡ w
@@ -107,8 +108,8 @@ module _ (flat : Flat) (inference : Inference) (integers : List IntType) (built 
         types = has.types;
         typing = has.typing;
         comes = has.comes;
-        typed = record { typed = typed; meant = built.meant; told = definitions_told N K has.types integers (program_numbers ds) tells ds 0 nothing (omega arith) typed; once = built.once; small = small };
-        walkable = record { typed = typed; walkable = built.walkable; once = built.once; small = small };
+        typed = record { typed = typed; meant = built.meant; told = definitions_told N K has.types integers (program_numbers ds) tells ds 0 nothing (omega arith) typed; once = once_each flat.definitions.now built.rising; small = small };
+        walkable = record { typed = typed; walkable = built.walkable; once = once_each flat.definitions.now built.rising; small = small };
       }
 
   pub program_typed : Infers (program_of flat) inference → Nodes_tell inference.nodes integers (length inference.nodes) → Told_by (Typed_by flat inference integers) inference

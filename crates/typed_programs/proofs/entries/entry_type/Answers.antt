@@ -4,6 +4,7 @@ use Rattle.typed_programs.specs.Entries.{Because, Is_outside, May_be_used, No_en
 use Rattle.typed_programs.proofs.EntryTypes.{because}
 use Rattle.typed_programs.proofs.Reading.{if_ok, if_err}
 use Rattle.typed_programs.proofs.Using.{may_be_used, not_outside, number_within, outside_heads, plain_heads}
+use Rattle.built_forms.proofs.Names.{once_each}
 use Rattle.typed_programs.proofs.entries.entry_type.Goals as goal
 
 pub returns-then-flat-at-gt0-clause-outside : goal.returns-then-flat-at-gt0-clause-outside
@@ -14,7 +15,7 @@ entry_type_of-requires-clause-number c = subst (λ n. n < length c.args.inferenc
 
 pub returns-in-Ok-clause-ok : goal.returns-in-Ok-clause-ok
 returns-in-Ok-clause-ok c = if_ok (λ entry. Type_is c.args.inference.now.nodes c.in-Ok.number entry.params entry.tuple entry.results) (λ entry. May_be_used c.args.flat.now c.args.inference.now.nodes c.args.at entry.params entry.tuple entry.results) c.entry_type_of.result
-    (λ entry is. may_be_used c.args.flat.now c.args.inference.now.nodes c.args.at c.requires.at c.requires.built.once (plain_heads c.args.flat.now.definitions.now c.args.at _ c.requires.at c.if-flat-at-gt0.false) entry.params entry.tuple entry.results
+    (λ entry is. may_be_used c.args.flat.now c.args.inference.now.nodes c.args.at c.requires.at (once_each c.args.flat.now.definitions.now c.requires.built.rising) (plain_heads c.args.flat.now.definitions.now c.args.at _ c.requires.at c.if-flat-at-gt0.false) entry.params entry.tuple entry.results
     (subst (λ n. Type_is c.args.inference.now.nodes n entry.params entry.tuple entry.results) c.in-Ok.ensures.ok is)) c.entry_type_of.ensures.ok
 
 pub returns-in-Ok-clause-outside : goal.returns-in-Ok-clause-outside
