@@ -53,10 +53,10 @@ No_primitive p at ss = (n n' : ℕ) (bs : Bindings) (s : Known) → Primitive_op
 pub data Carried (integer_at : ℕ → IntType) (tops : Tops) (sc : Scope) (lo : ℕ) (p : FlatPattern) (first : FlatTerm) : Shape → Known → Type 0 where
   carried : {n n' : ℕ} {bs : Bindings} {h : Shape} {s r : Known} {us ws : List Atom} → Unfolds integer_at tops sc (1 + lo + pattern_numbers p) first n bs s n' → Laid h s us [] → Laid h r ws [] → Carried integer_at tops sc lo p first h r
 
--- the names of a turn
-pub data Turn_names (inside : Scope) : FlatTurns → Scope → Type 0 where
-  turn_counted : {i : BindId} {count : FlatTerm} {y : ℕ} → Turn_names inside (Counted i count) (name_and i (named y) inside)
-  turn_tested : {test : FlatTerm} → Turn_names inside (While test) inside
+-- the names of a turn, for the names that the pattern binds; how many turns there are has been unfolded outside of the loop
+pub data Turn_names (integer_at : ℕ → IntType) (tops : Tops) (sc inside : Scope) (at : ℕ) : FlatTurns → Scope → Type 0 where
+  turn_counted : {n n' y : ℕ} {i : BindId} {count : FlatTerm} {bs : Bindings} {u : Atom} → Unfolds integer_at tops sc (1 + at) count n bs (Scalar_known u) n' → Turn_names integer_at tops sc inside at (Counted i count) (name_and i (named y) inside)
+  turn_tested : {test : FlatTerm} → Turn_names integer_at tops sc inside at (While test) inside
 
 -- a term, whose nodes are numbered from a number on
 mutual
@@ -85,10 +85,10 @@ mutual
     stuck_test : {sc inner : Scope} {lo : ℕ} {mark : Place} {sizes : List BindId} {p : FlatPattern} {first test body : FlatTerm} {h : Shape} {r : Known} → Carried integer_at tops sc lo p first h r → Binds p r sc inner → Stuck integer_at tops inner (1 + lo + pattern_numbers p + numbers first) test → Stuck integer_at tops sc lo (Loop mark sizes p first (While test) body)
     no_test : {sc inner : Scope} {lo n n' : ℕ} {mark : Place} {sizes : List BindId} {p : FlatPattern} {first test body : FlatTerm} {bs : Bindings} {h : Shape} {r s : Known} → Carried integer_at tops sc lo p first h r → Binds p r sc inner → Unfolds integer_at tops inner (1 + lo + pattern_numbers p + numbers first) test n bs s n' → No_scalar s
         → Stuck integer_at tops sc lo (Loop mark sizes p first (While test) body)
-    stuck_body : {sc inside inner : Scope} {lo : ℕ} {mark : Place} {sizes : List BindId} {p : FlatPattern} {first body : FlatTerm} {turns : FlatTurns} {h : Shape} {r : Known} → Carried integer_at tops sc lo p first h r → Binds p r sc inside → Turn_names inside turns inner
+    stuck_body : {sc inside inner : Scope} {lo : ℕ} {mark : Place} {sizes : List BindId} {p : FlatPattern} {first body : FlatTerm} {turns : FlatTurns} {h : Shape} {r : Known} → Carried integer_at tops sc lo p first h r → Binds p r sc inside → Turn_names integer_at tops sc inside (1 + lo + pattern_numbers p + numbers first) turns inner
         → Stuck integer_at tops inner (1 + lo + pattern_numbers p + numbers first + turn_numbers turns) body → Stuck integer_at tops sc lo (Loop mark sizes p first turns body)
     -- a turn gives data of another shape
-    other_turn : {sc inside inner : Scope} {lo n n' : ℕ} {mark : Place} {sizes : List BindId} {p : FlatPattern} {first body : FlatTerm} {turns : FlatTurns} {bs : Bindings} {h : Shape} {r s : Known} → Carried integer_at tops sc lo p first h r → Binds p r sc inside → Turn_names inside turns inner
+    other_turn : {sc inside inner : Scope} {lo n n' : ℕ} {mark : Place} {sizes : List BindId} {p : FlatPattern} {first body : FlatTerm} {turns : FlatTurns} {bs : Bindings} {h : Shape} {r s : Known} → Carried integer_at tops sc lo p first h r → Binds p r sc inside → Turn_names integer_at tops sc inside (1 + lo + pattern_numbers p + numbers first) turns inner
         → Unfolds integer_at tops inner (1 + lo + pattern_numbers p + numbers first + turn_numbers turns) body n bs s n' → Not_laid h s → Stuck integer_at tops sc lo (Loop mark sizes p first turns body)
 
   -- terms from left to right
