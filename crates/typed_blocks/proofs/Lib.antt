@@ -8,3 +8,4 @@ pub mod Seeing
 pub mod Applying
 pub mod Going
 pub mod Surely
+pub mod Unstuck
