@@ -1,5 +1,5 @@
 -- Functions and primitives: each is known by its type.
-use Rattle.std.proofs.Common.{◌≡◌, true, false, ℕ, ◌≤◌, ◌++◌, refl, sym, ◌∙◌, subst, List, [], ◌∷◌, Option, Some, None, length, nat_lt, arith}
+use Rattle.std.proofs.Common.{◌≡◌, true, false, ℕ, ◌≤◌, ◌++◌, refl, sym, ◌∙◌, subst, List, [], ◌∷◌, Some, None, length, nat_lt, arith}
 use Rattle.fut_scalar.specs.declared.place.Place.{Place}
 use Rattle.fut_scalar.specs.declared.scalar.IntType.{IntType}
 use Rattle.fut_scalar.specs.declared.scalar.IntType.TheVariants as int
@@ -8,7 +8,7 @@ use Rattle.fut_scalar.specs.declared.scalar.ScalarType.{ScalarType}
 use Rattle.fut_scalar.specs.declared.scalar.ScalarType.TheVariants as types
 use Rattle.fut_flat.specs.declared.prim.Primitive.{Primitive}
 use Rattle.fut_flat.specs.declared.prim.Primitive.TheVariants as prim
-use Rattle.fut_types.specs.Types.{Ty, none, Sub, scalar_ty, fun_ty, applied, all_applied}
+use Rattle.fut_types.specs.Types.{Ty, Sub, scalar_ty, fun_ty, applied, all_applied}
 use Rattle.fut_typing.specs.Names.{Names}
 use Rattle.fut_typing.specs.Primitives.{prim_type}
 use Rattle.fut_meaning.specs.Operations.{arity}

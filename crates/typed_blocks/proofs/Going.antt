@@ -1,5 +1,5 @@
 -- The unfolding of a typed term is never stuck, and what is known of its value is known by its type: each form, from its parts.
-use Rattle.std.proofs.Common.{◌≡◌, ℕ, ◌+◌, refl, sym, ◌∙◌, subst, List, [], ◌∷◌, Some, None}
+use Rattle.std.proofs.Common.{◌≡◌, ℕ, ◌+◌, refl, sym, ◌∙◌, subst, List, [], Some}
 use Rattle.fut_scalar.specs.declared.place.BindId.{BindId}
 use Rattle.fut_scalar.specs.declared.place.Place.{Place}
 use Rattle.fut_scalar.specs.declared.scalar.IntType.{IntType}
@@ -7,7 +7,7 @@ use Rattle.fut_scalar.specs.declared.scalar.ScalarType.TheVariants as types
 use Rattle.fut_flat.specs.declared.prim.Primitive.{Primitive}
 use Rattle.fut_flat.specs.declared.prim.Ref.{Ref}
 use Rattle.fut_flat.specs.declared.prim.Ref.TheVariants as ref
-use Rattle.fut_flat.specs.Terms.{Patterns, Operation, Use, Strict, Lambda, Apply, Let, If, Loop, Terms, no_term, term_and, Counted, Over, While}
+use Rattle.fut_flat.specs.Terms.{Patterns, Operation, Use, Strict, Lambda, Apply, Let, If, Loop, Terms, no_term, term_and, While}
 use Rattle.fut_flat.specs.Numbers.{pattern_numbers, all_pattern_numbers, own_numbers, numbers, turn_numbers}
 use Rattle.fut_flat.specs.Erased.{FlatTerm, FlatPattern, FlatTurns}
 use Rattle.fut_types.specs.declared.Kind.TheVariants as kind
@@ -18,9 +18,9 @@ use Rattle.fut_typing.specs.Scopes.{Scope, Used}
 use Rattle.fut_typing.specs.Typing.{FlatBinding}
 use Rattle.fut_blocks.specs.declared.block.Atom.{Atom}
 use Rattle.typed_meaning.specs.Meant.{Use_meant}
-use Rattle.unfold.specs.Knowns.{Known, Scalar_known, Function_known, Scope as Seen, Tops, find}
+use Rattle.unfold.specs.Knowns.{Known, Function_known, Scope as Seen, Tops, find}
 use Rattle.unfold.specs.Shapes.{Shape, Laid}
-use Rattle.unfold.specs.Stuck.{No_scalar, No_data, Carried, carried, Turn_names, Stuck, no_such_name, type_name, stuck_parts, no_operation, stuck_function, stuck_argument, stuck_application, stuck_value, no_pattern_of, stuck_behind, stuck_condition, no_condition, stuck_then, then_function, stuck_else, other_branch, stuck_first, first_function, stuck_turns, no_turn, stuck_test, no_test, stuck_body, other_turn, Stuck_all, stuck_here, stuck_later, Stuck_turns}
+use Rattle.unfold.specs.Stuck.{No_scalar, No_data, Carried, carried, Turn_names, Stuck, no_such_name, stuck_parts, no_operation, stuck_function, stuck_argument, stuck_application, stuck_value, no_pattern_of, stuck_behind, stuck_condition, no_condition, stuck_then, then_function, stuck_else, other_branch, stuck_first, first_function, stuck_turns, no_turn, stuck_test, no_test, stuck_body, other_turn, Stuck_all, stuck_here, stuck_later, Stuck_turns}
 use Rattle.unfold.specs.Unfolding.{Bindings, Binds, Unfolds, u_name, u_primitive, u_constant, u_strict, u_lambda, u_apply, u_let, u_if, u_counted, u_while, Unfold_all, u_none, u_more}
 use Rattle.typed_blocks.specs.Fits.{Fits, Names_fit}
 use Rattle.typed_blocks.proofs.Fitting.{some_same, none_some}

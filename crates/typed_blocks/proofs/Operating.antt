@@ -28,7 +28,6 @@ use Rattle.fut_typing.specs.Rules.{Operator, Rule}
 use Rattle.fut_meaning.specs.Operations.{named_values}
 use Rattle.fut_meaning.specs.Operators.{integer}
 use Rattle.fut_blocks.specs.declared.block.Atom.{Atom}
-use Rattle.fut_blocks.specs.declared.block.Atom.TheVariants as atom
 use Rattle.fut_blocks.specs.Meaning.{fitted}
 use Rattle.typed_meaning.specs.Fits.{widest}
 use Rattle.typed_meaning.specs.Meant.{Operation_meant}
@@ -238,12 +237,12 @@ module _ (N : Names) (integer_at : ℕ → IntType) (K : Kinds) where
     binary_gives : (o : BinOp) (t u : Ty) (s r : Known) → Operator o K t u → At tops u s → At tops u r → Gives (Binary o) (s ∷ r ∷ []) t
     binary_gives o t u s r rule h g = by_operator K (λ o. Gives (Binary o) (s ∷ r ∷ []) t) t u
         (λ e k. (
-        (λ f. let c = equal_there tops at u s r k h g 0 in f 0 c.2 c.0 (Scalar_known c.1) (o_equal c.3)),
-        (λ n n' bs v x. fits_scalar tops types.Bool t v e (binary_scalar i op.Eq at (s ∷ r ∷ []) n n' bs v x)),
+          (λ f. let c = equal_there tops at u s r k h g 0 in f 0 c.2 c.0 (Scalar_known c.1) (o_equal c.3)),
+          (λ n n' bs v x. fits_scalar tops types.Bool t v e (binary_scalar i op.Eq at (s ∷ r ∷ []) n n' bs v x)),
         ))
         (λ e k. (
-        (λ f. let c = equal_there tops at u s r k h g 0 in f 0 (suc c.2) _ _ (o_unequal c.3 (let z : c.2 ≤ c.2 = omega arith in z))),
-        (λ n n' bs v x. fits_scalar tops types.Bool t v e (binary_scalar i op.Ne at (s ∷ r ∷ []) n n' bs v x)),
+          (λ f. let c = equal_there tops at u s r k h g 0 in f 0 (suc c.2) _ _ (o_unequal c.3 (let z : c.2 ≤ c.2 = omega arith in z))),
+          (λ n n' bs v x. fits_scalar tops types.Bool t v e (binary_scalar i op.Ne at (s ∷ r ∷ []) n n' bs v x)),
         ))
         (λ o e k. reckons o e (of_integers tops u s k h) (of_integers tops u r k g)) o rule
       where

@@ -1,5 +1,5 @@
 -- What is known of the fields of records: of those that are made, of one that is found, and where one is replaced.
-use Rattle.std.proofs.Common.{◌≡◌, ◌≢◌, Bool, true, false, cond, ℕ, zero, suc, ◌+◌, ◌≤◌, ◌<◌, refl, sym, ap, ◌∙◌, subst, arith, List, [], ◌∷◌, map, length, Option, Some, None, decimal}
+use Rattle.std.proofs.Common.{◌≡◌, ◌≢◌, Bool, true, false, cond, ℕ, zero, suc, ◌+◌, ◌≤◌, ◌<◌, refl, sym, ap, ◌∙◌, subst, arith, List, [], ◌∷◌, map, Option, Some, None, decimal}
 use Rattle.std.specs.Str.{bytes_eq}
 use Rattle.std.proofs.lemmas.Slice.Eq.{bytes_eq-Decides}
 use mathlib.Core.Logic.{◌⊎◌, inl, inr}
@@ -7,17 +7,17 @@ use Rattle.fut_scalar.specs.declared.scalar.IntType.{IntType}
 use Rattle.fut_ast.specs.Sorts.{Text}
 use Rattle.fut_types.specs.declared.Head.TheVariants as head
 use Rattle.fut_types.specs.Types.{Ty, Var, Made, Tys, none, more}
-use Rattle.fut_types.specs.Shapes.{place, place_from, part_at, part_named, HasPart}
-use Rattle.fut_typing.specs.Names.{Names, AreNames, Once, IsRecord, Parts_named, Spells, count}
+use Rattle.fut_types.specs.Shapes.{place, part_at, part_named, HasPart}
+use Rattle.fut_typing.specs.Names.{Names, AreNames, IsRecord, Parts_named, Spells, count}
 use Rattle.fut_typing.proofs.Members.{In, in_list, list_in}
 use Rattle.fut_meaning.specs.Knowns.{with_some}
 use Rattle.fut_meaning.specs.Operations.{with_name, named_values}
-use Rattle.fut_meaning.specs.Values.{Tuple_value, no_value, no_field, field_and, is_before, with_field as put}
-use Rattle.typed_meaning.specs.Fits.{widest, FlatFields, Is_key, In_order, Are_keys}
+use Rattle.fut_meaning.specs.Values.{Tuple_value, no_value, field_and, is_before, with_field as put}
+use Rattle.typed_meaning.specs.Fits.{widest, Is_key, In_order, Are_keys}
 use Rattle.typed_meaning.proofs.Decimals.{no_number, spelled, one_number, part_low}
 use Rattle.typed_meaning.proofs.Ordering.{eq_here, eq_other, key_put, key_stays, order_put}
-use Rattle.typed_meaning.proofs.Records.{Named, Apart, covers, long_map, label_named, labels_apart, once_rest, placed_label}
-use Rattle.unfold.specs.Knowns.{Known, Tuple_known, Record_known, Knowns, no_known, known_and, Known_fields, no_known_field, known_field_and, Tops, with_field, fields, field, replaced, part_from, part, record_parts}
+use Rattle.typed_meaning.proofs.Records.{Named, Apart, covers, long_map, label_named, labels_apart, placed_label}
+use Rattle.unfold.specs.Knowns.{Known, Record_known, Knowns, no_known, known_and, Known_fields, no_known_field, known_field_and, Tops, with_field, fields, field, replaced, part_from, part, record_parts}
 use Rattle.typed_blocks.specs.Fits.{On_record, Each_field, keys, Fits, All_fit, Keyed}
 use Rattle.typed_blocks.proofs.Fitting.{some_same, each_found, keyed_found, keyed_from}
 use Rattle.typed_blocks.proofs.Shaping.{tuple_is, record_is}

@@ -1,9 +1,8 @@
 -- Names with what is known of them: where more definitions are known, and behind a pattern.
-use Rattle.std.proofs.Common.{◌≡◌, cond, ℕ, ◌+◌, ◌<◌, refl, sym, ap, ◌∙◌, subst, List, [], ◌∷◌, Option, Some, None, ne_eqb, eq-eqb}
+use Rattle.std.proofs.Common.{◌≡◌, cond, ℕ, ◌+◌, ◌<◌, sym, ap, ◌∙◌, subst, List, [], ◌∷◌, Some, ne_eqb, eq-eqb}
 use native.Mathlib.Decide.{ℕ_discrete}
 use Rattle.fut_scalar.specs.declared.place.BindId.{BindId}
 use Rattle.fut_scalar.specs.declared.scalar.IntType.{IntType}
-use Rattle.fut_ast.specs.Sorts.{Text}
 use Rattle.fut_flat.specs.declared.prim.Ref.{Ref}
 use Rattle.fut_flat.specs.Terms.{Parameter, Size_parameter, Type_parameter, Bound_pattern, Wild_pattern, Tuple_pattern, Record_pattern, Typed_pattern, Patterns, no_pattern, pattern_and}
 use Rattle.fut_flat.specs.Numbers.{pattern_numbers}
@@ -16,7 +15,7 @@ use Rattle.fut_typing.specs.Scopes.{Uses, Scope, with_uses, with_type, with_size
 use Rattle.fut_typing.specs.Patterns.{pattern_types, with_pattern, with_patterns, with_parameters, Pattern_typed, Patterns_typed}
 use Rattle.fut_typing.proofs.Local.{AllLocal, Agree}
 use Rattle.typed_meaning.specs.Meant.{No_sizes}
-use Rattle.unfold.specs.Knowns.{Known, Scalar_known, Tuple_known, Record_known, Knowns, no_known, known_and, Known_fields, Scope as Seen, no_name, name_and, Tops, listed, find, record_parts}
+use Rattle.unfold.specs.Knowns.{Known, Tuple_known, Record_known, Knowns, no_known, known_and, Known_fields, Scope as Seen, name_and, Tops, listed, find, record_parts}
 use Rattle.unfold.specs.Unfolding.{Binds, b_bound, b_wild, b_tuple, b_record, b_typed, All_bind, b_none, b_more}
 use Rattle.typed_blocks.specs.Fits.{Learns, Fits, All_fit, Names_fit}
 use Rattle.typed_blocks.proofs.Fitting.{some_same, find_learns, fits_learn}

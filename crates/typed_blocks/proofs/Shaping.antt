@@ -1,6 +1,6 @@
 -- Data of one type is of one shape, what is of the shape of data of a type is known of its values, and data of one shape is
 -- compared part by part.
-use Rattle.std.proofs.Common.{◌≡◌, ℕ, ◌≤◌, min, refl, sym, ap, ◌∙◌, subst, arith, List, [], ◌∷◌}
+use Rattle.std.proofs.Common.{◌≡◌, ℕ, ◌≤◌, min, refl, sym, ap, subst, arith, List, [], ◌∷◌}
 use native.Mathlib.Decide.{ℕ_discrete}
 use Rattle.fut_scalar.specs.declared.place.Place.{Place}
 use Rattle.fut_scalar.specs.declared.scalar.IntType.{IntType}
@@ -253,8 +253,8 @@ module _ (N : Names) (integer_at : ℕ → IntType) (K : Kinds) (tops : Tops) wh
         let z : 1 ≤ min 2 (least K ts) = k in
         record_carries (λ fs. Are_keys N (N.shapes.fields n) (keys fs) × Each_field (Part (N.shapes.fields n) ts) fs)
         (λ hs fs gs us rest ws rest' l m f. (
-        subst (Are_keys N (N.shapes.fields n)) (fields_keys hs fs gs us rest ws rest' l m) f.0,
-        each_carries (Part (N.shapes.fields n) ts) (λ g. keyed_carries (N.shapes.fields n) ts (N.label g) (omega (arith, z))) hs fs gs us rest ws rest' l m f.1,
+          subst (Are_keys N (N.shapes.fields n)) (fields_keys hs fs gs us rest ws rest' l m) f.0,
+          each_carries (Part (N.shapes.fields n) ts) (λ g. keyed_carries (N.shapes.fields n) ts (N.label g) (omega (arith, z))) hs fs gs us rest ws rest' l m f.1,
         )) h s r us rest ws rest' l m f
     shape_carries (Made head.Fun ts) k h s r us rest ws rest' l m f = absurd (let z : 1 ≤ min 0 (least K ts) = k in omega (arith, z))
     shape_carries (Made (head.Rigid n d) ts) k h s r us rest ws rest' l m f = absurd f

@@ -1,6 +1,6 @@
 -- The unfolding of each typed term is never stuck: by recursion on terms, over all their typings.
 use Rattle.std.proofs.Common.{◌≡◌, Bool, true, false, ◌||◌, ℕ, ◌+◌, ◌≤◌, ◌<◌, refl, sym, ◌∙◌, subst, arith, List, [], ◌∷◌, None}
-use mathlib.Core.Logic.{◌⊎◌, inl, inr}
+use mathlib.Core.Logic.{inl, inr}
 use Rattle.fut_scalar.specs.declared.place.BindId.{BindId}
 use Rattle.fut_scalar.specs.declared.scalar.IntType.{IntType}
 use Rattle.fut_scalar.specs.declared.scalar.ScalarType.TheVariants as types
@@ -9,8 +9,8 @@ use Rattle.fut_flat.specs.Terms.{Bound_pattern, Wild_pattern, Tuple_pattern, Rec
 use Rattle.fut_flat.specs.Numbers.{pattern_numbers, all_pattern_numbers, own_numbers, numbers, all_numbers, turn_numbers}
 use Rattle.fut_flat.specs.Erased.{FlatTerm, FlatPattern, FlatTurns}
 use Rattle.fut_types.specs.declared.Kind.TheVariants as kind
-use Rattle.fut_types.specs.Types.{Ty, Tys, Sub, Kinds, HasKind, fun_ty, scalar_ty}
-use Rattle.fut_typing.specs.Names.{Names, AreNames, count}
+use Rattle.fut_types.specs.Types.{Ty, Sub, Kinds, HasKind, fun_ty, scalar_ty}
+use Rattle.fut_typing.specs.Names.{Names, AreNames}
 use Rattle.fut_typing.specs.Primitives.{bool_ty}
 use Rattle.fut_typing.specs.Scopes.{Scope, with_sizes, the_one}
 use Rattle.fut_typing.specs.Patterns.{pattern_types, arrows, with_pattern, with_patterns, with_parameters, Parameters_typed}
@@ -26,14 +26,14 @@ use Rattle.typed_meaning.proofs.Literals.{literal_kept}
 use Rattle.typed_meaning.proofs.Operating.{Told}
 use Rattle.typed_meaning.proofs.Running.{count_terms}
 use Rattle.unfold.specs.Knowns.{Known, Scalar_known, Function_known, Scope as Seen, name_and, Tops}
-use Rattle.unfold.specs.Stuck.{Turn_names, turn_counted, turn_tested, Stuck_turns, stuck_count, no_count, of_array, Stuck_run, no_function, no_parameter, stuck_result}
-use Rattle.unfold.specs.Unfolding.{Bindings, named, Binds, b_bound, Unfolds, Applies, a_body, a_waits}
+use Rattle.unfold.specs.Stuck.{Turn_names, turn_counted, turn_tested, Stuck_turns, stuck_count, no_count, Stuck_run, no_function, no_parameter, stuck_result}
+use Rattle.unfold.specs.Unfolding.{Bindings, named, Binds, b_bound, Applies, a_body, a_waits}
 use Rattle.typed_blocks.specs.Fits.{Learns, Runs_well, Fits, Names_fit}
 use Rattle.typed_blocks.proofs.Fitting.{learns_more}
 use Rattle.typed_blocks.proofs.Operating.{of_integers, any_scalar, operation_gives}
 use Rattle.typed_blocks.proofs.Seeing.{Bindable, names_learn, names_move, names_sizes, names_types, name_fits, bindable, binds_fit}
 use Rattle.typed_blocks.proofs.Applying.{fits_function}
-use Rattle.typed_blocks.proofs.Going.{Goes, goes_as, All_go, use_goes, none_go, more_go, strict_goes, lambda_goes, apply_goes, Let_goes, let_goes, if_goes, Tested, Turn_goes, loop_goes}
+use Rattle.typed_blocks.proofs.Going.{Goes, goes_as, All_go, use_goes, none_go, more_go, strict_goes, lambda_goes, apply_goes, Let_goes, let_goes, if_goes, Tested, loop_goes}
 
 told : (o : Operation Ref BindId) (a : Sub) (lo : ℕ) (integer_at : ℕ → IntType) → ((m : ℕ) → Literal_here o lo m → a m ≡ scalar_ty (types.Int (integer_at m))) → Told (integer_at lo) o (a lo)
 told (Integer n None) a lo integer_at h = h lo refl
@@ -145,10 +145,10 @@ module _ (N : Names) (are : AreNames N) (integer_at : ℕ → IntType) (P : ℕ 
         let g : Let_typed N kind.Data true (Function_name b.sizes b.pattern) whole K a = subst (λ f. Let_typed N kind.Data f (Function_name b.sizes b.pattern) whole K a) e typed in (
           (value_sure (own_types kind.Data b.parameters) a (λ n p. refl) (λ m l. refl) all g.1.0 sizes meant lits small h).0,
           (λ n n' bs s x. (
-          function_bindable b.sizes b.pattern s g.0,
-          (λ inner y. subst (λ f. In_scope tops (with_pattern (let_uses N kind.Data f whole) b.pattern (1 + lo) (with_sizes b.sizes scope)) a inner) (sym e)
-              (function_binds b.sizes b.pattern whole (1 + lo) s scope a tops sc inner g.0 (λ t u. let z = u.2.0 in
-              subst (λ w. At tops w s) (sym u.2.1) ((value_sure u.0 z.other (λ n p. z.outside n (inl p)) (literal_stays z.other z.kept) all z.typed sizes meant lits small h).1 n n' bs s x)) h y)),
+            function_bindable b.sizes b.pattern s g.0,
+            (λ inner y. subst (λ f. In_scope tops (with_pattern (let_uses N kind.Data f whole) b.pattern (1 + lo) (with_sizes b.sizes scope)) a inner) (sym e)
+                (function_binds b.sizes b.pattern whole (1 + lo) s scope a tops sc inner g.0 (λ t u. let z = u.2.0 in
+                subst (λ w. At tops w s) (sym u.2.1) ((value_sure u.0 z.other (λ n p. z.outside n (inl p)) (literal_stays z.other z.kept) all z.typed sizes meant lits small h).1 n n' bs s x)) h y)),
           )),
         )
     let_sure all false e typed sizes meant lits small h =
@@ -156,9 +156,9 @@ module _ (N : Names) (are : AreNames N) (integer_at : ℕ → IntType) (P : ℕ 
         let w = value_sure (own_types kind.Data b.parameters) a (λ n p. refl) (λ m l. refl) all g sizes meant lits small h in (
           w.0,
           (λ n n' bs s x. (
-          bindable N integer_at P K tops a are kind.Data b.pattern (1 + lo) (with_sizes b.sizes scope) s g.0.0 (w.1 n n' bs s x),
-          (λ inner y. subst (λ f. In_scope tops (with_pattern (let_uses N kind.Data f whole) b.pattern (1 + lo) (with_sizes b.sizes scope)) a inner) (sym e)
-              (binds_fit N integer_at P K tops a are kind.Data b.pattern (1 + lo) (with_sizes b.sizes scope) (with_sizes b.sizes scope) s sc inner g.0.0 (w.1 n n' bs s x) (names_sizes N integer_at P K tops b.sizes b.parameters scope a sc sizes h) y)),
+            bindable N integer_at P K tops a are kind.Data b.pattern (1 + lo) (with_sizes b.sizes scope) s g.0.0 (w.1 n n' bs s x),
+            (λ inner y. subst (λ f. In_scope tops (with_pattern (let_uses N kind.Data f whole) b.pattern (1 + lo) (with_sizes b.sizes scope)) a inner) (sym e)
+                (binds_fit N integer_at P K tops a are kind.Data b.pattern (1 + lo) (with_sizes b.sizes scope) (with_sizes b.sizes scope) s sc inner g.0.0 (w.1 n n' bs s x) (names_sizes N integer_at P K tops b.sizes b.parameters scope a sc sizes h) y)),
           )),
         )
 
@@ -216,11 +216,11 @@ module _ (N : Names) (are : AreNames N) (integer_at : ℕ → IntType) (P : ℕ 
         let_goes N are integer_at P K tops sc lo b v e (a lo) (
           g.0,
           (λ n n' bs w x. let q = g.1 n n' bs w x in (
-          q.0,
-          (λ inner y. goes_as N are integer_at P K tops inner at_e e (a at_e) (a lo) (sym typed.1)
-              (surely e at_e (with_let N kind.Data b lo scope s) a tops inner
-              (body_local N kind.Data (λ n. n < at_e) b v lo scope (further lo at_e scope (omega arith) all) (λ n f i. let z : n < 1 + lo + (pattern_numbers b.pattern + numbers v) = i.0.1 in omega (arith, z)) (λ n f q z. omega (arith, q, z)))
-              typed.0.1 meant.2 (λ m l. lits m (inr l)) (omega (arith, small)) (q.1 inner y))),
+            q.0,
+            (λ inner y. goes_as N are integer_at P K tops inner at_e e (a at_e) (a lo) (sym typed.1)
+                (surely e at_e (with_let N kind.Data b lo scope s) a tops inner
+                (body_local N kind.Data (λ n. n < at_e) b v lo scope (further lo at_e scope (omega arith) all) (λ n f i. let z : n < 1 + lo + (pattern_numbers b.pattern + numbers v) = i.0.1 in omega (arith, z)) (λ n f q z. omega (arith, q, z)))
+                typed.0.1 meant.2 (λ m l. lits m (inr l)) (omega (arith, small)) (q.1 inner y))),
           )),
         )
     surely (If c t e) = λ lo scope a tops sc all typed meant lits small h.
@@ -242,10 +242,10 @@ module _ (N : Names) (are : AreNames N) (integer_at : ℕ → IntType) (P : ℕ 
         (λ r k. let d : At tops (a (1 + lo)) r = subst (λ y. At tops y r) typed.1 k in (
           bindable N integer_at P K tops a are kind.Data p (1 + lo) inside r typed.0.0.0.0.0 d,
           (λ seen b. let sees = binds_fit N integer_at P K tops a are kind.Data p (1 + lo) inside inside r sc seen typed.0.0.0.0.0 d (names_sizes N integer_at P K tops sizes [] scope a sc meant.0 h) b in (
-          w.1 seen sees,
-          (λ inner n. goes_as N are integer_at P K tops inner at_b body (a at_b) (a lo) (sym typed.2)
-              (surely body at_b (with_turns turns at_t carried) a tops inner (local_turns (λ n. n < at_b) turns at_t carried (λ n y z. omega (arith, y, z)) (local_ones (λ n. n < at_b) p (1 + lo) inside (λ n y z. omega (arith, y, z)) (local_sizes (λ n. n < at_b) sizes scope (further lo at_b scope (omega arith) all))))
-              typed.0.1 meant.3 (λ m l. lits m (inr (inr l))) (omega (arith, small)) (w.2 seen inner sees n))),
+            w.1 seen sees,
+            (λ inner n. goes_as N are integer_at P K tops inner at_b body (a at_b) (a lo) (sym typed.2)
+                (surely body at_b (with_turns turns at_t carried) a tops inner (local_turns (λ n. n < at_b) turns at_t carried (λ n y z. omega (arith, y, z)) (local_ones (λ n. n < at_b) p (1 + lo) inside (λ n y z. omega (arith, y, z)) (local_sizes (λ n. n < at_b) sizes scope (further lo at_b scope (omega arith) all))))
+                typed.0.1 meant.3 (λ m l. lits m (inr (inr l))) (omega (arith, small)) (w.2 seen inner sees n))),
           )),
         ))
 

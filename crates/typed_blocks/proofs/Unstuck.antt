@@ -1,5 +1,5 @@
 -- The unfolding of a typed program is never stuck: its definitions are known at all types at which they may be used.
-use Rattle.std.proofs.Common.{◌≡◌, Bool, true, false, ◌||◌, ◌&&◌, cond, ℕ, ◌+◌, ◌≤◌, ◌<◌, refl, sym, ap, ◌∙◌, subst, arith, List, [], ◌∷◌, map, Some, None, nat_eq, eq-eqb, ne_eqb}
+use Rattle.std.proofs.Common.{◌≡◌, Bool, true, false, ◌||◌, cond, ℕ, ◌+◌, ◌≤◌, ◌<◌, refl, sym, ap, ◌∙◌, subst, arith, List, [], ◌∷◌, map, Some, None, nat_eq, eq-eqb, ne_eqb}
 use mathlib.Core.Logic.{inl, inr}
 use native.Mathlib.Decide.{ℕ_discrete}
 use Rattle.fut_scalar.specs.declared.place.BindId.{BindId}
@@ -34,7 +34,7 @@ use Rattle.typed_meaning.proofs.Programs.{or_left, or_right, both, tops_of, Reac
 use Rattle.unfold.specs.Knowns.{Known, Knowns, no_known, known_and, no_name, Tops, listed, find}
 use Rattle.unfold.specs.Programs.{Definitions_unfold, d_none, d_reached, d_other, Applies_all, a_none, a_more}
 use Rattle.unfold.specs.Shapes.{Shape, Shapes, Laid, laid_scalar, laid_tuple, All_laid, laid_none, laid_more}
-use Rattle.unfold.specs.Stuck.{Definitions_stuck, stuck_definition, stuck_next, stuck_other, Stuck_runs, stuck_run, stuck_on, Program_stuck, in_definitions, no_entry, in_entry, no_result, No_data}
+use Rattle.unfold.specs.Stuck.{Definitions_stuck, stuck_definition, stuck_next, stuck_other, Stuck_runs, stuck_run, stuck_on, Program_stuck, in_definitions, no_entry, in_entry, no_result}
 use Rattle.unfold.specs.Unfolding.{Bindings, Unfolds}
 use Rattle.typed_blocks.specs.Claims.{UnfoldingNeverStuck}
 use Rattle.typed_blocks.specs.Fits.{Learns, Runs_well, Fits, All_fit, Names_fit}

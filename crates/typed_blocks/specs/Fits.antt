@@ -9,7 +9,6 @@ use Rattle.fut_types.specs.Types.{Ty, Var, Made, Tys, none, more, Sub, Kinds}
 use Rattle.fut_typing.specs.Names.{Names, count}
 use Rattle.fut_typing.specs.Scopes.{Scope}
 use Rattle.fut_meaning.specs.Values.{Tuple_value, no_value, no_field, field_and}
-use Rattle.fut_blocks.specs.declared.block.Atom.{Atom}
 use Rattle.fut_blocks.specs.Meaning.{look}
 use Rattle.typed_meaning.specs.Fits.{widest, FlatFields, Are_keys}
 use Rattle.unfold.specs.Knowns.{Known, Scalar_known, Tuple_known, Record_known, Knowns, no_known, known_and, Known_fields, no_known_field, known_field_and, Scope as Seen, Tops, find}
