@@ -1,7 +1,7 @@
 -- Where unfolding comes to a place from which there is no way on: a name is not found, an operation does not take its parts,
 -- what is applied is no function, a pattern has not the form of the value, or data has another shape than where it is to go.
 -- What stands before the place has been unfolded. No typed program comes to such a place.
-use Rattle.std.specs.Prelude.{◌≡◌, ℕ, suc, ◌+◌, ◌++◌, List, [], ◌∷◌, Bool, true, false, None, Some, length, nat_lt}
+use Rattle.std.specs.Prelude.{◌≡◌, ℕ, ◌+◌, ◌++◌, List, [], ◌∷◌, Bool, true, false, None, Some, length, nat_lt}
 use Rattle.fut_scalar.specs.declared.place.BindId.{BindId}
 use Rattle.fut_scalar.specs.declared.place.Place.{Place}
 use Rattle.fut_scalar.specs.declared.scalar.IntType.{IntType}
