@@ -1,2 +1,11 @@
 pub mod NeverWrong
 pub mod ResultTypes
+pub mod Fitting
+pub mod Shaping
+pub mod Recording
+pub mod Operating
+pub mod Seeing
+pub mod Applying
+pub mod Going
+pub mod Surely
+pub mod Unstuck

@@ -1,2 +1,4 @@
 pub mod Sorts
+pub mod Shaped
 pub mod Claims
+pub mod Fits

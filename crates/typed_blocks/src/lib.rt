@@ -1,7 +1,11 @@
-//! What typing promises of unfolded programs: the blocks of a typed program never go wrong (`specs/Claims.antt`), and their
-//! results are of the scalar types that `specs/Sorts.antt` tells of the result's type.
+//! What typing promises of unfolded programs (`specs/Claims.antt`): unfolding a typed program is never stuck, its blocks never
+//! go wrong, and their results are of the scalar types that `specs/Sorts.antt` tells of the result's type. `specs/Fits.antt`
+//! says what is known of the values of a type where a program is unfolded.
 #![tactic(auto)]
 
 mod laws;
 
-pub use laws::{results_are_of_their_types, typed_blocks_never_go_wrong};
+pub use laws::{
+    results_are_of_their_types, typed_blocks_never_go_wrong,
+    unfolding_of_typed_programs_is_never_stuck,
+};

@@ -1,0 +1,129 @@
+-- Where unfolding comes to a place from which there is no way on: a name is not found, an operation does not take its parts,
+-- what is applied is no function, a pattern has not the form of the value, or data has another shape than where it is to go.
+-- What stands before the place has been unfolded. No typed program comes to such a place.
+use Rattle.std.specs.Prelude.{◌≡◌, ℕ, ◌+◌, ◌++◌, List, [], ◌∷◌, Bool, true, false, None, Some, length, nat_lt}
+use Rattle.fut_scalar.specs.declared.place.BindId.{BindId}
+use Rattle.fut_scalar.specs.declared.place.Place.{Place}
+use Rattle.fut_scalar.specs.declared.scalar.IntType.{IntType}
+use Rattle.fut_scalar.specs.declared.scalar.ScalarType.{ScalarType}
+use Rattle.fut_flat.specs.declared.prim.Primitive.{Primitive}
+use Rattle.fut_flat.specs.declared.prim.Ref.{Ref}
+use Rattle.fut_flat.specs.declared.prim.Ref.TheVariants as ref
+use Rattle.fut_flat.specs.Erased.{FlatTerm, FlatPattern, FlatTurns}
+use Rattle.fut_flat.specs.Numbers.{pattern_numbers, own_numbers, numbers, turn_numbers}
+use Rattle.fut_flat.specs.Terms.{Patterns, no_pattern, pattern_and, Operation, Binding, Use, Strict, Apply, Let, If, Loop, Terms, term_and, Counted, Over, While}
+use Rattle.fut_meaning.specs.Flats.{FlatTop, is_flat_use}
+use Rattle.fut_meaning.specs.Operations.{arity}
+use Rattle.fut_meaning.specs.Programs.{is_reached}
+use Rattle.fut_blocks.specs.declared.block.Atom.{Atom}
+use Rattle.fut_blocks.specs.Meaning.{look}
+use Rattle.unfold.specs.Knowns.{Known, Scalar_known, Function_known, Primitive_known, Knowns, Scope, no_name, name_and, Tops, listed, find}
+use Rattle.unfold.specs.Shapes.{Shape, Shapes, Laid, All_laid}
+use Rattle.unfold.specs.Unfolding.{Bindings, named, Binds, Operates, Primitive_operates, Unfolds, Unfold_all, Applies}
+use Rattle.unfold.specs.Programs.{Definitions_unfold, Applies_all}
+
+abbrev pub No_scalar : Known → Type 0
+No_scalar s = (u : Atom) → s ≡ Scalar_known u → ⊥
+
+-- of another shape
+abbrev pub Not_laid : Shape → Known → Type 0
+Not_laid h s = (us : List Atom) → Laid h s us [] → ⊥
+
+-- of no shape: it is or holds a function
+abbrev pub No_data : Known → Type 0
+No_data s = (h : Shape) → Not_laid h s
+
+abbrev pub is_function : Known → Bool
+is_function (Function_known (pattern_and p ps) e lo sc) = true
+is_function (Primitive_known p at ss) = true
+is_function s = false
+
+-- the value has not the form of the pattern
+abbrev pub Not_bound : FlatPattern → Known → Type 0
+Not_bound p s = (sc inner : Scope) → Binds p s sc inner → ⊥
+
+-- the parts have not the forms that the operation takes
+abbrev pub No_operation : IntType → Operation Ref BindId → Place → List Known → Type 0
+No_operation t o at ss = (n n' : ℕ) (bs : Bindings) (s : Known) → Operates t o at ss n bs s n' → ⊥
+
+abbrev pub No_primitive : Primitive → Place → List Known → Type 0
+No_primitive p at ss = (n n' : ℕ) (bs : Bindings) (s : Known) → Primitive_operates p at ss n bs s n' → ⊥
+
+-- what is known of a loop's value in a turn: it has the shape of the first one
+pub data Carried (integer_at : ℕ → IntType) (tops : Tops) (sc : Scope) (lo : ℕ) (p : FlatPattern) (first : FlatTerm) : Shape → Known → Type 0 where
+  carried : {n n' : ℕ} {bs : Bindings} {h : Shape} {s r : Known} {us ws : List Atom} → Unfolds integer_at tops sc (1 + lo + pattern_numbers p) first n bs s n' → Laid h s us [] → Laid h r ws [] → Carried integer_at tops sc lo p first h r
+
+-- the names of a turn, for the names that the pattern binds; how many turns there are has been unfolded outside of the loop
+pub data Turn_names (integer_at : ℕ → IntType) (tops : Tops) (sc inside : Scope) (at : ℕ) : FlatTurns → Scope → Type 0 where
+  turn_counted : {n n' y : ℕ} {i : BindId} {count : FlatTerm} {bs : Bindings} {u : Atom} → Unfolds integer_at tops sc (1 + at) count n bs (Scalar_known u) n' → Turn_names integer_at tops sc inside at (Counted i count) (name_and i (named y) inside)
+  turn_tested : {test : FlatTerm} → Turn_names integer_at tops sc inside at (While test) inside
+
+-- a term, whose nodes are numbered from a number on
+mutual
+  pub data Stuck (integer_at : ℕ → IntType) (tops : Tops) : Scope → ℕ → FlatTerm → Type 0 where
+    no_such_name : {sc : Scope} {lo k : ℕ} {b : BindId} {at : Place} → find tops sc b.0 ≡ None → Stuck integer_at tops sc lo (Use (ref.Bound b) at k)
+    type_name : {sc : Scope} {lo k : ℕ} {t : ScalarType} {at : Place} → Stuck integer_at tops sc lo (Use (ref.Scalar t) at k)
+    stuck_parts : {sc : Scope} {lo : ℕ} {o : Operation Ref BindId} {mark : Place} {ts : Terms Ref BindId} → Stuck_all integer_at tops sc (lo + own_numbers o) ts → Stuck integer_at tops sc lo (Strict o mark ts)
+    no_operation : {sc : Scope} {lo n n' : ℕ} {o : Operation Ref BindId} {mark : Place} {ts : Terms Ref BindId} {bs : Bindings} {ss : List Known} → Unfold_all integer_at tops sc (lo + own_numbers o) ts n bs ss n' → No_operation (integer_at lo) o mark ss → Stuck integer_at tops sc lo (Strict o mark ts)
+    stuck_function : {sc : Scope} {lo : ℕ} {f e : FlatTerm} → Stuck integer_at tops sc (1 + lo) f → Stuck integer_at tops sc lo (Apply f e)
+    stuck_argument : {sc : Scope} {lo n n' : ℕ} {f e : FlatTerm} {bs : Bindings} {h : Known} → Unfolds integer_at tops sc (1 + lo) f n bs h n' → Stuck integer_at tops sc (1 + lo + numbers f) e → Stuck integer_at tops sc lo (Apply f e)
+    stuck_application : {sc : Scope} {lo n n1 n2 : ℕ} {f e : FlatTerm} {bs cs : Bindings} {h s : Known} → Unfolds integer_at tops sc (1 + lo) f n bs h n1 → Unfolds integer_at tops sc (1 + lo + numbers f) e n1 cs s n2 → Stuck_run integer_at tops h s → Stuck integer_at tops sc lo (Apply f e)
+    stuck_value : {sc : Scope} {lo : ℕ} {b : Binding Ref BindId} {v e : FlatTerm} → Stuck integer_at tops sc (1 + lo + pattern_numbers b.pattern) v → Stuck integer_at tops sc lo (Let b v e)
+    no_pattern_of : {sc : Scope} {lo n n' : ℕ} {b : Binding Ref BindId} {v e : FlatTerm} {bs : Bindings} {s : Known} → Unfolds integer_at tops sc (1 + lo + pattern_numbers b.pattern) v n bs s n' → Not_bound b.pattern s → Stuck integer_at tops sc lo (Let b v e)
+    stuck_behind : {sc inner : Scope} {lo n n' : ℕ} {b : Binding Ref BindId} {v e : FlatTerm} {bs : Bindings} {s : Known} → Unfolds integer_at tops sc (1 + lo + pattern_numbers b.pattern) v n bs s n' → Binds b.pattern s sc inner → Stuck integer_at tops inner (1 + lo + pattern_numbers b.pattern + numbers v) e → Stuck integer_at tops sc lo (Let b v e)
+    stuck_condition : {sc : Scope} {lo : ℕ} {c a b : FlatTerm} → Stuck integer_at tops sc (1 + lo) c → Stuck integer_at tops sc lo (If c a b)
+    no_condition : {sc : Scope} {lo n n' : ℕ} {c a b : FlatTerm} {bs : Bindings} {s : Known} → Unfolds integer_at tops sc (1 + lo) c n bs s n' → No_scalar s → Stuck integer_at tops sc lo (If c a b)
+    stuck_then : {sc : Scope} {lo n n' : ℕ} {c a b : FlatTerm} {bs : Bindings} {s : Known} → Unfolds integer_at tops sc (1 + lo) c n bs s n' → Stuck integer_at tops sc (1 + lo + numbers c) a → Stuck integer_at tops sc lo (If c a b)
+    then_function : {sc : Scope} {lo n n' : ℕ} {c a b : FlatTerm} {bs : Bindings} {s : Known} → Unfolds integer_at tops sc (1 + lo + numbers c) a n bs s n' → No_data s → Stuck integer_at tops sc lo (If c a b)
+    stuck_else : {sc : Scope} {lo n n' : ℕ} {c a b : FlatTerm} {bs : Bindings} {s : Known} → Unfolds integer_at tops sc (1 + lo + numbers c) a n bs s n' → Stuck integer_at tops sc (1 + lo + numbers c + numbers a) b → Stuck integer_at tops sc lo (If c a b)
+    -- the branches are of different shapes
+    other_branch : {sc : Scope} {lo n n1 m m1 : ℕ} {c a b : FlatTerm} {bs cs : Bindings} {h : Shape} {s s' : Known} {us : List Atom} → Unfolds integer_at tops sc (1 + lo + numbers c) a n bs s n1 → Laid h s us [] → Unfolds integer_at tops sc (1 + lo + numbers c + numbers a) b m cs s' m1 → Not_laid h s' → Stuck integer_at tops sc lo (If c a b)
+    stuck_first : {sc : Scope} {lo : ℕ} {mark : Place} {sizes : List BindId} {p : FlatPattern} {first body : FlatTerm} {turns : FlatTurns} → Stuck integer_at tops sc (1 + lo + pattern_numbers p) first → Stuck integer_at tops sc lo (Loop mark sizes p first turns body)
+    first_function : {sc : Scope} {lo n n' : ℕ} {mark : Place} {sizes : List BindId} {p : FlatPattern} {first body : FlatTerm} {turns : FlatTurns} {bs : Bindings} {s : Known} → Unfolds integer_at tops sc (1 + lo + pattern_numbers p) first n bs s n' → No_data s → Stuck integer_at tops sc lo (Loop mark sizes p first turns body)
+    stuck_turns : {sc : Scope} {lo n n' : ℕ} {mark : Place} {sizes : List BindId} {p : FlatPattern} {first body : FlatTerm} {turns : FlatTurns} {bs : Bindings} {s : Known} → Unfolds integer_at tops sc (1 + lo + pattern_numbers p) first n bs s n' → Stuck_turns integer_at tops sc (1 + lo + pattern_numbers p + numbers first) turns → Stuck integer_at tops sc lo (Loop mark sizes p first turns body)
+    no_turn : {sc : Scope} {lo : ℕ} {mark : Place} {sizes : List BindId} {p : FlatPattern} {first body : FlatTerm} {turns : FlatTurns} {h : Shape} {r : Known} → Carried integer_at tops sc lo p first h r → Not_bound p r → Stuck integer_at tops sc lo (Loop mark sizes p first turns body)
+    stuck_test : {sc inner : Scope} {lo : ℕ} {mark : Place} {sizes : List BindId} {p : FlatPattern} {first test body : FlatTerm} {h : Shape} {r : Known} → Carried integer_at tops sc lo p first h r → Binds p r sc inner → Stuck integer_at tops inner (1 + lo + pattern_numbers p + numbers first) test → Stuck integer_at tops sc lo (Loop mark sizes p first (While test) body)
+    no_test : {sc inner : Scope} {lo n n' : ℕ} {mark : Place} {sizes : List BindId} {p : FlatPattern} {first test body : FlatTerm} {bs : Bindings} {h : Shape} {r s : Known} → Carried integer_at tops sc lo p first h r → Binds p r sc inner → Unfolds integer_at tops inner (1 + lo + pattern_numbers p + numbers first) test n bs s n' → No_scalar s
+        → Stuck integer_at tops sc lo (Loop mark sizes p first (While test) body)
+    stuck_body : {sc inside inner : Scope} {lo : ℕ} {mark : Place} {sizes : List BindId} {p : FlatPattern} {first body : FlatTerm} {turns : FlatTurns} {h : Shape} {r : Known} → Carried integer_at tops sc lo p first h r → Binds p r sc inside → Turn_names integer_at tops sc inside (1 + lo + pattern_numbers p + numbers first) turns inner
+        → Stuck integer_at tops inner (1 + lo + pattern_numbers p + numbers first + turn_numbers turns) body → Stuck integer_at tops sc lo (Loop mark sizes p first turns body)
+    -- a turn gives data of another shape
+    other_turn : {sc inside inner : Scope} {lo n n' : ℕ} {mark : Place} {sizes : List BindId} {p : FlatPattern} {first body : FlatTerm} {turns : FlatTurns} {bs : Bindings} {h : Shape} {r s : Known} → Carried integer_at tops sc lo p first h r → Binds p r sc inside → Turn_names integer_at tops sc inside (1 + lo + pattern_numbers p + numbers first) turns inner
+        → Unfolds integer_at tops inner (1 + lo + pattern_numbers p + numbers first + turn_numbers turns) body n bs s n' → Not_laid h s → Stuck integer_at tops sc lo (Loop mark sizes p first turns body)
+
+  -- terms from left to right
+  pub data Stuck_all (integer_at : ℕ → IntType) (tops : Tops) : Scope → ℕ → Terms Ref BindId → Type 0 where
+    stuck_here : {sc : Scope} {lo : ℕ} {t : FlatTerm} {ts : Terms Ref BindId} → Stuck integer_at tops sc lo t → Stuck_all integer_at tops sc lo (term_and t ts)
+    stuck_later : {sc : Scope} {lo n n' : ℕ} {t : FlatTerm} {ts : Terms Ref BindId} {bs : Bindings} {s : Known} → Unfolds integer_at tops sc lo t n bs s n' → Stuck_all integer_at tops sc (lo + numbers t) ts → Stuck_all integer_at tops sc lo (term_and t ts)
+
+  -- what says how many turns there are, outside of the loop; a loop over an array comes with arrays
+  pub data Stuck_turns (integer_at : ℕ → IntType) (tops : Tops) : Scope → ℕ → FlatTurns → Type 0 where
+    stuck_count : {sc : Scope} {at : ℕ} {i : BindId} {count : FlatTerm} → Stuck integer_at tops sc (1 + at) count → Stuck_turns integer_at tops sc at (Counted i count)
+    no_count : {sc : Scope} {at n n' : ℕ} {i : BindId} {count : FlatTerm} {bs : Bindings} {s : Known} → Unfolds integer_at tops sc (1 + at) count n bs s n' → No_scalar s → Stuck_turns integer_at tops sc at (Counted i count)
+    of_array : {sc : Scope} {at : ℕ} {p : FlatPattern} {e : FlatTerm} → Stuck_turns integer_at tops sc at (Over p e)
+
+  -- the application of what is known to an argument
+  pub data Stuck_run (integer_at : ℕ → IntType) (tops : Tops) : Known → Known → Type 0 where
+    no_function : {h s : Known} → is_function h ≡ false → Stuck_run integer_at tops h s
+    no_parameter : {sc : Scope} {p : FlatPattern} {ps : Patterns Ref BindId} {e : FlatTerm} {lo : ℕ} {s : Known} → Not_bound p s → Stuck_run integer_at tops (Function_known (pattern_and p ps) e lo sc) s
+    stuck_result : {sc inner : Scope} {p : FlatPattern} {e : FlatTerm} {lo : ℕ} {s : Known} → Binds p s sc inner → Stuck integer_at tops inner lo e → Stuck_run integer_at tops (Function_known (pattern_and p no_pattern) e lo sc) s
+    no_primitive : {p : Primitive} {at : Place} {ss : Knowns} {s : Known} → nat_lt (length (listed ss ++ s ∷ [])) (arity p) ≡ false → No_primitive p at (listed ss ++ s ∷ []) → Stuck_run integer_at tops (Primitive_known p at ss) s
+
+-- the definitions that are reached, in their order
+pub data Definitions_stuck (integer_at : ℕ → IntType) (entry : ℕ) : Tops → List FlatTop → Type 0 where
+  stuck_definition : {tops : Tops} {d : FlatTop} {ds : List FlatTop} → is_reached is_flat_use entry ds d.number ≡ true → Stuck integer_at tops no_name d.first d.value → Definitions_stuck integer_at entry tops (d ∷ ds)
+  stuck_next : {tops : Tops} {d : FlatTop} {ds : List FlatTop} {n n' : ℕ} {bs : Bindings} {s : Known} → is_reached is_flat_use entry ds d.number ≡ true → Unfolds integer_at tops no_name d.first d.value n bs s n' → Definitions_stuck integer_at entry ((d.number, s) ∷ tops) ds → Definitions_stuck integer_at entry tops (d ∷ ds)
+  stuck_other : {tops : Tops} {d : FlatTop} {ds : List FlatTop} → is_reached is_flat_use entry ds d.number ≡ false → Definitions_stuck integer_at entry tops ds → Definitions_stuck integer_at entry tops (d ∷ ds)
+
+-- a function applied to arguments, one after the other
+pub data Stuck_runs (integer_at : ℕ → IntType) (tops : Tops) : List Known → Known → Type 0 where
+  stuck_run : {s f : Known} {ss : List Known} → Stuck_run integer_at tops f s → Stuck_runs integer_at tops (s ∷ ss) f
+  stuck_on : {s f g : Known} {ss : List Known} {n n' : ℕ} {bs : Bindings} → Applies integer_at tops f s n bs g n' → Stuck_runs integer_at tops ss g → Stuck_runs integer_at tops (s ∷ ss) f
+
+-- a program from an entry on, whose parameters are data of these shapes
+pub data Program_stuck (integer_at : ℕ → IntType) (ds : List FlatTop) (entry : ℕ) (hs : Shapes) : Type 0 where
+  in_definitions : Definitions_stuck integer_at entry [] ds → Program_stuck integer_at ds entry hs
+  no_entry : {tops : Tops} {n n' : ℕ} {bs : Bindings} → Definitions_unfold integer_at entry [] ds n bs tops n' → look tops entry ≡ None → Program_stuck integer_at ds entry hs
+  in_entry : {tops : Tops} {n n' : ℕ} {bs : Bindings} {f : Known} {arguments : Knowns} {us : List Atom} → Definitions_unfold integer_at entry [] ds n bs tops n' → look tops entry ≡ Some f → All_laid hs arguments us [] → Stuck_runs integer_at tops (listed arguments) f → Program_stuck integer_at ds entry hs
+  -- the result is or holds a function
+  no_result : {tops : Tops} {n n1 n2 : ℕ} {bs cs : Bindings} {f s : Known} {arguments : Knowns} {us : List Atom} → Definitions_unfold integer_at entry [] ds n bs tops n1 → look tops entry ≡ Some f → All_laid hs arguments us [] → Applies_all integer_at tops (listed arguments) f n1 cs s n2 → No_data s → Program_stuck integer_at ds entry hs
