@@ -46,9 +46,6 @@ renewed_ok h n next r (has_names k e f) q =
     (subst (λ z. Upward n z next) (sym all) (subst (Upward n (numbers_from n k)) (sym e) (upward n k)))
     (subst (λ z. Laid h (known_of r.known) (names z) []) (sym all) (subst (λ z. Laid h (known_of r.known) z []) (append-nil (names (numbers_from n k))) (f [])))
 
-pub renewed_err : (h : Shape) (n next : ℕ) (r : Refusal) → Renewed h n next (Err r)
-renewed_err h n next r = not_renewed
-
 -- ---- by form
 
 pub scalar_named : (n next : ℕ) (s : Held_known) → s.form ≡ form.Scalar (atom.Name n) → next ≡ n + 1 → Has_names (Laid Scalar_shape (known_of s)) n next
@@ -121,7 +118,3 @@ module _ (likes : List Field) where
   pub fields_named_end : (i n next : ℕ) (items : List Field) (fields : Bor (List Field)) → length likes ≤ i → Names_lead (Fields_named 0) (Fields_named i) n next (map field_of items) → fields.now ≡ items → Has_names (Fields_laid (field_shapes_of (fields_known (map field_of likes))) (fields_known (map field_of fields.now))) n next
   unfolding field_shapes_of fields_known
   fields_named_end i n next items fields le l e = subst (λ z. Has_names (Fields_laid (field_shapes_of (fields_known (map field_of likes))) (fields_known (map field_of z))) n next) (sym e) (lead_end (Fields_named 0) (Fields_named i) n next (map field_of items) (λ rest. subst (λ z. Fields_laid (field_shapes_of (fields_known (map field_of z))) (fields_known []) rest rest) (sym (drop_all i likes le)) laid_no_field) l)
-
-pub ruleset fresh = (renewed_ok, renewed_err)
-
-pub ruleset names_laid = (scalar_named, tuple_named, record_named)
