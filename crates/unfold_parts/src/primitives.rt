@@ -152,14 +152,16 @@ fn with_known<'a>(
     ensures { IfOk result (λ all. all.now ≡ given.now ++ known.entry ∷ []) }
 {
     let mut all = Vec::new(bump);
-    for one in given {
-        all.push(*one)?;
+    match all.extend_from_slice(given) {
+        Ok(()) => {}
+        Err(_) => return Err(Refusal::Memory),
     }
-    all.push(known)?;
-    Ok(into_bump_slice(all))
+    match all.push(known) {
+        Ok(()) => Ok(into_bump_slice(all)),
+        Err(_) => Err(Refusal::Memory),
+    }
 }
 
-#[tactic(auto, using(crate::proofs::Operated::primitives))]
 fn convert<'a>(
     work: &mut Unfolding<'a>,
     to: ScalarType,
@@ -176,7 +178,6 @@ fn convert<'a>(
 }
 
 // A primitive with all its arguments.
-#[tactic(auto, using(crate::proofs::Operated::primitives))]
 fn operate_primitive<'a>(
     work: &mut Unfolding<'a>,
     primitive: Primitive,
@@ -196,7 +197,6 @@ fn operate_primitive<'a>(
 }
 
 /// A primitive with the arguments that it has, applied to one more.
-#[tactic(auto, using(crate::proofs::Operated::primitives))]
 pub fn apply_primitive<'a>(
     work: &mut Unfolding<'a>,
     primitive: Primitive,
@@ -206,7 +206,10 @@ pub fn apply_primitive<'a>(
 ) -> Result<Known<'a>, Refusal>
     ensures { Applied_primitive primitive place (knowns (map known_of given.now)) (known_of known.entry) work.old.next (steps_of work.old) (steps_of work.new) work.new.next result }
 {
-    let arguments = with_known(work.bump, given, known)?;
+    let arguments = match with_known(work.bump, given, known) {
+        Ok(arguments) => arguments,
+        Err(refusal) => return Err(refusal),
+    };
     if arguments.len() < arity(primitive) {
         return Ok(Known {
             form: KnownForm::Primitive(primitive, place, arguments),
