@@ -21,7 +21,7 @@ use Rattle.unfold.specs.declared.known.Field.{Field}
 use Rattle.unfold.specs.declared.known.Known.{Known as Held_known}
 use Rattle.unfold.specs.declared.known.KnownForm.TheVariants as form
 use Rattle.unfold.specs.declared.known.Scope.{Scope as Held_scope}
-use Rattle.unfold_parts.specs.Answers.{Bound_to, bound_to, not_bound, All_bound_to, all_bound_to, not_all_bound, Fields_bound_to, fields_bound_to, no_fields_bound}
+use Rattle.unfold_parts.specs.Answers.{Bound_to, bound_to, not_bound, All_bound_to, all_bound_to, Fields_bound_to, fields_bound_to}
 use Rattle.unfold_parts.specs.Patterns.{field_patterns, field_names}
 use Rattle.unfold_parts.specs.declared.refusal.Refusal.{Refusal}
 use Rattle.unfold_parts.proofs.Lists.{one_more}

@@ -14,7 +14,7 @@ use Rattle.unfold.specs.Shapes.{Shape, Scalar_shape, Tuple_shape, Record_shape, 
 use Rattle.unfold.specs.declared.known.Field.{Field}
 use Rattle.unfold.specs.declared.known.Known.{Known as Held_known}
 use Rattle.unfold.specs.declared.known.KnownForm.TheVariants as form
-use Rattle.unfold_parts.specs.Layouts.{shape_of, shapes_of, field_shapes_of, Laid_to, laid_to, not_laid, Put, put, not_put, Behind, behind, not_behind}
+use Rattle.unfold_parts.specs.Layouts.{shape_of, shapes_of, field_shapes_of, Laid_to, laid_to, Put, put, Behind, behind, not_behind}
 use Rattle.unfold_parts.specs.declared.refusal.Refusal.{Refusal}
 use Rattle.unfold_parts.proofs.Lists.{one_more}
 

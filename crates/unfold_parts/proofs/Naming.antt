@@ -1,5 +1,5 @@
 -- New names for the components of data, one behind the other.
-use Rattle.std.proofs.Common.{◌≡◌, ℕ, zero, suc, ◌+◌, ◌-◌, ◌<◌, ◌≤◌, ◌++◌, List, [], ◌∷◌, map, length, get_or, drop, Ok, Err, sym, ap, ◌∙◌, subst, append_assoc, append-nil, arith}
+use Rattle.std.proofs.Common.{◌≡◌, ℕ, zero, suc, ◌+◌, ◌-◌, ◌<◌, ◌≤◌, ◌++◌, List, [], ◌∷◌, map, length, get_or, drop, Ok, sym, ap, ◌∙◌, subst, append_assoc, append-nil, arith}
 use Rattle.std.specs.Borrow.{Bor}
 use Rattle.std.specs.Prelude.{IfOk, Result}
 use Rattle.std.proofs.lemmas.List.{drop_all, map-append}
@@ -15,7 +15,7 @@ use Rattle.unfold.specs.Unfolding.{names}
 use Rattle.unfold.specs.declared.known.Field.{Field}
 use Rattle.unfold.specs.declared.known.Known.{Known as Held_known}
 use Rattle.unfold.specs.declared.known.KnownForm.TheVariants as form
-use Rattle.unfold_parts.specs.Layouts.{shape_of, shapes_of, field_shapes_of, numbers_from, Has_names, has_names, Renewed, renewed, not_renewed}
+use Rattle.unfold_parts.specs.Layouts.{shape_of, shapes_of, field_shapes_of, numbers_from, Has_names, has_names, Renewed, renewed}
 use Rattle.unfold_parts.specs.declared.fresh.Fresh.{Fresh}
 use Rattle.unfold_parts.specs.declared.fresh.Renamed.{Renamed}
 use Rattle.unfold_parts.specs.declared.refusal.Refusal.{Refusal}

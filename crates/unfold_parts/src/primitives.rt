@@ -97,49 +97,48 @@ pub fn arity(primitive: Primitive) -> usize
     ensures { result ≡ arity primitive }
 {
     match primitive {
-        Primitive::Map => 2,
-        Primitive::Map2 => 3,
+        Primitive::Unzip
+        | Primitive::Unzip3
+        | Primitive::Iota
+        | Primitive::Indices
+        | Primitive::Length
+        | Primitive::Null
+        | Primitive::Head
+        | Primitive::Last
+        | Primitive::Init
+        | Primitive::Tail
+        | Primitive::Reverse
+        | Primitive::Flatten
+        | Primitive::Transpose
+        | Primitive::Copy
+        | Primitive::Convert { .. }
+        | Primitive::Abs(_)
+        | Primitive::Popc(_)
+        | Primitive::Lowest(_)
+        | Primitive::Highest(_)
+        | Primitive::NumBits(_) => 1,
+        Primitive::Map
+        | Primitive::Filter
+        | Primitive::Partition
+        | Primitive::Zip
+        | Primitive::Replicate
+        | Primitive::Tabulate
+        | Primitive::Take
+        | Primitive::Drop
+        | Primitive::Rotate
+        | Primitive::Concat
+        | Primitive::Min(_)
+        | Primitive::Max(_) => 2,
+        Primitive::Map2
+        | Primitive::Reduce
+        | Primitive::ReduceComm
+        | Primitive::Scan
+        | Primitive::Scatter
+        | Primitive::Zip3
+        | Primitive::Unflatten => 3,
         Primitive::Map3 => 4,
-        Primitive::Map4 => 5,
+        Primitive::Map4 | Primitive::ReduceByIndex => 5,
         Primitive::Map5 => 6,
-        Primitive::Reduce => 3,
-        Primitive::ReduceComm => 3,
-        Primitive::Scan => 3,
-        Primitive::Filter => 2,
-        Primitive::Partition => 2,
-        Primitive::Scatter => 3,
-        Primitive::ReduceByIndex => 5,
-        Primitive::Zip => 2,
-        Primitive::Zip3 => 3,
-        Primitive::Replicate => 2,
-        Primitive::Tabulate => 2,
-        Primitive::Take => 2,
-        Primitive::Drop => 2,
-        Primitive::Rotate => 2,
-        Primitive::Concat => 2,
-        Primitive::Unflatten => 3,
-        Primitive::Min(_) => 2,
-        Primitive::Max(_) => 2,
-        Primitive::Unzip => 1,
-        Primitive::Unzip3 => 1,
-        Primitive::Iota => 1,
-        Primitive::Indices => 1,
-        Primitive::Length => 1,
-        Primitive::Null => 1,
-        Primitive::Head => 1,
-        Primitive::Last => 1,
-        Primitive::Init => 1,
-        Primitive::Tail => 1,
-        Primitive::Reverse => 1,
-        Primitive::Flatten => 1,
-        Primitive::Transpose => 1,
-        Primitive::Copy => 1,
-        Primitive::Convert { .. } => 1,
-        Primitive::Abs(_) => 1,
-        Primitive::Popc(_) => 1,
-        Primitive::Lowest(_) => 1,
-        Primitive::Highest(_) => 1,
-        Primitive::NumBits(_) => 1,
     }
 }
 
