@@ -21,7 +21,7 @@ use Rattle.unfold.specs.declared.known.Field.{Field}
 use Rattle.unfold.specs.declared.known.Known.{Known as Held_known}
 use Rattle.unfold.specs.declared.known.KnownForm.TheVariants as form
 use Rattle.unfold.specs.declared.known.Scope.{Scope as Held_scope}
-use Rattle.unfold_parts.specs.Answers.{Bound_to, bound_to, not_bound, All_bound_to, all_bound_to, not_all_bound, Fields_bound_to, fields_bound_to, no_fields_bound}
+use Rattle.unfold_parts.specs.Answers.{Bound_to, bound_to, not_bound, All_bound_to, all_bound_to, Fields_bound_to, fields_bound_to}
 use Rattle.unfold_parts.specs.Patterns.{field_patterns, field_names}
 use Rattle.unfold_parts.specs.declared.refusal.Refusal.{Refusal}
 use Rattle.unfold_parts.proofs.Lists.{one_more}
@@ -46,9 +46,6 @@ listed_knowns [] = refl
 listed_knowns (s ∷ ss) = ap (λ z. s ∷ z) (listed_knowns ss)
 
 -- ---- by form
-
-pub bound_err : (p : FlatPattern) (s : Known) (sc : Scope) (r : Refusal) → Bound_to p s sc (Err r)
-bound_err p s sc r = not_bound
 
 module _ (p : Pat) (sc : Scope) where
   as_pattern : {q : FlatPattern} {s : Known} {r : Result (Bor Held_scope) Refusal} → pattern_of p ≡ q → Bound_to q s sc r → Bound_to (pattern_of p) s sc r
@@ -88,9 +85,6 @@ module _ (ps : List Pat) (ss : List Held_known) (sc : Scope) where
   unfolding patterns
   all_lead_end i j inner le le' f = all_bound_to (f (scope_of inner.now) (subst (λ z. All_bind (patterns (map pattern_of z)) (map known_of (drop j ss)) (scope_of inner.now) (scope_of inner.now)) (sym (drop_all i ps le)) (subst (λ z. All_bind (patterns (map pattern_of [])) (map known_of z) (scope_of inner.now) (scope_of inner.now)) (sym (drop_all j ss le')) b_none)))
 
-pub all_bound_err : (ps : List Pat) (ss : List Held_known) (sc : Scope) (r : Refusal) → All_bound_to (patterns (map pattern_of ps)) (map known_of ss) sc (Err r)
-all_bound_err ps ss sc r = not_all_bound
-
 -- ---- fields, one after the other
 
 abbrev pub Fields_bind : List PatField → Known_fields → Scope → Scope → Type 0
@@ -110,8 +104,3 @@ module _ (fs : List PatField) (gs : Known_fields) (sc : Scope) where
     where
       all : Fields_bind fs gs sc (scope_of inner.now) → Fields_bound_to (field_names fs) (field_patterns fs) gs sc (Ok inner)
       all (ss, e, h) = fields_bound_to e h
-
-pub fields_bound_err : (fs : List PatField) (gs : Known_fields) (sc : Scope) (r : Refusal) → Fields_bound_to (field_names fs) (field_patterns fs) gs sc (Err r)
-fields_bound_err fs gs sc r = no_fields_bound
-
-pub ruleset binding = (bound_err, bound_name, bound_wild, bound_typed, bound_tuple, bound_record, all_bound_err, fields_bound_err)

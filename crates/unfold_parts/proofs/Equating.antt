@@ -1,7 +1,7 @@
 -- Comparisons, one part after the other.
 use Rattle.std.proofs.Common.{◌≡◌, ℕ, suc, ◌+◌, ◌<◌, ◌≤◌, ◌++◌, List, [], ◌∷◌, map, length, get_or, drop, take, true, Ok, Err, refl, sym, ap, ◌∙◌, subst, append_assoc, append-nil, le_refl}
 use Rattle.std.specs.Borrow.{Bor}
-use Rattle.std.specs.Prelude.{Result}
+use Rattle.std.specs.Prelude.{Result, OnOk}
 use Rattle.std.specs.Str.{bytes_eq}
 use Rattle.std.proofs.lemmas.List.{drop_all, take_all}
 use mathlib.Core.List.{cons≢nil, head-eq_of_cons-eq, tail-eq_of_cons-eq}
@@ -23,9 +23,6 @@ use Rattle.unfold.specs.declared.known.KnownForm.TheVariants as form
 use Rattle.unfold_parts.specs.Answers.{Answered, answered, unanswered, Computed, computed, not_computed, Equal_to, All_compared, none_compared, one_compared, All_hold, none_fails, one_holds, Same_names, no_names, same_name}
 use Rattle.unfold_parts.specs.declared.refusal.Refusal.{Refusal}
 use Rattle.unfold_parts.proofs.Lists.{one_more}
-
-pub unequal_is : {A : Type 0} (Gives : Bindings → A → ℕ → Type 0) (before after : Bindings) (next : ℕ) (r : Refusal) → Answered Gives before after next (Err r)
-unequal_is Gives before after next r = unanswered
 
 values_are : (fs : List Field) → map (λ (f : Field). known_of f.known) fs ≡ map (λ (f : Text × Known). f.1) (map field_of fs)
 values_are [] = refl
@@ -109,6 +106,10 @@ values_known fs ss i e le = ap (map known_of) (e ∙ ap (map (λ (f : Field). f.
 
 -- ---- names of fields
 
+pub on_ok : {A E : Type 0} {P : Type 0} (r : Result A E) → P → OnOk r P
+on_ok (Ok a) p = p
+on_ok (Err e) p = tt
+
 module _ (fs gs : List Field) where
   abbrev pub Names_lead : ℕ → ℕ → Type 0
   Names_lead i j = Same_names (map field_of (drop i fs)) (map field_of (drop j gs)) → Same_names (map field_of fs) (map field_of gs)
@@ -136,5 +137,3 @@ module _ (us : List Atom) (n : ℕ) (before : Bindings) where
 
   pub held_end : (i next : ℕ) (after : Bindings) (w : Atom) → i ≡ 0 → Held_so_far (drop i us) n next before after w → Answered (All_hold us n) before after next (Ok w)
   held_end i next after w z (held_so_far bs e h) = answered bs e (subst (λ k. All_hold (drop k us) n bs w next) z h)
-
-pub ruleset equating = (unequal_is, scalars_equal, tuples_equal, records_equal, fields_compared)

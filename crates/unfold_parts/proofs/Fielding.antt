@@ -1,5 +1,5 @@
 -- The fields of records, one after the other.
-use Rattle.std.proofs.Common.{◌≡◌, ℕ, zero, suc, ◌+◌, ◌<◌, ◌≤◌, ◌++◌, List, [], ◌∷◌, map, length, get_or, drop, take, Option, Some, None, Bool, true, false, cond, refl, sym, ap, ◌∙◌, append-nil, arith}
+use Rattle.std.proofs.Common.{◌≡◌, ℕ, ◌+◌, ◌<◌, ◌≤◌, ◌++◌, List, [], ◌∷◌, map, length, get_or, drop, take, Option, Some, None, Bool, true, false, cond, refl, sym, ap, ◌∙◌, append-nil, arith}
 use Rattle.std.specs.Borrow.{Bor}
 use Rattle.std.specs.Str.{bytes_eq}
 use Rattle.std.proofs.lemmas.List.{drop_all, map-append, length-map}
@@ -14,7 +14,7 @@ use Rattle.unfold.specs.declared.known.Field.{Field}
 use Rattle.unfold.specs.declared.known.Known.{Known as Held_known}
 use Rattle.unfold.specs.declared.known.KnownForm.TheVariants as form
 use Rattle.unfold_parts.specs.Parts.{Is_record, is_record}
-use Rattle.unfold_parts.proofs.Lists.{one_more}
+use Rattle.unfold_parts.proofs.Lists.{one_more, take_more}
 
 abbrev pub pair_of : Field → Text × Known
 pair_of f = (f.name.now, known_of f.known)
@@ -108,11 +108,6 @@ module _ (name : Text) (s : Known) (fs : List Field) where
   so_far_end done made i row le e q = sym (e ∙ ap (λ z. before (map field_of made) (left_over name s done z)) (rest_done fs i le) ∙ ap (before (map field_of made)) (left_none done) ∙ sym (before_is (map field_of made) []) ∙ ap fields_known (append-nil (map field_of made)) ∙ ap (λ z. fields_known (map field_of z)) (sym q))
 
 -- ---- a field put where it belongs
-
-take_more : {X : Type 0} (xs : List X) (i : ℕ) (d : X) → i < length xs → take (i + 1) xs ≡ take i xs ++ get_or xs i d ∷ []
-take_more [] i d lt = absurd (omega (arith, lt))
-take_more (x ∷ xs) zero d lt = refl
-take_more (x ∷ xs) (suc i) d lt = let e : suc i + 1 ≡ suc (i + 1) = omega arith in ap (λ z. take z (x ∷ xs)) e ∙ ap (λ z. x ∷ z) (take_more xs i d (omega (arith, lt)))
 
 module _ (name : Text) (fs : List Field) where
   -- the field belongs behind the first ones

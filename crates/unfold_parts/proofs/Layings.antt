@@ -14,23 +14,11 @@ use Rattle.unfold.specs.Shapes.{Shape, Scalar_shape, Tuple_shape, Record_shape, 
 use Rattle.unfold.specs.declared.known.Field.{Field}
 use Rattle.unfold.specs.declared.known.Known.{Known as Held_known}
 use Rattle.unfold.specs.declared.known.KnownForm.TheVariants as form
-use Rattle.unfold_parts.specs.Layouts.{shape_of, shapes_of, field_shapes_of, Laid_to, laid_to, not_laid, Put, put, not_put, Behind, behind, not_behind}
+use Rattle.unfold_parts.specs.Layouts.{shape_of, shapes_of, field_shapes_of, Laid_to, laid_to, Put, put, Behind, behind, not_behind}
 use Rattle.unfold_parts.specs.declared.refusal.Refusal.{Refusal}
 use Rattle.unfold_parts.proofs.Lists.{one_more}
 
 -- ---- single answers
-
-pub put_ok : (u : Atom) (before after : List Atom) (x : Unit {0}) → after ≡ before ++ u ∷ [] → Put u before after (Ok x)
-put_ok u before after x e = put e
-
-pub put_err : (u : Atom) (before after : List Atom) (r : Refusal) → Put u before after (Err r)
-put_err u before after r = not_put
-
-pub laid_err : (h : Shape) (s : Known) (r : Refusal) → Laid_to h s (Err r)
-laid_err h s r = not_laid
-
-pub behind_err : (Is : List Atom → List Atom → Type 0) (before after : List Atom) (r : Refusal) → Behind Is before after (Err r)
-behind_err Is before after r = not_behind
 
 same_text : (f g : Text) → bytes_eq f g ≡ true → f ≡ g
 same_text f g h = (bytes_eq-Decides f g).0 h
@@ -98,5 +86,3 @@ module _ (hs fs : List Field) where
   pub fields_lead_end : (i j : ℕ) (before after : List Atom) (x : Unit {0}) → length hs ≤ i → length fs ≤ j → Leads (Fields_from 0 0) (Fields_from i j) before after → Behind (Fields_from 0 0) before after (Ok x)
   unfolding field_shapes_of fields_known
   fields_lead_end i j before after x le le' = leads_end (Fields_from 0 0) (Fields_from i j) before after x (λ rest. subst (λ z. Fields_laid (field_shapes_of (fields_known (map field_of z))) (fields_known (map field_of (drop j fs))) rest rest) (sym (drop_all i hs le)) (subst (λ z. Fields_laid (field_shapes_of (fields_known (map field_of []))) (fields_known (map field_of z)) rest rest) (sym (drop_all j fs le')) laid_no_field))
-
-pub ruleset layings = (put_ok, put_err, laid_err, behind_err, laid_ok, laid_one, laid_parts, laid_fields)

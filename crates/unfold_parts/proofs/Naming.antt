@@ -1,5 +1,5 @@
 -- New names for the components of data, one behind the other.
-use Rattle.std.proofs.Common.{◌≡◌, ℕ, zero, suc, ◌+◌, ◌-◌, ◌<◌, ◌≤◌, ◌++◌, List, [], ◌∷◌, map, length, get_or, drop, Ok, Err, sym, ap, ◌∙◌, subst, append_assoc, append-nil, arith}
+use Rattle.std.proofs.Common.{◌≡◌, ℕ, zero, suc, ◌+◌, ◌-◌, ◌<◌, ◌≤◌, ◌++◌, List, [], ◌∷◌, map, length, get_or, drop, Ok, sym, ap, ◌∙◌, subst, append_assoc, append-nil, arith}
 use Rattle.std.specs.Borrow.{Bor}
 use Rattle.std.specs.Prelude.{IfOk, Result}
 use Rattle.std.proofs.lemmas.List.{drop_all, map-append}
@@ -15,7 +15,7 @@ use Rattle.unfold.specs.Unfolding.{names}
 use Rattle.unfold.specs.declared.known.Field.{Field}
 use Rattle.unfold.specs.declared.known.Known.{Known as Held_known}
 use Rattle.unfold.specs.declared.known.KnownForm.TheVariants as form
-use Rattle.unfold_parts.specs.Layouts.{shape_of, shapes_of, field_shapes_of, numbers_from, Has_names, has_names, Renewed, renewed, not_renewed}
+use Rattle.unfold_parts.specs.Layouts.{shape_of, shapes_of, field_shapes_of, numbers_from, Has_names, has_names, Renewed, renewed}
 use Rattle.unfold_parts.specs.declared.fresh.Fresh.{Fresh}
 use Rattle.unfold_parts.specs.declared.fresh.Renamed.{Renamed}
 use Rattle.unfold_parts.specs.declared.refusal.Refusal.{Refusal}
@@ -45,9 +45,6 @@ renewed_ok h n next r (has_names k e f) q =
     renewed
     (subst (λ z. Upward n z next) (sym all) (subst (Upward n (numbers_from n k)) (sym e) (upward n k)))
     (subst (λ z. Laid h (known_of r.known) (names z) []) (sym all) (subst (λ z. Laid h (known_of r.known) z []) (append-nil (names (numbers_from n k))) (f [])))
-
-pub renewed_err : (h : Shape) (n next : ℕ) (r : Refusal) → Renewed h n next (Err r)
-renewed_err h n next r = not_renewed
 
 -- ---- by form
 
@@ -121,7 +118,3 @@ module _ (likes : List Field) where
   pub fields_named_end : (i n next : ℕ) (items : List Field) (fields : Bor (List Field)) → length likes ≤ i → Names_lead (Fields_named 0) (Fields_named i) n next (map field_of items) → fields.now ≡ items → Has_names (Fields_laid (field_shapes_of (fields_known (map field_of likes))) (fields_known (map field_of fields.now))) n next
   unfolding field_shapes_of fields_known
   fields_named_end i n next items fields le l e = subst (λ z. Has_names (Fields_laid (field_shapes_of (fields_known (map field_of likes))) (fields_known (map field_of z))) n next) (sym e) (lead_end (Fields_named 0) (Fields_named i) n next (map field_of items) (λ rest. subst (λ z. Fields_laid (field_shapes_of (fields_known (map field_of z))) (fields_known []) rest rest) (sym (drop_all i likes le)) laid_no_field) l)
-
-pub ruleset fresh = (renewed_ok, renewed_err)
-
-pub ruleset names_laid = (scalar_named, tuple_named, record_named)

@@ -39,7 +39,7 @@ use Rattle.fut_meaning.specs.Operators.{integer}
 use Rattle.unfold.proofs.Mirror.{known_scalar, known_tuple, known_record, known_primitive}
 use Rattle.unfold.specs.Held.{known_of, field_of, fields_known}
 use Rattle.unfold.specs.Knowns.{Known, Scalar_known, Record_known, Primitive_known, listed, knowns, replaced, part}
-use Rattle.unfold.specs.Unfolding.{Bindings, step, named, literal_type, Operates, o_integer, o_truth, o_tuple, o_record, o_binary, o_equal, o_unequal, o_negate, o_complement, o_project, o_replace, o_ascribe, o_coerce, o_declared, o_assert, Primitive_operates, p_convert, p_min, p_max, p_abs, p_popc, Applies, a_primitive_waits, a_primitive}
+use Rattle.unfold.specs.Unfolding.{Bindings, step, named, literal_type, Equals, Operates, o_integer, o_truth, o_tuple, o_record, o_binary, o_equal, o_unequal, o_negate, o_complement, o_project, o_replace, o_ascribe, o_coerce, o_declared, o_assert, Primitive_operates, p_convert, p_min, p_max, p_abs, p_popc, Applies, a_primitive_waits, a_primitive}
 use Rattle.unfold.specs.declared.known.Field.{Field}
 use Rattle.unfold.specs.declared.known.Known.{Known as Held_known}
 use Rattle.unfold.specs.declared.known.KnownForm.TheVariants as form
@@ -126,17 +126,21 @@ module _ (ss : List Known) (n next : ℕ) (before after : Bindings) (r : Result 
 
 -- ---- equality and assertions
 
-module _ (t : IntType) (at : Place) (ss : List Held_known) (c d : Held_known) (n mid next : ℕ) (before between after : Bindings) (s : Held_known) where
+module _ (t : IntType) (at : Place) (ss : List Held_known) (c d : Held_known) (n next : ℕ) (before after : Bindings) (s : Held_known) where
   pub equal_ok : (u : Atom) → length ss ≡ 2 → Equal_to at (known_of (get_or ss 0 c)) (known_of (get_or ss 1 d)) n before after next (Ok u) → s.form ≡ form.Scalar u → Operated t (Binary binary.Eq) at (map known_of ss) n before after next (Ok s)
   equal_ok u i2 (answered bs q h) i = answered bs q (subst (λ z. Operates t (Binary binary.Eq) at z n bs (known_of s) next) (sym (two_are ss c d i2)) (subst (λ z. Operates t (Binary binary.Eq) at (known_of (get_or ss 0 c) ∷ known_of (get_or ss 1 d) ∷ []) n bs z next) (sym (known_scalar s u i)) (o_equal h)))
 
-  pub unequal_ok : (u w : Atom) → length ss ≡ 2 → Equal_to at (known_of (get_or ss 0 c)) (known_of (get_or ss 1 d)) n before between mid (Ok u) → Computed (Operate (operation.Unary unary.Not u)) mid between after next (Ok w) → s.form ≡ form.Scalar w → Operated t (Binary binary.Ne) at (map known_of ss) n before after next (Ok s)
-  unequal_ok u _ i2 (answered bs q h) (computed k l) i = answered (bs ++ step (mid ∷ []) (Operate (operation.Unary unary.Not u))) (k ∙ ap (λ z. z ++ step (mid ∷ []) (Operate (operation.Unary unary.Not u))) q ∙ append_assoc before bs (step (mid ∷ []) (Operate (operation.Unary unary.Not u)))) (subst (λ z. Operates t (Binary binary.Ne) at z n (bs ++ step (mid ∷ []) (Operate (operation.Unary unary.Not u))) (known_of s) next) (sym (two_are ss c d i2)) (subst (λ z. Operates t (Binary binary.Ne) at (known_of (get_or ss 0 c) ∷ known_of (get_or ss 1 d) ∷ []) n (bs ++ step (mid ∷ []) (Operate (operation.Unary unary.Not u))) (known_of s) z) (sym l) (subst (λ z. Operates t (Binary binary.Ne) at (known_of (get_or ss 0 c) ∷ known_of (get_or ss 1 d) ∷ []) n (bs ++ step (mid ∷ []) (Operate (operation.Unary unary.Not u))) z (suc mid)) (sym (known_scalar s (atom.Name mid) i)) (o_unequal h (le_refl mid)))))
+pub unequal_is : (t : IntType) (at : Place) (ss : List Held_known) (c d : Held_known) (n mid next : ℕ) (before between after : Bindings) (u : Atom) (r : Result Held_known Refusal) → length ss ≡ 2 → Equal_to at (known_of (get_or ss 0 c)) (known_of (get_or ss 1 d)) n before between mid (Ok u) → Answered (λ bs (s : Held_known) m. Is_step (Operate (operation.Unary unary.Not u)) mid bs (known_of s) m) between after next r → Operated t (Binary binary.Ne) at (map known_of ss) n before after next r
+unequal_is t at ss c d n mid next before between after u (Ok s) i2 (answered bs q h) (answered cs k x) = answered (bs ++ cs) (k ∙ ap (λ z. z ++ cs) q ∙ append_assoc before bs cs) (by_step bs cs (known_of s) next h x)
+  where
+    by_step : (bs cs : Bindings) (s : Known) (m : ℕ) → Equals at (known_of (get_or ss 0 c)) (known_of (get_or ss 1 d)) n bs u mid → Is_step (Operate (operation.Unary unary.Not u)) mid cs s m → Operates t (Binary binary.Ne) at (map known_of ss) n (bs ++ cs) s m
+    by_step bs _ _ _ h is_step = subst (λ z. Operates t (Binary binary.Ne) at z n (bs ++ step (mid ∷ []) (Operate (operation.Unary unary.Not u))) (named mid) (suc mid)) (sym (two_are ss c d i2)) (o_unequal h (le_refl mid))
+unequal_is t at ss c d n mid next before between after u (Err e) i2 h unanswered = unanswered
 
 pub assert_ok : (t : IntType) (at : Place) (ss : List Held_known) (c d : Held_known) (n : ℕ) (before after : Bindings) (u : Atom) (none : Bor (List ℕ)) (x : Unit {0}) → length ss ≡ 2 → Is_scalar (known_of (get_or ss 0 c)) (Some u) → none.now ≡ [] → Pushed (binding_of (roll-Step record { names = none; act = act.Operate (operation.Assert at u) })) before after (Ok x) → Operated t Assert at (map known_of ss) n before after n (Ok (get_or ss 1 d))
 assert_ok t at ss c d n before after u none x i2 (a_scalar q) k (pushed h) = answered (step [] (Operate (operation.Assert at u))) (h ∙ ap (λ z. before ++ z ∷ []) (binding_of-made (record { names = none; act = act.Operate (operation.Assert at u) }) ∙ ap (λ z. (z, action_of (act.Operate (operation.Assert at u)))) k ∙ ap (λ z. ([], z)) (action_of-Operate (operation.Assert at u)))) (subst (λ z. Operates t Assert at z n (step [] (Operate (operation.Assert at u))) (known_of (get_or ss 1 d)) n) (sym (two_are ss c d i2 ∙ ap (λ z. z ∷ known_of (get_or ss 1 d) ∷ []) q)) o_assert)
 
-pub ruleset stepped = (unanswered_is, computed_known, unary_ok, binary_ok, binary_is, equal_ok, unequal_ok, assert_ok)
+pub ruleset stepped = (unanswered_is, binary_is, equal_ok, unequal_is, assert_ok)
 
 -- ---- operations without steps
 
@@ -228,8 +232,6 @@ module _ (t : IntType) (a : Act) (at : Place) (n : ℕ) (before : Bindings) wher
   pub act_tuple : (ss : Bor (List Held_known)) (s : Held_known) → a ≡ flat.Tuple → s.form ≡ form.Tuple ss → Operated t (operation_of a) at (map known_of ss.now) n before before n (Ok s)
   act_tuple ss s e i = now_as (map known_of ss.now) (Ok s) Tuple_of (ap operation_of e) (λ at n. subst (λ z. Operates t Tuple_of at (map known_of ss.now) n [] z n) (sym (known_tuple s ss i)) o_tuple)
 
-pub ruleset acts = (unanswered_is, act_binary, act_negate, act_complement, act_assert, act_integer, act_truth, act_project, act_replace, act_record, act_ascribe, act_coerce, act_declared, act_tuple)
-
 -- ---- primitives
 
 module _ (p : Primitive) (at : Place) (ss : List Known) (n next : ℕ) (before after : Bindings) (r : Result Held_known Refusal) where
@@ -272,8 +274,3 @@ module _ (p : Primitive) (at : Place) (given : List Held_known) (s : Held_known)
 
   pub primitive_runs : (before after : Bindings) (next : ℕ) (r : Result Held_known Refusal) → (length arguments < arity p → ⊥) → Operated_primitive p at (map known_of arguments) n before after next r → Applied_primitive p at (knowns (map known_of given)) (known_of s) n before after next r
   primitive_runs before after next r ge h integer_at tops = answered_as (λ bs w m x. a_primitive (ap (λ z. nat_lt z (arity p)) as_many ∙ le-ltb _ _ (omega (arith, ge))) (subst (λ z. Primitive_operates p at z n bs (known_of w) m) all_are x)) h
-
-pub applied_err : (p : Primitive) (at : Place) (given : List Held_known) (s : Known) (n next : ℕ) (before after : Bindings) (r : Refusal) → Applied_primitive p at (knowns (map known_of given)) s n before after next (Err r)
-applied_err p at given s n next before after r integer_at tops = unanswered
-
-pub ruleset primitives = (unanswered_is, convert_ok, primitive_convert, primitive_min, primitive_max, primitive_abs, primitive_popc)

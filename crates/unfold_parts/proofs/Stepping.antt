@@ -1,17 +1,19 @@
 -- Steps are put one behind the other.
-use Rattle.std.proofs.Common.{◌≡◌, ℕ, ◌+◌, ◌++◌, List, [], ◌∷◌, map, length, get_or, take, drop, Ok, Err, false, refl, sym, ap, ◌∙◌, arith}
+use Rattle.std.proofs.Common.{◌≡◌, ℕ, ◌+◌, ◌++◌, List, [], ◌∷◌, map, length, take, drop, Ok, Err, false, refl, sym, ap, ◌∙◌, subst, arith}
+use Rattle.std.specs.Prelude.{Result, IfOk}
 use Rattle.std.specs.Borrow.{Bor}
 use Rattle.std.proofs.lemmas.List.{map-append}
 use mathlib.Core.List.{cons≢nil, head-eq_of_cons-eq, tail-eq_of_cons-eq}
 use Rattle.fut_scalar.specs.declared.scalar.Scalar.TheVariants as scalar
-use Rattle.fut_blocks.proofs.Layers.{binding_of-made, body_of-made, action_of-Operate, action_of-If}
+use Rattle.fut_blocks.proofs.Layers.{binding_of-made, binding_of-parts, body_of-made, action_of-Operate, action_of-If}
 use Rattle.fut_blocks.specs.declared.block.Act.{Act}
 use Rattle.fut_blocks.specs.declared.block.Act.TheVariants as act
 use Rattle.fut_blocks.specs.declared.block.Atom.{Atom}
 use Rattle.fut_blocks.specs.declared.block.Atom.TheVariants as atom
 use Rattle.fut_blocks.specs.declared.block.Block.{Block, roll-Block}
+use Rattle.fut_blocks.specs.declared.block.Operation.{Operation}
 use Rattle.fut_blocks.specs.declared.block.Step.{Step, roll-Step}
-use Rattle.fut_blocks.specs.Plain.{Action, Give, If, action_of, binding_of, body_of, lets}
+use Rattle.fut_blocks.specs.Plain.{Action, Operate, Give, If, action_of, binding_of, body_of, lets}
 use Rattle.unfold.specs.Unfolding.{Bindings, both_hold}
 use Rattle.unfold_parts.specs.Answers.{Named_as, named_as, not_named, Pushed, pushed, not_pushed, Computed, computed, not_computed, Blocked, blocked, not_blocked}
 use Rattle.unfold_parts.specs.declared.refusal.Refusal.{Refusal}
@@ -28,20 +30,30 @@ pushed_ok s items items' u e = pushed (ap (map binding_of) e ∙ map-append bind
 pub pushed_err : (s : List ℕ × Action) (before after : Bindings) (r : Refusal) → Pushed s before after (Err r)
 pushed_err s before after r = not_pushed
 
-pub computed_ok : (a : Act) (names : Bor (List ℕ)) (x n next : ℕ) (before after : Bindings) (u : Unit {0}) → Named_as n next (Ok x) → names.now ≡ x ∷ [] → Pushed (binding_of (roll-Step record { names = names; act = a })) before after (Ok u) → Computed (action_of a) n before after next (Ok (atom.Name x))
-computed_ok a names x n next before after u (named_as e) i (pushed q) = computed (q ∙ ap (λ z. before ++ z ∷ []) (binding_of-made (record { names = names; act = a }) ∙ ap (λ z. (z, action_of a)) i)) e
+-- a step is pushed under a new name
+pub named_step : (s : Step) (names : Bor (List ℕ)) (x n mid next : ℕ) (before between after : Bindings) (u : Unit {0}) → Named_as n mid (Ok x) → between ≡ before → names.now ≡ x ∷ [] → next ≡ mid → Pushed (binding_of (roll-Step record { names = names; act = s.act })) between after (Ok u) → Computed (binding_of s).1 n before after next (Ok (atom.Name x))
+named_step s names x n mid next before between after u (named_as e) same i later (pushed q) = subst (λ z. Computed z n before after next (Ok (atom.Name x))) (sym (ap (λ (z : List ℕ × Action). z.1) (binding_of-parts s))) (computed (q ∙ ap (λ z. z ++ binding_of (roll-Step record { names = names; act = s.act }) ∷ []) same ∙ ap (λ z. before ++ z ∷ []) (binding_of-made (record { names = names; act = s.act }) ∙ ap (λ z. (z, action_of s.act)) i)) (later ∙ e))
+
+-- the act of a step that is made
+module _ (names : Bor (List ℕ)) (n next : ℕ) (before after : Bindings) (r : Result Atom Refusal) where
+  as_act : (a : Act) (b : Action) → action_of a ≡ b → Computed (binding_of (roll-Step record { names = names; act = a })).1 n before after next r → Computed b n before after next r
+  as_act a b e h = subst (λ z. Computed z n before after next r) (ap (λ (z : List ℕ × Action). z.1) (binding_of-made (record { names = names; act = a })) ∙ e) h
+
+  pub as_operation : (o : Operation) → Computed (binding_of (roll-Step record { names = names; act = act.Operate o })).1 n before after next r → Computed (Operate o) n before after next r
+  as_operation o h = as_act (act.Operate o) (Operate o) (action_of-Operate o) h
+
+  pub as_both : (u w : Atom) (yea nay : Bor Block) → body_of yea.now ≡ Give (w ∷ []) → body_of nay.now ≡ Give (atom.Constant (scalar.Bool false) ∷ []) → Computed (binding_of (roll-Step record { names = names; act = act.If u yea nay })).1 n before after next r → Computed (both_hold u w) n before after next r
+  as_both u w yea nay y f h = as_act (act.If u yea nay) (both_hold u w) (action_of-If u yea nay ∙ ap (λ z. If u z (body_of nay.now)) y ∙ ap (λ z. If u (Give (w ∷ [])) z) f) h
 
 pub computed_err : (a : Action) (n next : ℕ) (before after : Bindings) (r : Refusal) → Computed a n before after next (Err r)
 computed_err a n next before after r = not_computed
 
 -- ---- blocks
 
-pub gives : (cells : List Block) (d : Block) (row : Bor (List Step)) (us : Bor (List Atom)) (u : Atom) → cells ≡ roll-Block record { steps = row; results = us } ∷ [] → row.now ≡ [] → us.now ≡ u ∷ [] → body_of (get_or cells 0 d) ≡ Give (u ∷ [])
+pub gives : (row : Bor (List Step)) (us : Bor (List Atom)) (u : Atom) (r : Result (Bor Block) Refusal) → row.now ≡ [] → us.now ≡ u ∷ [] → IfOk r (λ b. b.now ≡ roll-Block record { steps = row; results = us }) → IfOk r (λ b. body_of b.now ≡ Give (u ∷ []))
 unfolding lets
-gives cells d row us u e q i = ap (λ z. body_of (get_or z 0 d)) e ∙ body_of-made (record { steps = row; results = us }) ∙ ap (λ z. lets (map binding_of z) us.now) q ∙ ap Give i
-
-pub both_ok : (u w : Atom) (names : Bor (List ℕ)) (yea nay : Bor Block) (x n next : ℕ) (before after : Bindings) (v : Unit {0}) → Named_as n next (Ok x) → names.now ≡ x ∷ [] → body_of yea.now ≡ Give (w ∷ []) → body_of nay.now ≡ Give (atom.Constant (scalar.Bool false) ∷ []) → Pushed (binding_of (roll-Step record { names = names; act = act.If u yea nay })) before after (Ok v) → Computed (both_hold u w) n before after next (Ok (atom.Name x))
-both_ok u w names yea nay x n next before after v (named_as e) i y f (pushed q) = computed (q ∙ ap (λ z. before ++ z ∷ []) (binding_of-made (record { names = names; act = act.If u yea nay }) ∙ ap (λ z. (z, action_of (act.If u yea nay))) i ∙ ap (λ z. (x ∷ [], z)) (action_of-If u yea nay ∙ ap (λ z. If u z (body_of nay.now)) y ∙ ap (λ z. If u (Give (w ∷ [])) z) f))) e
+gives row us u (Ok b) q i e = ap body_of e ∙ body_of-made (record { steps = row; results = us }) ∙ ap (λ z. lets (map binding_of z) us.now) q ∙ ap Give i
+gives row us u (Err r) q i e = tt
 
 -- the first ones of a list, and the others
 pub parted : (outside inside : Bindings) (items : List Step) → map binding_of items ≡ outside ++ inside → (map binding_of (take (length outside) items) ≡ outside) × (map binding_of (drop (length outside) items) ≡ inside)
@@ -49,15 +61,14 @@ parted [] inside items e = (refl, e)
 parted (o ∷ os) inside [] e = absurd (cons≢nil (sym e))
 parted (o ∷ os) inside (x ∷ xs) e = let r = parted os inside xs (tail-eq_of_cons-eq e) in (ap (λ z. z ∷ map binding_of (take (length os) xs)) (head-eq_of_cons-eq e) ∙ ap (λ z. o ∷ z) r.0, r.1)
 
-pub blocked_ok : (mark : ℕ) (us : Bor (List Atom)) (items items' : List Step) (row : Bor (List Step)) (cells : List Block) (d : Block) (b : Bor Block) → b.now ≡ get_or cells 0 d → cells ≡ roll-Block record { steps = row; results = us } ∷ [] → row.now ≡ drop mark items → items' ≡ take mark items → Blocked mark us.now (map binding_of items) (map binding_of items') (Ok b)
-blocked_ok mark us items items' row cells d b h e q i = blocked parts
+pub blocked_is : (mark : ℕ) (us : Bor (List Atom)) (items items' : List Step) (row : Bor (List Step)) (r : Result (Bor Block) Refusal) → row.now ≡ drop mark items → items' ≡ take mark items → IfOk r (λ b. b.now ≡ roll-Block record { steps = row; results = us }) → Blocked mark us.now (map binding_of items) (map binding_of items') r
+blocked_is mark us items items' row (Err r) q i e = not_blocked
+blocked_is mark us items items' row (Ok b) q i e = blocked parts
   where
     parts : (outside inside : Bindings) → length outside ≡ mark → map binding_of items ≡ outside ++ inside → (map binding_of items' ≡ outside) × (body_of b.now ≡ lets inside us.now)
-    parts outside inside l k = let r = parted outside inside items k in (ap (map binding_of) (i ∙ ap (λ z. take z items) (sym l)) ∙ r.0, ap body_of h ∙ ap (λ z. body_of (get_or z 0 d)) e ∙ body_of-made (record { steps = row; results = us }) ∙ ap (λ z. lets (map binding_of z) us.now) (q ∙ ap (λ z. drop z items) (sym l)) ∙ ap (λ z. lets z us.now) r.1)
+    parts outside inside l k = let r = parted outside inside items k in (ap (map binding_of) (i ∙ ap (λ z. take z items) (sym l)) ∙ r.0, ap body_of e ∙ body_of-made (record { steps = row; results = us }) ∙ ap (λ z. lets (map binding_of z) us.now) (q ∙ ap (λ z. drop z items) (sym l)) ∙ ap (λ z. lets z us.now) r.1)
 
 pub blocked_err : (mark : ℕ) (us : List Atom) (before after : Bindings) (r : Refusal) → Blocked mark us before after (Err r)
 blocked_err mark us before after r = not_blocked
 
-pub ruleset stepping = (named_ok, named_err, pushed_ok, pushed_err, computed_ok, computed_err, action_of-Operate, gives, both_ok)
-
-pub ruleset blocks = (blocked_ok, blocked_err)
+pub ruleset stepping = (named_ok, named_err, pushed_ok, pushed_err)

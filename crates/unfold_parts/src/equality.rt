@@ -17,7 +17,6 @@ use unfold::{Field, Known, KnownForm};
 /// Whether data is equal: the comparisons of all components, each of which has to hold. It lies inside `deep` others, and
 /// there is room for so many parts.
 #[cycle(equal)]
-#[tactic(auto, using(crate::proofs::Equating::equating))]
 pub fn equal<'a>(
     work: &mut Unfolding<'a>,
     room: &mut u32,
@@ -44,15 +43,19 @@ pub fn equal<'a>(
         },
         KnownForm::Tuple(lefts) => match right.form {
             KnownForm::Tuple(rights) => {
-                let truths = compare_all(work, room, deep + 1, place, lefts, rights)?;
-                all_hold(work, truths)
+                match compare_all(work, room, deep + 1, place, lefts, rights) {
+                    Ok(truths) => all_hold(work, truths),
+                    Err(refusal) => Err(refusal),
+                }
             }
             _ => Err(Refusal::Lost),
         },
         KnownForm::Record(lefts) => match right.form {
             KnownForm::Record(rights) => {
-                let truths = compare_fields(work, room, deep + 1, place, lefts, rights)?;
-                all_hold(work, truths)
+                match compare_fields(work, room, deep + 1, place, lefts, rights) {
+                    Ok(truths) => all_hold(work, truths),
+                    Err(refusal) => Err(refusal),
+                }
             }
             _ => Err(Refusal::Lost),
         },
@@ -61,7 +64,6 @@ pub fn equal<'a>(
 }
 
 #[cycle(equal)]
-#[tactic(auto, using(crate::proofs::Equating::equating))]
 fn compare_all<'a>(
     work: &mut Unfolding<'a>,
     room: &mut u32,
@@ -78,8 +80,14 @@ fn compare_all<'a>(
     let mut truths = Vec::new(work.bump);
     let mut at = 0;
     for left in lefts {
-        let truth = equal(work, room, deep, place, *left, rights[at])?;
-        truths.push(truth)?;
+        let truth = match equal(work, room, deep, place, *left, rights[at]) {
+            Ok(truth) => truth,
+            Err(refusal) => return Err(refusal),
+        };
+        match truths.push(truth) {
+            Ok(()) => {}
+            Err(_) => return Err(Refusal::Memory),
+        }
         at += 1;
     }
     Ok(into_bump_slice(truths))
@@ -87,7 +95,6 @@ fn compare_all<'a>(
 
 // The fields of two records, which have the same names.
 #[cycle(equal)]
-#[tactic(auto, using(crate::proofs::Equating::equating))]
 fn compare_fields<'a>(
     work: &mut Unfolding<'a>,
     room: &mut u32,
@@ -102,9 +109,14 @@ fn compare_fields<'a>(
     if !same_names(lefts, rights) {
         return Err(Refusal::Lost);
     }
-    let lefts = values(work.bump, lefts)?;
-    let rights = values(work.bump, rights)?;
-    compare_all(work, room, deep, place, lefts, rights)
+    let lefts = match values(work.bump, lefts) {
+        Ok(lefts) => lefts,
+        Err(refusal) => return Err(refusal),
+    };
+    match values(work.bump, rights) {
+        Ok(rights) => compare_all(work, room, deep, place, lefts, rights),
+        Err(refusal) => Err(refusal),
+    }
 }
 
 // What is known of the fields.
@@ -113,7 +125,10 @@ fn values<'a>(bump: &'a Bump, fields: &'a [Field<'a>]) -> Result<&'a [Known<'a>]
 {
     let mut values = Vec::new(bump);
     for field in fields {
-        values.push(field.known)?;
+        match values.push(field.known) {
+            Ok(()) => {}
+            Err(_) => return Err(Refusal::Memory),
+        }
     }
     Ok(into_bump_slice(values))
 }
@@ -137,7 +152,6 @@ fn same_names<'a>(lefts: &'a [Field<'a>], rights: &'a [Field<'a>]) -> bool
 }
 
 // Whether all hold.
-#[tactic(auto, using(crate::proofs::Equating::equating))]
 fn all_hold<'a>(work: &mut Unfolding<'a>, truths: &'a [Atom]) -> Result<Atom, Refusal>
     ensures { Answered (All_hold truths.now work.old.next) (steps_of work.old) (steps_of work.new) work.new.next result }
 {
@@ -145,7 +159,10 @@ fn all_hold<'a>(work: &mut Unfolding<'a>, truths: &'a [Atom]) -> Result<Atom, Re
     let mut at = truths.len();
     while at > 0 {
         at -= 1;
-        all = work.both_hold(truths[at], all)?;
+        all = match work.both_hold(truths[at], all) {
+            Ok(both) => both,
+            Err(refusal) => return Err(refusal),
+        };
     }
     Ok(all)
 }

@@ -42,7 +42,6 @@ struct RenamedFields<'a> {
 
 impl<'a> Unfolding<'a> {
     /// Data of the same shape as `like`, whose components are new names.
-    #[tactic(auto, using(crate::proofs::Naming::fresh))]
     pub fn fresh(&mut self, like: Known<'a>) -> Result<Fresh<'a>, Refusal>
         ensures fresh { Renewed (shape_of (known_of like.entry)) self.old.next self.new.next result }
         ensures steps { steps_of self.new ≡ steps_of self.old }
@@ -50,13 +49,20 @@ impl<'a> Unfolding<'a> {
         let bump = self.bump;
         let first = self.next;
         let mut room = MOST_PARTS;
-        let made = rename(&mut room, bump, 0, like, first)?;
-        let names = names_between(bump, first, made.next)?;
-        self.next = made.next;
-        Ok(Fresh {
-            names,
-            known: made.known,
-        })
+        let made = match rename(&mut room, bump, 0, like, first) {
+            Ok(made) => made,
+            Err(refusal) => return Err(refusal),
+        };
+        match names_between(bump, first, made.next) {
+            Ok(names) => {
+                self.next = made.next;
+                Ok(Fresh {
+                    names,
+                    known: made.known,
+                })
+            }
+            Err(refusal) => Err(refusal),
+        }
     }
 }
 
@@ -67,12 +73,14 @@ fn names_between<'a>(bump: &'a Bump, first: u32, behind: u32) -> Result<&'a [u32
 {
     let mut names = Vec::new(bump);
     for name in first..behind {
-        names.push(name)?;
+        match names.push(name) {
+            Ok(()) => {}
+            Err(_) => return Err(Refusal::Memory),
+        }
     }
     Ok(into_bump_slice(names))
 }
 
-#[tactic(auto, using(crate::proofs::Naming::names_laid))]
 fn rename_scalar<'a>(name: u32) -> Result<Renamed<'a>, Refusal>
     ensures { IfOk result (λ r. Has_names (Laid Scalar_shape (known_of r.known)) name r.next) }
 {
@@ -88,7 +96,6 @@ fn rename_scalar<'a>(name: u32) -> Result<Renamed<'a>, Refusal>
 }
 
 #[cycle(rename)]
-#[tactic(auto, using(crate::proofs::Naming::names_laid))]
 fn rename<'a>(
     room: &mut u32,
     bump: &'a Bump,
@@ -108,29 +115,32 @@ fn rename<'a>(
     match like.form {
         KnownForm::Scalar(_) => rename_scalar(first),
         KnownForm::Tuple(likes) => {
-            let made = rename_all(room, bump, deep + 1, likes, first)?;
-            Ok(Renamed {
-                known: Known {
-                    form: KnownForm::Tuple(made.parts),
-                },
-                next: made.next,
-            })
+            match rename_all(room, bump, deep + 1, likes, first) {
+                Ok(made) => Ok(Renamed {
+                    known: Known {
+                        form: KnownForm::Tuple(made.parts),
+                    },
+                    next: made.next,
+                }),
+                Err(refusal) => Err(refusal),
+            }
         }
         KnownForm::Record(likes) => {
-            let made = rename_fields(room, bump, deep + 1, likes, first)?;
-            Ok(Renamed {
-                known: Known {
-                    form: KnownForm::Record(made.fields),
-                },
-                next: made.next,
-            })
+            match rename_fields(room, bump, deep + 1, likes, first) {
+                Ok(made) => Ok(Renamed {
+                    known: Known {
+                        form: KnownForm::Record(made.fields),
+                    },
+                    next: made.next,
+                }),
+                Err(refusal) => Err(refusal),
+            }
         }
         _ => Err(Refusal::Lost),
     }
 }
 
 #[cycle(rename)]
-#[tactic(auto, using(crate::proofs::Naming::names_laid))]
 fn rename_all<'a>(
     room: &mut u32,
     bump: &'a Bump,
@@ -143,8 +153,14 @@ fn rename_all<'a>(
     let mut parts = Vec::new(bump);
     let mut next = first;
     for like in likes {
-        let made = rename(room, bump, deep, *like, next)?;
-        parts.push(made.known)?;
+        let made = match rename(room, bump, deep, *like, next) {
+            Ok(made) => made,
+            Err(refusal) => return Err(refusal),
+        };
+        match parts.push(made.known) {
+            Ok(()) => {}
+            Err(_) => return Err(Refusal::Memory),
+        }
         next = made.next;
     }
     Ok(RenamedParts {
@@ -154,7 +170,6 @@ fn rename_all<'a>(
 }
 
 #[cycle(rename)]
-#[tactic(auto, using(crate::proofs::Naming::names_laid))]
 fn rename_fields<'a>(
     room: &mut u32,
     bump: &'a Bump,
@@ -167,11 +182,17 @@ fn rename_fields<'a>(
     let mut fields = Vec::new(bump);
     let mut next = first;
     for like in likes {
-        let made = rename(room, bump, deep, like.known, next)?;
-        fields.push(Field {
+        let made = match rename(room, bump, deep, like.known, next) {
+            Ok(made) => made,
+            Err(refusal) => return Err(refusal),
+        };
+        match fields.push(Field {
             name: like.name,
             known: made.known,
-        })?;
+        }) {
+            Ok(()) => {}
+            Err(_) => return Err(Refusal::Memory),
+        }
         next = made.next;
     }
     Ok(RenamedFields {

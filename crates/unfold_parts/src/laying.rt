@@ -17,19 +17,19 @@ pub const MOST_DEEP: u32 = 1_000;
 pub const MOST_PARTS: u32 = 1_048_576;
 
 /// The components of data, which has to be of the same shape as `like`.
-#[tactic(auto, using(crate::proofs::Layings::layings))]
 pub fn lay<'a>(bump: &'a Bump, like: Known<'a>, known: Known<'a>) -> Result<&'a [Atom], Refusal>
     ensures { Laid_to (shape_of (known_of like.entry)) (known_of known.entry) result }
 {
     let mut atoms = Vec::new(bump);
     let mut room = MOST_PARTS;
-    lay_behind(&mut room, 0, like, known, &mut atoms)?;
-    Ok(into_bump_slice(atoms))
+    match lay_behind(&mut room, 0, like, known, &mut atoms) {
+        Ok(()) => Ok(into_bump_slice(atoms)),
+        Err(refusal) => Err(refusal),
+    }
 }
 
 // Puts the components behind those before.
 #[cycle(lay)]
-#[tactic(auto, using(crate::proofs::Layings::layings))]
 fn lay_behind<'a>(
     room: &mut u32,
     deep: u32,
@@ -64,7 +64,6 @@ fn lay_behind<'a>(
 }
 
 #[cycle(lay)]
-#[tactic(auto, using(crate::proofs::Layings::layings))]
 fn lay_all<'a>(
     room: &mut u32,
     deep: u32,
@@ -79,14 +78,16 @@ fn lay_all<'a>(
     }
     let mut at = 0;
     for like in likes {
-        lay_behind(room, deep, *like, parts[at], atoms)?;
+        match lay_behind(room, deep, *like, parts[at], atoms) {
+            Ok(()) => {}
+            Err(refusal) => return Err(refusal),
+        }
         at += 1;
     }
     Ok(())
 }
 
 #[cycle(lay)]
-#[tactic(auto, using(crate::proofs::Layings::layings))]
 fn lay_fields<'a>(
     room: &mut u32,
     deep: u32,
@@ -102,7 +103,10 @@ fn lay_fields<'a>(
     let mut at = 0;
     for like in likes {
         if like.name == fields[at].name {
-            lay_behind(room, deep, like.known, fields[at].known, atoms)?;
+            match lay_behind(room, deep, like.known, fields[at].known, atoms) {
+                Ok(()) => {}
+                Err(refusal) => return Err(refusal),
+            }
             at += 1;
         } else {
             return Err(Refusal::Lost);
@@ -111,7 +115,6 @@ fn lay_fields<'a>(
     Ok(())
 }
 
-#[tactic(auto, using(crate::proofs::Layings::layings))]
 fn put<'a>(atom: Atom, atoms: &mut Vec<Atom, &'a Bump>) -> Result<(), Refusal>
     ensures { Put atom atoms.old.items atoms.new.items result }
 {

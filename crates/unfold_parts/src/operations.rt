@@ -14,7 +14,7 @@ use crate::laying::MOST_PARTS;
 use crate::parts::{one, part, scalar};
 use crate::records::{record_of, replaced};
 use crate::refusal::Refusal;
-use crate::stepped::{binary, unary};
+use crate::stepped::{binary, computed, unary};
 use crate::steps::Unfolding;
 use bumpalo::Bump;
 use fut_blocks::{Act as StepAct, Atom, Operation, Step};
@@ -98,10 +98,12 @@ fn replace<'a>(
     let whole = parts[0];
     match whole.form {
         KnownForm::Record(fields) => {
-            let made = replaced(bump, name, parts[1], fields)?;
-            Ok(Known {
-                form: KnownForm::Record(made),
-            })
+            match replaced(bump, name, parts[1], fields) {
+                Ok(made) => Ok(Known {
+                    form: KnownForm::Record(made),
+                }),
+                Err(refusal) => Err(refusal),
+            }
         }
         _ => Err(Refusal::Lost),
     }
@@ -120,10 +122,12 @@ fn equal_parts<'a>(
         return Err(Refusal::Lost);
     }
     let mut room = MOST_PARTS;
-    let atom = equal(work, &mut room, 0, mark, parts[0], parts[1])?;
-    Ok(Known {
-        form: KnownForm::Scalar(atom),
-    })
+    match equal(work, &mut room, 0, mark, parts[0], parts[1]) {
+        Ok(atom) => Ok(Known {
+            form: KnownForm::Scalar(atom),
+        }),
+        Err(refusal) => Err(refusal),
+    }
 }
 
 #[tactic(auto, using(crate::proofs::Operated::stepped))]
@@ -139,11 +143,10 @@ fn unequal_parts<'a>(
         return Err(Refusal::Lost);
     }
     let mut room = MOST_PARTS;
-    let are_equal = equal(work, &mut room, 0, mark, parts[0], parts[1])?;
-    let atom = work.compute(Operation::Unary(UnOp::Not, are_equal))?;
-    Ok(Known {
-        form: KnownForm::Scalar(atom),
-    })
+    match equal(work, &mut room, 0, mark, parts[0], parts[1]) {
+        Ok(are_equal) => computed(work, Operation::Unary(UnOp::Not, are_equal)),
+        Err(refusal) => Err(refusal),
+    }
 }
 
 #[tactic(auto, using(crate::proofs::Operated::stepped))]
@@ -178,11 +181,13 @@ fn assert_first<'a>(
     }
     match scalar(parts[0]) {
         Some(atom) => {
-            work.push(Step {
+            match work.push(Step {
                 names: &[],
                 act: StepAct::Operate(Operation::Assert(mark, atom)),
-            })?;
-            Ok(parts[1])
+            }) {
+                Ok(()) => Ok(parts[1]),
+                Err(refusal) => Err(refusal),
+            }
         }
         None => Err(Refusal::Lost),
     }
@@ -200,7 +205,6 @@ fn same<'a>(parts: &'a [Known<'a>]) -> Result<Known<'a>, Refusal>
 }
 
 /// An operation on parts, where `ty` is the type of an integer without a suffix.
-#[tactic(auto, using(crate::proofs::Operated::acts))]
 pub fn operate<'a>(
     work: &mut Unfolding<'a>,
     ty: IntType,

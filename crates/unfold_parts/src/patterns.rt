@@ -20,7 +20,6 @@ struct Names<'a> {
 
 /// The names with those of a pattern, and what is known of the parts of the value.
 #[cycle(bind)]
-#[tactic(auto, using(crate::proofs::Binding::binding))]
 pub fn bind<'a>(
     bump: &'a Bump,
     pat: &Pat<'_>,
@@ -45,7 +44,6 @@ pub fn bind<'a>(
 }
 
 #[cycle(bind)]
-#[tactic(auto, using(crate::proofs::Binding::binding))]
 fn bind_all<'a>(
     bump: &'a Bump,
     parts: &[Pat<'_>],
@@ -60,16 +58,17 @@ fn bind_all<'a>(
     let mut names = Names { scope };
     let mut at = 0;
     for part in parts {
-        names = Names {
-            scope: bind(bump, part, given[at], names.scope)?,
+        let scope = match bind(bump, part, given[at], names.scope) {
+            Ok(scope) => scope,
+            Err(refusal) => return Err(refusal),
         };
+        names = Names { scope };
         at += 1;
     }
     Ok(names.scope)
 }
 
 #[cycle(bind)]
-#[tactic(auto, using(crate::proofs::Binding::binding))]
 fn bind_fields<'a>(
     bump: &'a Bump,
     fields: &[PatField<'_>],
@@ -84,9 +83,11 @@ fn bind_fields<'a>(
             Some(known) => known,
             None => return Err(Refusal::Lost),
         };
-        names = Names {
-            scope: bind(bump, &field.pat, known, names.scope)?,
+        let scope = match bind(bump, &field.pat, known, names.scope) {
+            Ok(scope) => scope,
+            Err(refusal) => return Err(refusal),
         };
+        names = Names { scope };
     }
     Ok(names.scope)
 }

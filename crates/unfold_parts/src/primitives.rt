@@ -97,49 +97,48 @@ pub fn arity(primitive: Primitive) -> usize
     ensures { result ≡ arity primitive }
 {
     match primitive {
-        Primitive::Map => 2,
-        Primitive::Map2 => 3,
+        Primitive::Unzip
+        | Primitive::Unzip3
+        | Primitive::Iota
+        | Primitive::Indices
+        | Primitive::Length
+        | Primitive::Null
+        | Primitive::Head
+        | Primitive::Last
+        | Primitive::Init
+        | Primitive::Tail
+        | Primitive::Reverse
+        | Primitive::Flatten
+        | Primitive::Transpose
+        | Primitive::Copy
+        | Primitive::Convert { .. }
+        | Primitive::Abs(_)
+        | Primitive::Popc(_)
+        | Primitive::Lowest(_)
+        | Primitive::Highest(_)
+        | Primitive::NumBits(_) => 1,
+        Primitive::Map
+        | Primitive::Filter
+        | Primitive::Partition
+        | Primitive::Zip
+        | Primitive::Replicate
+        | Primitive::Tabulate
+        | Primitive::Take
+        | Primitive::Drop
+        | Primitive::Rotate
+        | Primitive::Concat
+        | Primitive::Min(_)
+        | Primitive::Max(_) => 2,
+        Primitive::Map2
+        | Primitive::Reduce
+        | Primitive::ReduceComm
+        | Primitive::Scan
+        | Primitive::Scatter
+        | Primitive::Zip3
+        | Primitive::Unflatten => 3,
         Primitive::Map3 => 4,
-        Primitive::Map4 => 5,
+        Primitive::Map4 | Primitive::ReduceByIndex => 5,
         Primitive::Map5 => 6,
-        Primitive::Reduce => 3,
-        Primitive::ReduceComm => 3,
-        Primitive::Scan => 3,
-        Primitive::Filter => 2,
-        Primitive::Partition => 2,
-        Primitive::Scatter => 3,
-        Primitive::ReduceByIndex => 5,
-        Primitive::Zip => 2,
-        Primitive::Zip3 => 3,
-        Primitive::Replicate => 2,
-        Primitive::Tabulate => 2,
-        Primitive::Take => 2,
-        Primitive::Drop => 2,
-        Primitive::Rotate => 2,
-        Primitive::Concat => 2,
-        Primitive::Unflatten => 3,
-        Primitive::Min(_) => 2,
-        Primitive::Max(_) => 2,
-        Primitive::Unzip => 1,
-        Primitive::Unzip3 => 1,
-        Primitive::Iota => 1,
-        Primitive::Indices => 1,
-        Primitive::Length => 1,
-        Primitive::Null => 1,
-        Primitive::Head => 1,
-        Primitive::Last => 1,
-        Primitive::Init => 1,
-        Primitive::Tail => 1,
-        Primitive::Reverse => 1,
-        Primitive::Flatten => 1,
-        Primitive::Transpose => 1,
-        Primitive::Copy => 1,
-        Primitive::Convert { .. } => 1,
-        Primitive::Abs(_) => 1,
-        Primitive::Popc(_) => 1,
-        Primitive::Lowest(_) => 1,
-        Primitive::Highest(_) => 1,
-        Primitive::NumBits(_) => 1,
     }
 }
 
@@ -152,14 +151,16 @@ fn with_known<'a>(
     ensures { IfOk result (λ all. all.now ≡ given.now ++ known.entry ∷ []) }
 {
     let mut all = Vec::new(bump);
-    for one in given {
-        all.push(*one)?;
+    match all.extend_from_slice(given) {
+        Ok(()) => {}
+        Err(_) => return Err(Refusal::Memory),
     }
-    all.push(known)?;
-    Ok(into_bump_slice(all))
+    match all.push(known) {
+        Ok(()) => Ok(into_bump_slice(all)),
+        Err(_) => Err(Refusal::Memory),
+    }
 }
 
-#[tactic(auto, using(crate::proofs::Operated::primitives))]
 fn convert<'a>(
     work: &mut Unfolding<'a>,
     to: ScalarType,
@@ -176,7 +177,6 @@ fn convert<'a>(
 }
 
 // A primitive with all its arguments.
-#[tactic(auto, using(crate::proofs::Operated::primitives))]
 fn operate_primitive<'a>(
     work: &mut Unfolding<'a>,
     primitive: Primitive,
@@ -196,7 +196,6 @@ fn operate_primitive<'a>(
 }
 
 /// A primitive with the arguments that it has, applied to one more.
-#[tactic(auto, using(crate::proofs::Operated::primitives))]
 pub fn apply_primitive<'a>(
     work: &mut Unfolding<'a>,
     primitive: Primitive,
@@ -206,7 +205,10 @@ pub fn apply_primitive<'a>(
 ) -> Result<Known<'a>, Refusal>
     ensures { Applied_primitive primitive place (knowns (map known_of given.now)) (known_of known.entry) work.old.next (steps_of work.old) (steps_of work.new) work.new.next result }
 {
-    let arguments = with_known(work.bump, given, known)?;
+    let arguments = match with_known(work.bump, given, known) {
+        Ok(arguments) => arguments,
+        Err(refusal) => return Err(refusal),
+    };
     if arguments.len() < arity(primitive) {
         return Ok(Known {
             form: KnownForm::Primitive(primitive, place, arguments),

@@ -65,7 +65,10 @@ pub fn record_of<'a>(
             known: parts[at],
         };
         let place = place_of(&fields, field.name);
-        fields.insert(place, field)?;
+        match fields.insert(place, field) {
+            Ok(()) => {}
+            Err(_) => return Err(Refusal::Memory),
+        }
     }
     Ok(Known {
         form: KnownForm::Record(into_bump_slice(fields)),

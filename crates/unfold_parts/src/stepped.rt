@@ -13,17 +13,17 @@ use fut_scalar::{BinOp, Place, UnOp};
 use unfold::{Known, KnownForm};
 
 /// One more step, and the scalar that it gives.
-#[tactic(auto, using(crate::proofs::Operated::stepped))]
 pub fn computed<'a>(work: &mut Unfolding<'a>, operation: Operation) -> Result<Known<'a>, Refusal>
     ensures { Answered (λ bs s next. Is_step (Operate operation) work.old.next bs (known_of s) next) (steps_of work.old) (steps_of work.new) work.new.next result }
 {
-    let atom = work.compute(operation)?;
-    Ok(Known {
-        form: KnownForm::Scalar(atom),
-    })
+    match work.compute(operation) {
+        Ok(atom) => Ok(Known {
+            form: KnownForm::Scalar(atom),
+        }),
+        Err(refusal) => Err(refusal),
+    }
 }
 
-#[tactic(auto, using(crate::proofs::Operated::stepped))]
 pub fn unary<'a>(
     work: &mut Unfolding<'a>,
     op: UnOp,
@@ -37,7 +37,6 @@ pub fn unary<'a>(
     }
 }
 
-#[tactic(auto, using(crate::proofs::Operated::stepped))]
 pub fn binary<'a>(
     work: &mut Unfolding<'a>,
     op: BinOp,

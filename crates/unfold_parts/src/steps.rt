@@ -47,18 +47,35 @@ impl<'a> Unfolding<'a> {
         }
     }
 
+    // One more step, under a new name in place of its own.
+    fn named(&mut self, step: Step<'a>) -> Result<Atom, Refusal>
+        ensures { Computed (binding_of step.entry).1 self.old.next (steps_of self.old) (steps_of self.new) self.new.next result }
+    {
+        let name = match self.name() {
+            Ok(name) => name,
+            Err(refusal) => return Err(refusal),
+        };
+        let names = match self.bump.try_alloc_slice_copy(&[name]) {
+            Ok(names) => names,
+            Err(_) => return Err(Refusal::Memory),
+        };
+        match self.push(Step {
+            names,
+            act: step.act,
+        }) {
+            Ok(()) => Ok(Atom::Name(name)),
+            Err(refusal) => Err(refusal),
+        }
+    }
+
     /// One more step, which gives a scalar a new name.
-    #[tactic(auto, using(crate::proofs::Stepping::stepping))]
     pub fn compute(&mut self, operation: Operation) -> Result<Atom, Refusal>
         ensures { Computed (Operate operation) self.old.next (steps_of self.old) (steps_of self.new) self.new.next result }
     {
-        let name = self.name()?;
-        let names = self.bump.try_alloc_slice_copy(&[name])?;
-        self.push(Step {
-            names,
+        self.named(Step {
+            names: &[],
             act: Act::Operate(operation),
-        })?;
-        Ok(Atom::Name(name))
+        })
     }
 
     /// How many steps there are.
@@ -68,8 +85,20 @@ impl<'a> Unfolding<'a> {
         self.steps.len()
     }
 
+    // The block in a place of its own.
+    fn kept(&self, block: Block<'a>) -> Result<&'a Block<'a>, Refusal>
+        ensures { IfOk result (λ b. b.now ≡ block.entry) }
+    {
+        match self.bump.try_alloc_slice_copy(&[block]) {
+            Ok(cells) => {
+                let cells: &'a [Block<'a>] = cells;
+                Ok(&cells[0])
+            }
+            Err(_) => Err(Refusal::Memory),
+        }
+    }
+
     /// The steps from the mark on as a block with these results, which are steps no longer.
-    #[tactic(auto, using(crate::proofs::Stepping::blocks))]
     pub fn block(&mut self, mark: usize, results: &'a [Atom]) -> Result<&'a Block<'a>, Refusal>
         ensures block { Blocked mark results.now (steps_of self.old) (steps_of self.new) result }
         ensures next { self.new.next ≡ self.old.next }
@@ -77,40 +106,43 @@ impl<'a> Unfolding<'a> {
         if mark > self.steps.len() {
             return Err(Refusal::Lost);
         }
-        let steps = self.bump.try_alloc_slice_copy(&self.steps[mark..])?;
-        self.steps.truncate(mark);
-        let cells = self.bump.try_alloc_slice_copy(&[Block { steps, results }])?;
-        let cells: &'a [Block<'a>] = cells;
-        Ok(&cells[0])
+        match self.bump.try_alloc_slice_copy(&self.steps[mark..]) {
+            Ok(steps) => {
+                self.steps.truncate(mark);
+                self.kept(Block { steps, results })
+            }
+            Err(_) => Err(Refusal::Memory),
+        }
     }
 
     // A block without steps.
-    #[tactic(auto, using(crate::proofs::Stepping::stepping))]
     fn giving(&self, atom: Atom) -> Result<&'a Block<'a>, Refusal>
         ensures { IfOk result (λ b. body_of b.now ≡ Give (atom ∷ [])) }
     {
-        let results = self.bump.try_alloc_slice_copy(&[atom])?;
-        let cells = self.bump.try_alloc_slice_copy(&[Block {
-            steps: &[],
-            results,
-        }])?;
-        let cells: &'a [Block<'a>] = cells;
-        Ok(&cells[0])
+        match self.bump.try_alloc_slice_copy(&[atom]) {
+            Ok(results) => self.kept(Block {
+                steps: &[],
+                results,
+            }),
+            Err(_) => Err(Refusal::Memory),
+        }
     }
 
     /// One more step, which says whether both truth values hold.
-    #[tactic(auto, using(crate::proofs::Stepping::stepping))]
     pub fn both_hold(&mut self, first: Atom, second: Atom) -> Result<Atom, Refusal>
         ensures { Computed (both_hold first second) self.old.next (steps_of self.old) (steps_of self.new) self.new.next result }
     {
-        let name = self.name()?;
-        let names = self.bump.try_alloc_slice_copy(&[name])?;
-        let yes = self.giving(second)?;
-        let no = self.giving(Atom::Constant(Scalar::Bool(false)))?;
-        self.push(Step {
-            names,
+        let yes = match self.giving(second) {
+            Ok(yes) => yes,
+            Err(refusal) => return Err(refusal),
+        };
+        let no = match self.giving(Atom::Constant(Scalar::Bool(false))) {
+            Ok(no) => no,
+            Err(refusal) => return Err(refusal),
+        };
+        self.named(Step {
+            names: &[],
             act: Act::If(first, yes, no),
-        })?;
-        Ok(Atom::Name(name))
+        })
     }
 }

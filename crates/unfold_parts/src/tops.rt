@@ -59,11 +59,17 @@ impl<'a> Tops<'a> {
         ensures tops { IfOk result (λ made. tops_of made ≡ (number.0, known_of known.entry) ∷ tops_of self.entry) }
     {
         let bump = self.bump;
-        let list = bound(bump, number, known, self.list)?;
+        let list = match bound(bump, number, known, self.list) {
+            Ok(list) => list,
+            Err(refusal) => return Err(refusal),
+        };
         let mut table = self.table;
         let at = number.0 as usize;
         while table.len() <= at {
-            table.push(None)?;
+            match table.push(None) {
+                Ok(()) => {}
+                Err(_) => return Err(Refusal::Memory),
+            }
         }
         table[at] = Some(known);
         Ok(Tops { bump, list, table })

@@ -1,5 +1,46 @@
-use Rattle.unfold_parts.proofs.Operated.{act_record}
+use Rattle.std.proofs.Common.{refl}
+use Rattle.unfold_parts.specs.Answers.{unanswered}
+use Rattle.unfold_parts.proofs.Operated.{act_integer, act_truth, act_tuple, act_record, act_binary, act_negate, act_complement, act_project, act_replace, act_ascribe, act_coerce, act_declared, act_assert}
 use Rattle.unfold_parts.proofs.operations.operate.Goals as goal
+
+pub returns-in-Tuple : goal.returns-in-Tuple
+returns-in-Tuple c = act_tuple _ _ _ _ _ _ _ c.in-Tuple.is refl
+
+pub returns-in_default : goal.returns-in_default
+returns-in_default c = unanswered
+
+pub returns-in-Int : goal.returns-in-Int
+returns-in-Int c = act_integer _ _ _ _ _ _ _ _ _ c.in-Int.is c.literal.ensures
+
+pub returns-in-Truth : goal.returns-in-Truth
+returns-in-Truth c = act_truth _ _ _ _ _ _ _ _ c.in-Truth.is c.truth.ensures
 
 pub returns-in-Record : goal.returns-in-Record
 returns-in-Record c = act_record _ _ _ _ _ _ _ _ c.in-Record.is c.record_of.ensures
+
+pub returns-in-Binary : goal.returns-in-Binary
+returns-in-Binary c = act_binary _ _ _ _ _ _ _ _ _ _ c.in-Binary.is c.operate_binary.ensures
+
+pub returns-in-Negate : goal.returns-in-Negate
+returns-in-Negate c = act_negate _ _ _ _ _ _ _ _ _ c.in-Negate.is c.unary.ensures
+
+pub returns-in-Complement : goal.returns-in-Complement
+returns-in-Complement c = act_complement _ _ _ _ _ _ _ _ _ c.in-Complement.is c.unary-in-Complement.ensures
+
+pub returns-in-Project : goal.returns-in-Project
+returns-in-Project c = act_project _ _ _ _ _ _ _ _ c.in-Project.is c.project.ensures
+
+pub returns-in-Replace : goal.returns-in-Replace
+returns-in-Replace c = act_replace _ _ _ _ _ _ _ _ c.in-Replace.is c.replace.ensures
+
+pub returns-in-Ascribe : goal.returns-in-Ascribe
+returns-in-Ascribe c = act_ascribe _ _ _ _ _ _ _ _ c.in-Ascribe.is c.same.ensures
+
+pub returns-in-Coerce : goal.returns-in-Coerce
+returns-in-Coerce c = act_coerce _ _ _ _ _ _ _ _ c.in-Coerce.is c.same-in-Coerce.ensures
+
+pub returns-in-Declared : goal.returns-in-Declared
+returns-in-Declared c = act_declared _ _ _ _ _ _ _ _ c.in-Declared.is c.same-in-Declared.ensures
+
+pub returns-in-Assert : goal.returns-in-Assert
+returns-in-Assert c = act_assert _ _ _ _ _ _ _ _ _ c.in-Assert.is c.assert_first.ensures

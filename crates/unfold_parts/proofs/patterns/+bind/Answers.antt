@@ -1,4 +1,5 @@
 use Rattle.std.proofs.Common.{refl, arith}
+use Rattle.unfold_parts.specs.Answers.{not_bound, not_all_bound, no_fields_bound}
 use Rattle.unfold_parts.proofs.Binding.{bound_name, bound_wild, bound_typed, bound_tuple, bound_record, all_lead_on, all_lead_end, fields_lead_on, fields_lead_end}
 use Rattle.unfold_parts.proofs.patterns.+bind.Goals as goal
 
@@ -21,7 +22,7 @@ pub bind_all-loop-part-init : goal.bind_all-loop-part-init
 bind_all-loop-part-init t c = (refl, λ inner h. h)
 
 pub bind_all-loop-part-preserved : goal.bind_all-loop-part-preserved
-bind_all-loop-part-preserved t c = (omega (arith, c.loop-part.invariant.0), all_lead_on _ _ _ _ _ _ _ _ _ c.loop-part-test.true (omega (arith, c.loop-part.invariant.0, c.loop-part-test.true, c.if-parts-given.false)) c.loop-part.invariant.1 c.in_ok-bind.ensures)
+bind_all-loop-part-preserved t c = (omega (arith, c.loop-part.invariant.0), all_lead_on _ _ _ _ _ _ _ _ _ c.loop-part-test.true (omega (arith, c.loop-part.invariant.0, c.loop-part-test.true, c.if-parts-given.false)) c.loop-part.invariant.1 c.in-Ok.ensures)
 
 pub bind_all-returns : goal.bind_all-returns
 bind_all-returns t c = all_lead_end _ _ _ _ _ _ (omega (arith, c.loop-part-test.false)) (omega (arith, c.loop-part.invariant.0, c.loop-part-test.false, c.if-parts-given.false)) c.loop-part.invariant.1
@@ -30,7 +31,25 @@ pub bind_fields-loop-field-init : goal.bind_fields-loop-field-init
 bind_fields-loop-field-init t c = λ inner h. h
 
 pub bind_fields-loop-field-preserved : goal.bind_fields-loop-field-preserved
-bind_fields-loop-field-preserved t c = fields_lead_on _ _ _ _ _ _ _ _ c.loop-field-test.true c.in-Some.ensures c.loop-field.invariant c.in_ok-bind.ensures
+bind_fields-loop-field-preserved t c = fields_lead_on _ _ _ _ _ _ _ _ c.loop-field-test.true c.in-Some.ensures c.loop-field.invariant c.in-Ok.ensures
 
 pub bind_fields-returns : goal.bind_fields-returns
 bind_fields-returns t c = fields_lead_end _ _ _ _ _ (omega (arith, c.loop-field-test.false)) c.loop-field.invariant
+
+pub bind-returns-in_default : goal.bind-returns-in_default
+bind-returns-in_default t c = not_bound
+
+pub bind-returns-in_default-form : goal.bind-returns-in_default-form
+bind-returns-in_default-form t c = not_bound
+
+pub bind_all-returns-then-parts-given : goal.bind_all-returns-then-parts-given
+bind_all-returns-then-parts-given t c = not_all_bound
+
+pub bind_all-returns-in-Err : goal.bind_all-returns-in-Err
+bind_all-returns-in-Err t c = not_all_bound
+
+pub bind_fields-returns-in-None : goal.bind_fields-returns-in-None
+bind_fields-returns-in-None t c = no_fields_bound
+
+pub bind_fields-returns-in-Err : goal.bind_fields-returns-in-Err
+bind_fields-returns-in-Err t c = no_fields_bound

@@ -6,7 +6,7 @@ pub loop-at-init : goal.loop-at-init
 loop-at-init c = (le_refl _, subst (λ z. Recorded c.args.names.now c.args.parts.now z (length c.args.parts.now)) (sym c.new-fields.ensures.items) (recorded_start c.args.names.now c.args.parts.now (length c.args.parts.now) (omega (arith, c.if-names-parts.false))))
 
 pub loop-at-preserved : goal.loop-at-preserved
-loop-at-preserved c = (omega (arith, c.loop-at.invariant.0), recorded_on c.args.names.now c.args.parts.now _ c.loop-at.at _ _ _ _ _ _ _ (omega (arith, c.if-names-parts.false, c.loop-at.invariant.0, c.loop-at-test.true)) (omega (arith, c.loop-at.invariant.0, c.loop-at-test.true)) (omega (arith, c.loop-at-test.true)) refl refl c.deref.ensures.value c.place_of-place.ensures.place c.in_ok-insert.ensures.items c.loop-at.invariant.1)
+loop-at-preserved c = (omega (arith, c.loop-at.invariant.0), recorded_on c.args.names.now c.args.parts.now _ c.loop-at.at _ _ _ _ _ _ _ (omega (arith, c.if-names-parts.false, c.loop-at.invariant.0, c.loop-at-test.true)) (omega (arith, c.loop-at.invariant.0, c.loop-at-test.true)) (omega (arith, c.loop-at-test.true)) refl refl c.deref.ensures.value c.place_of-place.ensures.place c.in-Ok.ensures.items c.loop-at.invariant.1)
 
 pub returns : goal.returns
 returns c = recorded_end c.args.names.now c.args.parts.now _ c.loop-at.at _ _ (omega (arith, c.if-names-parts.false)) (omega (arith, c.loop-at-test.false)) c.loop-at.invariant.1 c.into_bump_slice.ensures refl

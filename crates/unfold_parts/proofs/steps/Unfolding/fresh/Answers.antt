@@ -1,5 +1,12 @@
+use Rattle.unfold_parts.specs.Layouts.{not_renewed}
 use Rattle.unfold_parts.proofs.Naming.{renewed_ok}
 use Rattle.unfold_parts.proofs.steps.Unfolding.fresh.Goals as goal
 
-pub returns-clause-fresh : goal.returns-clause-fresh
-returns-clause-fresh c = renewed_ok _ _ _ _ c.in_ok-made.ensures c.in_ok-names.ensures
+pub returns-in-Ok-names_between-clause-fresh : goal.returns-in-Ok-names_between-clause-fresh
+returns-in-Ok-names_between-clause-fresh c = renewed_ok _ _ _ _ c.in-Ok.ensures c.in-Ok-names_between.ensures
+
+pub returns-in-Err-clause-fresh : goal.returns-in-Err-clause-fresh
+returns-in-Err-clause-fresh c = not_renewed
+
+pub returns-in-Err-names_between-clause-fresh : goal.returns-in-Err-names_between-clause-fresh
+returns-in-Err-names_between-clause-fresh c = not_renewed
