@@ -16,10 +16,13 @@ use Rattle.fut_meaning.specs.Knowns.{Known, Data, Known_tuple, Known_record, Kno
 use Rattle.measure.specs.Held.{known_of, knowns, scope_of}
 use Rattle.measure.specs.Patterns.{field_patterns, field_names}
 use Rattle.measure.specs.declared.known.Known.{Known as Held_known}
+use Rattle.measure.specs.declared.known.KnownForm.TheVariants as held
+use Rattle.measure.specs.declared.known.Field.{Field as Held_field}
 use Rattle.measure.specs.declared.known.Scope.{Scope as Held_scope}
 use Rattle.measure.specs.declared.stop.Stop.{Stop}
 use Rattle.measure.specs.declared.stop.Stop.TheVariants.{Memory}
 use Rattle.measure.specs.Answers.{Bound_to, bound_is, not_bound, no_memory_to_bind}
+use Rattle.measure.proofs.Mirror.{by_form}
 
 field_is : (f : PatField) → pattern_field f ≡ (f.name.now, pattern_of f.pat)
 unfolding pattern_field pattern_of
@@ -94,8 +97,12 @@ module _ (p : Pat) (ps : Bor (List Pat)) (sc : Scope) (is : p.form ≡ form.Tupl
   unfolding known_bound all_known_bound
   tuple_tuple s ss e = ap (λ z. known_bound z s sc) (pattern_tuple p ps is) ∙ ap (λ z. known_bound (Rattle.fut_flat.specs.Terms.Tuple_pattern (patterns (map pattern_of ps.now))) z sc) e
 
-  pub tuple_other : (s t : Known) → s ≡ t → known_bound (Rattle.fut_flat.specs.Terms.Tuple_pattern (patterns (map pattern_of ps.now))) t sc ≡ None → known_bound (pattern_of p) s sc ≡ None
+  tuple_other : (s t : Known) → s ≡ t → known_bound (Rattle.fut_flat.specs.Terms.Tuple_pattern (patterns (map pattern_of ps.now))) t sc ≡ None → known_bound (pattern_of p) s sc ≡ None
   tuple_other s t e h = ap (λ z. known_bound z s sc) (pattern_tuple p ps is) ∙ ap (λ z. known_bound (Rattle.fut_flat.specs.Terms.Tuple_pattern (patterns (map pattern_of ps.now))) z sc) e ∙ h
+
+  pub tuple_neither : (s : Held_known) → (s.form ≡ held.Data → ⊥) → ((ss : Bor (List Held_known)) → s.form ≡ held.Tuple ss → ⊥) → known_bound (pattern_of p) (known_of s) sc ≡ None
+  unfolding known_bound
+  tuple_neither s d t = by_form s (λ k. known_bound (pattern_of p) k sc ≡ None) (λ is. absurd (d is)) (λ ss is. absurd (t ss is)) (λ fs is. tuple_other _ _ refl refl) (λ ps e c is. tuple_other _ _ refl refl) (λ q ss is. tuple_other _ _ refl refl)
 
 module _ (p : Pat) (fs : Bor (List PatField)) (sc : Scope) (is : p.form ≡ form.Record fs) where
   pub record_data : (s : Known) → s ≡ Data → known_bound (pattern_of p) s sc ≡ Some (all_data_bound (field_patterns fs.now) sc)
@@ -106,8 +113,12 @@ module _ (p : Pat) (fs : Bor (List PatField)) (sc : Scope) (is : p.form ≡ form
   unfolding known_bound fields_bound
   record_record s gs e = ap (λ z. known_bound z s sc) (record_is p fs is) ∙ ap (λ z. known_bound (Record_pattern (field_names fs.now) (field_patterns fs.now)) z sc) e
 
-  pub record_other : (s t : Known) → s ≡ t → known_bound (Record_pattern (field_names fs.now) (field_patterns fs.now)) t sc ≡ None → known_bound (pattern_of p) s sc ≡ None
+  record_other : (s t : Known) → s ≡ t → known_bound (Record_pattern (field_names fs.now) (field_patterns fs.now)) t sc ≡ None → known_bound (pattern_of p) s sc ≡ None
   record_other s t e h = ap (λ z. known_bound z s sc) (record_is p fs is) ∙ ap (λ z. known_bound (Record_pattern (field_names fs.now) (field_patterns fs.now)) z sc) e ∙ h
+
+  pub record_neither : (s : Held_known) → (s.form ≡ held.Data → ⊥) → ((gs : Bor (List Held_field)) → s.form ≡ held.Record gs → ⊥) → known_bound (pattern_of p) (known_of s) sc ≡ None
+  unfolding known_bound
+  record_neither s d r = by_form s (λ k. known_bound (pattern_of p) k sc ≡ None) (λ is. absurd (d is)) (λ ss is. record_other _ _ refl refl) (λ gs is. absurd (r gs is)) (λ ps e c is. record_other _ _ refl refl) (λ q ss is. record_other _ _ refl refl)
 
 -- a list of patterns and one of values
 pub unequal : (ps : List Pat) (ss : List Held_known) (sc : Scope) → (length ps ≡ length ss → ⊥) → all_known_bound (patterns (map pattern_of ps)) (knowns (map known_of ss)) sc ≡ None

@@ -1,6 +1,6 @@
 -- The walk through the definitions, from what it has had, and then the entry.
 use Rattle.std.proofs.Common.{◌≡◌, ℕ, ◌+◌, ◌≤◌, ◌<◌, max, List, [], ◌∷◌, map, length, get_or, drop, Bool, Some, None, Ok, Err, true, false, refl, sym, ap, ◌∙◌, subst, arith}
-use Rattle.std.specs.Prelude.{Result, Option}
+use Rattle.std.specs.Prelude.{IfErr, IfOk, Result}
 use Rattle.fut_scalar.specs.declared.place.BindId.{BindId}
 use Rattle.fut_flat.specs.declared.program.Definition.{Definition}
 use Rattle.fut_flat.specs.Numbers.{numbers}
@@ -19,13 +19,12 @@ use Rattle.measure.specs.declared.walked.Count.{Count}
 use Rattle.measure.specs.declared.walked.Walked.{Walked}
 use Rattle.measure.specs.declared.known.Known.{Known as Held_known}
 use Rattle.measure.specs.Answers.{Stopped, over, deep, astray, no_memory, Ended, ended_at, is_stuck, no_memory_left, Walked_to, walked, stopped, Function_to, function_ran, function_stopped}
-use Rattle.measure.specs.Held.{known_of, maybe_known, scope_of}
+use Rattle.measure.specs.Held.{known_of, scope_of}
 use Rattle.reach.specs.Reach.{is_set, named_term, Reached, reached}
-use Rattle.measure.specs.Tables.{Entered, entered, no_memory_to_enter}
 use Rattle.measure.specs.declared.program.Made.{Made}
-use Rattle.measure.specs.declared.tops.Tops.{Tops}
 use Rattle.measure.specs.Program.{known_behind, Program_stopped, over_program, deep_program, lost_program, program_memory, Definition_to, definition_passed, definition_walked, definition_stopped, Definitions_to, definitions_walked, definitions_stopped, Program_to, program_walked, program_stopped}
 use Rattle.reach.proofs.Lists.{one_more, drop_end}
+use Rattle.measure.proofs.Tabling.{table_nothing}
 
 -- what the definitions still have, from what they have had
 pub record Definitions_lead (entry : ℕ) (ts : List FlatTop) (nodes depth : ℕ) (tops : Scope) (rest : List FlatTop) : Type 0 where
@@ -70,11 +69,10 @@ module _ (b : BindId) (e : FlatTerm) (made : Made) where
     pub one_stopped : (goes : Bool) (r : Stop) → goes ≡ true → Walked_to tops sc 0 made.nodes e (Err r) → Definition_to b e goes made (Err r)
     one_stopped goes r h (stopped s) = definition_stopped h (subst (λ z. Stopped z empty 0 made.nodes e r) before (subst (λ z. Stopped tops z 0 made.nodes e r) none s))
 
-    pub one_walked : (goes : Bool) (w : Walked) (was after : Tops) (r : Made) → goes ≡ true → Walked_to tops sc 0 made.nodes e (Ok w) → Entered b (known_of w.known) was (Ok after) → scope_of was.list.now ≡ known_behind made → r.tops ≡ after → r.nodes ≡ made.nodes + w.nodes → r.depth ≡ max made.depth w.depth → Definition_to b e goes made (Ok r)
-    one_walked goes w was after r h (walked v) (entered q k l) same is m d = definition_walked h (subst (λ z. Visits z empty e (known_of w.known) w.nodes w.depth) before (subst (λ z. Visits tops z e (known_of w.known) w.nodes w.depth) none v)) (ap (λ (z : Tops). scope_of z.list.now) is ∙ q ∙ ap (λ z. known_as b (known_of w.known) z) same) m d
-
-  pub one_unentered : (goes : Bool) (s : Known) (was : Tops) (r : Stop) → goes ≡ true → Entered b s was (Err r) → Definition_to b e goes made (Err r)
-  one_unentered goes s was _ h no_memory_to_enter = definition_stopped h no_memory
+    module _ (goes : Bool) (w : Walked) (h : goes ≡ true) where
+      pub one_entered : Walked_to tops sc 0 made.nodes e (Ok w) → (r : Result Made Stop) → IfOk r (λ after. known_behind after ≡ known_as b (known_of w.known) (known_behind made)) → IfOk r (λ after. after.nodes ≡ made.nodes + w.nodes) → IfOk r (λ after. after.depth ≡ max made.depth w.depth) → IfErr r (λ r. r ≡ Memory) → Definition_to b e goes made r
+      one_entered (walked v) (Ok after) q m d n = definition_walked h (subst (λ z. Visits z empty e (known_of w.known) w.nodes w.depth) before (subst (λ z. Visits tops z e (known_of w.known) w.nodes w.depth) none v)) q m d
+      one_entered (walked v) (Err r) q m d n = subst (λ z. Definition_to b e goes made (Err z)) (sym n) (definition_stopped h no_memory)
 
 -- ---- one definition after the other
 
@@ -123,15 +121,15 @@ module _ (entry : ℕ) (ds : List Definition) where
 
 -- ---- the entry
 
-module _ (entry arguments : ℕ) (ts : List FlatTop) (tops : Scope) (made : Made) (all : Definition_visits entry empty ts tops made.nodes made.depth) where
+module _ (entry arguments : ℕ) (ts : List FlatTop) (tops : Scope) (nodes depth : ℕ) (all : Definition_visits entry empty ts tops nodes depth) where
   pub entry_unknown : find tops entry ≡ None → Program_to entry arguments ts (Err Lost)
   entry_unknown q = program_stopped (lost_program (no_entry all q))
 
   module _ (s : Held_known) (is : find tops entry ≡ Some (known_of s)) where
-    pub entry_stops : (r : Stop) → Function_to tops 0 made.nodes arguments (known_of s) (Err r) → Program_to entry arguments ts (Err r)
+    pub entry_stops : (r : Stop) → Function_to tops 0 nodes arguments (known_of s) (Err r) → Program_to entry arguments ts (Err r)
     entry_stops r (function_stopped h) = program_stopped (stops h)
       where
-        stops : {r : Stop} → Ended tops (Inside_function tops arguments (known_of s)) (Stuck_function tops arguments (known_of s)) 0 made.nodes r → Program_stopped entry arguments ts r
+        stops : {r : Stop} → Ended tops (Inside_function tops arguments (known_of s)) (Stuck_function tops arguments (known_of s)) 0 nodes r → Program_stopped entry arguments ts r
         stops (ended_at x q (over c le)) = over_program (comes_in_entry all is x c) (omega (arith, q, le))
         stops (ended_at x q (deep c le)) = deep_program (comes_in_entry all is x c) (omega (arith, le))
         stops (ended_at x q (astray c l)) = lost_program (lost_at (comes_in_entry all is x c) l)
@@ -139,8 +137,8 @@ module _ (entry arguments : ℕ) (ts : List FlatTop) (tops : Scope) (made : Made
         stops (is_stuck h) = lost_program (entry_stuck all is h)
         stops no_memory_left = program_memory
 
-    pub entry_ran : (r : Count) (m : Measured) → Function_to tops 0 made.nodes arguments (known_of s) (Ok r) → m.nodes ≡ made.nodes + r.nodes → m.depth ≡ max made.depth r.depth → m.nodes ≤ 1048576 → m.depth ≤ 1000 → Program_to entry arguments ts (Ok m)
-    entry_ran r m (function_ran v) e e' le le' = program_walked (subst (λ z. Program_visits entry arguments ts z m.depth) (sym e) (subst (λ z. Program_visits entry arguments ts (made.nodes + r.nodes) z) (sym e') (program_visits all is v))) le le'
+    pub entry_ran : (r : Count) (m : Measured) → Function_to tops 0 nodes arguments (known_of s) (Ok r) → m.nodes ≡ nodes + r.nodes → m.depth ≡ max depth r.depth → m.nodes ≤ 1048576 → m.depth ≤ 1000 → Program_to entry arguments ts (Ok m)
+    entry_ran r m (function_ran v) e e' le le' = program_walked (subst (λ z. Program_visits entry arguments ts z m.depth) (sym e) (subst (λ z. Program_visits entry arguments ts (nodes + r.nodes) z) (sym e') (program_visits all is v))) le le'
 
 pub ruleset entries = (entry_unknown, entry_stops, entry_ran)
 
@@ -174,6 +172,6 @@ module _ (entry arguments : ℕ) (ts : List FlatTop) where
   pub never_lost : (r : Stop) → r ≡ Lost → (Program_lost entry arguments ts → ⊥) → Program_to entry arguments ts (Err r) → ⊥
   never_lost r e n h = n (lost_of (subst (λ z. Program_to entry arguments ts (Err z)) e h))
 
-pub ruleset programs = (program_unwalked, program_unmade, all_visits)
+pub ruleset programs = (program_unwalked, program_unmade, all_visits, table_nothing)
 
 pub ruleset measures = (measures_ok, measures_nodes, measures_depth, measures_memory)

@@ -1,5 +1,5 @@
 -- What known values and scopes stand for, one level at a time.
-use Rattle.std.proofs.Common.{◌≡◌, List, map, refl, ◌∙◌, ap}
+use Rattle.std.proofs.Common.{◌≡◌, List, map, refl, sym, ◌∙◌, ap, subst}
 use Rattle.std.specs.Borrow.{Bor}
 use Rattle.fut_scalar.specs.declared.place.BindId.{BindId}
 use Rattle.fut_ast.specs.Sorts.{Text}
@@ -9,7 +9,7 @@ use Rattle.fut_flat.specs.declared.prim.Primitive.{Primitive}
 use Rattle.fut_flat.specs.Erased.{patterns, pattern_of, term_of}
 use Rattle.fut_meaning.specs.Knowns.{Known, Data, Known_tuple, Known_record, Known_function, Known_primitive, Scope, empty, known_as}
 use Rattle.measure.specs.declared.known.Known.{Known as Held_known, fold_out-Known}
-use Rattle.measure.specs.declared.known.KnownForm.{KnownForm, KnownForm-F, fold-KnownForm, fold_out-KnownForm, out-KnownForm, map-KnownForm}
+use Rattle.measure.specs.declared.known.KnownForm.{KnownForm, KnownForm-F, fold-KnownForm, fold_out-KnownForm, out-KnownForm, roll-KnownForm, roll-out-KnownForm, map-KnownForm}
 use Rattle.measure.specs.declared.known.KnownForm.TheVariants as form
 use Rattle.measure.specs.declared.known.Field.{Field, fold_out-Field}
 use Rattle.measure.specs.declared.known.Scope.{Scope as Held_scope, Scope-F, fold_out-Scope, map-Scope}
@@ -45,6 +45,21 @@ known_at s f l is o =
     ∙ fold_out-KnownForm Known Scope (Text × Known) Known known_form scope_form (λ f. (f.name.now, f.known)) (λ s. s.form) f
     ∙ layer_is (out-KnownForm f)
     ∙ ap layer o
+
+back : (f g : KnownForm) → out-KnownForm f ≡ out-KnownForm g → f ≡ g
+back f g q = sym (roll-out-KnownForm f) ∙ ap roll-KnownForm q ∙ roll-out-KnownForm g
+
+-- what is said of each form is said of what is known
+module _ (s : Held_known) (P : Known → Type 0) where
+  pub by_form : (s.form ≡ form.Data → P Data) → ((ss : Bor (List Held_known)) → s.form ≡ form.Tuple ss → P (Known_tuple (knowns (map known_of ss.now)))) → ((fs : Bor (List Field)) → s.form ≡ form.Record fs → P (Known_record (fields_known (map field_of fs.now)))) → ((ps : Bor (List Pat)) (e : Bor Exp) (sc : Bor Held_scope) → s.form ≡ form.Function ps e sc → P (Known_function (patterns (map pattern_of ps.now)) (term_of e.now) (scope_of sc.now))) → ((p : Primitive) (ss : Bor (List Held_known)) → s.form ≡ form.Primitive p ss → P (Known_primitive p (knowns (map known_of ss.now)))) → P (known_of s)
+  by_form d t r f p = at (out-KnownForm s.form) refl
+    where
+      at : (l : Layer) → out-KnownForm s.form ≡ l → P (known_of s)
+      at KnownForm-F.Data q = subst P (sym (known_at s _ _ refl q)) (d (back _ _ (q ∙ sym form.outs-Data)))
+      at (KnownForm-F.Tuple ss) q = subst P (sym (known_at s _ _ refl q)) (t ss (back _ _ (q ∙ sym (form.outs-Tuple ss))))
+      at (KnownForm-F.Record fs) q = subst P (sym (known_at s _ _ refl q)) (r fs (back _ _ (q ∙ sym (form.outs-Record fs))))
+      at (KnownForm-F.Function ps e sc) q = subst P (sym (known_at s _ _ refl q)) (f ps e sc (back _ _ (q ∙ sym (form.outs-Function ps e sc))))
+      at (KnownForm-F.Primitive p' ss) q = subst P (sym (known_at s _ _ refl q)) (p p' ss (back _ _ (q ∙ sym (form.outs-Primitive p' ss))))
 
 pub known_data : (s : Held_known) → s.form ≡ form.Data → known_of s ≡ Data
 known_data s is = known_at s _ _ is form.outs-Data

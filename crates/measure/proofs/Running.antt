@@ -20,7 +20,7 @@ use Rattle.measure.specs.declared.stop.Stop.TheVariants.{Lost, Memory}
 use Rattle.measure.specs.declared.walked.Walked.{Walked}
 use Rattle.measure.specs.declared.walked.Count.{Count}
 use Rattle.measure.specs.Answers.{Bound_to, bound_is, not_bound, no_memory_to_bind, Ended, ended_at, is_stuck, no_memory_left, Walked_to, walked, stopped, Ran_to, ran, run_stopped, Given_to, given, given_stopped, Function_to, function_ran, function_stopped}
-use Rattle.measure.proofs.Mirror.{known_data, known_tuple, known_record, known_function, known_primitive}
+use Rattle.measure.proofs.Mirror.{by_form, known_function, known_primitive}
 use Rattle.measure.proofs.Walks.{within}
 use Rattle.measure.proofs.Leads.{Function_leads, function_start, function_on, Given_leads, given_start, given_on}
 use Rattle.reach.proofs.Lists.{one_more, drop_end}
@@ -29,17 +29,11 @@ use Rattle.measure.proofs.Forms.{data_only}
 -- ---- what is applied, by its form
 
 module _ (tops : Scope) (level spent : ℕ) (h : Held_known) (s : Known) where
-  is_none : (k : Known) → known_of h ≡ k → is_function k ≡ false → Ran_to tops level spent (known_of h) s (Err Lost)
-  is_none k q n = run_stopped (is_stuck (no_function (ap is_function q ∙ n)))
+  is_none : {k : Known} → is_function k ≡ false → Ran_to tops level spent k s (Err Lost)
+  is_none n = run_stopped (is_stuck (no_function n))
 
-  pub run_data : h.form ≡ form.Data → Ran_to tops level spent (known_of h) s (Err Lost)
-  run_data is = is_none _ (known_data h is) refl
-
-  pub run_tuple : (ss : Bor (List Held_known)) → h.form ≡ form.Tuple ss → Ran_to tops level spent (known_of h) s (Err Lost)
-  run_tuple ss is = is_none _ (known_tuple h ss is) refl
-
-  pub run_record : (fs : Bor (List Field)) → h.form ≡ form.Record fs → Ran_to tops level spent (known_of h) s (Err Lost)
-  run_record fs is = is_none _ (known_record h fs is) refl
+  pub run_other : ((ps : Bor (List Pat)) (e : Bor Exp) (sc : Bor Held_scope) → h.form ≡ form.Function ps e sc → ⊥) → ((p : Primitive) (ss : Bor (List Held_known)) → h.form ≡ form.Primitive p ss → ⊥) → Ran_to tops level spent (known_of h) s (Err Lost)
+  run_other f p = by_form h (λ k. Ran_to tops level spent k s (Err Lost)) (λ is. is_none refl) (λ ss is. is_none refl) (λ fs is. is_none refl) (λ ps e sc is. absurd (f ps e sc is)) (λ q ss is. absurd (p q ss is))
 
   pub run_of_function : (ps : Bor (List Pat)) (e : Bor Exp) (sc : Bor Held_scope) (r : Result Walked Stop) → h.form ≡ form.Function ps e sc → Ran_to tops level spent (Known_function (patterns (map pattern_of ps.now)) (term_of e.now) (scope_of sc.now)) s r → Ran_to tops level spent (known_of h) s r
   run_of_function ps e sc r is x = subst (λ z. Ran_to tops level spent z s r) (sym (known_function h ps e sc is)) x
@@ -167,7 +161,7 @@ module _ (tops : Scope) (k : ℕ) (h : Known) (made : Walked) (left : ℕ) where
   pub function_other : (level spent : ℕ) → left ≤ 0 → Function_from → false ≡ is_data (known_of made.known) → Function_to tops level spent k h (Err Lost)
   function_other level spent z0 a d = function_stopped (is_stuck (a.stuck (subst (λ z. Stuck_function tops z (known_of made.known)) (omega (arith, z0)) (no_data (sym d)))))
 
-pub ruleset runs = (run_data, run_tuple, run_record, run_of_function, run_of_primitive)
+pub ruleset runs = (run_other, run_of_function, run_of_primitive)
 
 pub ruleset primitives = (primitive_memory, primitive_waits, primitive_stopped, primitive_ran)
 

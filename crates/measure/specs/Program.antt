@@ -23,7 +23,7 @@ pub data Program_stopped (entry arguments : ℕ) (ts : List FlatTop) : Stop → 
 
 -- what is known of the definitions behind some of them
 abbrev pub known_behind : Made → Scope
-known_behind made = scope_of made.tops.list.now
+known_behind made = scope_of made.list.now
 
 -- a definition behind others, which is passed over where it is not reached
 pub data Definition_to (b : BindId) (e : FlatTerm) (reached : Bool) (before : Made) : Result Made Stop → Type 0 where

@@ -58,7 +58,10 @@ fn record_of<'a>(bump: &'a Bump, names: &[&'a str], parts: &[Known<'a>]) -> Resu
     if names.len() != parts.len() {
         return Err(Stop::Lost);
     }
-    let fields = fields_of(bump, names, parts)?;
+    let fields = match fields_of(bump, names, parts) {
+        Ok(fields) => fields,
+        Err(stop) => return Err(stop),
+    };
     Ok(known_record(fields))
 }
 
@@ -80,7 +83,10 @@ fn replaced<'a>(
             }
         }
         KnownForm::Record(fields) => {
-            let made = with_field(bump, fields, name, known)?;
+            let made = match with_field(bump, fields, name, known) {
+                Ok(made) => made,
+                Err(stop) => return Err(stop),
+            };
             Ok(known_record(made))
         }
         KnownForm::Tuple(_) => Err(Stop::Lost),

@@ -51,8 +51,9 @@ fn bind_all_data<'a>(
 {
     let mut names = Names { scope };
     for part in parts {
-        names = Names {
-            scope: bind_data(bump, part, names.scope)?,
+        names = match bind_data(bump, part, names.scope) {
+            Ok(scope) => Names { scope },
+            Err(stop) => return Err(stop),
         };
     }
     Ok(names.scope)
@@ -69,8 +70,9 @@ fn bind_data_fields<'a>(
 {
     let mut names = Names { scope };
     for field in fields {
-        names = Names {
-            scope: bind_data(bump, &field.pat, names.scope)?,
+        names = match bind_data(bump, &field.pat, names.scope) {
+            Ok(scope) => Names { scope },
+            Err(stop) => return Err(stop),
         };
     }
     Ok(names.scope)
@@ -98,16 +100,12 @@ pub fn bind<'a>(
         PatForm::Tuple(parts) => match known.form {
             KnownForm::Data => bind_all_data(bump, parts, scope),
             KnownForm::Tuple(given) => bind_all(bump, parts, given, scope),
-            KnownForm::Record(_) => Err(Stop::Lost),
-            KnownForm::Function(_, _, _) => Err(Stop::Lost),
-            KnownForm::Primitive(_, _) => Err(Stop::Lost),
+            _ => Err(Stop::Lost),
         },
         PatForm::Record(fields) => match known.form {
             KnownForm::Data => bind_data_fields(bump, fields, scope),
             KnownForm::Record(known_fields) => bind_fields(bump, fields, known_fields, scope),
-            KnownForm::Tuple(_) => Err(Stop::Lost),
-            KnownForm::Function(_, _, _) => Err(Stop::Lost),
-            KnownForm::Primitive(_, _) => Err(Stop::Lost),
+            _ => Err(Stop::Lost),
         },
         PatForm::Typed(inner, _) => bind(bump, inner, known, scope),
     }
@@ -128,8 +126,9 @@ fn bind_all<'a>(
     let mut names = Names { scope };
     let mut at = 0;
     for part in parts {
-        names = Names {
-            scope: bind(bump, part, given[at], names.scope)?,
+        names = match bind(bump, part, given[at], names.scope) {
+            Ok(scope) => Names { scope },
+            Err(stop) => return Err(stop),
         };
         at += 1;
     }
@@ -151,8 +150,9 @@ fn bind_fields<'a>(
             Some(known) => known,
             None => return Err(Stop::Lost),
         };
-        names = Names {
-            scope: bind(bump, &field.pat, known, names.scope)?,
+        names = match bind(bump, &field.pat, known, names.scope) {
+            Ok(scope) => Names { scope },
+            Err(stop) => return Err(stop),
         };
     }
     Ok(names.scope)

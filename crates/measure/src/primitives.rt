@@ -87,9 +87,13 @@ pub fn with_known<'a>(
     ensures err { IfErr result (λ e. e ≡ stop.Memory) }
 {
     let mut all = Vec::new(bump);
-    for one in given {
-        all.push(*one)?;
+    match all.extend_from_slice(given) {
+        Ok(()) => (),
+        Err(_) => return Err(Stop::Memory),
     }
-    all.push(known)?;
+    match all.push(known) {
+        Ok(()) => (),
+        Err(_) => return Err(Stop::Memory),
+    }
     Ok(into_bump_slice(all))
 }

@@ -1,61 +1,102 @@
 // The measure of a program.
-ghost use Rattle.std.specs.Prelude.{◌≡◌, ◌≤◌, ◌<◌, ◌+◌, IfOk, map, length};
+ghost use Rattle.std.specs.Prelude.{◌≡◌, ◌≤◌, ◌<◌, ◌+◌, IfErr, IfOk, map, max, length};
 ghost use Rattle.fut_flat.specs.Erased.{term_of};
 ghost use Rattle.fut_meaning.specs.Comes.{Program_lost};
 ghost use Rattle.fut_meaning.specs.Flats.{flat_tops, named_terms};
-ghost use Rattle.fut_meaning.specs.Knowns.{empty};
+ghost use Rattle.fut_meaning.specs.Knowns.{empty, known_as};
 ghost use Rattle.fut_meaning.specs.Measures.{Measures};
 ghost use Rattle.fut_meaning.specs.Walk.{Definition_visits};
-ghost use Rattle.measure.specs.Held.{scope_of};
+ghost use Rattle.measure.specs.Held.{known_of, scope_of};
 ghost use Rattle.measure.specs.Program.{Definition_to, Definitions_to, Program_to};
 ghost use Rattle.reach.specs.Reach.{Below, Reached, named_term};
-ghost use Rattle.measure.specs.Tables.{Kept};
+ghost use Rattle.measure.specs.Tables.{Kept, Tabled};
+ghost use Rattle.measure.specs.declared.stop.Stop.TheVariants as stop;
 
 use crate::known::Scope;
+use crate::scope::{bound, no_scope};
 use crate::stop::Stop;
-use crate::tops::{Tops, no_tops};
+use crate::tops::{Table, Tops, no_table};
 use crate::walk::{run_with_data, walk};
+use crate::walked::{Used, Walked};
 use bumpalo::Bump;
 use fut_flat::{Definition, Flat};
 use fut_meaning::{MeasureErr, Measured};
 use fut_scalar::BindId;
 use reach::{above, reached};
 
-/// What is known of the definitions, and their visits.
-#[derive(Drop)]
+/// What is known of the definitions that were walked, and their visits.
+#[derive(Clone, Copy)]
 pub struct Made<'a> {
-    pub tops: Tops<'a>,
+    pub list: &'a Scope<'a>,
     pub nodes: u32,
     pub depth: u32,
 }
 
+// What is known with one more definition, for which the table has room, and its visits beside those before.
+fn enter<'a>(
+    bump: &'a Bump,
+    table: &mut Table<'a>,
+    made: Made<'a>,
+    number: BindId,
+    walked: Walked<'a>,
+) -> Result<Made<'a>, Stop>
+    requires kept { Tabled (scope_of made.list.now) table.old.items }
+    requires room { number.0 < length table.old.items }
+    requires few { made.nodes + walked.nodes ≤ 1048576 }
+    ensures list { IfOk result (λ r. scope_of r.list.now ≡ known_as number (known_of walked.entry.known) (scope_of made.entry.list.now)) }
+    ensures nodes { IfOk result (λ r. r.nodes ≡ made.entry.nodes + walked.entry.nodes) }
+    ensures depth { IfOk result (λ r. r.depth ≡ max made.entry.depth walked.entry.depth) }
+    ensures kept { IfOk result (λ r. Tabled (scope_of r.list.now) table.new.items) }
+    ensures length { length table.new.items ≡ length table.old.items }
+    ensures err { IfErr result (λ e. e ≡ stop.Memory) }
+{
+    let list = match bound(bump, number, walked.known, made.list) {
+        Ok(list) => list,
+        Err(stop) => return Err(stop),
+    };
+    table[number.0 as usize] = Some(walked.known);
+    Ok(Made {
+        list,
+        nodes: made.nodes + walked.nodes,
+        depth: made.depth.max(walked.depth),
+    })
+}
+
 // One more definition, if it is reached.
 fn walk_definition<'a>(
+    bump: &'a Bump,
+    table: &mut Table<'a>,
     made: Made<'a>,
     reached: bool,
     nothing: &'a Scope<'a>,
     definition: &Definition<'a>,
 ) -> Result<Made<'a>, Stop>
-    requires kept { Kept made.tops }
+    requires kept { Tabled (scope_of made.list.now) table.old.items }
     requires nothing { scope_of nothing.now ≡ empty }
-    requires room { definition.now.bind.0 < length made.tops.table.items }
+    requires room { definition.now.bind.0 < length table.old.items }
     requires few { made.nodes ≤ 1048576 }
     requires flat { made.depth ≤ 1000 }
     ensures walk { Definition_to definition.now.bind (term_of definition.now.value.now) reached made.entry result }
-    ensures kept { IfOk result (λ r. Kept r.tops) }
-    ensures length { IfOk result (λ r. length r.tops.table.items ≡ length made.entry.tops.table.items) }
+    ensures kept { IfOk result (λ r. Tabled (scope_of r.list.now) table.new.items) }
+    ensures length { length table.new.items ≡ length table.old.items }
     ensures few { IfOk result (λ r. r.nodes ≤ 1048576) }
     ensures flat { IfOk result (λ r. r.depth ≤ 1000) }
 {
     if reached {
-        let Made { tops, nodes, depth } = made;
-        let r = walk(&tops, 0, 0, nodes, nothing, definition.value)?;
-        let tops = tops.with(definition.bind, r.known)?;
-        Ok(Made {
-            tops,
-            nodes: nodes + r.nodes,
-            depth: depth.max(r.depth),
-        })
+        let tops = Tops {
+            bump,
+            list: made.list,
+            table,
+        };
+        let used = Used {
+            nested: 0,
+            level: 0,
+            spent: made.nodes,
+        };
+        match walk(&tops, used, nothing, definition.value) {
+            Ok(walked) => enter(bump, table, made, definition.bind, walked),
+            Err(stop) => Err(stop),
+        }
     } else {
         Ok(made)
     }
@@ -63,30 +104,34 @@ fn walk_definition<'a>(
 
 // The definitions that are reached, in their order.
 fn walk_definitions<'a>(
-    tops: Tops<'a>,
+    bump: &'a Bump,
+    table: &mut Table<'a>,
+    nothing: &'a Scope<'a>,
     entry: BindId,
     flags: &[bool],
     definitions: &[Definition<'a>],
 ) -> Result<Made<'a>, Stop>
-    requires kept { Kept tops }
-    requires none { scope_of tops.list.now ≡ empty }
-    requires room { Below (length tops.table.items) definitions.now }
+    requires kept { Tabled (scope_of nothing.now) table.old.items }
+    requires nothing { scope_of nothing.now ≡ empty }
+    requires room { Below (length table.old.items) definitions.now }
     requires flags { Reached entry.0 definitions.now flags.now }
     requires length { length flags.now ≡ length definitions.now }
     ensures walk { Definitions_to entry.0 (flat_tops 0 (map named_term definitions.now)) result }
-    ensures kept { IfOk result (λ r. Kept r.tops) }
+    ensures kept { IfOk result (λ r. Tabled (scope_of r.list.now) table.new.items) }
     ensures few { IfOk result (λ r. r.nodes ≤ 1048576) }
     ensures flat { IfOk result (λ r. r.depth ≤ 1000) }
 {
-    let nothing = tops.list;
     let mut made = Made {
-        tops,
+        list: nothing,
         nodes: 0,
         depth: 0,
     };
     let mut at = 0;
     for definition in definitions {
-        made = walk_definition(made, flags[at], nothing, definition)?;
+        made = match walk_definition(bump, table, made, flags[at], nothing, definition) {
+            Ok(next) => next,
+            Err(stop) => return Err(stop),
+        };
         at += 1;
     }
     Ok(made)
@@ -95,27 +140,73 @@ fn walk_definitions<'a>(
 // The entry, applied to so much data, behind the definitions.
 #[tactic(auto, using(crate::proofs::Definitions::entries))]
 fn walk_entry(
-    made: &Made<'_>,
+    tops: &Tops<'_, '_>,
+    nodes: u32,
+    depth: u32,
     flat: &Flat<'_>,
     entry: BindId,
     arguments: u32,
 ) -> Result<Measured, Stop>
-    requires kept { Kept made.now.tops }
-    requires made { Definition_visits entry.0 empty (flat_tops 0 (named_terms flat.now)) (scope_of made.now.tops.list.now) made.now.nodes made.now.depth }
-    requires few { made.now.nodes ≤ 1048576 }
-    requires flat { made.now.depth ≤ 1000 }
+    requires kept { Kept tops.now }
+    requires made { Definition_visits entry.0 empty (flat_tops 0 (named_terms flat.now)) (scope_of tops.now.list.now) nodes depth }
+    requires few { nodes ≤ 1048576 }
+    requires flat { depth ≤ 1000 }
     ensures { Program_to entry.0 arguments (flat_tops 0 (named_terms flat.now)) result }
 {
-    match made.tops.of(entry) {
+    match tops.of(entry) {
         Some(known) => {
-            let r = run_with_data(&made.tops, 0, 0, made.nodes, arguments, known)?;
+            let r = match run_with_data(
+                tops,
+                Used {
+                    nested: 0,
+                    level: 0,
+                    spent: nodes,
+                },
+                arguments,
+                known,
+            ) {
+                Ok(r) => r,
+                Err(stop) => return Err(stop),
+            };
             Ok(Measured {
-                nodes: made.nodes + r.nodes,
-                depth: made.depth.max(r.depth),
+                nodes: nodes + r.nodes,
+                depth: depth.max(r.depth),
             })
         }
         None => Err(Stop::Lost),
     }
+}
+
+// The definitions, with a table in which nothing is known yet, and then the entry.
+#[tactic(auto, using(crate::proofs::Definitions::programs))]
+fn walk_program<'a>(
+    bump: &'a Bump,
+    table: &mut Table<'a>,
+    flags: &[bool],
+    flat: &Flat<'a>,
+    entry: BindId,
+    arguments: u32,
+) -> Result<Measured, Stop>
+    requires none { Tabled empty table.old.items }
+    requires room { Below (length table.old.items) flat.now.definitions.now }
+    requires flags { Reached entry.0 flat.now.definitions.now flags.now }
+    requires length { length flags.now ≡ length flat.now.definitions.now }
+    ensures { Program_to entry.0 arguments (flat_tops 0 (named_terms flat.now)) result }
+{
+    let nothing = match no_scope(bump) {
+        Ok(nothing) => nothing,
+        Err(stop) => return Err(stop),
+    };
+    let made = match walk_definitions(bump, table, nothing, entry, flags, flat.definitions) {
+        Ok(made) => made,
+        Err(stop) => return Err(stop),
+    };
+    let tops = Tops {
+        bump,
+        list: made.list,
+        table,
+    };
+    walk_entry(&tops, made.nodes, made.depth, flat, entry, arguments)
 }
 
 /// The measure of a program, or why its walk stops: `Lost` where it comes to what no typed program has.
@@ -129,10 +220,15 @@ pub fn measure_or_lost<'a>(
     ensures { Program_to entry.0 arguments (flat_tops 0 (named_terms flat.now)) result }
 {
     let count = above(flat.definitions);
-    let flags = reached(bump, flat.definitions, count, entry)?;
-    let tops = no_tops(bump, count)?;
-    let made = walk_definitions(tops, entry, flags, flat.definitions)?;
-    walk_entry(&made, flat, entry, arguments)
+    let flags = match reached(bump, flat.definitions, count, entry) {
+        Ok(flags) => flags,
+        Err(_) => return Err(Stop::Memory),
+    };
+    let mut table = match no_table(bump, count) {
+        Ok(table) => table,
+        Err(stop) => return Err(stop),
+    };
+    walk_program(bump, &mut table, flags, flat, entry, arguments)
 }
 
 /// The measure of a program from an entry on, which takes so many arguments: the visits of the walk, and how many of them

@@ -63,10 +63,13 @@ pub fn fields_of<'a>(
     let mut fields = Vec::new(bump);
     let mut at = 0;
     for name in names {
-        fields.push(Field {
+        match fields.push(Field {
             name: *name,
             known: parts[at],
-        })?;
+        }) {
+            Ok(()) => (),
+            Err(_) => return Err(Stop::Memory),
+        }
         at += 1;
     }
     Ok(into_bump_slice(fields))
@@ -84,7 +87,10 @@ pub fn with_field<'a>(
 {
     let mut made = Vec::new(bump);
     for field in fields {
-        made.push(put(*field, name, known))?;
+        match made.push(put(*field, name, known)) {
+            Ok(()) => (),
+            Err(_) => return Err(Stop::Memory),
+        }
     }
     Ok(into_bump_slice(made))
 }

@@ -18,55 +18,50 @@ use crate::primitives::{parameters_of, with_known};
 use crate::scope::bound;
 use crate::stop::Stop;
 use crate::tops::{Tops, known_use};
-use crate::walked::{Count, MOST_DEPTH, MOST_NESTED, MOST_NODES, Parts, Row, Turn, Walked};
+use crate::walked::{Count, MOST_DEPTH, MOST_NESTED, MOST_NODES, Parts, Row, Turn, Used, Walked};
 use bumpalo::collections::into_bump_slice;
 use fut_flat::{Act, Exp, Form, Let, Loop, LoopForm, Pat, Primitive, Ref};
 use fut_scalar::Place;
 
-/// What is known of the value of an expression, and the visits that it takes. It lies inside `level` visits, and `spent` were
-/// before it.
+/// What is known of the value of an expression, and the visits that it takes.
 #[cycle(walk)]
 #[tactic(auto, using(crate::proofs::Forms::limits))]
 pub fn walk<'a>(
-    tops: &Tops<'a>,
-    nested: u32,
-    level: u32,
-    spent: u32,
+    tops: &Tops<'_, 'a>,
+    used: Used,
     scope: &'a Scope<'a>,
     exp: &'a Exp<'a>,
 ) -> Result<Walked<'a>, Stop>
     requires kept { Kept tops.now }
-    ensures walk { Walked_to (scope_of tops.now.list.now) (scope_of scope.now) level spent (term_of exp.now) result }
-    ensures few { IfOk result (λ r. spent + r.nodes ≤ 1048576) }
-    ensures flat { IfOk result (λ r. level + r.depth ≤ 1000) }
+    ensures walk { Walked_to (scope_of tops.now.list.now) (scope_of scope.now) used.level used.spent (term_of exp.now) result }
+    ensures few { IfOk result (λ r. used.spent + r.nodes ≤ 1048576) }
+    ensures flat { IfOk result (λ r. used.level + r.depth ≤ 1000) }
 {
-    if level >= MOST_DEPTH {
+    if used.level >= MOST_DEPTH {
         return Err(Stop::Depth);
     }
-    if spent >= MOST_NODES {
+    if used.spent >= MOST_NODES {
         return Err(Stop::Nodes);
     }
-    walk_form(tops, nested, level, spent, scope, peeled(exp))
+    walk_form(tops, used, scope, peeled(exp))
 }
 
 // A visit within the limits.
 #[cycle(walk)]
 #[tactic(auto, using(crate::proofs::Forms::forms, crate::proofs::Mirror::known_function))]
 fn walk_form<'a>(
-    tops: &Tops<'a>,
-    nested: u32,
-    level: u32,
-    spent: u32,
+    tops: &Tops<'_, 'a>,
+    used: Used,
     scope: &'a Scope<'a>,
     exp: &'a Exp<'a>,
 ) -> Result<Walked<'a>, Stop>
     requires kept { Kept tops.now }
     requires plain { Plain exp.now }
-    requires level { level < 1000 }
-    requires spent { spent < 1048576 }
-    ensures walk { Walked_to (scope_of tops.now.list.now) (scope_of scope.now) level spent (term_of exp.now) result }
-    ensures few { IfOk result (λ r. spent + r.nodes ≤ 1048576) }
-    ensures flat { IfOk result (λ r. level + r.depth ≤ 1000) }
+    requires level { used.level < 1000 }
+    requires spent { used.spent < 1048576 }
+    ensures walk { Walked_to (scope_of tops.now.list.now) (scope_of scope.now) used.level used.spent (term_of exp.now) result }
+    ensures few { IfOk result (λ r. used.spent + r.nodes ≤ 1048576) }
+    ensures flat { IfOk result (λ r. used.level + r.depth ≤ 1000) }
 {
     match exp.form {
         Form::Use(reference, _) => match known_use(tops, scope, reference) {
@@ -77,9 +72,7 @@ fn walk_form<'a>(
             }),
             None => Err(Stop::Lost),
         },
-        Form::Strict { act, mark, parts } => {
-            walk_strict(tops, nested, level, spent, scope, &act, mark, parts)
-        }
+        Form::Strict { act, mark, parts } => { walk_strict(tops, used, scope, &act, mark, parts) }
         Form::Lambda(params, body) => Ok(Walked {
             known: Known {
                 form: KnownForm::Function(params, body, scope),
@@ -87,12 +80,10 @@ fn walk_form<'a>(
             nodes: 1,
             depth: 1,
         }),
-        Form::Apply(function, argument) => {
-            walk_apply(tops, nested, level, spent, scope, function, argument)
-        }
-        Form::Lets(_, _) => walk_lets(tops, nested, level, spent, scope, exp),
-        Form::If(test, yes, no) => walk_if(tops, nested, level, spent, scope, test, yes, no),
-        Form::Loop(whole) => walk_loop(tops, nested, level, spent, scope, whole),
+        Form::Apply(function, argument) => { walk_apply(tops, used, scope, function, argument) }
+        Form::Lets(_, _) => walk_lets(tops, used, scope, exp),
+        Form::If(test, yes, no) => walk_if(tops, used, scope, test, yes, no),
+        Form::Loop(whole) => walk_loop(tops, used, scope, whole),
     }
 }
 
@@ -100,25 +91,34 @@ fn walk_form<'a>(
 #[cycle(walk)]
 #[tactic(auto, using(crate::proofs::Walks::operations))]
 fn walk_strict<'a>(
-    tops: &Tops<'a>,
-    nested: u32,
-    level: u32,
-    spent: u32,
+    tops: &Tops<'_, 'a>,
+    used: Used,
     scope: &'a Scope<'a>,
     act: &Act<'a>,
     mark: Place,
     parts: &'a [Exp<'a>],
 ) -> Result<Walked<'a>, Stop>
     requires kept { Kept tops.now }
-    requires level { level < 1000 }
-    requires spent { spent < 1048576 }
+    requires level { used.level < 1000 }
+    requires spent { used.spent < 1048576 }
     requires visit { is_visit (operation_of act.now) (terms (map term_of parts.now)) ≡ true }
-    ensures walk { Walked_to (scope_of tops.now.list.now) (scope_of scope.now) level spent (Strict (operation_of act.now) mark (terms (map term_of parts.now))) result }
-    ensures few { IfOk result (λ r. spent + r.nodes ≤ 1048576) }
-    ensures flat { IfOk result (λ r. level + r.depth ≤ 1000) }
+    ensures walk { Walked_to (scope_of tops.now.list.now) (scope_of scope.now) used.level used.spent (Strict (operation_of act.now) mark (terms (map term_of parts.now))) result }
+    ensures few { IfOk result (λ r. used.spent + r.nodes ≤ 1048576) }
+    ensures flat { IfOk result (λ r. used.level + r.depth ≤ 1000) }
 {
-    let made = walk_parts(tops, nested, level + 1, spent + 1, scope, parts)?;
-    let known = result_of(tops.bump, act, made.knowns)?;
+    let inside = Used {
+        nested: used.nested,
+        level: used.level + 1,
+        spent: used.spent + 1,
+    };
+    let made = match walk_parts(tops, inside, scope, parts) {
+        Ok(made) => made,
+        Err(stop) => return Err(stop),
+    };
+    let known = match result_of(tops.bump, act, made.knowns) {
+        Ok(known) => known,
+        Err(stop) => return Err(stop),
+    };
     Ok(Walked {
         known,
         nodes: 1 + made.nodes,
@@ -129,38 +129,52 @@ fn walk_strict<'a>(
 #[cycle(walk)]
 #[tactic(auto, using(crate::proofs::Walks::applications))]
 fn walk_apply<'a>(
-    tops: &Tops<'a>,
-    nested: u32,
-    level: u32,
-    spent: u32,
+    tops: &Tops<'_, 'a>,
+    used: Used,
     scope: &'a Scope<'a>,
     function: &'a Exp<'a>,
     argument: &'a Exp<'a>,
 ) -> Result<Walked<'a>, Stop>
     requires kept { Kept tops.now }
-    requires level { level < 1000 }
-    requires spent { spent < 1048576 }
-    ensures walk { Walked_to (scope_of tops.now.list.now) (scope_of scope.now) level spent (Apply (term_of function.now) (term_of argument.now)) result }
-    ensures few { IfOk result (λ r. spent + r.nodes ≤ 1048576) }
-    ensures flat { IfOk result (λ r. level + r.depth ≤ 1000) }
+    requires level { used.level < 1000 }
+    requires spent { used.spent < 1048576 }
+    ensures walk { Walked_to (scope_of tops.now.list.now) (scope_of scope.now) used.level used.spent (Apply (term_of function.now) (term_of argument.now)) result }
+    ensures few { IfOk result (λ r. used.spent + r.nodes ≤ 1048576) }
+    ensures flat { IfOk result (λ r. used.level + r.depth ≤ 1000) }
 {
-    let f = walk(tops, nested, level + 1, spent + 1, scope, function)?;
-    let e = walk(
+    let inside = Used {
+        nested: used.nested,
+        level: used.level + 1,
+        spent: used.spent + 1,
+    };
+    let f = match walk(tops, inside, scope, function) {
+        Ok(f) => f,
+        Err(stop) => return Err(stop),
+    };
+    let e = match walk(
         tops,
-        nested,
-        level + 1,
-        spent + 1 + f.nodes,
+        Used {
+            spent: inside.spent + f.nodes,
+            ..inside
+        },
         scope,
         argument,
-    )?;
-    let b = run(
+    ) {
+        Ok(e) => e,
+        Err(stop) => return Err(stop),
+    };
+    let b = match run(
         tops,
-        nested,
-        level + 1,
-        spent + 1 + f.nodes + e.nodes,
+        Used {
+            spent: inside.spent + f.nodes + e.nodes,
+            ..inside
+        },
         f.known,
         e.known,
-    )?;
+    ) {
+        Ok(b) => b,
+        Err(stop) => return Err(stop),
+    };
     Ok(Walked {
         known: b.known,
         nodes: 1 + f.nodes + e.nodes + b.nodes,
@@ -171,32 +185,53 @@ fn walk_apply<'a>(
 #[cycle(walk)]
 #[tactic(auto, using(crate::proofs::Walks::branches, crate::proofs::Mirror::known_data))]
 fn walk_if<'a>(
-    tops: &Tops<'a>,
-    nested: u32,
-    level: u32,
-    spent: u32,
+    tops: &Tops<'_, 'a>,
+    used: Used,
     scope: &'a Scope<'a>,
     test: &'a Exp<'a>,
     yes: &'a Exp<'a>,
     no: &'a Exp<'a>,
 ) -> Result<Walked<'a>, Stop>
     requires kept { Kept tops.now }
-    requires level { level < 1000 }
-    requires spent { spent < 1048576 }
-    ensures walk { Walked_to (scope_of tops.now.list.now) (scope_of scope.now) level spent (If (term_of test.now) (term_of yes.now) (term_of no.now)) result }
-    ensures few { IfOk result (λ r. spent + r.nodes ≤ 1048576) }
-    ensures flat { IfOk result (λ r. level + r.depth ≤ 1000) }
+    requires level { used.level < 1000 }
+    requires spent { used.spent < 1048576 }
+    ensures walk { Walked_to (scope_of tops.now.list.now) (scope_of scope.now) used.level used.spent (If (term_of test.now) (term_of yes.now) (term_of no.now)) result }
+    ensures few { IfOk result (λ r. used.spent + r.nodes ≤ 1048576) }
+    ensures flat { IfOk result (λ r. used.level + r.depth ≤ 1000) }
 {
-    let c = walk_data(tops, nested, level + 1, spent + 1, scope, test)?;
-    let a = walk_data(tops, nested, level + 1, spent + 1 + c.nodes, scope, yes)?;
-    let b = walk_data(
+    let inside = Used {
+        nested: used.nested,
+        level: used.level + 1,
+        spent: used.spent + 1,
+    };
+    let c = match walk_data(tops, inside, scope, test) {
+        Ok(c) => c,
+        Err(stop) => return Err(stop),
+    };
+    let a = match walk_data(
         tops,
-        nested,
-        level + 1,
-        spent + 1 + c.nodes + a.nodes,
+        Used {
+            spent: inside.spent + c.nodes,
+            ..inside
+        },
+        scope,
+        yes,
+    ) {
+        Ok(a) => a,
+        Err(stop) => return Err(stop),
+    };
+    let b = match walk_data(
+        tops,
+        Used {
+            spent: inside.spent + c.nodes + a.nodes,
+            ..inside
+        },
         scope,
         no,
-    )?;
+    ) {
+        Ok(b) => b,
+        Err(stop) => return Err(stop),
+    };
     Ok(Walked {
         known: Known {
             form: KnownForm::Data,
@@ -209,39 +244,56 @@ fn walk_if<'a>(
 #[cycle(walk)]
 #[tactic(auto, using(crate::proofs::Walks::loops, crate::proofs::Mirror::known_data, fut_flat::proofs::ErasedForms::loop_is))]
 fn walk_loop<'a>(
-    tops: &Tops<'a>,
-    nested: u32,
-    level: u32,
-    spent: u32,
+    tops: &Tops<'_, 'a>,
+    used: Used,
     scope: &'a Scope<'a>,
     whole: &'a Loop<'a>,
 ) -> Result<Walked<'a>, Stop>
     requires kept { Kept tops.now }
-    requires level { level < 1000 }
-    requires spent { spent < 1048576 }
-    ensures walk { Walked_to (scope_of tops.now.list.now) (scope_of scope.now) level spent (loop_of whole.now) result }
-    ensures few { IfOk result (λ r. spent + r.nodes ≤ 1048576) }
-    ensures flat { IfOk result (λ r. level + r.depth ≤ 1000) }
+    requires level { used.level < 1000 }
+    requires spent { used.spent < 1048576 }
+    ensures walk { Walked_to (scope_of tops.now.list.now) (scope_of scope.now) used.level used.spent (loop_of whole.now) result }
+    ensures few { IfOk result (λ r. used.spent + r.nodes ≤ 1048576) }
+    ensures flat { IfOk result (λ r. used.level + r.depth ≤ 1000) }
 {
-    let first = walk_data(tops, nested, level + 1, spent + 1, scope, &whole.first)?;
-    let inside = bind_data(tops.bump, &whole.pat, scope)?;
-    let turn = walk_turns(
+    let inside = Used {
+        nested: used.nested,
+        level: used.level + 1,
+        spent: used.spent + 1,
+    };
+    let first = match walk_data(tops, inside, scope, &whole.first) {
+        Ok(first) => first,
+        Err(stop) => return Err(stop),
+    };
+    let names = match bind_data(tops.bump, &whole.pat, scope) {
+        Ok(names) => names,
+        Err(stop) => return Err(stop),
+    };
+    let turn = match walk_turns(
         tops,
-        nested,
-        level + 1,
-        spent + 1 + first.nodes,
+        Used {
+            spent: inside.spent + first.nodes,
+            ..inside
+        },
         scope,
-        inside,
+        names,
         &whole.form,
-    )?;
-    let body = walk_data(
+    ) {
+        Ok(turn) => turn,
+        Err(stop) => return Err(stop),
+    };
+    let body = match walk_data(
         tops,
-        nested,
-        level + 1,
-        spent + 1 + first.nodes + turn.nodes,
+        Used {
+            spent: inside.spent + first.nodes + turn.nodes,
+            ..inside
+        },
         turn.scope,
         &whole.body,
-    )?;
+    ) {
+        Ok(body) => body,
+        Err(stop) => return Err(stop),
+    };
     Ok(Walked {
         known: Known {
             form: KnownForm::Data,
@@ -255,32 +307,36 @@ fn walk_loop<'a>(
 #[cycle(walk)]
 #[tactic(auto, using(crate::proofs::Forms::turning, crate::proofs::Mirror::known_data))]
 fn walk_turns<'a>(
-    tops: &Tops<'a>,
-    nested: u32,
-    level: u32,
-    spent: u32,
+    tops: &Tops<'_, 'a>,
+    used: Used,
     scope: &'a Scope<'a>,
     inside: &'a Scope<'a>,
     form: &'a LoopForm<'a>,
 ) -> Result<Turn<'a>, Stop>
     requires kept { Kept tops.now }
-    requires level { level ≤ 1000 }
-    requires spent { spent ≤ 1048576 }
-    ensures walk { Turned_to (scope_of tops.now.list.now) (scope_of scope.now) (scope_of inside.now) level spent (turns_of form.now) result }
-    ensures few { IfOk result (λ r. spent + r.nodes ≤ 1048576) }
-    ensures flat { IfOk result (λ r. level + r.depth ≤ 1000) }
+    requires level { used.level ≤ 1000 }
+    requires spent { used.spent ≤ 1048576 }
+    ensures walk { Turned_to (scope_of tops.now.list.now) (scope_of scope.now) (scope_of inside.now) used.level used.spent (turns_of form.now) result }
+    ensures few { IfOk result (λ r. used.spent + r.nodes ≤ 1048576) }
+    ensures flat { IfOk result (λ r. used.level + r.depth ≤ 1000) }
 {
     match form {
         LoopForm::For(number, count) => {
-            let n = walk_data(tops, nested, level, spent, scope, count)?;
-            let names = bound(
+            let n = match walk_data(tops, used, scope, count) {
+                Ok(n) => n,
+                Err(stop) => return Err(stop),
+            };
+            let names = match bound(
                 tops.bump,
                 *number,
                 Known {
                     form: KnownForm::Data,
                 },
                 inside,
-            )?;
+            ) {
+                Ok(names) => names,
+                Err(stop) => return Err(stop),
+            };
             Ok(Turn {
                 scope: names,
                 nodes: n.nodes,
@@ -288,8 +344,14 @@ fn walk_turns<'a>(
             })
         }
         LoopForm::ForIn(pat, rows) => {
-            let n = walk_data(tops, nested, level, spent, scope, rows)?;
-            let names = bind_data(tops.bump, pat, inside)?;
+            let n = match walk_data(tops, used, scope, rows) {
+                Ok(n) => n,
+                Err(stop) => return Err(stop),
+            };
+            let names = match bind_data(tops.bump, pat, inside) {
+                Ok(names) => names,
+                Err(stop) => return Err(stop),
+            };
             Ok(Turn {
                 scope: names,
                 nodes: n.nodes,
@@ -297,7 +359,10 @@ fn walk_turns<'a>(
             })
         }
         LoopForm::While(test) => {
-            let n = walk_data(tops, nested, level, spent, inside, test)?;
+            let n = match walk_data(tops, used, inside, test) {
+                Ok(n) => n,
+                Err(stop) => return Err(stop),
+            };
             Ok(Turn {
                 scope: inside,
                 nodes: n.nodes,
@@ -311,21 +376,22 @@ fn walk_turns<'a>(
 #[cycle(walk)]
 #[tactic(auto, using(crate::proofs::Forms::datas))]
 fn walk_data<'a>(
-    tops: &Tops<'a>,
-    nested: u32,
-    level: u32,
-    spent: u32,
+    tops: &Tops<'_, 'a>,
+    used: Used,
     scope: &'a Scope<'a>,
     exp: &'a Exp<'a>,
 ) -> Result<Count, Stop>
     requires kept { Kept tops.now }
-    requires level { level ≤ 1000 }
-    requires spent { spent ≤ 1048576 }
-    ensures walk { Data_to (scope_of tops.now.list.now) (scope_of scope.now) level spent (term_of exp.now) result }
-    ensures few { IfOk result (λ r. spent + r.nodes ≤ 1048576) }
-    ensures flat { IfOk result (λ r. level + r.depth ≤ 1000) }
+    requires level { used.level ≤ 1000 }
+    requires spent { used.spent ≤ 1048576 }
+    ensures walk { Data_to (scope_of tops.now.list.now) (scope_of scope.now) used.level used.spent (term_of exp.now) result }
+    ensures few { IfOk result (λ r. used.spent + r.nodes ≤ 1048576) }
+    ensures flat { IfOk result (λ r. used.level + r.depth ≤ 1000) }
 {
-    let r = walk(tops, nested, level, spent, scope, exp)?;
+    let r = match walk(tops, used, scope, exp) {
+        Ok(r) => r,
+        Err(stop) => return Err(stop),
+    };
     if is_data(r.known) {
         Ok(Count {
             nodes: r.nodes,
@@ -339,26 +405,38 @@ fn walk_data<'a>(
 #[cycle(walk)]
 #[tactic(auto, using(crate::proofs::Rows::parts))]
 fn walk_parts<'a>(
-    tops: &Tops<'a>,
-    nested: u32,
-    level: u32,
-    spent: u32,
+    tops: &Tops<'_, 'a>,
+    used: Used,
     scope: &'a Scope<'a>,
     exps: &'a [Exp<'a>],
 ) -> Result<Parts<'a>, Stop>
     requires kept { Kept tops.now }
-    requires level { level ≤ 1000 }
-    requires spent { spent ≤ 1048576 }
-    ensures walk { Parts_to (scope_of tops.now.list.now) (scope_of scope.now) level spent (terms (map term_of exps.now)) result }
-    ensures few { IfOk result (λ r. spent + r.nodes ≤ 1048576) }
-    ensures flat { IfOk result (λ r. level + r.depth ≤ 1000) }
+    requires level { used.level ≤ 1000 }
+    requires spent { used.spent ≤ 1048576 }
+    ensures walk { Parts_to (scope_of tops.now.list.now) (scope_of scope.now) used.level used.spent (terms (map term_of exps.now)) result }
+    ensures few { IfOk result (λ r. used.spent + r.nodes ≤ 1048576) }
+    ensures flat { IfOk result (λ r. used.level + r.depth ≤ 1000) }
 {
     let mut knowns = Vec::new(tops.bump);
     let mut nodes = 0;
     let mut depth = 0;
     for exp in exps {
-        let r = walk(tops, nested, level, spent + nodes, scope, exp)?;
-        knowns.push(r.known)?;
+        let r = match walk(
+            tops,
+            Used {
+                spent: used.spent + nodes,
+                ..used
+            },
+            scope,
+            exp,
+        ) {
+            Ok(r) => r,
+            Err(stop) => return Err(stop),
+        };
+        match knowns.push(r.known) {
+            Ok(()) => (),
+            Err(_) => return Err(Stop::Memory),
+        }
         nodes += r.nodes;
         depth = depth.max(r.depth);
     }
@@ -373,20 +451,18 @@ fn walk_parts<'a>(
 #[cycle(walk)]
 #[tactic(auto, using(crate::proofs::Rows::whole_rows))]
 fn walk_lets<'a>(
-    tops: &Tops<'a>,
-    nested: u32,
-    level: u32,
-    spent: u32,
+    tops: &Tops<'_, 'a>,
+    used: Used,
     scope: &'a Scope<'a>,
     exp: &'a Exp<'a>,
 ) -> Result<Walked<'a>, Stop>
     requires kept { Kept tops.now }
-    requires level { level < 1000 }
-    requires spent { spent < 1048576 }
+    requires level { used.level < 1000 }
+    requires spent { used.spent < 1048576 }
     requires row { is_let (term_of exp.now) ≡ true }
-    ensures walk { Walked_to (scope_of tops.now.list.now) (scope_of scope.now) level spent (term_of exp.now) result }
-    ensures few { IfOk result (λ r. spent + r.nodes ≤ 1048576) }
-    ensures flat { IfOk result (λ r. level + r.depth ≤ 1000) }
+    ensures walk { Walked_to (scope_of tops.now.list.now) (scope_of scope.now) used.level used.spent (term_of exp.now) result }
+    ensures few { IfOk result (λ r. used.spent + r.nodes ≤ 1048576) }
+    ensures flat { IfOk result (λ r. used.level + r.depth ≤ 1000) }
 {
     let mut rest = exp;
     let mut row = Row {
@@ -395,17 +471,34 @@ fn walk_lets<'a>(
         depth: 0,
     };
     while let Form::Lets(lets, body) = rest.form {
-        row = walk_row(tops, nested, level + 1, spent + 1, row, lets)?;
+        row = match walk_row(
+            tops,
+            Used {
+                nested: used.nested,
+                level: used.level + 1,
+                spent: used.spent + 1,
+            },
+            row,
+            lets,
+        ) {
+            Ok(next) => next,
+            Err(stop) => return Err(stop),
+        };
         rest = body;
     }
-    let last = walk(
+    let last = match walk(
         tops,
-        nested,
-        level + 1,
-        spent + 1 + row.nodes,
+        Used {
+            nested: used.nested,
+            level: used.level + 1,
+            spent: used.spent + 1 + row.nodes,
+        },
         row.scope,
         rest,
-    )?;
+    ) {
+        Ok(last) => last,
+        Err(stop) => return Err(stop),
+    };
     Ok(Walked {
         known: last.known,
         nodes: 1 + (row.nodes + last.nodes),
@@ -416,24 +509,25 @@ fn walk_lets<'a>(
 #[cycle(walk)]
 #[tactic(auto, using(crate::proofs::Rows::rows))]
 fn walk_row<'a>(
-    tops: &Tops<'a>,
-    nested: u32,
-    level: u32,
-    spent: u32,
+    tops: &Tops<'_, 'a>,
+    used: Used,
     row: Row<'a>,
     lets: &'a [Let<'a>],
 ) -> Result<Row<'a>, Stop>
     requires kept { Kept tops.now }
-    requires level { level ≤ 1000 }
-    requires spent { spent + row.nodes ≤ 1048576 }
-    requires depth { level + row.depth ≤ 1000 }
-    ensures walk { Rows_to (scope_of tops.now.list.now) (scope_of row.entry.scope.now) level spent row.entry.nodes row.entry.depth (map row_of lets.now) result }
-    ensures few { IfOk result (λ r. spent + r.nodes ≤ 1048576) }
-    ensures flat { IfOk result (λ r. level + r.depth ≤ 1000) }
+    requires level { used.level ≤ 1000 }
+    requires spent { used.spent + row.nodes ≤ 1048576 }
+    requires depth { used.level + row.depth ≤ 1000 }
+    ensures walk { Rows_to (scope_of tops.now.list.now) (scope_of row.entry.scope.now) used.level used.spent row.entry.nodes row.entry.depth (map row_of lets.now) result }
+    ensures few { IfOk result (λ r. used.spent + r.nodes ≤ 1048576) }
+    ensures flat { IfOk result (λ r. used.level + r.depth ≤ 1000) }
 {
     let mut at = row;
     for one in lets {
-        at = walk_let(tops, nested, level, spent, at, one)?;
+        at = match walk_let(tops, used, at, one) {
+            Ok(next) => next,
+            Err(stop) => return Err(stop),
+        };
     }
     Ok(at)
 }
@@ -441,30 +535,35 @@ fn walk_row<'a>(
 #[cycle(walk)]
 #[tactic(auto, using(crate::proofs::Rows::one_lets))]
 fn walk_let<'a>(
-    tops: &Tops<'a>,
-    nested: u32,
-    level: u32,
-    spent: u32,
+    tops: &Tops<'_, 'a>,
+    used: Used,
     row: Row<'a>,
     one: &'a Let<'a>,
 ) -> Result<Row<'a>, Stop>
     requires kept { Kept tops.now }
-    requires level { level ≤ 1000 }
-    requires spent { spent + row.nodes ≤ 1048576 }
-    requires depth { level + row.depth ≤ 1000 }
-    ensures walk { Let_to (scope_of tops.now.list.now) (scope_of row.entry.scope.now) level spent row.entry.nodes row.entry.depth (row_of one.now) result }
-    ensures few { IfOk result (λ r. spent + r.nodes ≤ 1048576) }
-    ensures flat { IfOk result (λ r. level + r.depth ≤ 1000) }
+    requires level { used.level ≤ 1000 }
+    requires spent { used.spent + row.nodes ≤ 1048576 }
+    requires depth { used.level + row.depth ≤ 1000 }
+    ensures walk { Let_to (scope_of tops.now.list.now) (scope_of row.entry.scope.now) used.level used.spent row.entry.nodes row.entry.depth (row_of one.now) result }
+    ensures few { IfOk result (λ r. used.spent + r.nodes ≤ 1048576) }
+    ensures flat { IfOk result (λ r. used.level + r.depth ≤ 1000) }
 {
-    let value = walk(
+    let value = match walk(
         tops,
-        nested,
-        level,
-        spent + row.nodes,
+        Used {
+            spent: used.spent + row.nodes,
+            ..used
+        },
         row.scope,
         &one.value,
-    )?;
-    let scope = bind(tops.bump, &one.pat, value.known, row.scope)?;
+    ) {
+        Ok(value) => value,
+        Err(stop) => return Err(stop),
+    };
+    let scope = match bind(tops.bump, &one.pat, value.known, row.scope) {
+        Ok(scope) => scope,
+        Err(stop) => return Err(stop),
+    };
     Ok(Row {
         scope,
         nodes: row.nodes + value.nodes,
@@ -476,58 +575,55 @@ fn walk_let<'a>(
 #[cycle(walk)]
 #[tactic(auto, using(crate::proofs::Running::runs))]
 fn run<'a>(
-    tops: &Tops<'a>,
-    nested: u32,
-    level: u32,
-    spent: u32,
+    tops: &Tops<'_, 'a>,
+    used: Used,
     function: Known<'a>,
     argument: Known<'a>,
 ) -> Result<Walked<'a>, Stop>
     requires kept { Kept tops.now }
-    requires level { level ≤ 1000 }
-    requires spent { spent ≤ 1048576 }
-    ensures walk { Ran_to (scope_of tops.now.list.now) level spent (known_of function.entry) (known_of argument.entry) result }
-    ensures few { IfOk result (λ r. spent + r.nodes ≤ 1048576) }
-    ensures flat { IfOk result (λ r. level + r.depth ≤ 1000) }
+    requires level { used.level ≤ 1000 }
+    requires spent { used.spent ≤ 1048576 }
+    ensures walk { Ran_to (scope_of tops.now.list.now) used.level used.spent (known_of function.entry) (known_of argument.entry) result }
+    ensures few { IfOk result (λ r. used.spent + r.nodes ≤ 1048576) }
+    ensures flat { IfOk result (λ r. used.level + r.depth ≤ 1000) }
 {
     match function.form {
         KnownForm::Function(params, body, scope) => {
-            run_function(tops, nested, level, spent, params, body, scope, argument)
+            run_function(tops, used, params, body, scope, argument)
         }
         KnownForm::Primitive(primitive, given) => {
-            run_primitive(tops, nested, level, spent, primitive, given, argument)
+            run_primitive(tops, used, primitive, given, argument)
         }
-        KnownForm::Data => Err(Stop::Lost),
-        KnownForm::Tuple(_) => Err(Stop::Lost),
-        KnownForm::Record(_) => Err(Stop::Lost),
+        _ => Err(Stop::Lost),
     }
 }
 
 #[cycle(walk)]
 #[tactic(auto, using(crate::proofs::Running::bodies))]
 fn run_function<'a>(
-    tops: &Tops<'a>,
-    nested: u32,
-    level: u32,
-    spent: u32,
+    tops: &Tops<'_, 'a>,
+    used: Used,
     params: &'a [Pat<'a>],
     body: &'a Exp<'a>,
     scope: &'a Scope<'a>,
     argument: Known<'a>,
 ) -> Result<Walked<'a>, Stop>
     requires kept { Kept tops.now }
-    requires level { level ≤ 1000 }
-    requires spent { spent ≤ 1048576 }
-    ensures walk { Ran_to (scope_of tops.now.list.now) level spent (Known_function (patterns (map pattern_of params.now)) (term_of body.now) (scope_of scope.now)) (known_of argument.entry) result }
-    ensures few { IfOk result (λ r. spent + r.nodes ≤ 1048576) }
-    ensures flat { IfOk result (λ r. level + r.depth ≤ 1000) }
+    requires level { used.level ≤ 1000 }
+    requires spent { used.spent ≤ 1048576 }
+    ensures walk { Ran_to (scope_of tops.now.list.now) used.level used.spent (Known_function (patterns (map pattern_of params.now)) (term_of body.now) (scope_of scope.now)) (known_of argument.entry) result }
+    ensures few { IfOk result (λ r. used.spent + r.nodes ≤ 1048576) }
+    ensures flat { IfOk result (λ r. used.level + r.depth ≤ 1000) }
 {
     if params.len() == 0 {
         return Err(Stop::Lost);
     }
-    let inner = bind(tops.bump, &params[0], argument, scope)?;
+    let inner = match bind(tops.bump, &params[0], argument, scope) {
+        Ok(inner) => inner,
+        Err(stop) => return Err(stop),
+    };
     if params.len() == 1 {
-        walk(tops, nested, level, spent, inner, body)
+        walk(tops, used, inner, body)
     } else {
         Ok(Walked {
             known: Known {
@@ -542,22 +638,23 @@ fn run_function<'a>(
 #[cycle(walk)]
 #[tactic(auto, using(crate::proofs::Running::primitives, crate::proofs::Mirror::known_primitive, crate::proofs::Mirror::known_data))]
 fn run_primitive<'a>(
-    tops: &Tops<'a>,
-    nested: u32,
-    level: u32,
-    spent: u32,
+    tops: &Tops<'_, 'a>,
+    used: Used,
     primitive: Primitive,
     given: &'a [Known<'a>],
     argument: Known<'a>,
 ) -> Result<Walked<'a>, Stop>
     requires kept { Kept tops.now }
-    requires level { level ≤ 1000 }
-    requires spent { spent ≤ 1048576 }
-    ensures walk { Ran_to (scope_of tops.now.list.now) level spent (Known_primitive primitive (knowns (map known_of given.now))) (known_of argument.entry) result }
-    ensures few { IfOk result (λ r. spent + r.nodes ≤ 1048576) }
-    ensures flat { IfOk result (λ r. level + r.depth ≤ 1000) }
+    requires level { used.level ≤ 1000 }
+    requires spent { used.spent ≤ 1048576 }
+    ensures walk { Ran_to (scope_of tops.now.list.now) used.level used.spent (Known_primitive primitive (knowns (map known_of given.now))) (known_of argument.entry) result }
+    ensures few { IfOk result (λ r. used.spent + r.nodes ≤ 1048576) }
+    ensures flat { IfOk result (λ r. used.level + r.depth ≤ 1000) }
 {
-    let all = with_known(tops.bump, given, argument)?;
+    let all = match with_known(tops.bump, given, argument) {
+        Ok(all) => all,
+        Err(stop) => return Err(stop),
+    };
     let parameters = parameters_of(primitive);
     if given.len() + 1 < parameters.len() {
         return Ok(Walked {
@@ -568,10 +665,21 @@ fn run_primitive<'a>(
             depth: 0,
         });
     }
-    if nested >= MOST_NESTED {
+    if used.nested >= MOST_NESTED {
         return Err(Stop::Memory);
     }
-    let made = run_given(tops, nested + 1, level, spent, parameters, all)?;
+    let made = match run_given(
+        tops,
+        Used {
+            nested: used.nested + 1,
+            ..used
+        },
+        parameters,
+        all,
+    ) {
+        Ok(made) => made,
+        Err(stop) => return Err(stop),
+    };
     Ok(Walked {
         known: Known {
             form: KnownForm::Data,
@@ -585,20 +693,18 @@ fn run_primitive<'a>(
 #[cycle(walk)]
 #[tactic(auto, using(crate::proofs::Running::givens))]
 fn run_given<'a>(
-    tops: &Tops<'a>,
-    nested: u32,
-    level: u32,
-    spent: u32,
+    tops: &Tops<'_, 'a>,
+    used: Used,
     parameters: &[u32],
     given: &'a [Known<'a>],
 ) -> Result<Count, Stop>
     requires kept { Kept tops.now }
-    requires level { level ≤ 1000 }
-    requires spent { spent ≤ 1048576 }
-    requires nested { nested ≤ 1000 }
-    ensures walk { Given_to (scope_of tops.now.list.now) level spent parameters.now (knowns (map known_of given.now)) result }
-    ensures few { IfOk result (λ r. spent + r.nodes ≤ 1048576) }
-    ensures flat { IfOk result (λ r. level + r.depth ≤ 1000) }
+    requires level { used.level ≤ 1000 }
+    requires spent { used.spent ≤ 1048576 }
+    requires nested { used.nested ≤ 1000 }
+    ensures walk { Given_to (scope_of tops.now.list.now) used.level used.spent parameters.now (knowns (map known_of given.now)) result }
+    ensures few { IfOk result (λ r. used.spent + r.nodes ≤ 1048576) }
+    ensures flat { IfOk result (λ r. used.level + r.depth ≤ 1000) }
 {
     let mut made = Count { nodes: 0, depth: 0 };
     let mut at = 0;
@@ -606,14 +712,18 @@ fn run_given<'a>(
         if at >= parameters.len() {
             return Err(Stop::Lost);
         }
-        let r = run_with_data(
+        let r = match run_with_data(
             tops,
-            nested,
-            level,
-            spent + made.nodes,
+            Used {
+                spent: used.spent + made.nodes,
+                ..used
+            },
             parameters[at],
             *known,
-        )?;
+        ) {
+            Ok(r) => r,
+            Err(stop) => return Err(stop),
+        };
         made = Count {
             nodes: made.nodes + r.nodes,
             depth: made.depth.max(r.depth),
@@ -630,19 +740,17 @@ fn run_given<'a>(
 #[cycle(walk)]
 #[tactic(auto, using(crate::proofs::Running::functions, crate::proofs::Mirror::known_data))]
 pub fn run_with_data<'a>(
-    tops: &Tops<'a>,
-    nested: u32,
-    level: u32,
-    spent: u32,
+    tops: &Tops<'_, 'a>,
+    used: Used,
     arguments: u32,
     function: Known<'a>,
 ) -> Result<Count, Stop>
     requires kept { Kept tops.now }
-    requires level { level ≤ 1000 }
-    requires spent { spent ≤ 1048576 }
-    ensures walk { Function_to (scope_of tops.now.list.now) level spent arguments (known_of function.entry) result }
-    ensures few { IfOk result (λ r. spent + r.nodes ≤ 1048576) }
-    ensures flat { IfOk result (λ r. level + r.depth ≤ 1000) }
+    requires level { used.level ≤ 1000 }
+    requires spent { used.spent ≤ 1048576 }
+    ensures walk { Function_to (scope_of tops.now.list.now) used.level used.spent arguments (known_of function.entry) result }
+    ensures few { IfOk result (λ r. used.spent + r.nodes ≤ 1048576) }
+    ensures flat { IfOk result (λ r. used.level + r.depth ≤ 1000) }
 {
     let mut made = Walked {
         known: function,
@@ -651,16 +759,20 @@ pub fn run_with_data<'a>(
     };
     let mut left = arguments;
     while left > 0 {
-        let r = run(
+        let r = match run(
             tops,
-            nested,
-            level,
-            spent + made.nodes,
+            Used {
+                spent: used.spent + made.nodes,
+                ..used
+            },
             made.known,
             Known {
                 form: KnownForm::Data,
             },
-        )?;
+        ) {
+            Ok(r) => r,
+            Err(stop) => return Err(stop),
+        };
         made = Walked {
             known: r.known,
             nodes: made.nodes + r.nodes,

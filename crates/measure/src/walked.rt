@@ -10,6 +10,17 @@ pub const MOST_DEPTH: u32 = 1_000;
 /// How many primitives that wait for data may be given to each other: the walk goes through them without a visit.
 pub const MOST_NESTED: u32 = 1_000;
 
+/// What the walk has used of its limits where it stands.
+#[derive(Clone, Copy)]
+pub struct Used {
+    /// Primitives that wait for data, given to each other.
+    pub nested: u32,
+    /// Visits that lie around this one.
+    pub level: u32,
+    /// Visits before this one.
+    pub spent: u32,
+}
+
 /// What is known of a value, and the visits that it takes.
 #[derive(Clone, Copy)]
 pub struct Walked<'a> {

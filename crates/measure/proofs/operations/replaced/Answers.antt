@@ -1,5 +1,4 @@
 use Rattle.std.proofs.Common.{refl, sym, ◌∙◌}
-use Rattle.std.proofs.lemmas.Result.{err_from_is_err_and}
 use Rattle.measure.proofs.Mirror.{known_data, known_tuple, known_record, known_function, known_primitive}
 use Rattle.measure.proofs.Parts.{replaced_data, replaced_by_function, replaced_field, replaced_other, no_memory_for}
 use Rattle.measure.proofs.operations.replaced.Goals as goal
@@ -10,13 +9,11 @@ returns-then-is_data c = replaced_data _ _ _ _ refl (known_data _ c.in-Data.is) 
 pub returns-else-is_data : goal.returns-else-is_data
 returns-else-is_data c = replaced_by_function _ _ _ (known_data _ c.in-Data.is) (sym c.is_data.ensures ∙ c.if-is_data.false)
 
-pub returns-in_err-made-in-Record : goal.returns-in_err-made-in-Record
-returns-in_err-made-in-Record c =
-    let p = err_from_is_err_and c.from_residual.result c.from_residual.ensures.1 in
-    rw (p.1, p.2) (no_memory_for _ _ c.in_err-made-in-Record.ensures.err)
+pub returns-in-Err : goal.returns-in-Err
+returns-in-Err c = no_memory_for _ _ c.in-Err.ensures.err
 
-pub returns-in_ok-made-in-Record : goal.returns-in_ok-made-in-Record
-returns-in_ok-made-in-Record c = replaced_field _ _ _ _ _ _ (known_record _ _ c.in-Record.is) c.in_ok-made-in-Record.ensures.ok c.known_record.ensures
+pub returns-in-Ok : goal.returns-in-Ok
+returns-in-Ok c = replaced_field _ _ _ _ _ _ (known_record _ _ c.in-Record.is) c.in-Ok.ensures.ok c.known_record.ensures
 
 pub returns-in-Tuple : goal.returns-in-Tuple
 returns-in-Tuple c = replaced_other _ _ _ _ (known_tuple _ _ c.in-Tuple.is) refl

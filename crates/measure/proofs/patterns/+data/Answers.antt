@@ -22,13 +22,13 @@ pub bind_data-returns-in-Typed-clause-ok : goal.bind_data-returns-in-Typed-claus
 bind_data-returns-in-Typed-clause-ok t c = subst (λ z. IfOk c.bind_data.result (λ inner. scope_of inner.now ≡ z)) (data_typed _ _ _ _ c.in-Typed.is) c.bind_data.ensures.ok
 
 pub bind_all_data-loop-part-preserved : goal.bind_all_data-loop-part-preserved
-bind_all_data-loop-part-preserved t c = c.loop-part.invariant ∙ data_step pattern_of c.args.parts.now c.loop-part.part-index _ _ _ c.loop-part-test.true c.in_ok-bind_data.ensures.ok
+bind_all_data-loop-part-preserved t c = c.loop-part.invariant ∙ data_step pattern_of c.args.parts.now c.loop-part.part-index _ _ _ c.loop-part-test.true c.in-Ok.ensures.ok
 
 pub bind_all_data-returns-clause-ok : goal.bind_all_data-returns-clause-ok
 bind_all_data-returns-clause-ok t c = sym (c.loop-part.invariant ∙ data_done pattern_of c.args.parts.now c.loop-part.part-index _ (omega (arith, c.loop-part-test.false)))
 
 pub bind_data_fields-loop-field-preserved : goal.bind_data_fields-loop-field-preserved
-bind_data_fields-loop-field-preserved t c = c.loop-field.invariant ∙ data_step (λ (f : PatField). pattern_of f.pat) c.args.fields.now c.loop-field.field-index _ _ _ c.loop-field-test.true c.in_ok-bind_data.ensures.ok
+bind_data_fields-loop-field-preserved t c = c.loop-field.invariant ∙ data_step (λ (f : PatField). pattern_of f.pat) c.args.fields.now c.loop-field.field-index _ _ _ c.loop-field-test.true c.in-Ok.ensures.ok
 
 pub bind_data_fields-returns-clause-ok : goal.bind_data_fields-returns-clause-ok
 bind_data_fields-returns-clause-ok t c = sym (c.loop-field.invariant ∙ data_done (λ (f : PatField). pattern_of f.pat) c.args.fields.now c.loop-field.field-index _ (omega (arith, c.loop-field-test.false)))
