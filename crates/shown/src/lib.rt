@@ -1,10 +1,14 @@
 //! Trees, flat programs and the types of definitions as one line of text, for rows of data.
 #![tactic(auto)]
 
-pub mod flat;
+mod flat;
 mod line;
-pub mod shapes;
+mod shapes;
+mod texts;
 mod typed;
 
-pub use line::{Shown, suffix_text};
+pub use flat::programs::show_flat;
+pub use line::Shown;
+pub use shapes::modules::show_program;
+pub use texts::suffix_text;
 pub use typed::show_types;

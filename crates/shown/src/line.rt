@@ -1,5 +1,5 @@
 // What a reader of texts answers, as one line.
-use fut_scalar::{IntType, Place};
+use fut_scalar::Place;
 use std::alloc::Global;
 use std::fmt::Write;
 use std::str;
@@ -32,6 +32,27 @@ impl Shown {
         if self.text.push_str(piece).is_err() {
             self.is_spent = true;
         }
+    }
+
+    /// A name behind a text.
+    pub fn named(&mut self, before: &str, name: &str) {
+        self.push(before);
+        self.push(name);
+    }
+
+    /// A blank and the name of a part, which stands behind it.
+    pub fn field(&mut self, name: &str) {
+        self.named(" (", name);
+        self.blank();
+    }
+
+    pub fn blank(&mut self) {
+        self.push(" ");
+    }
+
+    /// The end of a form.
+    pub fn close(&mut self) {
+        self.push(")");
     }
 
     pub fn number(&mut self, value: u64) {
@@ -73,20 +94,5 @@ impl Shown {
             self.place(mark);
         }
         self.push("}");
-    }
-}
-
-/// The suffix of an integer, or nothing.
-pub fn suffix_text(suffix: Option<IntType>) -> &'static str {
-    match suffix {
-        None => "",
-        Some(IntType::I8) => "i8",
-        Some(IntType::I16) => "i16",
-        Some(IntType::I32) => "i32",
-        Some(IntType::I64) => "i64",
-        Some(IntType::U8) => "u8",
-        Some(IntType::U16) => "u16",
-        Some(IntType::U32) => "u32",
-        Some(IntType::U64) => "u64",
     }
 }

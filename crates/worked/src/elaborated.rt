@@ -9,8 +9,7 @@ use fut_parser::parse;
 use fut_scalar::Place;
 use fut_tree::{Held, Program};
 use module_elab::{ModErr, PRELUDE, PRELUDE_PATH, SourceSet, elaborate};
-use shown::flat::programs::show_flat;
-use shown::{Shown, show_types};
+use shown::{Shown, show_flat, show_types};
 use std::alloc::Global;
 
 /// Answers a text with its flat program, or with the types of its definitions.

@@ -8,8 +8,7 @@ use fut_ast::What;
 use fut_lexer::{Token, lex};
 use fut_parser::{ParseErr, parse};
 use fut_scalar::Place;
-use shown::Shown;
-use shown::shapes::modules::show_program;
+use shown::{Shown, show_program};
 use std::alloc::Global;
 use std::str;
 

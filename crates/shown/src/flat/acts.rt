@@ -1,77 +1,76 @@
 // What operations are called, each with a blank behind it where parts follow.
 use crate::flat::types::show_type;
-use crate::line::{Shown, suffix_text};
-use crate::shapes::expressions::{bin_text, end_text};
+use crate::line::Shown;
+use crate::texts::{bin_text, end_text, suffix_text};
 use fut_flat::{Act, Part};
 
 fn show_parts(parts: &[Part], shown: &mut Shown) {
     for part in parts {
-        match part {
-            Part::At => shown.push(" at"),
-            Part::Slice { from, to } => {
-                shown.push(if *from { " from:" } else { " :" });
-                shown.push(if *to { "to" } else { "" });
-            }
-            Part::Backwards => shown.push(" ::-1"),
-        }
+        shown.push(part_text(*part));
+    }
+}
+
+fn part_text(part: Part) -> &'static str {
+    match part {
+        Part::At => " at",
+        Part::Backwards => " ::-1",
+        Part::Slice { from, to } => slice_text(from, to),
+    }
+}
+
+/// Which bounds of a slice are written.
+fn slice_text(from: bool, to: bool) -> &'static str {
+    match (from, to) {
+        (true, true) => " from:to",
+        (true, false) => " from:",
+        (false, true) => " :to",
+        (false, false) => " :",
     }
 }
 
 fn show_names(fields: &[&str], shown: &mut Shown) {
     for field in fields {
-        shown.push(" ");
+        shown.blank();
         shown.push(field);
     }
 }
 
-/// An operation that its word alone tells.
-fn plain_text(act: &Act<'_>) -> &'static str {
+/// The word of an operation.
+fn word_of(act: &Act<'_>) -> &'static str {
     match act {
+        Act::Int { .. } => "",
         Act::Truth(true) => "true",
         Act::Truth(false) => "false",
         Act::Tuple => "tuple",
+        Act::Record(_) => "record",
         Act::Array => "array",
+        Act::Binary(op) => bin_text(*op),
         Act::Negate => "neg",
         Act::Complement => "!",
+        Act::Index(_) => "index",
+        Act::Project(_) => "field ",
         Act::Update => "update",
+        Act::Replace(_) => "replace ",
+        Act::Ascribe(_) => ": ",
+        Act::Coerce(_) => ":> ",
+        Act::Declared(_) => "result ",
         Act::Assert => "assert",
-        _ => "?",
+        Act::Range { end, .. } => end_text(*end),
     }
 }
 
 /// The word of an operation with what it says of its parts. A written type stands before them.
 pub fn show_act<'a>(act: &Act<'a>, names: &[&str], shown: &mut Shown) {
+    shown.push(word_of(act));
     match act {
         Act::Int { value, ty } => {
             shown.number(*value);
             shown.push(suffix_text(*ty));
         }
-        Act::Record(fields) => {
-            shown.push("record");
-            show_names(*fields, shown);
-        }
-        Act::Binary(op) => shown.push(bin_text(*op).trim_start_matches('(').trim_end()),
-        Act::Index(parts) => {
-            shown.push("index");
-            show_parts(*parts, shown);
-        }
-        Act::Project(field) => {
-            shown.push("field ");
-            shown.push(*field);
-        }
-        Act::Replace(field) => {
-            shown.push("replace ");
-            shown.push(*field);
-        }
-        Act::Range { end, .. } => shown.push(end_text(*end).trim_start_matches('(').trim_end()),
-        Act::Ascribe(ty) => show_typed(": ", *ty, names, shown),
-        Act::Coerce(ty) => show_typed(":> ", *ty, names, shown),
-        Act::Declared(ty) => show_typed("result ", *ty, names, shown),
-        _ => shown.push(plain_text(act)),
+        Act::Record(fields) => show_names(*fields, shown),
+        Act::Index(parts) => show_parts(*parts, shown),
+        Act::Project(field) | Act::Replace(field) => shown.push(*field),
+        Act::Ascribe(ty) | Act::Coerce(ty) | Act::Declared(ty) => show_type(*ty, names, shown),
+        _ => {}
     }
-}
-
-fn show_typed<'a>(word: &str, ty: &'a fut_flat::TypeExp<'a>, names: &[&str], shown: &mut Shown) {
-    shown.push(word);
-    show_type(ty, names, shown);
 }

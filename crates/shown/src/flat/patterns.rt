@@ -29,27 +29,33 @@ pub fn show_sizes(sizes: &[BindId], names: &[&str], shown: &mut Shown) {
     }
 }
 
+/// The word that a pattern begins with.
+fn word_of(form: &PatForm<'_>) -> &'static str {
+    match form {
+        PatForm::Bound(_) => "",
+        PatForm::Wild => "_",
+        PatForm::Tuple(_) => "(tuple",
+        PatForm::Record(_) => "(record",
+        PatForm::Typed(_, _) => "(: ",
+    }
+}
+
 #[cycle(patterns)]
 pub fn show_pat<'a>(pat: &'a Pat<'a>, names: &[&str], shown: &mut Shown) {
-    match pat.form {
-        PatForm::Bound(bind) => show_bind(bind, names, shown),
-        PatForm::Wild => shown.push("_"),
+    shown.push(word_of(&pat.form));
+    match &pat.form {
+        PatForm::Bound(bind) => show_bind(*bind, names, shown),
+        PatForm::Wild => {}
         PatForm::Tuple(parts) => {
-            shown.push("(tuple");
-            show_pats(parts, names, shown);
-            shown.push(")");
+            show_pats(*parts, names, shown);
+            shown.close();
         }
-        PatForm::Record(fields) => {
-            shown.push("(record");
-            show_fields(fields, names, shown);
-            shown.push(")");
-        }
+        PatForm::Record(fields) => show_fields(*fields, names, shown),
         PatForm::Typed(inner, ty) => {
-            shown.push("(: ");
-            show_pat(inner, names, shown);
-            shown.push(" ");
-            show_type(ty, names, shown);
-            shown.push(")");
+            show_pat(*inner, names, shown);
+            shown.blank();
+            show_type(*ty, names, shown);
+            shown.close();
         }
     }
 }
@@ -58,18 +64,18 @@ pub fn show_pat<'a>(pat: &'a Pat<'a>, names: &[&str], shown: &mut Shown) {
 #[cycle(patterns)]
 pub fn show_pats<'a>(pats: &'a [Pat<'a>], names: &[&str], shown: &mut Shown) {
     for pat in pats {
-        shown.push(" ");
+        shown.blank();
         show_pat(pat, names, shown);
     }
 }
 
+/// Fields, each behind a blank, up to the closing parenthesis.
 #[cycle(patterns)]
 fn show_fields<'a>(fields: &'a [PatField<'a>], names: &[&str], shown: &mut Shown) {
     for field in fields {
-        shown.push(" (");
-        shown.push(field.name);
-        shown.push(" ");
+        shown.field(field.name);
         show_pat(&field.pat, names, shown);
-        shown.push(")");
+        shown.close();
     }
+    shown.close();
 }

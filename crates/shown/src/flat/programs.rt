@@ -15,7 +15,7 @@ fn show_definition<'a>(definition: &Definition<'a>, names: &[&str], shown: &mut 
     show_heads(definition.heads, names, shown);
     shown.push(" = ");
     show_exp(definition.value, names, shown);
-    shown.push(")");
+    shown.close();
 }
 
 /// The definitions of all files but the prelude, each behind a blank.

@@ -1,47 +1,31 @@
 // Uses and numbers as text.
-use crate::line::{Shown, suffix_text};
+use crate::line::Shown;
+use crate::texts::{int_text, scalar_text};
 use fut_flat::{Primitive, Ref};
-use fut_scalar::{BindId, IntType, ScalarType};
+use fut_scalar::{BindId, ScalarType};
 
 /// A number, behind the text that it stands for.
 pub fn show_bind(bind: BindId, names: &[&str], shown: &mut Shown) {
-    let BindId(number) = bind;
-    match names.get(number as usize) {
+    match names.get(bind.0 as usize) {
         Some(text) => shown.push(text.trim_start()),
         None => shown.push("?"),
     }
     shown.push("#");
-    shown.number(u64::from(number));
-}
-
-pub fn scalar_text(ty: ScalarType) -> &'static str {
-    match ty {
-        ScalarType::Int(ty) => suffix_text(Some(ty)),
-        ScalarType::Bool => "bool",
-    }
-}
-
-fn show_member(ty: IntType, name: &str, shown: &mut Shown) {
-    shown.push(suffix_text(Some(ty)));
-    shown.push(name);
+    shown.number(u64::from(bind.0));
 }
 
 fn show_primitive(prim: Primitive, shown: &mut Shown) {
-    match prim {
-        Primitive::Convert { to, from } => {
-            shown.push(scalar_text(to));
-            shown.push(".");
-            shown.push(scalar_text(from));
-        }
-        Primitive::Min(ty) => show_member(ty, ".min", shown),
-        Primitive::Max(ty) => show_member(ty, ".max", shown),
-        Primitive::Abs(ty) => show_member(ty, ".abs", shown),
-        Primitive::Popc(ty) => show_member(ty, ".popc", shown),
-        Primitive::Lowest(ty) => show_member(ty, ".lowest", shown),
-        Primitive::Highest(ty) => show_member(ty, ".highest", shown),
-        Primitive::NumBits(ty) => show_member(ty, ".num_bits", shown),
-        _ => shown.push(array_text(prim)),
-    }
+    let (ty, name) = match prim {
+        Primitive::Min(ty) => (ty, ".min"),
+        Primitive::Max(ty) => (ty, ".max"),
+        Primitive::Abs(ty) => (ty, ".abs"),
+        Primitive::Popc(ty) => (ty, ".popc"),
+        Primitive::Lowest(ty) => (ty, ".lowest"),
+        Primitive::Highest(ty) => (ty, ".highest"),
+        Primitive::NumBits(ty) => (ty, ".num_bits"),
+        _ => return shown.push(array_text(prim)),
+    };
+    shown.named(int_text(ty), name);
 }
 
 /// The name of a primitive on arrays.
@@ -93,9 +77,15 @@ fn view_text(prim: Primitive) -> &'static str {
     }
 }
 
-pub fn show_ref(of: Ref, names: &[&str], shown: &mut Shown) {
-    match of {
+fn show_conversion(to: ScalarType, from: ScalarType, shown: &mut Shown) {
+    shown.named(scalar_text(to), ".");
+    shown.push(scalar_text(from));
+}
+
+pub fn show_ref(of: &Ref, names: &[&str], shown: &mut Shown) {
+    match *of {
         Ref::Bound(bind) => show_bind(bind, names, shown),
+        Ref::Prim(Primitive::Convert { to, from }) => show_conversion(to, from, shown),
         Ref::Prim(prim) => show_primitive(prim, shown),
         Ref::Scalar(ty) => shown.push(scalar_text(ty)),
     }

@@ -31,12 +31,10 @@ pub fn show_name(name: &str, shown: &mut Shown) {
 
 /// The names of a path, with a point between them.
 pub fn show_path(names: &[&str], shown: &mut Shown) {
-    let mut is_first = true;
+    let mut between = "";
     for name in names {
-        if !is_first {
-            shown.push(".");
-        }
-        is_first = false;
+        shown.push(between);
         show_name(name, shown);
+        between = ".";
     }
 }

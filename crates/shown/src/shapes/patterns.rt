@@ -9,13 +9,11 @@ pub fn show_heads(heads: &[Head<'_>], shown: &mut Shown) {
     for head in heads {
         match head.form {
             HeadForm::Size(name) => {
-                shown.push(" [");
-                shown.push(name);
+                shown.named(" [", name);
                 shown.push("]");
             }
             HeadForm::Var { name, lifted } => {
-                shown.push(if lifted { " '^" } else { " '" });
-                shown.push(name);
+                shown.named(if lifted { " '^" } else { " '" }, name)
             }
         }
     }
@@ -24,34 +22,39 @@ pub fn show_heads(heads: &[Head<'_>], shown: &mut Shown) {
 /// Size names, each with a blank behind it.
 pub fn show_sizes(sizes: &[&str], shown: &mut Shown) {
     for size in sizes {
-        shown.push("[");
-        shown.push(size);
+        shown.named("[", size);
         shown.push("] ");
+    }
+}
+
+/// The word that a pattern begins with.
+fn word_of(form: &PatForm<'_>) -> &'static str {
+    match form {
+        PatForm::Var(_) => "",
+        PatForm::Wild => "_",
+        PatForm::Unit => "()",
+        PatForm::Tuple(_) => "(tuple",
+        PatForm::Record(_) => "(record",
+        PatForm::Ascribe(_, _) => "(: ",
     }
 }
 
 #[cycle(patterns)]
 pub fn show_pat<'a>(pat: &'a Pat<'a>, shown: &mut Shown) {
+    shown.push(word_of(&pat.form));
     match pat.form {
         PatForm::Var(name) => show_name(name, shown),
-        PatForm::Wild => shown.push("_"),
-        PatForm::Unit => shown.push("()"),
+        PatForm::Wild | PatForm::Unit => {}
         PatForm::Tuple(parts) => {
-            shown.push("(tuple");
             show_pats(parts, shown);
-            shown.push(")");
+            shown.close();
         }
-        PatForm::Record(fields) => {
-            shown.push("(record");
-            show_fields(fields, shown);
-            shown.push(")");
-        }
+        PatForm::Record(fields) => show_fields(fields, shown),
         PatForm::Ascribe(inner, ty) => {
-            shown.push("(: ");
             show_pat(inner, shown);
-            shown.push(" ");
+            shown.blank();
             show_type(ty, shown);
-            shown.push(")");
+            shown.close();
         }
     }
     shown.stands(pat.place, pat.place);
@@ -61,18 +64,18 @@ pub fn show_pat<'a>(pat: &'a Pat<'a>, shown: &mut Shown) {
 #[cycle(patterns)]
 pub fn show_pats<'a>(pats: &'a [Held<'a, Pat<'a>>], shown: &mut Shown) {
     for pat in pats {
-        shown.push(" ");
+        shown.blank();
         show_pat(pat.at, shown);
     }
 }
 
+/// Fields, each behind a blank, up to the closing parenthesis.
 #[cycle(patterns)]
 fn show_fields<'a>(fields: &'a [PatField<'a>], shown: &mut Shown) {
     for field in fields {
-        shown.push(" (");
-        shown.push(field.name);
-        shown.push(" ");
+        shown.field(field.name);
         show_pat(field.pat, shown);
-        shown.push(")");
+        shown.close();
     }
+    shown.close();
 }

@@ -3,7 +3,7 @@ use crate::line::Shown;
 use crate::shapes::names::show_path;
 use fut_tree::{Held, SizeExp, SizeForm, TypeArg, TypeExp, TypeField, TypeForm};
 
-pub fn show_size(size: Option<SizeExp<'_>>, shown: &mut Shown) {
+fn show_size(size: Option<SizeExp<'_>>, shown: &mut Shown) {
     shown.push("[");
     if let Some(size) = size {
         match size.form {
@@ -14,51 +14,51 @@ pub fn show_size(size: Option<SizeExp<'_>>, shown: &mut Shown) {
     shown.push("]");
 }
 
+/// The word that a type begins with.
+fn word_of(form: &TypeForm<'_>) -> &'static str {
+    match form {
+        TypeForm::Path(_, []) | TypeForm::Array(_, _) => "",
+        TypeForm::Path(_, _) => "(",
+        TypeForm::Unique(_) => "*",
+        TypeForm::Arrow(_, _) => "(-> ",
+        TypeForm::Named(_, _, _) => "(-> (",
+        TypeForm::Unit => "()",
+        TypeForm::Tuple(_) => "(tuple",
+        TypeForm::Record(_) => "(record",
+    }
+}
+
 #[cycle(types)]
 pub fn show_type<'a>(ty: &'a TypeExp<'a>, shown: &mut Shown) {
+    shown.push(word_of(&ty.form));
     match ty.form {
         TypeForm::Path(names, arguments) => {
-            let is_applied = !arguments.is_empty();
-            shown.push(if is_applied { "(" } else { "" });
             show_path(names, shown);
             show_arguments(arguments, shown);
-            shown.push(if is_applied { ")" } else { "" });
+            shown.push(if arguments.is_empty() { "" } else { ")" });
         }
         TypeForm::Array(size, row) => {
             show_size(size, shown);
             show_type(row, shown);
         }
-        TypeForm::Unique(inner) => {
-            shown.push("*");
-            show_type(inner, shown);
-        }
+        TypeForm::Unique(inner) => show_type(inner, shown),
         TypeForm::Arrow(from, to) => {
-            shown.push("(-> ");
             show_type(from, shown);
-            shown.push(" ");
+            shown.blank();
             show_type(to, shown);
-            shown.push(")");
+            shown.close();
         }
         TypeForm::Named(name, from, to) => {
-            shown.push("(-> (");
             shown.push(name);
             shown.push(" : ");
             show_type(from, shown);
             shown.push(") ");
             show_type(to, shown);
-            shown.push(")");
+            shown.close();
         }
-        TypeForm::Unit => shown.push("()"),
-        TypeForm::Tuple(parts) => {
-            shown.push("(tuple");
-            show_types(parts, shown);
-            shown.push(")");
-        }
-        TypeForm::Record(fields) => {
-            shown.push("(record");
-            show_fields(fields, shown);
-            shown.push(")");
-        }
+        TypeForm::Unit => {}
+        TypeForm::Tuple(parts) => show_types(parts, shown),
+        TypeForm::Record(fields) => show_fields(fields, shown),
     }
     shown.stands(ty.place, ty.place);
 }
@@ -67,31 +67,33 @@ pub fn show_type<'a>(ty: &'a TypeExp<'a>, shown: &mut Shown) {
 #[cycle(types)]
 fn show_arguments<'a>(arguments: &'a [TypeArg<'a>], shown: &mut Shown) {
     for argument in arguments {
-        shown.push(" ");
+        shown.blank();
         match argument {
             TypeArg::Size(size) => show_size(*size, shown),
-            TypeArg::Of(ty) => show_type(ty, shown),
+            TypeArg::Of(ty) => show_type(*ty, shown),
         }
     }
 }
 
+/// Types, each behind a blank, up to the closing parenthesis.
 #[cycle(types)]
 fn show_types<'a>(types: &'a [Held<'a, TypeExp<'a>>], shown: &mut Shown) {
     for ty in types {
-        shown.push(" ");
+        shown.blank();
         show_type(ty.at, shown);
     }
+    shown.close();
 }
 
+/// Fields, each behind a blank, up to the closing parenthesis.
 #[cycle(types)]
 fn show_fields<'a>(fields: &'a [TypeField<'a>], shown: &mut Shown) {
     for field in fields {
-        shown.push(" (");
-        shown.push(field.name);
-        shown.push(" ");
+        shown.field(field.name);
         show_type(field.ty, shown);
-        shown.push(")");
+        shown.close();
     }
+    shown.close();
 }
 
 /// A type behind a colon, or nothing.
