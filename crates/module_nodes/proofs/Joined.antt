@@ -1,5 +1,5 @@
 -- What is made of two answers, or of more.
-use Rattle.std.proofs.Common.{◌≡◌, refl, sym, ap, subst, Result, Ok, Err, IfOk, IfErr}
+use Rattle.std.proofs.Common.{◌≡◌, refl, sym, subst, Result, Ok, Err, IfOk, IfErr}
 use Rattle.module_scopes.specs.declared.refusal.Stop.{Stop}
 use Rattle.module_scopes.specs.declared.refusal.Stop.TheVariants as stop
 use Rattle.module_nodes.specs.Built.{Built0, built0, no_memory0, Built1, built1, stops1, no_memory1, Built2, built2, first_of_two, second_of_two, no_memory2, Built3, built3, first_of_three, second_of_three, third_of_three, no_memory3, Built4, built4, first_of_four, second_of_four, third_of_four, fourth_of_four, no_memory4}

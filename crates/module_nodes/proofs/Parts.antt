@@ -1,5 +1,5 @@
 -- Nodes that are made of other builders' nodes.
-use Rattle.std.proofs.Common.{◌≡◌, ℕ, zero, ◌+◌, ◌<◌, ◌≤◌, List, [], ◌∷◌, map, length, drop, get_or, Bool, true, false, refl, sym, ◌∙◌, ap, Result, Ok, Err}
+use Rattle.std.proofs.Common.{◌≡◌, ℕ, ◌+◌, ◌<◌, ◌≤◌, List, [], ◌∷◌, map, length, drop, get_or, Bool, true, false, sym, ◌∙◌, ap, Result, Ok}
 use Rattle.std.proofs.Math.ListN.{drop_of_length-le}
 use Rattle.std.proofs.lemmas.List.{drop_more}
 use Rattle.std.specs.Borrow.{Bor}
@@ -7,23 +7,20 @@ use Rattle.fut_scalar.specs.declared.place.BindId.{BindId}
 use Rattle.fut_scalar.specs.declared.place.Place.{Place}
 use Rattle.fut_ast.specs.Sorts.{Text}
 use Rattle.fut_flat.specs.declared.act.Act.{Act}
-use Rattle.fut_flat.specs.declared.act.Act.TheVariants as act
 use Rattle.fut_flat.specs.declared.exp.Exp.{Exp}
 use Rattle.fut_flat.specs.declared.exp.Form.TheVariants as form
 use Rattle.fut_flat.specs.declared.exp.Let.{Let as LetTree}
-use Rattle.fut_flat.specs.declared.exp.Loop.{Loop as LoopTree}
 use Rattle.fut_flat.specs.declared.pat.Pat.{Pat}
 use Rattle.fut_flat.specs.declared.pat.PatForm.TheVariants as pat_form
 use Rattle.fut_flat.specs.declared.prim.Ref.{Ref}
-use Rattle.fut_flat.specs.declared.ty.TypeExp.{TypeExp}
-use Rattle.fut_flat.specs.Terms.{Operation, Project, Ascribe, Coerce, Declared, Use, Strict, Lambda, Apply, Loop, Bound_pattern, pattern_and, no_pattern, term_and, no_term}
-use Rattle.fut_flat.specs.Erased.{FlatTerm, lets, operation_of, parameters, patterns, pattern_of, term_of, terms, texts, type_of}
-use Rattle.fut_flat.proofs.ErasedForms.{loop_of, row_of, turns_of, row_is, loop_is, term_use, term_lambda, term_lets, term_loop}
+use Rattle.fut_flat.specs.Terms.{Project, Use, Strict, Lambda, Apply, Bound_pattern, pattern_and, no_pattern, term_and, no_term}
+use Rattle.fut_flat.specs.Erased.{FlatTerm, lets, operation_of, parameters, patterns, pattern_of, term_of, terms, texts}
+use Rattle.fut_flat.proofs.ErasedForms.{row_of, row_is, term_use}
 use Rattle.fut_flat.proofs.ErasedPatterns.{pattern_bound}
 use Rattle.module_scopes.specs.declared.refusal.Stop.{Stop}
 use Rattle.module_scopes.specs.Resolve.{projected}
 use Rattle.module_scopes.proofs.Walking.{from_here}
-use Rattle.module_nodes.specs.Built.{Built0, built0, no_memory0, Built1, built1, stops1, no_memory1, Built2, built2, first_of_two, second_of_two, no_memory2, Built4, built4, first_of_four, second_of_four, third_of_four, fourth_of_four, no_memory4}
+use Rattle.module_nodes.specs.Built.{Built0, built0, no_memory0, Built1, built1, stops1, no_memory1, Built2, built2, first_of_two, second_of_two, no_memory2}
 use Rattle.module_nodes.specs.Composed.{composition, name_alone, ordered, twice_applied, use_at}
 use Rattle.module_nodes.specs.declared.rows.Functions.{Functions}
 use Rattle.module_nodes.specs.Paths.{Projects, projects, projects_not}
