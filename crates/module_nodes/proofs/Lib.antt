@@ -1,3 +1,3 @@
-pub mod Made
+pub mod Joined
 pub mod Parts
 pub mod Steps

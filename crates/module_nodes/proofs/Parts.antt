@@ -1,5 +1,5 @@
 -- Nodes that are made of other builders' nodes.
-use Rattle.std.proofs.Common.{◌≡◌, ℕ, zero, ◌+◌, ◌<◌, ◌≤◌, List, [], ◌∷◌, map, length, drop, get_or, Bool, true, false, refl, sym, ◌∙◌, ap, Result, Ok, Err}
+use Rattle.std.proofs.Common.{◌≡◌, ℕ, ◌+◌, ◌<◌, ◌≤◌, List, [], ◌∷◌, map, length, drop, get_or, Bool, true, false, sym, ◌∙◌, ap, Result, Ok}
 use Rattle.std.proofs.Math.ListN.{drop_of_length-le}
 use Rattle.std.proofs.lemmas.List.{drop_more}
 use Rattle.std.specs.Borrow.{Bor}
@@ -7,23 +7,20 @@ use Rattle.fut_scalar.specs.declared.place.BindId.{BindId}
 use Rattle.fut_scalar.specs.declared.place.Place.{Place}
 use Rattle.fut_ast.specs.Sorts.{Text}
 use Rattle.fut_flat.specs.declared.act.Act.{Act}
-use Rattle.fut_flat.specs.declared.act.Act.TheVariants as act
 use Rattle.fut_flat.specs.declared.exp.Exp.{Exp}
 use Rattle.fut_flat.specs.declared.exp.Form.TheVariants as form
 use Rattle.fut_flat.specs.declared.exp.Let.{Let as LetTree}
-use Rattle.fut_flat.specs.declared.exp.Loop.{Loop as LoopTree}
 use Rattle.fut_flat.specs.declared.pat.Pat.{Pat}
 use Rattle.fut_flat.specs.declared.pat.PatForm.TheVariants as pat_form
 use Rattle.fut_flat.specs.declared.prim.Ref.{Ref}
-use Rattle.fut_flat.specs.declared.ty.TypeExp.{TypeExp}
-use Rattle.fut_flat.specs.Terms.{Operation, Project, Ascribe, Coerce, Declared, Use, Strict, Lambda, Apply, Loop, Bound_pattern, pattern_and, no_pattern, term_and, no_term}
-use Rattle.fut_flat.specs.Erased.{FlatTerm, lets, operation_of, parameters, patterns, pattern_of, term_of, terms, texts, type_of}
-use Rattle.fut_flat.proofs.ErasedForms.{loop_of, row_of, turns_of, row_is, loop_is, term_use, term_lambda, term_lets, term_loop}
+use Rattle.fut_flat.specs.Terms.{Project, Use, Strict, Lambda, Apply, Bound_pattern, pattern_and, no_pattern, term_and, no_term}
+use Rattle.fut_flat.specs.Erased.{FlatTerm, lets, operation_of, parameters, patterns, pattern_of, term_of, terms, texts}
+use Rattle.fut_flat.proofs.ErasedForms.{row_of, row_is, term_use}
 use Rattle.fut_flat.proofs.ErasedPatterns.{pattern_bound}
 use Rattle.module_scopes.specs.declared.refusal.Stop.{Stop}
 use Rattle.module_scopes.specs.Resolve.{projected}
 use Rattle.module_scopes.proofs.Walking.{from_here}
-use Rattle.module_nodes.specs.Built.{Built0, built0, no_memory0, Built1, built1, stops1, no_memory1, Built2, built2, first_of_two, second_of_two, no_memory2, Built4, built4, first_of_four, second_of_four, third_of_four, fourth_of_four, no_memory4}
+use Rattle.module_nodes.specs.Built.{Built0, built0, no_memory0, Built1, built1, stops1, no_memory1, Built2, built2, first_of_two, second_of_two, no_memory2}
 use Rattle.module_nodes.specs.Composed.{composition, name_alone, ordered, twice_applied, use_at}
 use Rattle.module_nodes.specs.declared.rows.Functions.{Functions}
 use Rattle.module_nodes.specs.Paths.{Projects, projects, projects_not}
@@ -34,41 +31,15 @@ strict_one a mark e x es is at = at ∙ ap (λ l. Strict (operation_of a) mark (
 
 -- ---- operations on one part
 
-pub field_made : (at : Place) (f : Bor Text) (r : Result Exp Stop) (b : Result (Bor (List Exp)) Stop) (c : Result Exp Stop)
-    → Built1 (λ e es. es.now ≡ e ∷ []) r b → Built1 (λ es x. term_of x ≡ Strict (Project f.now) at (terms (map term_of es.now))) b c
-    → Built1 (λ e x. term_of x ≡ Strict (Project f.now) at (term_and (term_of e) no_term)) r c
-field_made at f _ _ _ (built1 {c = es} is) (built1 eq) = built1 (strict_one (act.Project f) at _ _ es is eq)
-field_made at f _ _ _ (built1 is) no_memory1 = no_memory1
-field_made at f _ _ _ stops1 stops1 = stops1
-field_made at f _ _ _ stops1 no_memory1 = no_memory1
-field_made at f _ _ _ no_memory1 stops1 = no_memory1
-field_made at f _ _ _ no_memory1 no_memory1 = no_memory1
-
-pub ascribed_made : (mark : Place) (t : Bor TypeExp) (e : Exp) (b : Result (Bor (List Exp)) Stop) (c : Result Exp Stop)
-    → Built1 (λ e es. es.now ≡ e ∷ []) (Ok e) b → Built1 (λ es x. term_of x ≡ Strict (Ascribe (type_of t.now)) mark (terms (map term_of es.now))) b c
-    → Built2 (λ e (t : Bor TypeExp) x. term_of x ≡ Strict (Ascribe (type_of t.now)) mark (term_and (term_of e) no_term)) (Ok e) (Ok t) c
-ascribed_made mark t e _ _ (built1 {c = es} is) (built1 eq) = built2 (strict_one (act.Ascribe t) mark _ _ es is eq)
-ascribed_made mark t e _ _ (built1 is) no_memory1 = no_memory2
-ascribed_made mark t e _ _ no_memory1 stops1 = no_memory2
-ascribed_made mark t e _ _ no_memory1 no_memory1 = no_memory2
-
-pub coerced_made : (mark : Place) (t : Bor TypeExp) (e : Exp) (b : Result (Bor (List Exp)) Stop) (c : Result Exp Stop)
-    → Built1 (λ e es. es.now ≡ e ∷ []) (Ok e) b → Built1 (λ es x. term_of x ≡ Strict (Coerce (type_of t.now)) mark (terms (map term_of es.now))) b c
-    → Built2 (λ e (t : Bor TypeExp) x. term_of x ≡ Strict (Coerce (type_of t.now)) mark (term_and (term_of e) no_term)) (Ok e) (Ok t) c
-coerced_made mark t e _ _ (built1 {c = es} is) (built1 eq) = built2 (strict_one (act.Coerce t) mark _ _ es is eq)
-coerced_made mark t e _ _ (built1 is) no_memory1 = no_memory2
-coerced_made mark t e _ _ no_memory1 stops1 = no_memory2
-coerced_made mark t e _ _ no_memory1 no_memory1 = no_memory2
-
-pub declared_made : (mark : Place) (t : Bor TypeExp) (e : Exp) (b : Result (Bor (List Exp)) Stop) (c : Result Exp Stop)
-    → Built1 (λ e es. es.now ≡ e ∷ []) (Ok e) b → Built1 (λ es x. term_of x ≡ Strict (Declared (type_of t.now)) mark (terms (map term_of es.now))) b c
-    → Built2 (λ (t : Bor TypeExp) e x. term_of x ≡ Strict (Declared (type_of t.now)) mark (term_and (term_of e) no_term)) (Ok t) (Ok e) c
-declared_made mark t e _ _ (built1 {c = es} is) (built1 eq) = built2 (strict_one (act.Declared t) mark _ _ es is eq)
-declared_made mark t e _ _ (built1 is) no_memory1 = no_memory2
-declared_made mark t e _ _ no_memory1 stops1 = no_memory2
-declared_made mark t e _ _ no_memory1 no_memory1 = no_memory2
-
-pub ruleset parts = (field_made, ascribed_made, coerced_made, declared_made, first_of_two, second_of_two, no_memory2)
+pub part_made : (a : Act) (mark : Place) (r : Result Exp Stop) (b : Result (Bor (List Exp)) Stop) (c : Result Exp Stop)
+    → Built1 (λ e es. es.now ≡ e ∷ []) r b → Built1 (λ es x. term_of x ≡ Strict (operation_of a) mark (terms (map term_of es.now))) b c
+    → Built1 (λ e x. term_of x ≡ Strict (operation_of a) mark (term_and (term_of e) no_term)) r c
+part_made a mark _ _ _ (built1 {c = es} is) (built1 eq) = built1 (strict_one a mark _ _ es is eq)
+part_made a mark _ _ _ (built1 is) no_memory1 = no_memory1
+part_made a mark _ _ _ stops1 stops1 = stops1
+part_made a mark _ _ _ stops1 no_memory1 = no_memory1
+part_made a mark _ _ _ no_memory1 stops1 = no_memory1
+part_made a mark _ _ _ no_memory1 no_memory1 = no_memory1
 
 -- ---- paths
 
@@ -93,19 +64,6 @@ path_end at all fs i _ k (projects {x = x} so) = built0 (sym (ap (λ l. projecte
 path_end at all fs i _ k projects_not = no_memory0
 
 pub ruleset paths = (path_start, path_next, path_next_at, path_end)
-
--- ---- loops
-
-loop_made : (x : Exp) (l : Bor LoopTree) (y : LoopTree) → x.form ≡ form.Loop l → l.now ≡ y → term_of x ≡ Loop y.mark y.sizes.now (pattern_of y.pat) (term_of y.first) (turns_of y.form) (term_of y.body)
-loop_made x l y is eq = term_loop x l is ∙ ap loop_of eq ∙ loop_is y
-
-pub loop_memory : {A B C D : Type 0} {P : Bor LoopTree → Type 0} {Q : A → B → C → D → Exp → Type 0} {a : Result A Stop} {b : Result B Stop} {c : Result C Stop} {d : Result D Stop} (e : Stop) → Built0 P (Err e) → Built4 Q a b c d (Err e)
-loop_memory _ no_memory0 = no_memory4
-
-pub loop_at : (x : Exp) (l : Bor LoopTree) (y : LoopTree) → x.form ≡ form.Loop l → Built0 (λ (l : Bor LoopTree). l.now ≡ y) (Ok l) → term_of x ≡ Loop y.mark y.sizes.now (pattern_of y.pat) (term_of y.first) (turns_of y.form) (term_of y.body)
-loop_at x l y is (built0 eq) = loop_made x l y is eq
-
-pub ruleset loops = (loop_at, loop_memory, built0, no_memory0, built4, first_of_four, second_of_four, third_of_four, fourth_of_four, no_memory4)
 
 -- ---- compositions
 
@@ -134,21 +92,18 @@ name_made at b ps p _ _ is form no_memory2 = no_memory1
 pub value_made : (l : LetTree) (b : BindId) → l.sizes.now ≡ [] → l.heads.now ≡ [] → l.is_function ≡ false → l.pat.form ≡ pat_form.Bound b → row_of l ≡ (name_alone b, term_of l.value)
 value_made l b none no_heads plain is = row_is l ∙ λ i. (record { sizes = none i; parameters = parameters (no_heads i); is_function = plain i; pattern = pattern_bound l.pat b is i }, term_of l.value)
 
-pub composed_made : (at : Place) (left_first : Bool) (F : Functions) (a b c : Result Exp Stop) (ls : Bor (List LetTree)) (l m : LetTree)
+pub composed_made : (at : Place) (left_first : Bool) (F : Functions) (a b c : Result Exp Stop) (ls : Result (Bor (List LetTree)) Stop) (l m : LetTree)
     → Built0 (λ y. term_of y ≡ ordered at left_first F.left F.right F.argument) a
     → Built1 (λ e y. term_of y ≡ Lambda (pattern_and (Bound_pattern F.argument) no_pattern) (term_of e)) a b
-    → row_of l ≡ (name_alone F.left, term_of F.left_function) → row_of m ≡ (name_alone F.right, term_of F.right_function) → ls.now ≡ l ∷ m ∷ []
-    → Built2 (λ (ls : Bor (List LetTree)) e x. term_of x ≡ lets (map row_of ls.now) (term_of e)) (Ok ls) b c
+    → row_of l ≡ (name_alone F.left, term_of F.left_function) → row_of m ≡ (name_alone F.right, term_of F.right_function) → Built0 (λ ls. ls.now ≡ l ∷ m ∷ []) ls
+    → Built2 (λ (ls : Bor (List LetTree)) e x. term_of x ≡ lets (map row_of ls.now) (term_of e)) ls b c
     → Built1 (λ (f : Functions) y. term_of y ≡ composition at left_first f.left (term_of f.left_function) f.right (term_of f.right_function) f.argument) (Ok F) c
 unfolding lets
-composed_made at left_first F _ _ _ ls l m (built0 o) (built1 p) fl gl is (built2 q) =
+composed_made at left_first F _ _ _ _ l m (built0 o) (built1 p) fl gl (built0 is) (built2 q) =
     built1 (q ∙ (λ j. lets (map row_of (is j)) ((p ∙ ap (λ t. Lambda (pattern_and (Bound_pattern F.argument) no_pattern) t) o) j)) ∙ λ j. lets (fl j ∷ gl j ∷ []) (Lambda (pattern_and (Bound_pattern F.argument) no_pattern) (ordered at left_first F.left F.right F.argument)))
-composed_made at left_first F _ _ _ ls l m (built0 o) (built1 p) fl gl is no_memory2 = no_memory1
-composed_made at left_first F _ _ _ ls l m (built0 o) no_memory1 fl gl is second_of_two = no_memory1
-composed_made at left_first F _ _ _ ls l m (built0 o) no_memory1 fl gl is no_memory2 = no_memory1
-composed_made at left_first F _ _ _ ls l m no_memory0 stops1 fl gl is second_of_two = no_memory1
-composed_made at left_first F _ _ _ ls l m no_memory0 stops1 fl gl is no_memory2 = no_memory1
-composed_made at left_first F _ _ _ ls l m no_memory0 no_memory1 fl gl is second_of_two = no_memory1
-composed_made at left_first F _ _ _ ls l m no_memory0 no_memory1 fl gl is no_memory2 = no_memory1
-
-pub ruleset compositions = (twice_made, left_first_made, right_first_made, name_made, value_made, composed_made, stops1, no_memory1, no_memory0)
+composed_made at left_first F _ _ _ _ l m (built0 o) no_memory1 fl gl (built0 is) second_of_two = no_memory1
+composed_made at left_first F _ _ _ _ l m no_memory0 stops1 fl gl (built0 is) second_of_two = no_memory1
+composed_made at left_first F _ _ _ _ l m no_memory0 no_memory1 fl gl (built0 is) second_of_two = no_memory1
+composed_made at left_first F _ _ _ _ l m no_memory0 b fl gl is (built2 q) = elim b [ ]
+composed_made at left_first F _ _ _ _ l m a b fl gl no_memory0 first_of_two = no_memory1
+composed_made at left_first F _ _ _ _ l m a b fl gl is no_memory2 = no_memory1

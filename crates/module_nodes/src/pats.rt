@@ -1,69 +1,73 @@
 // Patterns.
-ghost use Rattle.std.specs.Prelude.{◌≡◌, IfErr, IfOk, map};
-ghost use Rattle.module_scopes.specs.declared.refusal.Stop.TheVariants as stop;
+ghost use Rattle.std.specs.Prelude.{◌≡◌, map};
 ghost use Rattle.fut_flat.specs.Erased.{FlatPattern, pattern_of, patterns, type_of};
 ghost use Rattle.fut_flat.specs.Terms.{Bound_pattern, Record_pattern, Tuple_pattern, Typed_pattern};
 ghost use Rattle.fut_flat.proofs.ErasedPatterns.{pattern_field};
 ghost use Rattle.fut_ast.specs.Sorts.{Text};
 ghost use Rattle.module_nodes.specs.Built.{Built1, Built2};
 
+use crate::both::both;
 use bumpalo::Bump;
 use fut_flat::{Pat, PatField, PatForm, TypeExp};
 use fut_scalar::{BindId, Place};
 use module_scopes::Stop;
 
-/// A pattern that the arena holds.
-fn held<'a>(bump: &'a Bump, pat: Pat<'a>) -> Result<&'a Pat<'a>, Stop<'a>>
-    ensures held { IfOk result (λ x. x.now ≡ pat.entry) }
-    ensures memory { IfErr result (λ e. e ≡ stop.Memory) }
+/// What a walk gave, held by the arena.
+fn held_part<'a>(bump: &'a Bump, part: Result<Pat<'a>, Stop<'a>>) -> Result<&'a Pat<'a>, Stop<'a>>
+    ensures { Built1 (λ q x. x.now ≡ q) part.entry result }
 {
-    match bump.try_alloc(pat) {
-        Ok(made) => Ok(made),
-        Err(_) => Err(Stop::Memory),
+    match part {
+        Ok(part) => match bump.try_alloc(part) {
+            Ok(made) => Ok(made),
+            Err(_) => Err(Stop::Memory),
+        },
+        Err(stop) => Err(stop),
     }
 }
 
 /// A name.
-#[tactic(auto, using(crate::proofs::Made::pats))]
 pub fn bound<'a>(place: Place, bind: Result<BindId, Stop<'a>>) -> Result<Pat<'a>, Stop<'a>>
     ensures { Built1 (λ b p. pattern_of p ≡ Bound_pattern b) bind.entry result }
 {
-    let bind = bind?;
-    Ok(Pat {
-        place,
-        form: PatForm::Bound(bind),
-    })
+    match bind {
+        Ok(bind) => Ok(Pat {
+            place,
+            form: PatForm::Bound(bind),
+        }),
+        Err(stop) => Err(stop),
+    }
 }
 
 /// A tuple's pattern.
-#[tactic(auto, using(crate::proofs::Made::pats))]
 pub fn tuple<'a>(place: Place, parts: Result<&'a [Pat<'a>], Stop<'a>>) -> Result<Pat<'a>, Stop<'a>>
     ensures { Built1 (λ ps p. pattern_of p ≡ Tuple_pattern (patterns (map pattern_of ps.now))) parts.entry result }
 {
-    let parts = parts?;
-    Ok(Pat {
-        place,
-        form: PatForm::Tuple(parts),
-    })
+    match parts {
+        Ok(parts) => Ok(Pat {
+            place,
+            form: PatForm::Tuple(parts),
+        }),
+        Err(stop) => Err(stop),
+    }
 }
 
 /// A record's pattern.
-#[tactic(auto, using(crate::proofs::Made::pats))]
 pub fn record<'a>(
     place: Place,
     fields: Result<&'a [PatField<'a>], Stop<'a>>,
 ) -> Result<Pat<'a>, Stop<'a>>
     ensures { Built1 (λ fs p. pattern_of p ≡ Record_pattern (map (λ (f : Text × FlatPattern). f.0) (map pattern_field fs.now)) (patterns (map (λ (f : Text × FlatPattern). f.1) (map pattern_field fs.now)))) fields.entry result }
 {
-    let fields = fields?;
-    Ok(Pat {
-        place,
-        form: PatForm::Record(fields),
-    })
+    match fields {
+        Ok(fields) => Ok(Pat {
+            place,
+            form: PatForm::Record(fields),
+        }),
+        Err(stop) => Err(stop),
+    }
 }
 
 /// A pattern with its type.
-#[tactic(auto, using(crate::proofs::Made::pats))]
 pub fn typed<'a>(
     bump: &'a Bump,
     place: Place,
@@ -72,11 +76,11 @@ pub fn typed<'a>(
 ) -> Result<Pat<'a>, Stop<'a>>
     ensures { Built2 (λ q t p. pattern_of p ≡ Typed_pattern (pattern_of q) (type_of t.now)) inside.entry ty.entry result }
 {
-    let inside = inside?;
-    let ty = ty?;
-    let inside = held(bump, inside)?;
-    Ok(Pat {
-        place,
-        form: PatForm::Typed(inside, ty),
-    })
+    match both(held_part(bump, inside), ty) {
+        Ok((inside, ty)) => Ok(Pat {
+            place,
+            form: PatForm::Typed(inside, ty),
+        }),
+        Err(stop) => Err(stop),
+    }
 }

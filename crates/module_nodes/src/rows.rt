@@ -6,7 +6,8 @@ ghost use Rattle.fut_flat.proofs.ErasedForms.{row_of, turns_of};
 ghost use Rattle.module_nodes.specs.Built.{Built0, Built1, Built2, Built4};
 ghost use Rattle.module_nodes.specs.Composed.{composition, name_alone, ordered, twice_applied, use_at};
 
-use crate::exps::{applied, held, lambda};
+use crate::both::both;
+use crate::exps::{applied, held_part, lambda};
 use bumpalo::Bump;
 use fut_flat as flat;
 use fut_flat::{Exp, Form, Let, LoopForm, Pat, PatForm, Ref};
@@ -14,7 +15,6 @@ use fut_scalar::{BindId, Place};
 use module_scopes::Stop;
 
 /// A row of lets before a body.
-#[tactic(auto, using(crate::proofs::Made::exps))]
 pub fn rowed<'a>(
     bump: &'a Bump,
     place: Place,
@@ -23,13 +23,13 @@ pub fn rowed<'a>(
 ) -> Result<Exp<'a>, Stop<'a>>
     ensures { Built2 (λ ls e x. term_of x ≡ lets (map row_of ls.now) (term_of e)) rows.entry body.entry result }
 {
-    let rows = rows?;
-    let body = body?;
-    let body = held(bump, body)?;
-    Ok(Exp {
-        place,
-        form: Form::Lets(rows, body),
-    })
+    match both(rows, held_part(bump, body)) {
+        Ok((rows, body)) => Ok(Exp {
+            place,
+            form: Form::Lets(rows, body),
+        }),
+        Err(stop) => Err(stop),
+    }
 }
 
 /// The size names and the pattern of a loop.
@@ -45,18 +45,33 @@ pub struct Turning<'a> {
     pub form: LoopForm<'a>,
 }
 
-#[tactic(auto, using(crate::proofs::Parts::loops))]
-fn held_loop<'a>(bump: &'a Bump, turning: flat::Loop<'a>) -> Result<&'a flat::Loop<'a>, Stop<'a>>
-    ensures { Built0 (λ l. l.now ≡ turning.entry) result }
+/// A loop whose parts are there.
+fn loop_at<'a>(
+    bump: &'a Bump,
+    place: Place,
+    mark: Place,
+    start: (Bound<'a>, Exp<'a>),
+    rest: (Turning<'a>, Exp<'a>),
+) -> Result<Exp<'a>, Stop<'a>>
+    ensures { Built0 (λ x. term_of x ≡ Loop mark start.entry.0.sizes.now (pattern_of start.entry.0.pat) (term_of start.entry.1) (turns_of rest.entry.0.form) (term_of rest.entry.1)) result }
 {
-    match bump.try_alloc(turning) {
-        Ok(made) => Ok(made),
+    match bump.try_alloc(flat::Loop {
+        mark,
+        sizes: start.0.sizes,
+        pat: start.0.pat,
+        first: start.1,
+        form: rest.0.form,
+        body: rest.1,
+    }) {
+        Ok(parts) => Ok(Exp {
+            place,
+            form: Form::Loop(parts),
+        }),
         Err(_) => Err(Stop::Memory),
     }
 }
 
 /// A loop.
-#[tactic(auto, using(crate::proofs::Parts::loops))]
 pub fn looped<'a>(
     bump: &'a Bump,
     place: Place,
@@ -68,25 +83,13 @@ pub fn looped<'a>(
 ) -> Result<Exp<'a>, Stop<'a>>
     ensures { Built4 (λ b e t f x. term_of x ≡ Loop mark b.sizes.now (pattern_of b.pat) (term_of e) (turns_of t.form) (term_of f)) bound.entry first.entry turns.entry body.entry result }
 {
-    let bound = bound?;
-    let first = first?;
-    let turns = turns?;
-    let body = body?;
-    let turning = held_loop(
-        bump,
-        flat::Loop {
-            mark,
-            sizes: bound.sizes,
-            pat: bound.pat,
-            first,
-            form: turns.form,
-            body,
+    match both(bound, first) {
+        Ok(start) => match both(turns, body) {
+            Ok(rest) => loop_at(bump, place, mark, start, rest),
+            Err(stop) => Err(stop),
         },
-    )?;
-    Ok(Exp {
-        place,
-        form: Form::Loop(turning),
-    })
+        Err(stop) => Err(stop),
+    }
 }
 
 // ---- compositions
@@ -101,7 +104,6 @@ pub struct Functions<'a> {
     pub argument: BindId,
 }
 
-#[tactic(auto, using(crate::proofs::Made::exps))]
 fn used<'a>(at: Place, bind: BindId) -> Exp<'a>
     ensures { term_of result ≡ use_at at bind }
 {
@@ -112,7 +114,6 @@ fn used<'a>(at: Place, bind: BindId) -> Exp<'a>
 }
 
 /// The outer function applied to what the inner one gives.
-#[tactic(auto, using(crate::proofs::Parts::compositions))]
 fn both_applied<'a>(
     bump: &'a Bump,
     at: Place,
@@ -126,7 +127,6 @@ fn both_applied<'a>(
     applied(bump, at, Ok(used(at, outer)), given)
 }
 
-#[tactic(auto, using(crate::proofs::Parts::compositions))]
 fn in_order<'a>(
     bump: &'a Bump,
     at: Place,
@@ -145,7 +145,6 @@ fn in_order<'a>(
 }
 
 /// A function of one name.
-#[tactic(auto, using(crate::proofs::Parts::compositions))]
 fn of_name<'a>(
     bump: &'a Bump,
     at: Place,
@@ -165,7 +164,6 @@ fn of_name<'a>(
 }
 
 /// A let of one name.
-#[tactic(auto, using(crate::proofs::Parts::compositions))]
 fn named_value<'a>(at: Place, name: BindId, value: Exp<'a>) -> Let<'a>
     ensures { row_of result ≡ (name_alone name, term_of value.entry) }
 {
@@ -181,8 +179,16 @@ fn named_value<'a>(at: Place, name: BindId, value: Exp<'a>) -> Let<'a>
     }
 }
 
+fn held_rows<'a>(bump: &'a Bump, rows: &[Let<'a>]) -> Result<&'a [Let<'a>], Stop<'a>>
+    ensures { Built0 (λ ls. ls.now ≡ rows.now) result }
+{
+    match bump.try_alloc_slice_copy(rows) {
+        Ok(rows) => Ok(rows),
+        Err(_) => Err(Stop::Memory),
+    }
+}
+
 /// `f >-> g` where the left function is applied first, else `f <-< g`.
-#[tactic(auto, using(crate::proofs::Parts::compositions))]
 pub fn composed<'a>(
     bump: &'a Bump,
     at: Place,
@@ -191,20 +197,14 @@ pub fn composed<'a>(
 ) -> Result<Exp<'a>, Stop<'a>>
     ensures { Built1 (λ f x. term_of x ≡ composition at left_first f.left (term_of f.left_function) f.right (term_of f.right_function) f.argument) functions.entry result }
 {
-    let functions = functions?;
-    let body = in_order(
-        bump,
-        at,
-        left_first,
-        functions.left,
-        functions.right,
-        functions.argument,
-    );
-    let body = of_name(bump, at, functions.argument, body);
-    let left = named_value(at, functions.left, functions.left_function);
-    let right = named_value(at, functions.right, functions.right_function);
-    match bump.try_alloc_slice_copy(&[left, right]) {
-        Ok(rows) => rowed(bump, at, Ok(rows), body),
-        Err(_) => Err(Stop::Memory),
+    match functions {
+        Ok(of) => {
+            let body = in_order(bump, at, left_first, of.left, of.right, of.argument);
+            let body = of_name(bump, at, of.argument, body);
+            let left = named_value(at, of.left, of.left_function);
+            let right = named_value(at, of.right, of.right_function);
+            rowed(bump, at, held_rows(bump, &[left, right]), body)
+        }
+        Err(stop) => Err(stop),
     }
 }

@@ -4,14 +4,14 @@ ghost use Rattle.fut_flat.specs.Erased.{term_of, type_of};
 ghost use Rattle.fut_flat.specs.Terms.{Ascribe, Coerce, Declared, Strict, no_term, term_and};
 ghost use Rattle.module_nodes.specs.Built.{Built2};
 
-use crate::exps::{one, strict};
+use crate::both::both;
+use crate::exps::on_part;
 use bumpalo::Bump;
 use fut_flat::{Act, Exp, TypeExp};
 use fut_scalar::Place;
 use module_scopes::Stop;
 
 /// `e : t`
-#[tactic(auto, using(crate::proofs::Made::built))]
 pub fn ascribed<'a>(
     bump: &'a Bump,
     place: Place,
@@ -21,13 +21,13 @@ pub fn ascribed<'a>(
 ) -> Result<Exp<'a>, Stop<'a>>
     ensures { Built2 (λ e t x. term_of x ≡ Strict (Ascribe (type_of t.now)) mark (term_and (term_of e) no_term)) part.entry ty.entry result }
 {
-    let part = part?;
-    let ty = ty?;
-    strict(place, mark, Act::Ascribe(ty), one(bump, Ok(part)))
+    match both(part, ty) {
+        Ok((part, ty)) => on_part(bump, place, mark, Act::Ascribe(ty), Ok(part)),
+        Err(stop) => Err(stop),
+    }
 }
 
 /// `e :> t`
-#[tactic(auto, using(crate::proofs::Made::built))]
 pub fn coerced<'a>(
     bump: &'a Bump,
     place: Place,
@@ -37,13 +37,13 @@ pub fn coerced<'a>(
 ) -> Result<Exp<'a>, Stop<'a>>
     ensures { Built2 (λ e t x. term_of x ≡ Strict (Coerce (type_of t.now)) mark (term_and (term_of e) no_term)) part.entry ty.entry result }
 {
-    let part = part?;
-    let ty = ty?;
-    strict(place, mark, Act::Coerce(ty), one(bump, Ok(part)))
+    match both(part, ty) {
+        Ok((part, ty)) => on_part(bump, place, mark, Act::Coerce(ty), Ok(part)),
+        Err(stop) => Err(stop),
+    }
 }
 
 /// A function's body with the declared type of its result, which stands before it.
-#[tactic(auto, using(crate::proofs::Made::built))]
 pub fn declared<'a>(
     bump: &'a Bump,
     place: Place,
@@ -52,7 +52,8 @@ pub fn declared<'a>(
 ) -> Result<Exp<'a>, Stop<'a>>
     ensures { Built2 (λ t e x. term_of x ≡ Strict (Declared (type_of t.now)) place (term_and (term_of e) no_term)) ty.entry body.entry result }
 {
-    let ty = ty?;
-    let body = body?;
-    strict(place, place, Act::Declared(ty), one(bump, Ok(body)))
+    match both(ty, body) {
+        Ok((ty, body)) => on_part(bump, place, place, Act::Declared(ty), Ok(body)),
+        Err(stop) => Err(stop),
+    }
 }

@@ -7,6 +7,7 @@ ghost use Rattle.fut_ast.specs.Sorts.{Text};
 ghost use Rattle.module_nodes.specs.Built.{Built1, Built2, Built3};
 ghost use Rattle.module_scopes.specs.declared.refusal.Stop.TheVariants as stop;
 
+use crate::both::both;
 use bumpalo::Bump;
 use fut_flat::{Ref, Size, TypeArg, TypeExp, TypeField, TypeForm};
 use fut_scalar::{BindId, Place};
@@ -24,7 +25,6 @@ pub fn held<'a>(bump: &'a Bump, ty: TypeExp<'a>) -> Result<&'a TypeExp<'a>, Stop
 }
 
 /// A type by its name, with arguments.
-#[tactic(auto, using(crate::proofs::Made::types))]
 pub fn named<'a>(
     bump: &'a Bump,
     place: Place,
@@ -33,19 +33,21 @@ pub fn named<'a>(
 ) -> Result<&'a TypeExp<'a>, Stop<'a>>
     ensures { Built2 (λ r given x. type_of x.now ≡ Type_use r (arguments (map argument_of given.now))) of.entry args.entry result }
 {
-    let of = of?;
-    let args = args?;
-    held(
-        bump,
-        TypeExp {
-            place,
-            form: TypeForm::Use(of, args),
-        },
-    )
+    match both(of, args) {
+        Ok((of, args)) => {
+            held(
+                bump,
+                TypeExp {
+                    place,
+                    form: TypeForm::Use(of, args),
+                },
+            )
+        }
+        Err(stop) => Err(stop),
+    }
 }
 
 /// An array's type.
-#[tactic(auto, using(crate::proofs::Made::types))]
 pub fn array<'a>(
     bump: &'a Bump,
     place: Place,
@@ -54,19 +56,21 @@ pub fn array<'a>(
 ) -> Result<&'a TypeExp<'a>, Stop<'a>>
     ensures { Built2 (λ s t x. type_of x.now ≡ Array_type (size_of s) (type_of t.now)) size.entry row.entry result }
 {
-    let size = size?;
-    let row = row?;
-    held(
-        bump,
-        TypeExp {
-            place,
-            form: TypeForm::Array(size, row),
-        },
-    )
+    match both(size, row) {
+        Ok((size, row)) => {
+            held(
+                bump,
+                TypeExp {
+                    place,
+                    form: TypeForm::Array(size, row),
+                },
+            )
+        }
+        Err(stop) => Err(stop),
+    }
 }
 
 /// `*t`
-#[tactic(auto, using(crate::proofs::Made::types))]
 pub fn unique<'a>(
     bump: &'a Bump,
     place: Place,
@@ -74,18 +78,21 @@ pub fn unique<'a>(
 ) -> Result<&'a TypeExp<'a>, Stop<'a>>
     ensures { Built1 (λ t x. type_of x.now ≡ Unique_type (type_of t.now)) ty.entry result }
 {
-    let ty = ty?;
-    held(
-        bump,
-        TypeExp {
-            place,
-            form: TypeForm::Unique(ty),
-        },
-    )
+    match ty {
+        Ok(ty) => {
+            held(
+                bump,
+                TypeExp {
+                    place,
+                    form: TypeForm::Unique(ty),
+                },
+            )
+        }
+        Err(stop) => Err(stop),
+    }
 }
 
 /// A function's type.
-#[tactic(auto, using(crate::proofs::Made::types))]
 pub fn arrow<'a>(
     bump: &'a Bump,
     place: Place,
@@ -94,19 +101,21 @@ pub fn arrow<'a>(
 ) -> Result<&'a TypeExp<'a>, Stop<'a>>
     ensures { Built2 (λ t u x. type_of x.now ≡ Arrow_type None (type_of t.now) (type_of u.now)) from.entry to.entry result }
 {
-    let from = from?;
-    let to = to?;
-    held(
-        bump,
-        TypeExp {
-            place,
-            form: TypeForm::Arrow(None, from, to),
-        },
-    )
+    match both(from, to) {
+        Ok((from, to)) => {
+            held(
+                bump,
+                TypeExp {
+                    place,
+                    form: TypeForm::Arrow(None, from, to),
+                },
+            )
+        }
+        Err(stop) => Err(stop),
+    }
 }
 
 /// A function's type whose parameter has a name.
-#[tactic(auto, using(crate::proofs::Made::types))]
 pub fn named_arrow<'a>(
     bump: &'a Bump,
     place: Place,
@@ -116,20 +125,24 @@ pub fn named_arrow<'a>(
 ) -> Result<&'a TypeExp<'a>, Stop<'a>>
     ensures { Built3 (λ b t u x. type_of x.now ≡ Arrow_type (Some b) (type_of t.now) (type_of u.now)) bind.entry from.entry to.entry result }
 {
-    let bind = bind?;
-    let from = from?;
-    let to = to?;
-    held(
-        bump,
-        TypeExp {
-            place,
-            form: TypeForm::Arrow(Some(bind), from, to),
+    match bind {
+        Ok(bind) => match both(from, to) {
+            Ok((from, to)) => {
+                held(
+                    bump,
+                    TypeExp {
+                        place,
+                        form: TypeForm::Arrow(Some(bind), from, to),
+                    },
+                )
+            }
+            Err(stop) => Err(stop),
         },
-    )
+        Err(stop) => Err(stop),
+    }
 }
 
 /// A tuple's type.
-#[tactic(auto, using(crate::proofs::Made::types))]
 pub fn tuple<'a>(
     bump: &'a Bump,
     place: Place,
@@ -137,18 +150,21 @@ pub fn tuple<'a>(
 ) -> Result<&'a TypeExp<'a>, Stop<'a>>
     ensures { Built1 (λ ts x. type_of x.now ≡ Tuple_type (types (map type_of ts.now))) parts.entry result }
 {
-    let parts = parts?;
-    held(
-        bump,
-        TypeExp {
-            place,
-            form: TypeForm::Tuple(parts),
-        },
-    )
+    match parts {
+        Ok(parts) => {
+            held(
+                bump,
+                TypeExp {
+                    place,
+                    form: TypeForm::Tuple(parts),
+                },
+            )
+        }
+        Err(stop) => Err(stop),
+    }
 }
 
 /// A record's type.
-#[tactic(auto, using(crate::proofs::Made::types))]
 pub fn record<'a>(
     bump: &'a Bump,
     place: Place,
@@ -156,12 +172,16 @@ pub fn record<'a>(
 ) -> Result<&'a TypeExp<'a>, Stop<'a>>
     ensures { Built1 (λ fs x. type_of x.now ≡ Record_type (map (λ (f : Text × FlatType). f.0) (map type_field fs.now)) (types (map (λ (f : Text × FlatType). f.1) (map type_field fs.now)))) fields.entry result }
 {
-    let fields = fields?;
-    held(
-        bump,
-        TypeExp {
-            place,
-            form: TypeForm::Record(fields),
-        },
-    )
+    match fields {
+        Ok(fields) => {
+            held(
+                bump,
+                TypeExp {
+                    place,
+                    form: TypeForm::Record(fields),
+                },
+            )
+        }
+        Err(stop) => Err(stop),
+    }
 }

@@ -5,14 +5,13 @@ ghost use Rattle.fut_flat.specs.Terms.{Project, Strict, Use, no_term, term_and};
 ghost use Rattle.module_nodes.specs.Built.{Built0, Built1};
 ghost use Rattle.module_scopes.specs.Resolve.{projected};
 
-use crate::exps::{one, strict};
+use crate::exps::on_part;
 use bumpalo::Bump;
 use fut_flat::{Act, Exp, Form, Ref};
 use fut_scalar::Place;
 use module_scopes::Stop;
 
 /// A field of a record.
-#[tactic(auto, using(crate::proofs::Parts::parts))]
 pub fn field<'a>(
     bump: &'a Bump,
     at: Place,
@@ -21,7 +20,7 @@ pub fn field<'a>(
 ) -> Result<Exp<'a>, Stop<'a>>
     ensures { Built1 (λ e x. term_of x ≡ Strict (Project name.now) at (term_and (term_of e) no_term)) part.entry result }
 {
-    strict(at, at, Act::Project(name), one(bump, part))
+    on_part(bump, at, at, Act::Project(name), part)
 }
 
 /// A name, and the fields that follow it in a path.

@@ -33,9 +33,8 @@ use Rattle.module_scopes.specs.Walks.{each, Doing}
 use Rattle.module_scopes.specs.Names.{Refusal}
 use Rattle.module_scopes.proofs.Walking.{from_here, after_assoc, doing_start, doing_next, doing_stops, doing_end}
 use Rattle.module_types.specs.Numbering.{Numbers, numbers, no_number}
-use Rattle.module_types.specs.Bindings.{bound_pattern_of, bound_sizes_of, sizes_numbered, size_part, size_of_pair, bound_heads_of, heads_numbered, head_part, head_of_pair, parameters_of, onto, Doing_parameters, doing_parameters, Bringing, bringing, Brings, brings, brings_not}
+use Rattle.module_types.specs.Bindings.{bound_pattern_of, bound_sizes_of, sizes_numbered, size_part, size_of_entry, bound_heads_of, heads_numbered, head_part, head_of_pair, parameters_of, onto, Doing_parameters, doing_parameters, Bringing, bringing, Brings, brings, brings_not}
 use Rattle.module_types.specs.declared.pats.Bound.{Bound as HeldBound}
-use Rattle.module_types.specs.declared.binds.NumberedSize.{NumberedSize}
 use Rattle.module_types.specs.declared.binds.NumberedHead.{NumberedHead}
 use Rattle.module_types.specs.declared.binds.Sizes.{Sizes}
 use Rattle.module_types.specs.declared.binds.Heads.{Heads}
@@ -64,11 +63,11 @@ pub ruleset entering_rules = (bringing_start, bringing_next, bringing_next_at, b
 
 -- ---- lists of numbers
 
-pub size_made : (x : Bor Text) (s t : Names) (b : BindId) → Numbers x.now s t (Ok b) → Went size_of_pair (size_part x) s t (Ok (record { bind = b; entry = record { name = x; bind = b; is_type = false } }))
-unfolding size_part size_of_pair
+pub size_made : (x : Bor Text) (s t : Names) (b : BindId) → Numbers x.now s t (Ok b) → Went size_of_entry (size_part x) s t (Ok (record { name = x; bind = b; is_type = false }))
+unfolding size_part size_of_entry
 size_made x s t b (numbers is more same held) = went (λ i. Ok ((sym is i, a_value x.now (sym is i)), sym more i)) same
 
-pub size_stops : (x : Bor Text) (s t : Names) (e : Stop) → Numbers x.now s t (Err e) → Went size_of_pair (size_part x) s t (Err e)
+pub size_stops : (x : Bor Text) (s t : Names) (e : Stop) → Numbers x.now s t (Err e) → Went size_of_entry (size_part x) s t (Err e)
 size_stops x s t _ no_number = no_memory
 
 head_at : (h : Head) (made : List Text) (f : HeadForm) → h.form ≡ f → (sc : Scope) → head_part h sc made ≡ Ok ((head_with (next made) (head_form h.place (head_form_of f)), head_entry (next made) (head_form h.place (head_form_of f))), with_text made (head_text (head_form h.place (head_form_of f))))
@@ -129,18 +128,18 @@ heads_each (h ∷ hs) sc m = ap (with_first (next m) (head_form h.place (head_fo
     regrouped (Ok (ps, k)) = refl
     regrouped (Err e) = refl
 
-pub sizes_made : (xs : List (Bor Text)) (s t : Names) (ps : Bor (List NumberedSize)) (b : Bor (List BindId)) (e : Bor (List HeldEntry)) → Went (λ (ps : Bor (List NumberedSize)). map size_of_pair ps.now) (each size_part xs) s t (Ok ps)
-    → b.now ≡ map (λ (p : NumberedSize). p.bind) ps.now → e.now ≡ map (λ (p : NumberedSize). p.entry) ps.now → Went bound_sizes_of (sizes_numbered (texts_of xs)) s t (Ok (record { binds = b; names = e }))
-unfolding after pairs_of size_of_pair
-sizes_made xs s t ps b e (went g same) bs es = went (sizes_each xs (scope_of s) (made_of s) ∙ ap (λ r. after r (λ ps m. Ok (pairs_of ps, m))) g ∙ λ i. Ok ((firsts i, seconds i), made_of t)) same
+pub sizes_made : (xs : List (Bor Text)) (s t : Names) (es : Bor (List HeldEntry)) (b : Bor (List BindId)) → Went (λ (es : Bor (List HeldEntry)). map size_of_entry es.now) (each size_part xs) s t (Ok es)
+    → b.now ≡ map (λ (e : HeldEntry). e.bind) es.now → Went bound_sizes_of (sizes_numbered (texts_of xs)) s t (Ok (record { binds = b; names = es }))
+unfolding after pairs_of size_of_entry
+sizes_made xs s t es b (went g same) bs = went (sizes_each xs (scope_of s) (made_of s) ∙ ap (λ r. after r (λ ps m. Ok (pairs_of ps, m))) g ∙ λ i. Ok ((firsts i, seconds i), made_of t)) same
   where
-    firsts : map (λ (p : BindId × Entry). p.0) (map size_of_pair ps.now) ≡ b.now
-    firsts = map-map (λ (p : BindId × Entry). p.0) size_of_pair ps.now ∙ sym bs
+    firsts : map (λ (p : BindId × Entry). p.0) (map size_of_entry es.now) ≡ b.now
+    firsts = map-map (λ (p : BindId × Entry). p.0) size_of_entry es.now ∙ sym bs
 
-    seconds : map (λ (p : BindId × Entry). p.1) (map size_of_pair ps.now) ≡ entries_of e.now
-    seconds = map-map (λ (p : BindId × Entry). p.1) size_of_pair ps.now ∙ sym (map-map entry_of (λ (p : NumberedSize). p.entry) ps.now) ∙ ap entries_of (sym es)
+    seconds : map (λ (p : BindId × Entry). p.1) (map size_of_entry es.now) ≡ entries_of es.now
+    seconds = map-map (λ (p : BindId × Entry). p.1) size_of_entry es.now
 
-pub sizes_stop : (xs : List (Bor Text)) (s t : Names) (e : Stop) → Went (λ (ps : Bor (List NumberedSize)). map size_of_pair ps.now) (each size_part xs) s t (Err e) → Went bound_sizes_of (sizes_numbered (texts_of xs)) s t (Err e)
+pub sizes_stop : (xs : List (Bor Text)) (s t : Names) (e : Stop) → Went (λ (es : Bor (List HeldEntry)). map size_of_entry es.now) (each size_part xs) s t (Err e) → Went bound_sizes_of (sizes_numbered (texts_of xs)) s t (Err e)
 unfolding after
 sizes_stop xs s t _ (refused g) = refused (sizes_each xs (scope_of s) (made_of s) ∙ ap (λ r. after r (λ ps m. Ok (pairs_of ps, m))) g)
 sizes_stop xs s t _ no_memory = no_memory

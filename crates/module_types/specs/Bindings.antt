@@ -23,7 +23,6 @@ use Rattle.module_scopes.specs.Resolve.{Bound, Numbered, next, with_text, number
 use Rattle.module_scopes.specs.declared.table.Names.{Names}
 use Rattle.module_scopes.specs.Table.{entry_of, entries_of, scope_of, made_of}
 use Rattle.module_types.specs.declared.pats.Bound.{Bound as HeldBound}
-use Rattle.module_types.specs.declared.binds.NumberedSize.{NumberedSize}
 use Rattle.module_types.specs.declared.binds.NumberedHead.{NumberedHead}
 use Rattle.module_types.specs.declared.binds.Sizes.{Sizes}
 use Rattle.module_types.specs.declared.binds.Heads.{Heads}
@@ -43,8 +42,8 @@ sizes_numbered xs sc made = Ok (number_sizes (labels (record { file = 0; line = 
 unfoldable pub size_part : Bor Text → Scope → List Text → Numbered (BindId × Entry)
 size_part x sc made = Ok ((next made, a_value x.now (next made)), with_text made x.now)
 
-unfoldable pub size_of_pair : NumberedSize → BindId × Entry
-size_of_pair p = (p.bind, entry_of p.entry)
+unfoldable pub size_of_entry : HeldEntry → BindId × Entry
+size_of_entry e = (e.bind, entry_of e)
 
 -- ---- heads
 

@@ -8,7 +8,7 @@ ghost use Rattle.module_scopes.specs.Answers.{Entered, Went};
 ghost use Rattle.module_scopes.specs.Resolve.{resolve_parameters};
 ghost use Rattle.module_scopes.specs.Table.{made_of, scope_of};
 ghost use Rattle.module_scopes.specs.Walks.{each};
-ghost use Rattle.module_types.specs.Bindings.{Brings, bound_heads_of, bound_sizes_of, head_of_pair, head_part, heads_numbered, parameters_of, size_of_pair, size_part, sizes_numbered};
+ghost use Rattle.module_types.specs.Bindings.{Brings, bound_heads_of, bound_sizes_of, head_of_pair, head_part, heads_numbered, parameters_of, size_of_entry, size_part, sizes_numbered};
 
 use crate::numbers::numbered;
 use crate::pats::resolved_pattern;
@@ -33,13 +33,6 @@ pub fn bring<'a>(entries: &'a [Entry<'a>], names: &mut Names<'a>) -> Result<(), 
     Ok(())
 }
 
-/// A size name with its number.
-#[derive(Clone, Copy)]
-struct NumberedSize<'a> {
-    bind: BindId,
-    entry: Entry<'a>,
-}
-
 /// Size names, and how they come in scope.
 #[derive(Clone, Copy)]
 pub struct Sizes<'a> {
@@ -52,19 +45,16 @@ fn each_size<'a>(
     sizes: &'a [&'a str],
     bump: &'a Bump,
     names: &mut Names<'a>,
-) -> Result<&'a [NumberedSize<'a>], Stop<'a>>
-    ensures { Went (λ ps. map size_of_pair ps.now) (each size_part sizes.now) names.old names.new result }
+) -> Result<&'a [Entry<'a>], Stop<'a>>
+    ensures { Went (λ es. map size_of_entry es.now) (each size_part sizes.now) names.old names.new result }
 {
     let mut made = Vec::new(bump);
     for size in sizes {
         let bind = numbered(*size, names)?;
-        match made.push(NumberedSize {
+        match made.push(Entry {
+            name: *size,
             bind,
-            entry: Entry {
-                name: *size,
-                bind,
-                is_type: false,
-            },
+            is_type: false,
         }) {
             Ok(()) => (),
             Err(_) => return Err(Stop::Memory),
@@ -73,27 +63,13 @@ fn each_size<'a>(
     Ok(into_bump_slice(made))
 }
 
-fn size_binds<'a>(pairs: &[NumberedSize<'a>], bump: &'a Bump) -> Result<&'a [BindId], Stop<'a>>
-    ensures bound { IfOk result (λ bs. bs.now ≡ map (λ p. p.bind) pairs.now) }
+fn size_binds<'a>(sizes: &[Entry<'a>], bump: &'a Bump) -> Result<&'a [BindId], Stop<'a>>
+    ensures bound { IfOk result (λ bs. bs.now ≡ map (λ e. e.bind) sizes.now) }
     ensures memory { IfErr result (λ e. e ≡ stop.Memory) }
 {
     let mut made = Vec::new(bump);
-    for pair in pairs {
-        match made.push(pair.bind) {
-            Ok(()) => (),
-            Err(_) => return Err(Stop::Memory),
-        }
-    }
-    Ok(into_bump_slice(made))
-}
-
-fn size_entries<'a>(pairs: &[NumberedSize<'a>], bump: &'a Bump) -> Result<&'a [Entry<'a>], Stop<'a>>
-    ensures bound { IfOk result (λ es. es.now ≡ map (λ p. p.entry) pairs.now) }
-    ensures memory { IfErr result (λ e. e ≡ stop.Memory) }
-{
-    let mut made = Vec::new(bump);
-    for pair in pairs {
-        match made.push(pair.entry) {
+    for size in sizes {
+        match made.push(size.bind) {
             Ok(()) => (),
             Err(_) => return Err(Stop::Memory),
         }
@@ -110,12 +86,11 @@ pub fn numbered_sizes<'a>(
 ) -> Result<Sizes<'a>, Stop<'a>>
     ensures { Went bound_sizes_of (sizes_numbered (texts_of sizes.now)) names.old names.new result }
 {
-    let pairs = each_size(sizes, bump, names)?;
-    let binds = size_binds(pairs, bump)?;
-    let bound = size_entries(pairs, bump)?;
+    let entries = each_size(sizes, bump, names)?;
+    let binds = size_binds(entries, bump)?;
     Ok(Sizes {
         binds,
-        names: bound,
+        names: entries,
     })
 }
 

@@ -82,31 +82,19 @@ pub fn resolved_type<'a>(
     match ty.form {
         TypeForm::Path(path, args) => {
             let of = used(path, ty.place, names);
-            nodes::named(
-                bump,
-                ty.place,
-                of,
-                resolved_args(args, ty.place, bump, names),
-            )
+            let args = resolved_args(args, ty.place, bump, names);
+            nodes::named(bump, ty.place, of, args)
         }
         TypeForm::Array(size, row) => {
-            nodes::array(
-                bump,
-                ty.place,
-                resolved_size(size, ty.place, names),
-                resolved_type(row, bump, names),
-            )
+            let size = resolved_size(size, ty.place, names);
+            nodes::array(bump, ty.place, size, resolved_type(row, bump, names))
         }
         TypeForm::Unique(inside) => {
             nodes::unique(bump, ty.place, resolved_type(inside, bump, names))
         }
         TypeForm::Arrow(from, to) => {
-            nodes::arrow(
-                bump,
-                ty.place,
-                resolved_type(from, bump, names),
-                resolved_type(to, bump, names),
-            )
+            let from = resolved_type(from, bump, names);
+            nodes::arrow(bump, ty.place, from, resolved_type(to, bump, names))
         }
         TypeForm::Named(name, from, to) => {
             let bind = numbered(name, names);

@@ -1,5 +1,11 @@
-use Rattle.module_nodes.proofs.Parts.{declared_made}
+use Rattle.std.proofs.Common.{◌∙◌}
+use Rattle.fut_flat.specs.Terms.{Declared, Strict, no_term, term_and}
+use Rattle.fut_flat.specs.Erased.{term_of, type_of}
+use Rattle.module_nodes.proofs.Joined.{as_it_is, given, two_then, two_stop}
 use Rattle.module_nodes.proofs.typed.declared.Goals as goal
 
-pub returns : goal.returns
-returns c = rw (c.in_ok-ty.was, c.in_ok-body.was) (declared_made c.args.place c.in_ok-ty.ty c.in_ok-body.body _ _ c.one.ensures c.strict.ensures)
+pub returns-in-Ok : goal.returns-in-Ok
+returns-in-Ok c = two_then c.in-Ok.ensures (as_it_is _) (as_it_is _) (given c.on_part.ensures) (λ t e x p q s. s ∙ λ i. Strict (Declared (type_of (p i).now)) c.args.place (term_and (term_of (q i)) no_term))
+
+pub returns-in-Err : goal.returns-in-Err
+returns-in-Err c = two_stop c.in-Err.ensures (as_it_is _) (as_it_is _)

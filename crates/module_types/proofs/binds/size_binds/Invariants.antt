@@ -2,5 +2,5 @@
 use Rattle.std.proofs.Common.{◌≡◌, map, take}
 use Rattle.module_types.proofs.binds.size_binds.Given as goal
 
-abbrev pub invariant-loop-pair : goal.invariant-loop-pair
-invariant-loop-pair l = l.made.items ≡ map (λ p. p.bind) (take l.pair-index l.pairs)
+abbrev pub invariant-loop-size : goal.invariant-loop-size
+invariant-loop-size l = l.made.items ≡ map (λ e. e.bind) (take l.size-index l.sizes)

@@ -1,0 +1,10 @@
+use Rattle.std.proofs.Common.{◌∙◌, refl, ap}
+use Rattle.fut_flat.proofs.ErasedForms.{loop_is, loop_of, term_loop}
+use Rattle.module_nodes.specs.Built.{built0, no_memory0}
+use Rattle.module_nodes.proofs.rows.loop_at.Goals as goal
+
+pub returns-in-Ok : goal.returns-in-Ok
+returns-in-Ok c = built0 (term_loop _ _ refl ∙ ap loop_of c.in-Ok.ensures ∙ loop_is _)
+
+pub returns-in-Err : goal.returns-in-Err
+returns-in-Err c = no_memory0

@@ -1,0 +1,6 @@
+use Rattle.module_types.specs.declared.binds.NumberedHead.{NumberedHead}
+use Rattle.module_types.proofs.Mapped.{mapped_next}
+use Rattle.module_types.proofs.binds.head_entries.Goals as goal
+
+pub loop-pair-preserved : goal.loop-pair-preserved
+loop-pair-preserved c = mapped_next (λ (x : NumberedHead). x.entry) c.args.pairs.now c.loop-pair.pair-index _ _ _ c.loop-pair-test.true c.loop-pair.invariant c.in-Ok.ensures.items
