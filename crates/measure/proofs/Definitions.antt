@@ -1,5 +1,5 @@
 -- The walk through the definitions, from what it has had, and then the entry.
-use Rattle.std.proofs.Common.{◌≡◌, ℕ, ◌+◌, ◌≤◌, ◌<◌, max, List, [], ◌∷◌, map, length, get_or, drop, Bool, Some, None, Ok, Err, true, false, refl, sym, ap, ◌∙◌, subst, arith}
+use Rattle.std.proofs.Common.{◌≡◌, ℕ, ◌+◌, ◌≤◌, ◌<◌, max, List, [], ◌∷◌, map, length, get_or, drop, Bool, Some, None, Ok, Err, true, false, refl, sym, ◌∙◌, subst, arith}
 use Rattle.std.specs.Prelude.{IfErr, IfOk, Result}
 use Rattle.fut_scalar.specs.declared.place.BindId.{BindId}
 use Rattle.fut_flat.specs.declared.program.Definition.{Definition}
@@ -10,7 +10,7 @@ use Rattle.fut_meaning.specs.declared.measured.MeasureErr.TheVariants as refused
 use Rattle.fut_meaning.specs.Flats.{FlatTop, flat_tops, is_flat_use}
 use Rattle.fut_meaning.specs.Programs.{is_reached}
 use Rattle.fut_meaning.specs.Knowns.{Known, Scope, empty, known_as, find}
-use Rattle.fut_meaning.specs.Walk.{Visits, Function_visits, Definition_visits, d_none, d_reached, d_other, with_top, Program_visits, program_visits}
+use Rattle.fut_meaning.specs.Walk.{Visits, Definition_visits, d_none, d_reached, d_other, with_top, Program_visits, program_visits}
 use Rattle.fut_meaning.specs.Comes.{Definition_comes, c_here, c_later, c_other, comes_in_definition, comes_in_entry, Inside_function, Stuck_function, Program_lost, lost_at, no_entry, entry_stuck}
 use Rattle.fut_meaning.specs.Measures.{Measures, measured, too_many, too_deep, no_memory as no_memory_left_to_measure}
 use Rattle.measure.specs.declared.stop.Stop.{Stop}
@@ -19,7 +19,7 @@ use Rattle.measure.specs.declared.walked.Count.{Count}
 use Rattle.measure.specs.declared.walked.Walked.{Walked}
 use Rattle.measure.specs.declared.known.Known.{Known as Held_known}
 use Rattle.measure.specs.Answers.{Stopped, over, deep, astray, no_memory, Ended, ended_at, is_stuck, no_memory_left, Walked_to, walked, stopped, Function_to, function_ran, function_stopped}
-use Rattle.measure.specs.Held.{known_of, scope_of}
+use Rattle.measure.specs.Held.{known_of}
 use Rattle.reach.specs.Reach.{is_set, named_term, Reached, reached}
 use Rattle.measure.specs.declared.program.Made.{Made}
 use Rattle.measure.specs.Program.{known_behind, Program_stopped, over_program, deep_program, lost_program, program_memory, Definition_to, definition_passed, definition_walked, definition_stopped, Definitions_to, definitions_walked, definitions_stopped, Program_to, program_walked, program_stopped}

@@ -1,5 +1,5 @@
 -- How the walk of an expression follows from that of its form.
-use Rattle.std.proofs.Common.{◌≡◌, ℕ, ◌+◌, ◌≤◌, ◌<◌, max, List, map, Bool, true, false, Some, None, Ok, Err, refl, sym, ap, ◌∙◌, subst, arith}
+use Rattle.std.proofs.Common.{◌≡◌, ℕ, ◌≤◌, List, map, true, false, Some, None, Ok, Err, refl, sym, ap, ◌∙◌, subst, arith}
 use Rattle.std.specs.Prelude.{Result}
 use Rattle.std.specs.Borrow.{Bor}
 use Rattle.fut_scalar.specs.declared.place.BindId.{BindId}
@@ -28,7 +28,7 @@ use Rattle.measure.specs.declared.stop.Stop.TheVariants.{Nodes, Depth, Lost, Mem
 use Rattle.measure.specs.declared.walked.Walked.{Walked}
 use Rattle.measure.specs.declared.walked.Count.{Count}
 use Rattle.measure.specs.declared.walked.Turn.{Turn}
-use Rattle.measure.specs.Answers.{Stopped, over, deep, Ended, ended_at, is_stuck, no_memory_left, at_once, Walked_to, walked, stopped, Data_to, gives_data, not_walked, gives_function, Turned_to, turned, turn_stopped}
+use Rattle.measure.specs.Answers.{over, deep, ended_at, is_stuck, no_memory_left, at_once, Walked_to, walked, stopped, Data_to, gives_data, not_walked, gives_function, Turned_to, turned, turn_stopped}
 use Rattle.measure.proofs.Walks.{lost_here}
 use Rattle.measure.proofs.Peeling.{peeled_walk}
 

@@ -6,7 +6,7 @@ use Rattle.fut_flat.specs.Erased.{texts}
 use Rattle.std.proofs.lemmas.List.{length-map}
 use Rattle.measure.specs.declared.stop.Stop.{Stop}
 use Rattle.std.proofs.Common.{◌≡◌, ℕ, suc, ◌+◌, ◌<◌, ◌≤◌, List, [], ◌∷◌, map, length, get_or, drop, Option, Some, None, Bool, true, false, cond, refl, sym, ap, ◌∙◌, subst, arith, Ok, Err}
-use Rattle.fut_meaning.specs.Knowns.{Known, Data, Known_tuple, Known_record, Known_function, Known_primitive, Knowns, is_data, all_data, data_of, known_tuple, known_fields, and_known, known_part, known_part_from, known_record, known_replaced, replaced_in, known_result, with_known, known_none, known_and, Known_fields, known_no_field, known_field, some_record}
+use Rattle.fut_meaning.specs.Knowns.{Known, Data, Known_tuple, Known_record, Known_function, Known_primitive, Knowns, is_data, all_data, data_of, known_tuple, known_fields, and_known, known_part, known_part_from, known_record, known_replaced, replaced_in, known_result, with_known, known_none, known_and, Known_fields, some_record}
 use Rattle.std.specs.Prelude.{decimal}
 use Rattle.std.specs.Str.{bytes_eq}
 use Rattle.std.proofs.Common.{◌++◌}

@@ -1,5 +1,5 @@
 -- Parts and rows of lets, one after the other.
-use Rattle.std.proofs.Common.{◌≡◌, ℕ, ◌+◌, ◌≤◌, ◌<◌, ◌++◌, max, List, [], ◌∷◌, map, length, get_or, drop, Bool, true, false, cond, nat_lt, ◌==◌, Some, None, Ok, Err, refl, sym, ap, ◌∙◌, subst, arith, ltb-true, ltb-false}
+use Rattle.std.proofs.Common.{◌≡◌, ℕ, ◌+◌, ◌≤◌, ◌<◌, ◌++◌, max, List, [], ◌∷◌, map, length, get_or, drop, Bool, true, false, cond, nat_lt, ◌==◌, Ok, Err, refl, sym, ap, ◌∙◌, subst, arith, ltb-true, ltb-false}
 use Rattle.std.specs.Ordering.{ord_max, is_lt, nat_cmp}
 use Rattle.std.proofs.Common.{append-nil}
 use mathlib.Core.List.{map-append}
@@ -16,18 +16,17 @@ use Rattle.fut_scalar.specs.declared.place.BindId.{BindId}
 use Rattle.fut_flat.specs.declared.prim.Ref.{Ref}
 use Rattle.fut_flat.specs.Terms.{Binding, Let, Use, Strict, Lambda, Apply, If, Loop}
 use Rattle.fut_flat.proofs.ErasedForms.{Layer, layer, exp_term, form_term_at, loop_is, row_of, row_is, term_lets}
-use Rattle.fut_meaning.specs.Knowns.{Known, Scope, known_bound}
-use Rattle.fut_meaning.specs.Walk.{is_let, Visits, v_lets, All_visits, v_none, Row_visits, v_body}
-use Rattle.fut_meaning.specs.Comes.{Inside, in_lets, Inside_all, in_here, Inside_row, in_row_body, Stuck_row, no_row}
+use Rattle.fut_meaning.specs.Knowns.{Scope, known_bound}
+use Rattle.fut_meaning.specs.Walk.{is_let, Visits, v_lets, All_visits, v_none, v_body}
+use Rattle.fut_meaning.specs.Comes.{Inside, in_lets, in_here, Inside_row, in_row_body, Stuck_row, no_row}
 use Rattle.measure.specs.Held.{known_of, knowns, scope_of}
 use Rattle.measure.specs.declared.known.Known.{Known as Held_known}
 use Rattle.measure.specs.declared.known.Scope.{Scope as Held_scope}
 use Rattle.measure.specs.declared.stop.Stop.{Stop}
-use Rattle.measure.specs.declared.stop.Stop.TheVariants.{Lost, Memory}
+use Rattle.measure.specs.declared.stop.Stop.TheVariants.{Memory}
 use Rattle.measure.specs.declared.walked.Walked.{Walked}
-use Rattle.measure.specs.declared.walked.Parts.{Parts}
 use Rattle.measure.specs.declared.walked.Row.{Row as Held_row}
-use Rattle.measure.specs.Answers.{Bound_to, bound_is, not_bound, no_memory_to_bind, Ended, ended_at, is_stuck, no_memory_left, Walked_to, walked, stopped, Stopped, no_memory, Parts_to, parts_walked, parts_stopped, Let_to, let_bound, let_stopped, let_unbound, let_memory, Leads, Rows_to, rows_bound, rows_stopped}
+use Rattle.measure.specs.Answers.{Bound_to, bound_is, not_bound, no_memory_to_bind, Ended, ended_at, no_memory_left, Walked_to, walked, stopped, Stopped, Parts_to, parts_walked, parts_stopped, Let_to, let_bound, let_stopped, let_unbound, let_memory, Leads, Rows_to, rows_bound, rows_stopped}
 use Rattle.measure.proofs.Walks.{up, into}
 use Rattle.measure.proofs.Leads.{leads_start, leads_on, Rows_lead, rows_lead, rows_start, rows_more, rows_fail, All_lead, all_start, all_on}
 use Rattle.reach.proofs.Lists.{one_more, drop_end}

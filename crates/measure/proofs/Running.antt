@@ -1,19 +1,18 @@
 -- Known functions applied to arguments.
-use Rattle.std.proofs.Common.{◌≡◌, ℕ, zero, suc, ◌+◌, ◌-◌, ◌≤◌, ◌<◌, max, List, [], ◌∷◌, map, length, get_or, drop, Bool, true, false, Some, None, Ok, Err, refl, sym, ap, ◌∙◌, subst, arith, lt-ltb, le-ltb}
-use Rattle.std.specs.Prelude.{Result, nat_lt, IfOk, IfErr}
+use Rattle.std.proofs.Common.{◌≡◌, ℕ, zero, suc, ◌+◌, ◌-◌, ◌≤◌, ◌<◌, max, List, [], ◌∷◌, map, length, get_or, drop, true, false, Ok, Err, refl, sym, ap, ◌∙◌, subst, arith, lt-ltb, le-ltb}
+use Rattle.std.specs.Prelude.{Result, nat_lt}
 use Rattle.std.specs.Borrow.{Bor}
 use Rattle.fut_flat.specs.declared.exp.Exp.{Exp}
 use Rattle.fut_flat.specs.declared.pat.Pat.{Pat}
 use Rattle.fut_flat.specs.declared.prim.Primitive.{Primitive}
 use Rattle.fut_flat.specs.Erased.{FlatTerm, pattern_of, patterns, term_of}
 use Rattle.fut_meaning.specs.Operations.{parameters_of, arity}
-use Rattle.fut_meaning.specs.Knowns.{Known, Data, Known_tuple, Known_record, Known_function, Known_primitive, Knowns, known_none, known_and, Scope, is_data, known_bound, count, with_known}
-use Rattle.fut_meaning.specs.Walk.{Runs, r_body, r_waits, r_primitive_waits, r_primitive, Given_visits, g_none, g_more, Function_visits, f_data}
-use Rattle.fut_meaning.specs.Comes.{is_function, Inside_run, in_run_body, in_primitive, Inside_given, in_given, Inside_function, in_applied, Stuck_run, no_function, no_parameter, no_given, Stuck_given, stuck_here, too_few, too_many, Stuck_function, no_data, stuck_run}
+use Rattle.fut_meaning.specs.Knowns.{Known, Data, Known_function, Known_primitive, known_and, Scope, is_data, known_bound, count, with_known}
+use Rattle.fut_meaning.specs.Walk.{Runs, r_body, r_waits, r_primitive_waits, r_primitive, Given_visits, g_none, Function_visits, f_data}
+use Rattle.fut_meaning.specs.Comes.{is_function, Inside_run, in_run_body, in_primitive, Inside_given, in_given, in_applied, Stuck_run, no_function, no_parameter, no_given, Stuck_given, stuck_here, too_few, too_many, Stuck_function, no_data, stuck_run}
 use Rattle.measure.specs.Held.{known_of, knowns, scope_of}
 use Rattle.measure.specs.declared.known.Known.{Known as Held_known}
 use Rattle.measure.specs.declared.known.KnownForm.TheVariants as form
-use Rattle.measure.specs.declared.known.Field.{Field}
 use Rattle.measure.specs.declared.known.Scope.{Scope as Held_scope}
 use Rattle.measure.specs.declared.stop.Stop.{Stop}
 use Rattle.measure.specs.declared.stop.Stop.TheVariants.{Lost, Memory}

@@ -1,9 +1,9 @@
 -- The table of what is known of the definitions.
-use Rattle.std.proofs.Common.{◌≡◌, ℕ, zero, suc, ◌+◌, ◌<◌, ◌≤◌, ◌++◌, List, [], ◌∷◌, length, get_or, set, replicate, cond, Bool, true, false, nat_eq, Option, Some, None, Ok, Err, refl, sym, ap, ◌∙◌, subst, arith}
+use Rattle.std.proofs.Common.{◌≡◌, ℕ, zero, suc, ◌<◌, List, length, get_or, set, replicate, cond, Bool, true, false, nat_eq, Option, Some, None, refl, sym, ap, ◌∙◌, subst}
 use Rattle.std.proofs.lemmas.Bool.{eqb-true, eqb-false}
-use Rattle.std.proofs.lemmas.List.{length-set, length_push, replicate_more, get_or-set_same, get_or-set_other}
+use Rattle.std.proofs.lemmas.List.{get_or-set_same, get_or-set_other}
 use Rattle.fut_scalar.specs.declared.place.BindId.{BindId}
-use Rattle.fut_meaning.specs.Knowns.{Known, Scope, empty, known_as, find}
+use Rattle.fut_meaning.specs.Knowns.{Scope, empty, known_as, find}
 use Rattle.measure.specs.declared.known.Known.{Known as Held_known}
 use Rattle.measure.specs.Held.{known_of, maybe_known}
 use Rattle.measure.specs.Tables.{Tabled, tabled}

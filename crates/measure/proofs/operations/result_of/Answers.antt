@@ -1,4 +1,4 @@
-use Rattle.std.proofs.Common.{Some, refl, sym, ap, ◌∙◌}
+use Rattle.std.proofs.Common.{Some, sym, ap, ◌∙◌}
 use Rattle.measure.specs.Answers.{known_is}
 use Rattle.measure.proofs.Parts.{known_as_wanted, result_tuple, result_record, result_projected, result_ascribed, result_coerced, result_declared, result_asserted, result_other, result_replaced}
 use Rattle.measure.proofs.operations.result_of.Goals as goal

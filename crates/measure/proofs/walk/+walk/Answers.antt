@@ -1,4 +1,4 @@
-use Rattle.std.proofs.Common.{◌≡◌, ◌∙◌, refl, arith}
+use Rattle.std.proofs.Common.{◌∙◌, refl, arith}
 use Rattle.std.proofs.lemmas.Slice.{between_to_end}
 use Rattle.measure.proofs.Mirror.{known_function}
 use Rattle.measure.proofs.Forms.{form_lambda}
