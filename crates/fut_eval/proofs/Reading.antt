@@ -14,7 +14,7 @@ use Rattle.fut_blocks.specs.declared.block.Atom.TheVariants as atom
 use Rattle.fut_blocks.specs.Meaning.{Component, Names, look, fitted, value_of, values_of}
 use Rattle.fut_eval.specs.declared.stop.Stop.{Stop}
 use Rattle.fut_eval.specs.declared.stop.Stop.TheVariants.{Stuck}
-use Rattle.fut_eval.specs.Answers.{Answer, Tells, told, report_told, no_memory_told, lost, Fit, Stands, Kept, Runs, ran, failed, no_memory, gone, Fitted, Reads, Reads_all, Pushed, pushed, not_pushed}
+use Rattle.fut_eval.specs.Answers.{Tells, told, report_told, no_memory_told, lost, Fit, Stands, Runs, ran, failed, no_memory, gone, Fitted, Reads, Reads_all, Pushed, pushed, not_pushed}
 use Rattle.fut_eval.proofs.Tells.{the_is, kept_same, fit_append}
 
 pub fitted_same : (s : Scalar) → FitsType s → fitted s ≡ s

@@ -11,7 +11,7 @@ use Rattle.fut_blocks.specs.Meaning.{Component, Names, look, bound, holds}
 use Rattle.fut_blocks.specs.Numbered.{Upward}
 use Rattle.fut_eval.specs.declared.stop.Stop.{Stop}
 use Rattle.fut_eval.specs.declared.stop.Stop.TheVariants.{Stuck}
-use Rattle.fut_eval.specs.Answers.{Answer, Tells, told, report_told, no_memory_told, lost, IfDone, done, not_done, Fit, Stands, Kept, stored, Stored, is_stored, not_as_many, past, Bound, is_bound, unbound, Binds, Takes, Named, named, beyond, Pops}
+use Rattle.fut_eval.specs.Answers.{Answer, Tells, lost, IfDone, done, not_done, Fit, Stands, Kept, stored, Stored, is_stored, not_as_many, past, Bound, is_bound, unbound, Binds, Takes, named, beyond, Pops}
 use Rattle.fut_eval.proofs.Tells.{kept_same, stands_more}
 
 -- ---- writes of one element

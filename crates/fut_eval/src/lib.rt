@@ -10,7 +10,5 @@ mod names;
 mod operate;
 mod program;
 mod stop;
-#[cfg(test)]
-mod tests;
 
 pub use program::{EvalErr, eval};

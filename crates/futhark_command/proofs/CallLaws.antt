@@ -2,7 +2,7 @@
 use Rattle.std.proofs.Common.{◌≡◌, ℕ, List, refl, sym, ap, subst, ◌∙◌, ◌⊎◌, inl, inr}
 use Rattle.std.specs.Prelude.{Option, Some, None, IfSome, Result, Ok, Err}
 use Rattle.futhark_core.specs.Row.{Outside}
-use Rattle.futhark_core.specs.Comes.{Ending, Told, Onward, NoFault, Agrees}
+use Rattle.futhark_core.specs.Comes.{Ending, Onward, NoFault, Agrees}
 use Rattle.futhark_status.specs.declared.status.Status.{Status}
 use Rattle.futhark_status.specs.declared.status.Status.TheVariants.{Done, Usage, WriteFault, Memory}
 use Rattle.futhark_command.specs.Call.{bad_word, text_asked, WrittenRow, AskedComplete, Asked, Texts, CallComplete}

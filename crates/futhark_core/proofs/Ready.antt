@@ -1,5 +1,5 @@
 -- A prepared program is one that the row speaks of: its entry is typed, and what its blocks allow, the source allows.
-use Rattle.std.proofs.Common.{◌≡◌, ◌<◌, ◌⊎◌, inl, inr, ℕ, List, [], ◌∷◌, Bool, true, map, length, refl, sym, ap, ◌∙◌, subst, arith}
+use Rattle.std.proofs.Common.{◌≡◌, ◌<◌, inl, inr, ℕ, List, [], ◌∷◌, Bool, true, length, refl, sym, ap, ◌∙◌, subst, arith}
 use Rattle.std.proofs.lemmas.Option.{get_or_from_slice_get, slice_get_within}
 use Rattle.std.proofs.lemmas.List.{length-map}
 use Rattle.std.specs.Prelude.{Ok, Err, slice_index_or}
@@ -27,7 +27,7 @@ use Rattle.fut_typing.specs.Program.{program_of}
 use Rattle.fut_typing.specs.Exact.{scope_behind}
 use Rattle.typed_programs.specs.Entries.{scalar_tys, Results_are, Is_outside, number_of}
 use Rattle.typed_programs.proofs.Using.{behind_below}
-use Rattle.unfold.specs.Shapes.{Shapes, no_shape, shape_and, Scalar_shape, All_split, split_none, split_more, split_scalar}
+use Rattle.unfold.specs.Shapes.{All_split, split_none, split_more, split_scalar}
 use Rattle.unfold.proofs.Rising.{names_rise}
 use Rattle.unfold_program.specs.Whole.{scalars}
 use Rattle.plain_runs.specs.Claims.{Is_run, Is_usable, Runs_as}

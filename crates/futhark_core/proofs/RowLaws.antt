@@ -1,5 +1,5 @@
 -- From the rows of the parts of a run to those of the run.
-use Rattle.std.proofs.Common.{◌≡◌, ℕ, List, [], ◌∷◌, refl, sym, ap, subst, inl, inr}
+use Rattle.std.proofs.Common.{◌≡◌, ℕ, List, refl, sym, ap, subst, inl, inr}
 use Rattle.std.specs.Prelude.{Ok}
 use Rattle.fut_io.specs.Outside.{LoaderSeen}
 use Rattle.fut_parser.specs.declared.programs.ParseErr.TheVariants as parse

@@ -1,8 +1,7 @@
 -- The rows of a run that is ready, from what its stages answered.
-use Rattle.std.proofs.Common.{◌≡◌, ◌≤◌, ◌⊎◌, inl, inr, ℕ, List, map, length, All, refl, sym, ap, ◌∙◌, subst}
-use Rattle.std.specs.Prelude.{Result, Ok, Err}
-use Rattle.fut_io.specs.Counts.{Rose}
-use Rattle.fut_io.specs.Outside.{AllRead, ReadPart, ReadPast, Took, TookPart}
+use Rattle.std.proofs.Common.{◌≡◌, ◌≤◌, inr, ℕ, List, map, length, All, refl, sym, ◌∙◌}
+use Rattle.std.specs.Prelude.{Ok, Err}
+use Rattle.fut_io.specs.Outside.{AllRead}
 use Rattle.fut_scalar.specs.Integers.{FitsType}
 use Rattle.fut_scalar.specs.declared.report.FailKind.{FailKind}
 use Rattle.fut_scalar.specs.declared.report.FailKind.TheVariants as fail
@@ -14,15 +13,13 @@ use Rattle.fut_blocks.specs.declared.block.Program.{Program}
 use Rattle.fut_eval.specs.Evaluates.{Evaluates, came_to, failed, no_memory}
 use Rattle.fut_eval.specs.declared.program.EvalErr.{EvalErr}
 use Rattle.fut_eval.specs.declared.program.EvalErr.TheVariants as eval
-use Rattle.value_text.specs.Printing.{output_of}
 use Rattle.value_text.specs.Reading.{Reads, Explains}
 use Rattle.value_text.specs.declared.reading.TextErr.{TextErr}
 use Rattle.value_text.specs.declared.reading.TextErr.TheVariants as text
 use Rattle.command_words.specs.CommandLine.{Command}
-use Rattle.futhark_status.specs.declared.status.Status.{Status}
-use Rattle.futhark_status.specs.declared.status.Status.TheVariants.{Done, WriteFault, Memory}
+use Rattle.futhark_status.specs.declared.status.Status.TheVariants.{Memory}
 use Rattle.futhark_core.specs.Acceptance.{Source}
-use Rattle.futhark_core.specs.Meaning.{Entered, Gives, Fails, Allows}
+use Rattle.futhark_core.specs.Meaning.{Entered, Gives, Fails}
 use Rattle.futhark_core.specs.Private.Stages.{Runs_for, kind_status, failed_status, input_status}
 use Rattle.futhark_core.specs.Row.{Streams, IsReady, ProgramRow, ComesTo, most_input}
 

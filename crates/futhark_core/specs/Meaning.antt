@@ -1,5 +1,5 @@
 -- From which definition of an accepted source a run begins, and what the source means from there.
-use Rattle.std.specs.Prelude.{◌≡◌, ◌⊎◌, ℕ, List, Bool, true}
+use Rattle.std.specs.Prelude.{◌≡◌, ℕ, List, Bool}
 use Rattle.fut_scalar.specs.declared.report.Report.{Report}
 use Rattle.fut_scalar.specs.declared.scalar.IntType.{IntType}
 use Rattle.fut_scalar.specs.declared.scalar.Scalar.{Scalar}
@@ -13,8 +13,6 @@ use Rattle.fut_typing.specs.Patterns.{arrows}
 use Rattle.fut_typing.specs.Program.{program_of, Program_typed}
 use Rattle.fut_typing.specs.Answers.{Typing_is}
 use Rattle.fut_typing.specs.Exact.{scope_behind}
-use Rattle.fut_meaning.specs.declared.measured.Measured.{Measured}
-use Rattle.fut_meaning.specs.declared.measured.MeasureErr.{MeasureErr}
 use Rattle.fut_meaning.specs.Flats.{FlatTop, flat_tops, named_terms}
 use Rattle.fut_blocks.specs.Programs.{AreOf}
 use Rattle.module_elab.specs.Elaborated.{program_of as flat_of}

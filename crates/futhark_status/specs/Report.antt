@@ -1,6 +1,5 @@
 -- What comes on err.
 use Rattle.std.specs.Prelude.{◌≡◌, ◌⊎◌, ℕ, List, decimal}
-use Rattle.std.specs.Borrow.{Bor}
 use Rattle.fut_io.specs.Outside.{SinkSeen, Took, TookPart}
 use Rattle.futhark_status.specs.Status.{Line, Nothing, Said, Counted, Named, Placed, line_of}
 use Rattle.futhark_status.specs.declared.line.Line.{Line as HeldLine}

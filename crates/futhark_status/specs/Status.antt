@@ -1,5 +1,5 @@
 -- The number of each status, which is the program's exit status, and its line on err.
-use Rattle.std.specs.Prelude.{ℕ, List, [], ◌∷◌, ◌++◌, ◌==◌, cond, codes, decimal, flat_map}
+use Rattle.std.specs.Prelude.{ℕ, List, [], ◌∷◌, ◌==◌, cond, codes, decimal, flat_map}
 use Rattle.fut_scalar.specs.declared.place.Place.{Place}
 use Rattle.fut_lexer.specs.declared.lexer.LexErr.{LexErr}
 use Rattle.fut_lexer.specs.declared.lexer.LexErr.TheVariants as lex
@@ -8,7 +8,6 @@ use Rattle.fut_parser.specs.declared.programs.ParseErr.{ParseErr}
 use Rattle.fut_parser.specs.declared.programs.ParseErr.TheVariants as parse
 use Rattle.fut_scalar.specs.declared.report.FailKind.{FailKind}
 use Rattle.fut_scalar.specs.declared.report.FailKind.TheVariants as kind
-use Rattle.fut_scalar.specs.declared.report.Report.{Report}
 use Rattle.front.specs.declared.refusals.NameErr.{NameErr}
 use Rattle.front.specs.declared.refusals.NameErr.TheVariants as names
 use Rattle.front_types.specs.declared.typed.TypeErr.{TypeErr}

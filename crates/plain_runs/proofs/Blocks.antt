@@ -1,6 +1,6 @@
 -- What unfolding answers is a program's blocks, with the types of integers as a typing tells them.
 use Rattle.std.proofs.Common.{◌≡◌, ℕ, List, length, refl, subst, get_or}
-use Rattle.std.specs.Prelude.{Result, Ok, Err, IfOk}
+use Rattle.std.specs.Prelude.{Ok}
 use Rattle.fut_scalar.specs.declared.place.BindId.{BindId}
 use Rattle.fut_scalar.specs.declared.scalar.IntType.{IntType}
 use Rattle.fut_scalar.specs.declared.scalar.IntType.TheVariants.{I32}
@@ -10,8 +10,7 @@ use Rattle.fut_meaning.specs.Flats.{named_terms, flat_tops}
 use Rattle.fut_blocks.specs.declared.block.Program.{Program}
 use Rattle.typed_programs.specs.Typed.{integer_at}
 use Rattle.unfold.specs.Programs.{Program_unfolds}
-use Rattle.unfold.specs.Shapes.{Shape}
-use Rattle.unfold_program.specs.Whole.{scalars, Unfolds_to, unfolds_to, no_program}
+use Rattle.unfold_program.specs.Whole.{scalars, Unfolds_to, unfolds_to}
 use Rattle.plain_runs.specs.Prepared.{Is_blocks}
 
 told : (integers : List IntType) (n : ℕ) → get_or integers n I32 ≡ integer_at integers n

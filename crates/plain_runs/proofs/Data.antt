@@ -10,17 +10,17 @@ use Rattle.fut_arithmetic.specs.Types.{type_of}
 use Rattle.fut_flat.specs.declared.prim.Ref.{Ref}
 use Rattle.fut_scalar.specs.declared.place.BindId.{BindId}
 use Rattle.fut_types.specs.declared.Head.TheVariants as head
-use Rattle.fut_types.specs.Types.{Ty, Made, Tys, none, more, scalar_ty}
+use Rattle.fut_types.specs.Types.{Ty, Made, scalar_ty}
 use Rattle.fut_typing.specs.Names.{Names}
 use Rattle.fut_meaning.specs.Datums.{Datum, Scalar_datum, Tuple_datum, as_value, as_values, all_values}
 use Rattle.fut_meaning.specs.Flats.{FlatValue, FlatTops, FlatMode}
-use Rattle.fut_meaning.specs.Values.{Scalar_value, Tuple_value, Record_value, Closure, Primitive_value, Values, no_value, value_and, listed}
+use Rattle.fut_meaning.specs.Values.{Scalar_value, Tuple_value, Values, value_and, listed}
 use Rattle.fut_blocks.specs.Meaning.{Component}
 use Rattle.fut_blocks.specs.Programs.{AreOf}
-use Rattle.typed_meaning.specs.Fits.{Fits, All_fit, Is_scalar, No_value, First_value}
+use Rattle.typed_meaning.specs.Fits.{Fits, All_fit, Is_scalar}
 use Rattle.typed_meaning.specs.Programs.{Arguments_fit}
 use Rattle.typed_programs.specs.Entries.{scalar_tys, Results_are}
-use Rattle.unfold.specs.Shapes.{Shape, Shapes, Split, split_scalar, split_tuple, split_record, All_split, split_none, split_more, Is_value}
+use Rattle.unfold.specs.Shapes.{Shape, Shapes, Split, split_scalar, split_tuple, split_record, All_split, split_none, split_more}
 use Rattle.plain_runs.specs.Results.{scalar_datums, Is_result, one_scalar, a_tuple}
 
 abbrev FlatValues : Type 0

@@ -1,5 +1,5 @@
 -- What the blocks of a typed program allow, its files allow.
-use Rattle.std.proofs.Common.{◌≡◌, ℕ, List, [], ◌∷◌, Bool, true, false, map, refl, sym, ap, ◌∙◌, subst}
+use Rattle.std.proofs.Common.{◌≡◌, ℕ, List, [], ◌∷◌, Bool, false, map, refl, sym, ap, subst}
 use Rattle.fut_scalar.specs.declared.place.BindId.{BindId}
 use Rattle.fut_scalar.specs.declared.report.Report.{Report}
 use Rattle.fut_scalar.specs.declared.scalar.IntType.{IntType}
@@ -12,10 +12,10 @@ use Rattle.fut_flat.specs.declared.program.Flat.{Flat}
 use Rattle.fut_flat.specs.Erased.{parameters, term_of}
 use Rattle.fut_flat.specs.Terms.{Parameter, Size_parameter, Type_parameter, Use, Strict, Lambda, Apply, Let, If, Loop, Terms, no_term, term_and, Counted, Over, While}
 use Rattle.fut_flat.specs.Erased.{FlatTerm, FlatTurns}
-use Rattle.fut_typing.specs.Program.{Defined, defined, program_of as typing_of}
+use Rattle.fut_typing.specs.Program.{defined, program_of as typing_of}
 use Rattle.fut_meaning.specs.Claims.{Safe}
-use Rattle.fut_meaning.specs.Datums.{Datum, Scalar_datum, as_value, as_values, all_values}
-use Rattle.fut_meaning.specs.Flats.{FlatValue, Named_term, named_terms, flat_tops, Flat_means, flat_names}
+use Rattle.fut_meaning.specs.Datums.{Scalar_datum, as_value, as_values, all_values}
+use Rattle.fut_meaning.specs.Flats.{FlatValue, named_terms, flat_tops, Flat_means, flat_names}
 use Rattle.fut_meaning.specs.Meaning.{plain}
 use Rattle.fut_meaning.specs.Outcomes.{Out, Val, Fail, Wrong}
 use Rattle.fut_meaning.specs.Sames.{Same_out, same_value, same_report, same_wrong, Right, right}
@@ -25,7 +25,7 @@ use Rattle.fut_blocks.specs.Meaning.{Component}
 use Rattle.fut_blocks.specs.Programs.{Program_means, AreOf}
 use Rattle.module_elab.specs.Elaborated.{definition_of, program_of}
 use Rattle.std.specs.Prelude.{Ok}
-use Rattle.module_scopes.specs.Programs.{FlatDefinition, resolve_program}
+use Rattle.module_scopes.specs.Programs.{resolve_program}
 use Rattle.module_meaning.specs.Sourced.{No_sizes as None_sized, named_values}
 use Rattle.module_meaning.specs.Sizeless.{Sizeless, All_sizeless, Turns_sizeless, Definitions_sizeless}
 use Rattle.module_meaning.proofs.Programs.{same_results, same_reports}

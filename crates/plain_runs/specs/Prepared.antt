@@ -1,5 +1,5 @@
 -- What is known of a program that is ready to be run, and why there is none.
-use Rattle.std.specs.Prelude.{ℕ, List, length, Ok, Err}
+use Rattle.std.specs.Prelude.{List, length, Ok, Err}
 use Rattle.fut_scalar.specs.declared.place.BindId.{BindId}
 use Rattle.fut_scalar.specs.declared.scalar.IntType.{IntType}
 use Rattle.fut_scalar.specs.declared.scalar.ScalarType.{ScalarType}

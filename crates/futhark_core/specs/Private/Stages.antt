@@ -1,6 +1,5 @@
 -- What each stage of a run answers.
-use Rattle.std.specs.Prelude.{◌≡◌, ◌⊎◌, ◌∷◌, [], ℕ, List, length, All, Ok}
-use Rattle.fut_scalar.specs.Integers.{FitsType}
+use Rattle.std.specs.Prelude.{◌≡◌, ◌⊎◌, ℕ, List}
 use Rattle.fut_scalar.specs.declared.report.FailKind.{FailKind}
 use Rattle.fut_scalar.specs.declared.report.FailKind.TheVariants as fail
 use Rattle.fut_scalar.specs.declared.report.Report.{Report}
@@ -11,7 +10,7 @@ use Rattle.fut_io.specs.Outside.{LoaderSeen, Loaded}
 use Rattle.fut_lexer.specs.Lexing.{HasTokens}
 use Rattle.fut_meaning.specs.Outcomes.{Val, Fail}
 use Rattle.fut_blocks.specs.declared.block.Program.{Program}
-use Rattle.fut_blocks.specs.Programs.{Program_means, NeverWrong, Rising, AreOf}
+use Rattle.fut_blocks.specs.Programs.{Program_means, NeverWrong, AreOf}
 use Rattle.fut_eval.specs.declared.program.EvalErr.{EvalErr}
 use Rattle.fut_eval.specs.declared.program.EvalErr.TheVariants as eval
 use Rattle.front.specs.Acceptance.{named_file}
