@@ -1,4 +1,4 @@
--- The walk of a typed program is never lost.
+-- The walk of a typed program is never lost, and unfolding it never stuck.
 use Rattle.std.proofs.Common.{◌≡◌, List, [], ◌∷◌, Bool, length, refl, sym, subst, arith}
 use Rattle.fut_scalar.specs.declared.place.BindId.{BindId}
 use Rattle.fut_scalar.specs.declared.scalar.IntType.{IntType}
@@ -9,6 +9,8 @@ use Rattle.fut_meaning.specs.Comes.{Program_lost}
 use Rattle.fut_meaning.specs.Flats.{flat_tops, named_terms}
 use Rattle.type_infer.specs.Inferring.{Told_by}
 use Rattle.type_scopes.specs.declared.Inference.{Inference}
+use Rattle.typed_blocks.specs.Shaped.{All_of_shapes, none_of_shapes, more_of_shapes, scalar_of_shape}
+use Rattle.typed_blocks.proofs.Unstuck.{unfolding_never_stuck}
 use Rattle.typed_meaning.proofs.Unlost.{walks_never_lost}
 use Rattle.fut_types.specs.declared.Kind.TheVariants as kind
 use Rattle.fut_typing.specs.Scopes.{nothing}
@@ -16,8 +18,10 @@ use Rattle.fut_typing.specs.Patterns.{arrows}
 use Rattle.fut_typing.specs.Program.{program_of as typing_of}
 use Rattle.fut_typing.specs.Exact.{scope_behind}
 use Rattle.typed_programs.specs.Entries.{scalar_tys}
+use Rattle.unfold.specs.Stuck.{Program_stuck}
+use Rattle.unfold_program.specs.Whole.{scalars}
 use Rattle.plain_runs.specs.Claims.{Is_usable}
-use Rattle.typed_programs.specs.Typed.{Typed_by}
+use Rattle.typed_programs.specs.Typed.{Typed_by, integer_at}
 
 count_is : (ss : List ScalarType) → count (scalar_tys ss) ≡ length ss
 unfolding scalar_tys
@@ -33,3 +37,19 @@ never_lost flat inference integers entry params tuple results told usable lost =
     walks_never_lost N told.some.1.names known.kinds known.types flat known.walkable entry (scalar_tys params) used.0
     (subst (λ z. (scope_behind N kind.Data (typing_of flat) 0 nothing).uses z known.kinds known.types (arrows (scalar_tys params) used.0)) usable.is used.2) (usable.usable.takes_data known.kinds) (usable.usable.gives_data known.kinds used.0 used.1)
     (subst (λ n. Program_lost entry.0 n (flat_tops 0 (named_terms flat))) (sym (count_is params)) lost)
+
+-- scalars are of the shape of scalars
+scalars_are : (ss : List ScalarType) → All_of_shapes (scalar_tys ss) (scalars (length ss))
+unfolding scalar_tys
+scalars_are [] = none_of_shapes
+scalars_are (s ∷ ss) = more_of_shapes scalar_of_shape (scalars_are ss)
+
+pub never_stuck : (flat : Flat) (inference : Inference) (integers : List IntType) (entry : BindId) (params : List ScalarType) (tuple : Bool) (results : List ScalarType) → Told_by (Typed_by flat inference integers) inference → Is_usable flat inference entry params tuple results
+    → Program_stuck (integer_at integers) (flat_tops 0 (named_terms flat)) entry.0 (scalars (length params)) → ⊥
+never_stuck flat inference integers entry params tuple results told usable stuck =
+    let N = told.some.0 in
+    let known = told.holds N told.some.1 in
+    let used = usable.usable.uses usable.definition N known.kinds known.types known.typed.typed known.comes in
+    unfolding_never_stuck N told.some.1.names known.kinds known.types (integer_at integers) flat known.typed entry (scalar_tys params) used.0
+    (subst (λ z. (scope_behind N kind.Data (typing_of flat) 0 nothing).uses z known.kinds known.types (arrows (scalar_tys params) used.0)) usable.is used.2) (usable.usable.gives_data known.kinds used.0 used.1)
+    (scalars (length params)) (scalars_are params) stuck

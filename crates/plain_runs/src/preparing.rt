@@ -5,6 +5,9 @@ ghost use Rattle.fut_meaning.specs.Comes.{Program_lost};
 ghost use Rattle.fut_meaning.specs.Flats.{flat_tops, named_terms};
 ghost use Rattle.fut_meaning.specs.Measures.{Measures};
 ghost use Rattle.front_types.specs.Known.{Is_known};
+ghost use Rattle.typed_programs.specs.Typed.{integer_at};
+ghost use Rattle.unfold.specs.Stuck.{Program_stuck};
+ghost use Rattle.unfold_program.specs.Whole.{scalars};
 ghost use Rattle.plain_runs.specs.Claims.{Is_usable};
 ghost use Rattle.plain_runs.specs.Prepared.{Is_blocks, Is_past, Is_prepared};
 ghost use Rattle.plain_runs.specs.declared.preparing.PrepareErr.TheVariants as prepare_err;
@@ -16,7 +19,7 @@ use fut_flat::Flat;
 use fut_meaning::{MeasureErr, Measured};
 use fut_scalar::{BindId, IntType, ScalarType};
 use measure::measure;
-use unfold_program::unfold;
+use unfold_program::{Refusal, unfold};
 
 /// Why a program is not ready to be run.
 #[derive(Clone, Copy, Debug, PartialEq, Eq)]
@@ -24,7 +27,8 @@ pub enum PrepareErr {
     /// With its functions unfolded it has more than 1,048,576 nodes, or more than 1,000 of them inside each other.
     Nodes,
     Depth,
-    /// Memory ran out. It is answered too where a program has no blocks, which no typed program comes to; that is not proved.
+    /// Memory or names for scalars ran out, or one value is more than 1,000 deep or has more than 1,048,576 parts. It is answered
+    /// too where unfolding goes deeper than 1,000, which no program within the limits comes to; that is not proved.
     Memory,
 }
 
@@ -59,6 +63,7 @@ fn blocks<'a>(
     entry: BindId,
     params: &[ScalarType],
 ) -> Result<Program<'a>, PrepareErr>
+    requires unstuck { Program_stuck (integer_at integers.now) (flat_tops 0 (named_terms flat.now)) entry.0 (scalars (length params.now)) → ⊥ }
     ensures ok { IfOk result (Is_blocks flat.now integers.now entry params.now) }
     ensures memory { IfErr result (λ e. e ≡ prepare_err.Memory) }
 {
@@ -70,7 +75,8 @@ fn blocks<'a>(
     };
     match unfold(bump, integers, flat, entry, params) {
         Ok(program) => Ok(program),
-        Err(_) => Err(PrepareErr::Memory),
+        Err(Refusal::Memory) => Err(PrepareErr::Memory),
+        Err(Refusal::Lost) => unreachable!(),
     }
 }
 

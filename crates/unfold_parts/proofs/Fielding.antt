@@ -1,5 +1,5 @@
 -- The fields of records, one after the other.
-use Rattle.std.proofs.Common.{◌≡◌, ℕ, ◌+◌, ◌<◌, ◌≤◌, ◌++◌, List, [], ◌∷◌, map, length, get_or, drop, take, Option, Some, None, Bool, true, false, cond, refl, sym, ap, ◌∙◌, append-nil, arith}
+use Rattle.std.proofs.Common.{◌≡◌, ℕ, suc, Ok, Err, ◌+◌, ◌<◌, ◌≤◌, ◌++◌, List, [], ◌∷◌, map, length, get_or, drop, take, Option, Some, None, Bool, true, false, cond, refl, sym, ap, ◌∙◌, append-nil, arith}
 use Rattle.std.specs.Borrow.{Bor}
 use Rattle.std.specs.Str.{bytes_eq}
 use Rattle.std.proofs.lemmas.List.{drop_all, map-append, length-map}
@@ -13,7 +13,9 @@ use Rattle.unfold.specs.Knowns.{Known, Record_known, Known_fields, no_known_fiel
 use Rattle.unfold.specs.declared.known.Field.{Field}
 use Rattle.unfold.specs.declared.known.Known.{Known as Held_known}
 use Rattle.unfold.specs.declared.known.KnownForm.TheVariants as form
-use Rattle.unfold_parts.specs.Parts.{Is_record, is_record}
+use Rattle.unfold_parts.specs.Parts.{is_record, Recorded_to, recorded_to, not_recorded}
+use Rattle.unfold_parts.specs.Refused.{lost}
+use Rattle.unfold_parts.specs.declared.refusal.Refusal.TheVariants.{Lost}
 use Rattle.unfold_parts.proofs.Lists.{one_more, take_more}
 
 abbrev pub pair_of : Field → Text × Known
@@ -157,7 +159,17 @@ named_are [] (s ∷ ss) e = absurd (omega (arith, e))
 named_are (f ∷ fs) [] e = absurd (omega (arith, e))
 named_are (f ∷ fs) (s ∷ ss) e = ap (with_name f s) (named_are fs ss (omega (arith, e)))
 
+named_many : (names : List Text) (ss : List Known) → (length names ≡ length ss → ⊥) → named_values names ss ≡ None
+named_many [] [] h = absurd (h refl)
+named_many [] (s ∷ ss) h = refl
+named_many (f ∷ fs) [] h = refl
+named_many (f ∷ fs) (s ∷ ss) h = ap (with_name f s) (named_many fs ss (λ e. h (ap suc e)))
+
 module _ (names : List (Bor Text)) (parts : List Held_known) where
+  -- there are not as many values as names
+  pub recorded_many : (length names ≡ length parts → ⊥) → Recorded_to (texts names) (map known_of parts) (Err Lost)
+  recorded_many h = not_recorded (lost (named_many (texts names) (map known_of parts) (λ e. h (sym (length-map names (λ (x : Bor Text). x.now)) ∙ e ∙ length-map parts known_of))))
+
   abbrev pub Recorded : List Field → ℕ → Type 0
   Recorded made i = fields_known (map field_of made) ≡ fields (paired (texts (drop i names)) (map known_of (drop i parts)))
 
@@ -181,5 +193,5 @@ module _ (names : List (Bor Text)) (parts : List Held_known) where
       ∙ ap (λ z. fields (paired (texts z) (map known_of (get_or parts i d ∷ drop (i + 1) parts)))) (sym (one_more names i n lt))
       ∙ ap (λ z. fields (paired (texts (drop i names)) (map known_of z))) (sym (one_more parts i d lt'))
 
-  pub recorded_end : (made : List Field) (j : ℕ) (row : Bor (List Field)) (s : Held_known) → length names ≡ length parts → j ≡ 0 → Recorded made j → row.now ≡ made → s.form ≡ form.Record row → Is_record (texts names) (map known_of parts) (known_of s)
-  recorded_end made j row s e ej r q i = is_record (named_are (texts names) (map known_of parts) (length-map names (λ (x : Bor Text). x.now) ∙ e ∙ sym (length-map parts known_of))) (known_record s row i ∙ ap (λ z. Record_known (fields_known (map field_of z))) q ∙ ap Record_known (r ∙ ap (λ z. fields (paired (texts (drop z names)) (map known_of (drop z parts)))) ej))
+  pub recorded_end : (made : List Field) (j : ℕ) (row : Bor (List Field)) (s : Held_known) → length names ≡ length parts → j ≡ 0 → Recorded made j → row.now ≡ made → s.form ≡ form.Record row → Recorded_to (texts names) (map known_of parts) (Ok s)
+  recorded_end made j row s e ej r q i = recorded_to (is_record (named_are (texts names) (map known_of parts) (length-map names (λ (x : Bor Text). x.now) ∙ e ∙ sym (length-map parts known_of))) (known_record s row i ∙ ap (λ z. Record_known (fields_known (map field_of z))) q ∙ ap Record_known (r ∙ ap (λ z. fields (paired (texts (drop z names)) (map known_of (drop z parts)))) ej)))

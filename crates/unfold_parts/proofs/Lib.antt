@@ -1,5 +1,10 @@
 pub mod Lists
 pub mod Finding
+pub mod Refusing
+pub mod Lacking
+pub mod Forms
+pub mod Shapeless
+pub mod Operands
 pub mod Tabling
 pub mod Using
 pub mod Stepping

@@ -1,5 +1,5 @@
 -- New names for the components of data, one behind the other.
-use Rattle.std.proofs.Common.{◌≡◌, ℕ, zero, suc, ◌+◌, ◌-◌, ◌<◌, ◌≤◌, ◌++◌, List, [], ◌∷◌, map, length, get_or, drop, Ok, sym, ap, ◌∙◌, subst, append_assoc, append-nil, arith}
+use Rattle.std.proofs.Common.{◌≡◌, ℕ, zero, suc, ◌+◌, ◌-◌, ◌<◌, ◌≤◌, ◌++◌, List, [], ◌∷◌, map, length, get_or, drop, Ok, Err, sym, ap, ◌∙◌, subst, append_assoc, append-nil, arith}
 use Rattle.std.specs.Borrow.{Bor}
 use Rattle.std.specs.Prelude.{IfOk, Result}
 use Rattle.std.proofs.lemmas.List.{drop_all, map-append}
@@ -10,16 +10,20 @@ use Rattle.fut_blocks.specs.declared.block.Atom.TheVariants as atom
 use Rattle.unfold.proofs.Mirror.{known_scalar, known_tuple, known_record, field_is}
 use Rattle.unfold.specs.Held.{known_of, field_of, fields_known}
 use Rattle.unfold.specs.Knowns.{Known, knowns}
-use Rattle.unfold.specs.Shapes.{Shape, Scalar_shape, Tuple_shape, Record_shape, Laid, laid_scalar, laid_tuple, laid_record, All_laid, laid_none, laid_more, Fields_laid, laid_no_field, laid_field}
+use Rattle.unfold.specs.Shapes.{Scalar_shape, Tuple_shape, Record_shape, Laid, laid_scalar, laid_tuple, laid_record, All_laid, laid_none, laid_more, Fields_laid, laid_no_field, laid_field}
 use Rattle.unfold.specs.Unfolding.{names}
 use Rattle.unfold.specs.declared.known.Field.{Field}
 use Rattle.unfold.specs.declared.known.Known.{Known as Held_known}
 use Rattle.unfold.specs.declared.known.KnownForm.TheVariants as form
-use Rattle.unfold_parts.specs.Layouts.{shape_of, shapes_of, field_shapes_of, numbers_from, Has_names, has_names, Renewed, renewed}
+use Rattle.unfold_parts.specs.Layouts.{shape_of, shapes_of, field_shapes_of, numbers_from, Has_names, has_names, Renewed, renewed, not_renewed}
+use Rattle.unfold_parts.specs.Refused.{Refused}
 use Rattle.unfold_parts.specs.declared.fresh.Fresh.{Fresh}
 use Rattle.unfold_parts.specs.declared.fresh.Renamed.{Renamed}
 use Rattle.unfold_parts.specs.declared.refusal.Refusal.{Refusal}
+use Rattle.unfold_parts.proofs.Lacking.{Not_laid_out, Not_all_laid, Not_fields_laid, parts_unlaid, fields_unlaid}
 use Rattle.unfold_parts.proofs.Lists.{one_more}
+use Rattle.unfold_parts.proofs.Refusing.{refused_as}
+use Rattle.unfold_parts.proofs.Shapeless.{no_data, not_laid, part_unlaid, field_unlaid}
 
 -- ---- numbers
 
@@ -38,13 +42,16 @@ upward : (n k : ℕ) → Upward n (numbers_from n k) (n + k)
 upward n zero = omega arith
 upward n (suc k) = let e : suc n + k ≡ n + suc k = omega arith in (omega arith, subst (Upward (suc n) (numbers_from (suc n) k)) e (upward (suc n) k))
 
-pub renewed_ok : (h : Shape) (n next : ℕ) (r : Fresh) → Has_names (Laid h (known_of r.known)) n next → r.names.now ≡ numbers_from n (next - n) → Renewed h n next (Ok r)
+pub renewed_ok : (h : Known) (n next : ℕ) (r : Fresh) → Has_names (Laid (shape_of h) (known_of r.known)) n next → r.names.now ≡ numbers_from n (next - n) → Renewed h n next (Ok r)
 renewed_ok h n next r (has_names k e f) q =
     let i : next - n ≡ k = omega (arith, e) in
     let all : r.names.now ≡ numbers_from n k = q ∙ ap (numbers_from n) i in
     renewed
     (subst (λ z. Upward n z next) (sym all) (subst (Upward n (numbers_from n k)) (sym e) (upward n k)))
-    (subst (λ z. Laid h (known_of r.known) (names z) []) (sym all) (subst (λ z. Laid h (known_of r.known) z []) (append-nil (names (numbers_from n k))) (f [])))
+    (subst (λ z. Laid (shape_of h) (known_of r.known) (names z) []) (sym all) (subst (λ z. Laid (shape_of h) (known_of r.known) z []) (append-nil (names (numbers_from n k))) (f [])))
+
+pub renewed_err : (s : Known) (n next : ℕ) (r : Refusal) → Refused (Not_laid_out (shape_of s) s) r → Renewed s n next (Err r)
+renewed_err s n next r h = not_renewed (refused_as (λ lacks. no_data s (not_laid (shape_of s) s lacks)) h)
 
 -- ---- by form
 
@@ -63,6 +70,26 @@ module _ (like s : Held_known) (n next : ℕ) where
   pub record_named : (likes fields : Bor (List Field)) → like.form ≡ form.Record likes → s.form ≡ form.Record fields → Has_names (Fields_laid (field_shapes_of (fields_known (map field_of likes.now))) (fields_known (map field_of fields.now))) n next → Has_names (Laid (shape_of (known_of like)) (known_of s)) n next
   unfolding shape_of
   record_named likes fields i j (has_names k e f) = has_names k e (λ rest. subst (λ z. Laid (shape_of z) (known_of s) (names (numbers_from n k) ++ rest) rest) (sym (known_record like likes i)) (subst (λ z. Laid (Record_shape (field_shapes_of (fields_known (map field_of likes.now)))) z (names (numbers_from n k) ++ rest) rest) (sym (known_record s fields j)) (laid_record (f rest))))
+
+-- ---- what has no components
+
+module _ (like : Held_known) where
+  abbrev pub Shapeless : Refusal → Type 0
+  Shapeless = Refused (Not_laid_out (shape_of (known_of like)) (known_of like))
+
+  pub tuple_unnamed : (likes : Bor (List Held_known)) (r : Refusal) → like.form ≡ form.Tuple likes → Refused (Not_all_laid (shapes_of (knowns (map known_of likes.now))) (knowns (map known_of likes.now))) r → Shapeless r
+  unfolding shape_of
+  tuple_unnamed likes r i h = refused_as (λ lacks. subst (λ z. Not_laid_out (shape_of z) z) (sym (known_tuple like likes i)) (parts_unlaid (shapes_of (knowns (map known_of likes.now))) (knowns (map known_of likes.now)) lacks)) h
+
+  pub record_unnamed : (likes : Bor (List Field)) (r : Refusal) → like.form ≡ form.Record likes → Refused (Not_fields_laid (field_shapes_of (fields_known (map field_of likes.now))) (fields_known (map field_of likes.now))) r → Shapeless r
+  unfolding shape_of
+  record_unnamed likes r i h = refused_as (λ lacks. subst (λ z. Not_laid_out (shape_of z) z) (sym (known_record like likes i)) (fields_unlaid (field_shapes_of (fields_known (map field_of likes.now))) (fields_known (map field_of likes.now)) lacks)) h
+
+pub all_unnamed : (likes : List Held_known) (i : ℕ) (d : Held_known) (r : Refusal) → i < length likes → Shapeless (get_or likes i d) r → Refused (Not_all_laid (shapes_of (knowns (map known_of likes))) (knowns (map known_of likes))) r
+all_unnamed likes i d r lt h = refused_as (part_unlaid likes likes i d d lt lt) h
+
+pub fields_unnamed : (likes : List Field) (i : ℕ) (d : Field) (r : Refusal) → i < length likes → Shapeless (get_or likes i d).known r → Refused (Not_fields_laid (field_shapes_of (fields_known (map field_of likes))) (fields_known (map field_of likes))) r
+fields_unnamed likes i d r lt h = refused_as (field_unlaid likes likes i d d lt lt) h
 
 -- ---- parts, one after the other
 

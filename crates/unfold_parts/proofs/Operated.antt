@@ -1,7 +1,7 @@
 -- Operations, each by its form.
-use Rattle.std.proofs.Common.{◌≡◌, ℕ, suc, ◌+◌, ◌*◌, ◌<◌, ◌^◌, ◌%◌, ◌++◌, List, [], ◌∷◌, map, length, get_or, Bool, nat_lt, Option, Some, Ok, Err, pos, refl, sym, ap, ◌∙◌, subst, append_assoc, append-nil, le_refl, lt-ltb, le-ltb, arith}
+use Rattle.std.proofs.Common.{◌≡◌, ℕ, suc, ◌+◌, ◌*◌, ◌<◌, ◌^◌, ◌%◌, ◌++◌, List, [], ◌∷◌, map, length, get_or, Bool, nat_lt, Option, Some, None, Ok, Err, pos, refl, sym, ap, ◌∙◌, subst, append_assoc, append-nil, le_refl, lt-ltb, le-ltb, arith}
 use Rattle.std.specs.Borrow.{Bor}
-use Rattle.std.specs.Prelude.{IfOk, Result, unsigned_abs}
+use Rattle.std.specs.Prelude.{Result, unsigned_abs}
 use Rattle.std.specs.Int.{int_rem_euclid}
 use Rattle.std.proofs.Math.IntN.{pos-+ℤ-pos}
 use Rattle.std.proofs.lemmas.Int.{int_rem_euclid_is}
@@ -18,6 +18,8 @@ use Rattle.fut_scalar.specs.declared.scalar.IntType.{IntType}
 use Rattle.fut_scalar.specs.declared.scalar.Scalar.TheVariants as scalar
 use Rattle.fut_scalar.specs.declared.scalar.ScalarType.{ScalarType}
 use Rattle.fut_ast.specs.Sorts.{Text}
+use Rattle.fut_ast.specs.declared.node.End.{End}
+use Rattle.fut_flat.specs.declared.act.Part.{Part}
 use Rattle.fut_flat.specs.declared.act.Act.{Act}
 use Rattle.fut_flat.specs.declared.act.Act.TheVariants as flat
 use Rattle.fut_flat.specs.declared.prim.Primitive.{Primitive}
@@ -25,7 +27,7 @@ use Rattle.fut_flat.specs.declared.prim.Primitive.TheVariants as prim
 use Rattle.fut_flat.specs.declared.prim.Ref.{Ref}
 use Rattle.fut_flat.specs.declared.ty.TypeExp.{TypeExp}
 use Rattle.fut_flat.specs.Erased.{operation_of, texts, type_of}
-use Rattle.fut_flat.specs.Terms.{Operation, Integer, Truth, Tuple_of, Record_of, Binary, Negate, Complement, Project, Replace, Ascribe, Coerce, Declared, Assert}
+use Rattle.fut_flat.specs.Terms.{Operation, Integer, Truth, Tuple_of, Record_of, Binary, Negate, Complement, Project, Replace, Ascribe, Coerce, Declared, Assert, Array_of, Index, Update, Range}
 use Rattle.fut_blocks.proofs.Layers.{binding_of-made, action_of-Operate}
 use Rattle.fut_blocks.specs.declared.block.Act.TheVariants as act
 use Rattle.fut_blocks.specs.declared.block.Atom.{Atom}
@@ -38,52 +40,68 @@ use Rattle.fut_meaning.specs.Operations.{arity}
 use Rattle.fut_meaning.specs.Operators.{integer}
 use Rattle.unfold.proofs.Mirror.{known_scalar, known_tuple, known_record, known_primitive}
 use Rattle.unfold.specs.Held.{known_of, field_of, fields_known}
-use Rattle.unfold.specs.Knowns.{Known, Scalar_known, Record_known, Primitive_known, listed, knowns, replaced, part}
+use Rattle.unfold.specs.Knowns.{Known, Scalar_known, Record_known, Primitive_known, Knowns, listed, knowns, replaced, part}
+use Rattle.unfold.specs.Stuck.{No_operation, No_primitive, Stuck_run, no_primitive}
 use Rattle.unfold.specs.Unfolding.{Bindings, step, named, literal_type, Equals, Operates, o_integer, o_truth, o_tuple, o_record, o_binary, o_equal, o_unequal, o_negate, o_complement, o_project, o_replace, o_ascribe, o_coerce, o_declared, o_assert, Primitive_operates, p_convert, p_min, p_max, p_abs, p_popc, Applies, a_primitive_waits, a_primitive}
 use Rattle.unfold.specs.declared.known.Field.{Field}
 use Rattle.unfold.specs.declared.known.Known.{Known as Held_known}
 use Rattle.unfold.specs.declared.known.KnownForm.TheVariants as form
-use Rattle.unfold_parts.specs.Answers.{Answered, answered, unanswered, Pushed, pushed, Computed, computed, Is_step, is_step, On_one, on_one, On_two, on_two, At_once, Operated, Operated_primitive, Applied_primitive, Equal_to}
-use Rattle.unfold_parts.specs.Parts.{Is_one, one, Is_scalar, a_scalar, Is_one_scalar, one_scalar, Is_two_scalars, two_scalars, Is_record, is_record}
+use Rattle.unfold_parts.specs.Answers.{Answered, answered, unanswered, Pushed, pushed, not_pushed, Computed, computed, not_computed, Is_step, is_step, On_one, on_one, On_two, on_two, At_once, at_once, not_at_once, Operated, Operated_primitive, Applied_primitive, Equal_to}
+use Rattle.unfold_parts.specs.Parts.{Not_one, Not_one_scalar, Not_two_scalars, Is_one, one, not_one, Is_scalar, a_scalar, no_scalar, Is_one_scalar, one_scalar, not_one_scalar, Is_two_scalars, two_scalars, not_two_scalars, One_to, one_to, not_one_to, is_record, Recorded_to, recorded_to, not_recorded}
+use Rattle.unfold_parts.specs.Refused.{lost, no_memory}
 use Rattle.unfold_parts.specs.declared.parts.Scalars.{Scalars}
 use Rattle.unfold_parts.proofs.Parting.{two_are}
 use Rattle.unfold_parts.specs.declared.refusal.Refusal.{Refusal}
+use Rattle.unfold_parts.specs.declared.refusal.Refusal.TheVariants.{Lost, Memory}
+use Rattle.unfold_parts.proofs.Lacking.{No_record}
+use Rattle.unfold_parts.proofs.Operands.{integer_lacks, truth_lacks, record_lacks, project_lacks, project_one, replace_two, replace_lacks, negate_lacks, complement_lacks, ascribe_lacks, coerce_lacks, declared_lacks, assert_two, assert_lacks, array_lacks, index_lacks, update_lacks, range_lacks, two_lack, binary_lacks, equal_lacks, unequal_lacks, convert_lacks, min_lacks, max_lacks, abs_lacks, popc_lacks, other_lacks}
+use Rattle.unfold_parts.proofs.Refusing.{refused_as, only_memory}
 
 -- ---- answers
 
-pub unanswered_is : {A : Type 0} (Gives : Bindings → A → ℕ → Type 0) (before after : Bindings) (next : ℕ) (r : Refusal) → Answered Gives before after next (Err r)
-unanswered_is Gives before after next r = unanswered
+-- what gives one thing gives another, and what lacks the one lacks the other
+pub answered_as : {A : Type 0} {P Q : Bindings → A → ℕ → Type 0} {C D : Type 0} {before after : Bindings} {next : ℕ} {r : Result A Refusal} → ((bs : Bindings) (a : A) (n : ℕ) → P bs a n → Q bs a n) → (C → D) → Answered P C before after next r → Answered Q D before after next r
+answered_as f g (answered bs e h) = answered bs e (f bs _ _ h)
+answered_as f g (unanswered h) = unanswered (refused_as g h)
 
--- what gives one thing gives another
-pub answered_as : {A : Type 0} {P Q : Bindings → A → ℕ → Type 0} {before after : Bindings} {next : ℕ} {r : Result A Refusal} → ((bs : Bindings) (a : A) (n : ℕ) → P bs a n → Q bs a n) → Answered P before after next r → Answered Q before after next r
-answered_as f (answered bs e h) = answered bs e (f bs _ _ h)
-answered_as f unanswered = unanswered
-
-no_steps : {A : Type 0} (Gives : Bindings → A → ℕ → Type 0) (before : Bindings) (n : ℕ) (a : A) → Gives [] a n → Answered Gives before before n (Ok a)
-no_steps Gives before n a h = answered [] (sym (append-nil before)) h
+no_steps : {A : Type 0} (Gives : Bindings → A → ℕ → Type 0) (Lacks : Type 0) (before : Bindings) (n : ℕ) (a : A) → Gives [] a n → Answered Gives Lacks before before n (Ok a)
+no_steps Gives Lacks before n a h = answered [] (sym (append-nil before)) h
 
 -- an answer without steps
 at_once_is : (t : IntType) (o : Operation Ref BindId) (at : Place) (ss : List Known) (n : ℕ) (before : Bindings) (r : Result Held_known Refusal) → At_once t o ss r → Operated t o at ss n before before n r
-at_once_is t o at ss n before (Ok s) h = no_steps (λ bs (s : Held_known) next. Operates t o at ss n bs (known_of s) next) before n s (h at n)
-at_once_is t o at ss n before (Err r) h = unanswered
+at_once_is t o at ss n before (Ok s) (at_once h) = no_steps (λ bs (s : Held_known) next. Operates t o at ss n bs (known_of s) next) (No_operation t o at ss) before n s (h at n)
+at_once_is t o at ss n before (Err r) (not_at_once h) = unanswered (refused_as (λ lacks. lacks at) h)
 
 -- ---- single steps
 
-pub computed_known : (a : Action) (n next : ℕ) (before after : Bindings) (u : Atom) (s : Held_known) → Computed a n before after next (Ok u) → s.form ≡ form.Scalar u → Answered (λ bs (s : Held_known) next. Is_step a n bs (known_of s) next) before after next (Ok s)
+pub computed_known : (a : Action) (n next : ℕ) (before after : Bindings) (u : Atom) (s : Held_known) → Computed a n before after next (Ok u) → s.form ≡ form.Scalar u → Answered (λ bs (s : Held_known) next. Is_step a n bs (known_of s) next) ⊥ before after next (Ok s)
 computed_known a n next before after _ s (computed e q) i = answered (step (n ∷ []) a) e (subst (λ z. Is_step a n (step (n ∷ []) a) (known_of s) z) (sym q) (subst (λ z. Is_step a n (step (n ∷ []) a) z (suc n)) (sym (known_scalar s (atom.Name n) i)) is_step))
+
+pub computed_err : (a : Action) (n next : ℕ) (before after : Bindings) (x : Refusal) → Computed a n before after next (Err x) → Answered (λ bs (s : Held_known) next. Is_step a n bs (known_of s) next) ⊥ before after next (Err x)
+computed_err a n next before after _ not_computed = unanswered no_memory
+
+module _ (ss : List Known) (n next : ℕ) (before after : Bindings) where
+  pub unary_none : (op : UnOp) → Is_one_scalar ss None → Answered (λ bs (s : Held_known) next. On_one op ss n bs (known_of s) next) (Not_one_scalar ss) before after next (Err Lost)
+  unary_none op (not_one_scalar lacks) = unanswered (lost lacks)
+
+  pub binary_none : (op : BinOp) (at : Place) → Is_two_scalars ss None → Answered (λ bs (s : Held_known) next. On_two op at ss n bs (known_of s) next) (Not_two_scalars ss) before after next (Err Lost)
+  binary_none op at (not_two_scalars lacks) = unanswered (lost lacks)
+
+  pub convert_none : (to from : ScalarType) (at : Place) → Is_one_scalar ss None → Operated_primitive (prim.Convert to from) at ss n before after next (Err Lost)
+  convert_none to from at (not_one_scalar lacks) = unanswered (lost (convert_lacks at to from ss lacks))
 
 module _ (ss : List Known) (n next : ℕ) (before after : Bindings) (r : Result Held_known Refusal) where
   abbrev pub Steps : Action → Type 0
-  Steps a = Answered (λ bs (s : Held_known) next. Is_step a n bs (known_of s) next) before after next r
+  Steps a = Answered (λ bs (s : Held_known) next. Is_step a n bs (known_of s) next) ⊥ before after next r
 
-  pub unary_ok : (op : UnOp) (u : Atom) → Is_one_scalar ss (Some u) → Steps (Operate (operation.Unary op u)) → Answered (λ bs (s : Held_known) next. On_one op ss n bs (known_of s) next) before after next r
-  unary_ok op u (one_scalar e) h = answered_as (λ bs s m x. on_one e x) h
+  pub unary_ok : (op : UnOp) (u : Atom) → Is_one_scalar ss (Some u) → Steps (Operate (operation.Unary op u)) → Answered (λ bs (s : Held_known) next. On_one op ss n bs (known_of s) next) (Not_one_scalar ss) before after next r
+  unary_ok op u (one_scalar e) h = answered_as (λ bs s m x. on_one e x) (λ never. absurd never) h
 
-  pub binary_ok : (op : BinOp) (at : Place) (p : Scalars) → Is_two_scalars ss (Some p) → Steps (Operate (operation.Binary op at p.first p.second)) → Answered (λ bs (s : Held_known) next. On_two op at ss n bs (known_of s) next) before after next r
-  binary_ok op at p (two_scalars e) h = answered_as (λ bs s m x. on_two e x) h
+  pub binary_ok : (op : BinOp) (at : Place) (p : Scalars) → Is_two_scalars ss (Some p) → Steps (Operate (operation.Binary op at p.first p.second)) → Answered (λ bs (s : Held_known) next. On_two op at ss n bs (known_of s) next) (Not_two_scalars ss) before after next r
+  binary_ok op at p (two_scalars e) h = answered_as (λ bs s m x. on_two e x) (λ never. absurd never) h
 
   pub convert_ok : (to from : ScalarType) (at : Place) (u : Atom) → Is_one_scalar ss (Some u) → Steps (Operate (operation.Convert to u)) → Operated_primitive (prim.Convert to from) at ss n before after next r
-  convert_ok to from at u (one_scalar e) h = answered_as (λ bs s m x. by_step bs (known_of s) m e x) h
+  convert_ok to from at u (one_scalar e) h = answered_as (λ bs s m x. by_step bs (known_of s) m e x) (λ never. absurd never) h
     where
       by_step : (bs : Bindings) (s : Known) (m : ℕ) → ss ≡ Scalar_known u ∷ [] → Is_step (Operate (operation.Convert to u)) n bs s m → Primitive_operates (prim.Convert to from) at ss n bs s m
       by_step _ _ _ e is_step = subst (λ z. Primitive_operates (prim.Convert to from) at z n (step (n ∷ []) (Operate (operation.Convert to u))) (named n) (suc n)) (sym e) (p_convert (le_refl n))
@@ -98,31 +116,31 @@ on_two_as Q op at q ss n _ _ _ (on_two {u} {w} e is_step) = subst (λ z. Q z n (
 
 module _ (ss : List Known) (n next : ℕ) (before after : Bindings) (r : Result Held_known Refusal) where
   abbrev pub One : UnOp → Type 0
-  One op = Answered (λ bs (s : Held_known) next. On_one op ss n bs (known_of s) next) before after next r
+  One op = Answered (λ bs (s : Held_known) next. On_one op ss n bs (known_of s) next) (Not_one_scalar ss) before after next r
 
   abbrev pub Two : BinOp → Place → Type 0
-  Two op at = Answered (λ bs (s : Held_known) next. On_two op at ss n bs (known_of s) next) before after next r
+  Two op at = Answered (λ bs (s : Held_known) next. On_two op at ss n bs (known_of s) next) (Not_two_scalars ss) before after next r
 
   pub negated : (t : IntType) (at : Place) → One unary.Neg → Operated t Negate at ss n before after next r
-  negated t at h = answered_as (λ bs s m x. on_one_as (Operates t Negate at) unary.Neg (λ u k. o_negate (le_refl k)) ss n bs (known_of s) m x) h
+  negated t at h = answered_as (λ bs s m x. on_one_as (Operates t Negate at) unary.Neg (λ u k. o_negate (le_refl k)) ss n bs (known_of s) m x) (negate_lacks t at ss) h
 
   pub complemented : (t : IntType) (at : Place) → One unary.Not → Operated t Complement at ss n before after next r
-  complemented t at h = answered_as (λ bs s m x. on_one_as (Operates t Complement at) unary.Not (λ u k. o_complement (le_refl k)) ss n bs (known_of s) m x) h
+  complemented t at h = answered_as (λ bs s m x. on_one_as (Operates t Complement at) unary.Not (λ u k. o_complement (le_refl k)) ss n bs (known_of s) m x) (complement_lacks t at ss) h
 
   pub abs_ok : (t : IntType) (at : Place) → One unary.Abs → Operated_primitive (prim.Abs t) at ss n before after next r
-  abs_ok t at h = answered_as (λ bs s m x. on_one_as (Primitive_operates (prim.Abs t) at) unary.Abs (λ u k. p_abs (le_refl k)) ss n bs (known_of s) m x) h
+  abs_ok t at h = answered_as (λ bs s m x. on_one_as (Primitive_operates (prim.Abs t) at) unary.Abs (λ u k. p_abs (le_refl k)) ss n bs (known_of s) m x) (abs_lacks at t ss) h
 
   pub popc_ok : (t : IntType) (at : Place) → One unary.Popc → Operated_primitive (prim.Popc t) at ss n before after next r
-  popc_ok t at h = answered_as (λ bs s m x. on_one_as (Primitive_operates (prim.Popc t) at) unary.Popc (λ u k. p_popc (le_refl k)) ss n bs (known_of s) m x) h
+  popc_ok t at h = answered_as (λ bs s m x. on_one_as (Primitive_operates (prim.Popc t) at) unary.Popc (λ u k. p_popc (le_refl k)) ss n bs (known_of s) m x) (popc_lacks at t ss) h
 
-  pub binary_is : (t : IntType) (op : BinOp) (at : Place) → Two op at → Operated t (Binary op) at ss n before after next r
-  binary_is t op at h = answered_as (λ bs s m x. on_two_as (Operates t (Binary op) at) op at (λ u w k. o_binary (le_refl k)) ss n bs (known_of s) m x) h
+  pub binary_is : (t : IntType) (op : BinOp) (at : Place) → (op ≡ binary.Eq → ⊥) → (op ≡ binary.Ne → ⊥) → Two op at → Operated t (Binary op) at ss n before after next r
+  binary_is t op at e e' h = answered_as (λ bs s m x. on_two_as (Operates t (Binary op) at) op at (λ u w k. o_binary (le_refl k)) ss n bs (known_of s) m x) (binary_lacks t at op ss e e') h
 
   pub min_ok : (t : IntType) (at : Place) → Two binary.Min at → Operated_primitive (prim.Min t) at ss n before after next r
-  min_ok t at h = answered_as (λ bs s m x. on_two_as (Primitive_operates (prim.Min t) at) binary.Min at (λ u w k. p_min (le_refl k)) ss n bs (known_of s) m x) h
+  min_ok t at h = answered_as (λ bs s m x. on_two_as (Primitive_operates (prim.Min t) at) binary.Min at (λ u w k. p_min (le_refl k)) ss n bs (known_of s) m x) (min_lacks at t ss) h
 
   pub max_ok : (t : IntType) (at : Place) → Two binary.Max at → Operated_primitive (prim.Max t) at ss n before after next r
-  max_ok t at h = answered_as (λ bs s m x. on_two_as (Primitive_operates (prim.Max t) at) binary.Max at (λ u w k. p_max (le_refl k)) ss n bs (known_of s) m x) h
+  max_ok t at h = answered_as (λ bs s m x. on_two_as (Primitive_operates (prim.Max t) at) binary.Max at (λ u w k. p_max (le_refl k)) ss n bs (known_of s) m x) (max_lacks at t ss) h
 
 -- ---- equality and assertions
 
@@ -130,17 +148,43 @@ module _ (t : IntType) (at : Place) (ss : List Held_known) (c d : Held_known) (n
   pub equal_ok : (u : Atom) → length ss ≡ 2 → Equal_to at (known_of (get_or ss 0 c)) (known_of (get_or ss 1 d)) n before after next (Ok u) → s.form ≡ form.Scalar u → Operated t (Binary binary.Eq) at (map known_of ss) n before after next (Ok s)
   equal_ok u i2 (answered bs q h) i = answered bs q (subst (λ z. Operates t (Binary binary.Eq) at z n bs (known_of s) next) (sym (two_are ss c d i2)) (subst (λ z. Operates t (Binary binary.Eq) at (known_of (get_or ss 0 c) ∷ known_of (get_or ss 1 d) ∷ []) n bs z next) (sym (known_scalar s u i)) (o_equal h)))
 
-pub unequal_is : (t : IntType) (at : Place) (ss : List Held_known) (c d : Held_known) (n mid next : ℕ) (before between after : Bindings) (u : Atom) (r : Result Held_known Refusal) → length ss ≡ 2 → Equal_to at (known_of (get_or ss 0 c)) (known_of (get_or ss 1 d)) n before between mid (Ok u) → Answered (λ bs (s : Held_known) m. Is_step (Operate (operation.Unary unary.Not u)) mid bs (known_of s) m) between after next r → Operated t (Binary binary.Ne) at (map known_of ss) n before after next r
+module _ (t : IntType) (at : Place) (ss : List Held_known) (c d : Held_known) (n next : ℕ) (before after : Bindings) where
+  pub equal_err : (x : Refusal) → length ss ≡ 2 → Equal_to at (known_of (get_or ss 0 c)) (known_of (get_or ss 1 d)) n before after next (Err x) → Operated t (Binary binary.Eq) at (map known_of ss) n before after next (Err x)
+  equal_err x i2 (unanswered h) = unanswered (refused_as (λ lacks. subst (No_operation t (Binary binary.Eq) at) (sym (two_are ss c d i2)) (equal_lacks t at (known_of (get_or ss 0 c)) (known_of (get_or ss 1 d)) lacks)) h)
+
+  pub unequal_err : (mid : ℕ) (between : Bindings) (x : Refusal) → length ss ≡ 2 → Equal_to at (known_of (get_or ss 0 c)) (known_of (get_or ss 1 d)) n before between mid (Err x) → Operated t (Binary binary.Ne) at (map known_of ss) n before after next (Err x)
+  unequal_err mid between x i2 (unanswered h) = unanswered (refused_as (λ lacks. subst (No_operation t (Binary binary.Ne) at) (sym (two_are ss c d i2)) (unequal_lacks t at (known_of (get_or ss 0 c)) (known_of (get_or ss 1 d)) lacks)) h)
+
+-- another number of parts
+module _ (t : IntType) (at : Place) (ss : List Held_known) (n next : ℕ) (before after : Bindings) (h : length ss ≡ 2 → ⊥) where
+  not_two : length (map known_of ss) ≡ 2 → ⊥
+  not_two e = h (sym (length-map ss known_of) ∙ e)
+
+  pub equal_many : (op : BinOp) → Operated t (Binary op) at (map known_of ss) n before after next (Err Lost)
+  equal_many op = unanswered (lost (two_lack t at op (map known_of ss) not_two))
+
+  pub assert_many : Operated t Assert at (map known_of ss) n before after next (Err Lost)
+  assert_many = unanswered (lost (assert_two t at (map known_of ss) not_two))
+
+pub unequal_is : (t : IntType) (at : Place) (ss : List Held_known) (c d : Held_known) (n mid next : ℕ) (before between after : Bindings) (u : Atom) (r : Result Held_known Refusal) → length ss ≡ 2 → Equal_to at (known_of (get_or ss 0 c)) (known_of (get_or ss 1 d)) n before between mid (Ok u) → Answered (λ bs (s : Held_known) m. Is_step (Operate (operation.Unary unary.Not u)) mid bs (known_of s) m) ⊥ between after next r → Operated t (Binary binary.Ne) at (map known_of ss) n before after next r
 unequal_is t at ss c d n mid next before between after u (Ok s) i2 (answered bs q h) (answered cs k x) = answered (bs ++ cs) (k ∙ ap (λ z. z ++ cs) q ∙ append_assoc before bs cs) (by_step bs cs (known_of s) next h x)
   where
     by_step : (bs cs : Bindings) (s : Known) (m : ℕ) → Equals at (known_of (get_or ss 0 c)) (known_of (get_or ss 1 d)) n bs u mid → Is_step (Operate (operation.Unary unary.Not u)) mid cs s m → Operates t (Binary binary.Ne) at (map known_of ss) n (bs ++ cs) s m
     by_step bs _ _ _ h is_step = subst (λ z. Operates t (Binary binary.Ne) at z n (bs ++ step (mid ∷ []) (Operate (operation.Unary unary.Not u))) (named mid) (suc mid)) (sym (two_are ss c d i2)) (o_unequal h (le_refl mid))
-unequal_is t at ss c d n mid next before between after u (Err e) i2 h unanswered = unanswered
+unequal_is t at ss c d n mid next before between after u (Err e) i2 h (unanswered x) = unanswered (refused_as (λ never. absurd never) x)
 
 pub assert_ok : (t : IntType) (at : Place) (ss : List Held_known) (c d : Held_known) (n : ℕ) (before after : Bindings) (u : Atom) (none : Bor (List ℕ)) (x : Unit {0}) → length ss ≡ 2 → Is_scalar (known_of (get_or ss 0 c)) (Some u) → none.now ≡ [] → Pushed (binding_of (roll-Step record { names = none; act = act.Operate (operation.Assert at u) })) before after (Ok x) → Operated t Assert at (map known_of ss) n before after n (Ok (get_or ss 1 d))
 assert_ok t at ss c d n before after u none x i2 (a_scalar q) k (pushed h) = answered (step [] (Operate (operation.Assert at u))) (h ∙ ap (λ z. before ++ z ∷ []) (binding_of-made (record { names = none; act = act.Operate (operation.Assert at u) }) ∙ ap (λ z. (z, action_of (act.Operate (operation.Assert at u)))) k ∙ ap (λ z. ([], z)) (action_of-Operate (operation.Assert at u)))) (subst (λ z. Operates t Assert at z n (step [] (Operate (operation.Assert at u))) (known_of (get_or ss 1 d)) n) (sym (two_are ss c d i2 ∙ ap (λ z. z ∷ known_of (get_or ss 1 d) ∷ []) q)) o_assert)
 
-pub ruleset stepped = (unanswered_is, binary_is, equal_ok, unequal_is, assert_ok)
+module _ (t : IntType) (at : Place) (ss : List Held_known) (n next : ℕ) (before after : Bindings) where
+  pub assert_none : (c : Held_known) → length ss ≡ 2 → Is_scalar (known_of (get_or ss 0 c)) None → Operated t Assert at (map known_of ss) n before after next (Err Lost)
+  assert_none c i2 (no_scalar lacks) = unanswered (lost (subst (No_operation t Assert at) (sym (two_are ss c c i2)) (assert_lacks t at (known_of (get_or ss 0 c)) (known_of (get_or ss 1 c)) lacks)))
+
+  pub assert_err : {s : List ℕ × Action} {between later : Bindings} (x : Refusal) → Pushed s between later (Err x) → Operated t Assert at (map known_of ss) n before after next (Err x)
+  assert_err _ not_pushed = unanswered no_memory
+
+pub binary_as : (t : IntType) (op o : BinOp) (at : Place) (ss : List Known) (n next : ℕ) (before after : Bindings) (r : Result Held_known Refusal) → op ≡ o → Operated t (Binary o) at ss n before after next r → Operated t (Binary op) at ss n before after next r
+binary_as t op o at ss n next before after r e h = subst (λ z. Operated t (Binary z) at ss n before after next r) (sym e) h
 
 -- ---- operations without steps
 
@@ -156,22 +200,52 @@ no_parts (s ∷ ss) h = absurd (h (omega arith))
 
 module _ (t : IntType) (ss : List Held_known) (s : Held_known) where
   pub literal_ok : (m : ℕ) (suffix : Option IntType) (u : IntType) → (0 < length ss → ⊥) → u ≡ literal_type t suffix → s.form ≡ form.Scalar (atom.Constant (scalar.Int u m)) → At_once t (Integer m suffix) (map known_of ss) (Ok s)
-  literal_ok m suffix u h e i at n = subst (λ z. Operates t (Integer m suffix) at z n [] (known_of s) n) (sym (no_parts ss h)) (subst (λ z. Operates t (Integer m suffix) at [] n [] z n) (sym (known_scalar s _ i)) (o_integer (fitted_integer u m ∙ ap (λ z. integer z (pos m)) e)))
+  literal_ok m suffix u h e i = at_once (λ at n. subst (λ z. Operates t (Integer m suffix) at z n [] (known_of s) n) (sym (no_parts ss h)) (subst (λ z. Operates t (Integer m suffix) at [] n [] z n) (sym (known_scalar s _ i)) (o_integer (fitted_integer u m ∙ ap (λ z. integer z (pos m)) e))))
 
   pub truth_ok : (b : Bool) → (0 < length ss → ⊥) → s.form ≡ form.Scalar (atom.Constant (scalar.Bool b)) → At_once t (Truth b) (map known_of ss) (Ok s)
-  truth_ok b h i at n = subst (λ z. Operates t (Truth b) at z n [] (known_of s) n) (sym (no_parts ss h)) (subst (λ z. Operates t (Truth b) at [] n [] z n) (sym (known_scalar s _ i)) o_truth)
+  truth_ok b h i = at_once (λ at n. subst (λ z. Operates t (Truth b) at z n [] (known_of s) n) (sym (no_parts ss h)) (subst (λ z. Operates t (Truth b) at [] n [] z n) (sym (known_scalar s _ i)) o_truth))
 
-pub project_ok : (t : IntType) (f : Text) (ss : List Known) (whole : Held_known) (r : Result Held_known Refusal) → Is_one ss (Some whole) → IfOk r (λ s. part f (known_of whole) ≡ Some (known_of s)) → At_once t (Project f) ss r
-project_ok t f ss whole (Ok s) (one e) h = λ at n. subst (λ z. Operates t (Project f) at z n [] (known_of s) n) (sym e) (o_project h)
-project_ok t f ss whole (Err r) h k = tt
+-- a literal has no parts
+module _ (t : IntType) (ss : List Held_known) (lt : 0 < length ss) where
+  some_parts : 0 < length (map known_of ss)
+  some_parts = subst (λ z. 0 < z) (sym (length-map ss known_of)) lt
+
+  pub literal_many : (m : ℕ) (suffix : Option IntType) → At_once t (Integer m suffix) (map known_of ss) (Err Lost)
+  literal_many m suffix = not_at_once (lost (λ at. integer_lacks t at m suffix (map known_of ss) some_parts))
+
+  pub truth_many : (b : Bool) → At_once t (Truth b) (map known_of ss) (Err Lost)
+  truth_many b = not_at_once (lost (λ at. truth_lacks t at b (map known_of ss) some_parts))
+
+module _ (t : IntType) (f : Text) (ss : List Known) where
+  pub project_ok : (whole s : Held_known) → Is_one ss (Some whole) → Some (known_of s) ≡ part f (known_of whole) → At_once t (Project f) ss (Ok s)
+  project_ok whole s (one e) h = at_once (λ at n. subst (λ z. Operates t (Project f) at z n [] (known_of s) n) (sym e) (o_project (sym h)))
+
+  pub project_none : (whole : Held_known) → Is_one ss (Some whole) → None ≡ part f (known_of whole) → At_once t (Project f) ss (Err Lost)
+  project_none whole (one e) h = not_at_once (lost (λ at. subst (No_operation t (Project f) at) (sym e) (project_lacks t at f (known_of whole) (sym h))))
+
+  pub project_many : Is_one ss None → At_once t (Project f) ss (Err Lost)
+  project_many (not_one lacks) = not_at_once (lost (λ at. project_one t at f ss lacks))
 
 pub replace_ok : (t : IntType) (f : Text) (ss : List Held_known) (c d : Held_known) (fs gs : Bor (List Field)) (s : Held_known) → length ss ≡ 2 → (get_or ss 0 c).form ≡ form.Record fs → s.form ≡ form.Record gs → fields_known (map field_of gs.now) ≡ replaced f (known_of (get_or ss 1 d)) (fields_known (map field_of fs.now)) → At_once t (Replace f) (map known_of ss) (Ok s)
-replace_ok t f ss c d fs gs s i2 i j q at n = subst (λ z. Operates t (Replace f) at z n [] (known_of s) n) (sym (two_are ss c d i2 ∙ ap (λ z. z ∷ known_of (get_or ss 1 d) ∷ []) (known_record (get_or ss 0 c) fs i))) (subst (λ z. Operates t (Replace f) at (Record_known (fields_known (map field_of fs.now)) ∷ known_of (get_or ss 1 d) ∷ []) n [] z n) (sym (known_record s gs j ∙ ap Record_known q)) o_replace)
+replace_ok t f ss c d fs gs s i2 i j q = at_once (λ at n. subst (λ z. Operates t (Replace f) at z n [] (known_of s) n) (sym (two_are ss c d i2 ∙ ap (λ z. z ∷ known_of (get_or ss 1 d) ∷ []) (known_record (get_or ss 0 c) fs i))) (subst (λ z. Operates t (Replace f) at (Record_known (fields_known (map field_of fs.now)) ∷ known_of (get_or ss 1 d) ∷ []) n [] z n) (sym (known_record s gs j ∙ ap Record_known q)) o_replace))
 
-pub one_is : (ss : List Known) (s : Held_known) → Is_one ss (Some s) → ss ≡ known_of s ∷ []
-one_is ss s (one e) = e
+module _ (t : IntType) (f : Text) (ss : List Held_known) where
+  pub replace_many : (length ss ≡ 2 → ⊥) → At_once t (Replace f) (map known_of ss) (Err Lost)
+  replace_many h = not_at_once (lost (λ at. replace_two t at f (map known_of ss) (λ e. h (sym (length-map ss known_of) ∙ e))))
 
-pub ruleset at_once = (literal_ok, truth_ok, project_ok, replace_ok)
+  pub replace_other : (c : Held_known) → length ss ≡ 2 → No_record (known_of (get_or ss 0 c)) → At_once t (Replace f) (map known_of ss) (Err Lost)
+  replace_other c i2 lacks = not_at_once (lost (λ at. subst (No_operation t (Replace f) at) (sym (two_are ss c c i2)) (replace_lacks t at f (known_of (get_or ss 0 c)) (known_of (get_or ss 1 c)) lacks)))
+
+pub at_once_err : (t : IntType) (o : Operation Ref BindId) (ss : List Known) (x : Refusal) → x ≡ Memory → At_once t o ss (Err x)
+at_once_err t o ss x e = not_at_once (only_memory e)
+
+pub same_one : (ss : List Known) (s : Held_known) → Is_one ss (Some s) → One_to ss (Ok s)
+same_one ss s (one e) = one_to e
+
+pub same_none : (ss : List Known) → Is_one ss None → One_to ss (Err Lost)
+same_none ss (not_one lacks) = not_one_to lacks
+
+pub ruleset literals = (literal_ok, truth_ok)
 
 -- ---- by act
 
@@ -208,31 +282,51 @@ module _ (t : IntType) (a : Act) (at : Place) (n : ℕ) (before : Bindings) wher
     pub act_replace : (f : Bor Text) → a ≡ flat.Replace f → At_once t (Replace f.now) ss r → Operated t (operation_of a) at ss n before before n r
     act_replace f e h = now_as (Replace f.now) (ap operation_of e) h
 
-    pub act_record : (fs : Bor (List (Bor Text))) → a ≡ flat.Record fs → IfOk r (λ s. Is_record (texts fs.now) ss (known_of s)) → Operated t (operation_of a) at ss n before before n r
+    pub act_record : (fs : Bor (List (Bor Text))) → a ≡ flat.Record fs → Recorded_to (texts fs.now) ss r → Operated t (operation_of a) at ss n before before n r
     act_record fs e h = now_as (Record_of (texts fs.now)) (ap operation_of e) (made r h)
       where
-        made : (r : Result Held_known Refusal) → IfOk r (λ s. Is_record (texts fs.now) ss (known_of s)) → At_once t (Record_of (texts fs.now)) ss r
-        made (Ok s) (is_record q i) = λ at n. subst (λ z. Operates t (Record_of (texts fs.now)) at ss n [] z n) (sym i) (o_record q)
-        made (Err r) h = tt
+        made : (r : Result Held_known Refusal) → Recorded_to (texts fs.now) ss r → At_once t (Record_of (texts fs.now)) ss r
+        made (Ok s) (recorded_to (is_record q i)) = at_once (λ at n. subst (λ z. Operates t (Record_of (texts fs.now)) at ss n [] z n) (sym i) (o_record q))
+        made (Err r) (not_recorded h) = not_at_once (refused_as (λ lacks at. record_lacks t at (texts fs.now) ss lacks) h)
 
     -- what has one part is as that part
-    same_as : (o : Operation Ref BindId) → ((at : Place) (n : ℕ) (s : Known) → Operates t o at (s ∷ []) n [] s n) → (r : Result Held_known Refusal) → IfOk r (λ s. ss ≡ known_of s ∷ []) → At_once t o ss r
-    same_as o f (Ok s) e = λ at n. subst (λ z. Operates t o at z n [] (known_of s) n) (sym e) (f at n (known_of s))
-    same_as o f (Err r) e = tt
+    same_as : (o : Operation Ref BindId) → ((at : Place) (n : ℕ) (s : Known) → Operates t o at (s ∷ []) n [] s n) → ((at : Place) → Not_one ss → No_operation t o at ss) → (r : Result Held_known Refusal) → One_to ss r → At_once t o ss r
+    same_as o f g (Ok s) (one_to e) = at_once (λ at n. subst (λ z. Operates t o at z n [] (known_of s) n) (sym e) (f at n (known_of s)))
+    same_as o f g _ (not_one_to lacks) = not_at_once (lost (λ at. g at lacks))
 
-    pub act_ascribe : (u : Bor TypeExp) → a ≡ flat.Ascribe u → IfOk r (λ s. ss ≡ known_of s ∷ []) → Operated t (operation_of a) at ss n before before n r
-    act_ascribe u e h = now_as (Ascribe (type_of u.now)) (ap operation_of e) (same_as (Ascribe (type_of u.now)) (λ at n s. o_ascribe) r h)
+    pub act_ascribe : (u : Bor TypeExp) → a ≡ flat.Ascribe u → One_to ss r → Operated t (operation_of a) at ss n before before n r
+    act_ascribe u e h = now_as (Ascribe (type_of u.now)) (ap operation_of e) (same_as (Ascribe (type_of u.now)) (λ at n s. o_ascribe) (λ at. ascribe_lacks t at (type_of u.now) ss) r h)
 
-    pub act_coerce : (u : Bor TypeExp) → a ≡ flat.Coerce u → IfOk r (λ s. ss ≡ known_of s ∷ []) → Operated t (operation_of a) at ss n before before n r
-    act_coerce u e h = now_as (Coerce (type_of u.now)) (ap operation_of e) (same_as (Coerce (type_of u.now)) (λ at n s. o_coerce) r h)
+    pub act_coerce : (u : Bor TypeExp) → a ≡ flat.Coerce u → One_to ss r → Operated t (operation_of a) at ss n before before n r
+    act_coerce u e h = now_as (Coerce (type_of u.now)) (ap operation_of e) (same_as (Coerce (type_of u.now)) (λ at n s. o_coerce) (λ at. coerce_lacks t at (type_of u.now) ss) r h)
 
-    pub act_declared : (u : Bor TypeExp) → a ≡ flat.Declared u → IfOk r (λ s. ss ≡ known_of s ∷ []) → Operated t (operation_of a) at ss n before before n r
-    act_declared u e h = now_as (Declared (type_of u.now)) (ap operation_of e) (same_as (Declared (type_of u.now)) (λ at n s. o_declared) r h)
+    pub act_declared : (u : Bor TypeExp) → a ≡ flat.Declared u → One_to ss r → Operated t (operation_of a) at ss n before before n r
+    act_declared u e h = now_as (Declared (type_of u.now)) (ap operation_of e) (same_as (Declared (type_of u.now)) (λ at n s. o_declared) (λ at. declared_lacks t at (type_of u.now) ss) r h)
 
   pub act_tuple : (ss : Bor (List Held_known)) (s : Held_known) → a ≡ flat.Tuple → s.form ≡ form.Tuple ss → Operated t (operation_of a) at (map known_of ss.now) n before before n (Ok s)
-  act_tuple ss s e i = now_as (map known_of ss.now) (Ok s) Tuple_of (ap operation_of e) (λ at n. subst (λ z. Operates t Tuple_of at (map known_of ss.now) n [] z n) (sym (known_tuple s ss i)) o_tuple)
+  act_tuple ss s e i = now_as (map known_of ss.now) (Ok s) Tuple_of (ap operation_of e) (at_once (λ at n. subst (λ z. Operates t Tuple_of at (map known_of ss.now) n [] z n) (sym (known_tuple s ss i)) o_tuple))
+
+  -- what arrays take is not unfolded
+  module _ (ss : List Known) (next : ℕ) (after : Bindings) where
+    lacking : (o : Operation Ref BindId) → operation_of a ≡ o → No_operation t o at ss → Operated t (operation_of a) at ss n before after next (Err Lost)
+    lacking o e lacks = as_act ss next after (Err Lost) o e (unanswered (lost lacks))
+
+    pub act_array : a ≡ flat.Array → Operated t (operation_of a) at ss n before after next (Err Lost)
+    act_array e = lacking Array_of (ap operation_of e) (array_lacks t at ss)
+
+    pub act_index : (ps : Bor (List Part)) → a ≡ flat.Index ps → Operated t (operation_of a) at ss n before after next (Err Lost)
+    act_index ps e = lacking (Index ps.now) (ap operation_of e) (index_lacks t at ps.now ss)
+
+    pub act_update : a ≡ flat.Update → Operated t (operation_of a) at ss n before after next (Err Lost)
+    act_update e = lacking Update (ap operation_of e) (update_lacks t at ss)
+
+    pub act_range : (stepped : Bool) (end : End) → a ≡ flat.Range stepped end → Operated t (operation_of a) at ss n before after next (Err Lost)
+    act_range stepped end e = lacking (Range stepped end) (ap operation_of e) (range_lacks t at stepped end ss)
 
 -- ---- primitives
+
+pub primitive_other : (p : Primitive) (at : Place) (ss : List Known) (n next : ℕ) (before after : Bindings) → ((to from : ScalarType) → p ≡ prim.Convert to from → ⊥) → ((t : IntType) → p ≡ prim.Min t → ⊥) → ((t : IntType) → p ≡ prim.Max t → ⊥) → ((t : IntType) → p ≡ prim.Abs t → ⊥) → ((t : IntType) → p ≡ prim.Popc t → ⊥) → Operated_primitive p at ss n before after next (Err Lost)
+primitive_other p at ss n next before after c i a b o = unanswered (lost (other_lacks at p ss c i a b o))
 
 module _ (p : Primitive) (at : Place) (ss : List Known) (n next : ℕ) (before after : Bindings) (r : Result Held_known Refusal) where
   as_primitive : (q : Primitive) → p ≡ q → Operated_primitive q at ss n before after next r → Operated_primitive p at ss n before after next r
@@ -267,10 +361,13 @@ module _ (p : Primitive) (at : Place) (given : List Held_known) (s : Held_known)
   as_many = ap length (sym all_are) ∙ length-map arguments known_of
 
   pub primitive_waits : (row : Bor (List Held_known)) (before : Bindings) (w : Held_known) → row.now ≡ arguments → length arguments < arity p → w.form ≡ form.Primitive p at row → Applied_primitive p at (knowns (map known_of given)) (known_of s) n before before n (Ok w)
-  primitive_waits row before w q lt i integer_at tops = no_steps (λ bs (s' : Held_known) next. Applies integer_at tops (Primitive_known p at (knowns (map known_of given))) (known_of s) n bs (known_of s') next) before n w
+  primitive_waits row before w q lt i integer_at tops = no_steps (λ bs (s' : Held_known) next. Applies integer_at tops (Primitive_known p at (knowns (map known_of given))) (known_of s) n bs (known_of s') next) (Stuck_run integer_at tops (Primitive_known p at (knowns (map known_of given))) (known_of s)) before n w
       (subst (λ z. Applies integer_at tops (Primitive_known p at (knowns (map known_of given))) (known_of s) n [] z n)
       (sym (known_primitive w p at row i ∙ ap (λ z. Primitive_known p at (knowns (map known_of z))) q ∙ ap (λ z. Primitive_known p at (knowns z)) all_are))
       (a_primitive_waits (ap (λ z. nat_lt z (arity p)) as_many ∙ lt-ltb _ _ lt)))
 
   pub primitive_runs : (before after : Bindings) (next : ℕ) (r : Result Held_known Refusal) → (length arguments < arity p → ⊥) → Operated_primitive p at (map known_of arguments) n before after next r → Applied_primitive p at (knowns (map known_of given)) (known_of s) n before after next r
-  primitive_runs before after next r ge h integer_at tops = answered_as (λ bs w m x. a_primitive (ap (λ z. nat_lt z (arity p)) as_many ∙ le-ltb _ _ (omega (arith, ge))) (subst (λ z. Primitive_operates p at z n bs (known_of w) m) all_are x)) h
+  primitive_runs before after next r ge h integer_at tops = answered_as (λ bs w m x. a_primitive (ap (λ z. nat_lt z (arity p)) as_many ∙ le-ltb _ _ (omega (arith, ge))) (subst (λ z. Primitive_operates p at z n bs (known_of w) m) all_are x)) (λ lacks. no_primitive (ap (λ z. nat_lt z (arity p)) as_many ∙ le-ltb _ _ (omega (arith, ge))) (subst (No_primitive p at) all_are lacks)) h
+
+pub primitive_err : (p : Primitive) (at : Place) (ss : Knowns) (s : Known) (n next : ℕ) (before after : Bindings) (x : Refusal) → x ≡ Memory → Applied_primitive p at ss s n before after next (Err x)
+primitive_err p at ss s n next before after x e integer_at tops = unanswered (only_memory e)

@@ -1,18 +1,21 @@
 -- Parts of values, by how many there are.
-use Rattle.std.proofs.Common.{◌≡◌, ℕ, suc, ◌+◌, ◌<◌, List, [], ◌∷◌, map, length, get_or, drop, Option, Some, None, true, false, cond, decimal, refl, sym, ap, ◌∙◌, subst, arith}
+use Rattle.std.proofs.Common.{◌≡◌, ℕ, suc, ◌+◌, ◌<◌, List, [], ◌∷◌, map, length, get_or, drop, ◌≤◌, Option, Some, None, true, false, cond, decimal, refl, sym, ap, ◌∙◌, arith}
 use Rattle.std.specs.Borrow.{Bor}
-use Rattle.std.specs.Prelude.{IfOk, Result}
 use Rattle.std.specs.Str.{bytes_eq}
+use Rattle.std.proofs.lemmas.List.{drop_all, length-map}
+use mathlib.Core.List.{head-eq_of_cons-eq, tail-eq_of_cons-eq}
 use Rattle.fut_ast.specs.Sorts.{Text}
 use Rattle.fut_blocks.specs.declared.block.Atom.{Atom}
-use Rattle.unfold.proofs.Mirror.{known_scalar, known_tuple}
-use Rattle.unfold.specs.Held.{known_of}
-use Rattle.unfold.specs.Knowns.{Known, Scalar_known, knowns, part, part_from}
+use Rattle.unfold.proofs.Mirror.{known_scalar, known_tuple, known_record}
+use Rattle.unfold.specs.Held.{known_of, field_of, fields_known}
+use Rattle.unfold.specs.Knowns.{Known, Scalar_known, knowns, field, part, part_from}
+use Rattle.unfold.specs.declared.known.Field.{Field}
 use Rattle.unfold.specs.declared.known.Known.{Known as Held_known}
 use Rattle.unfold.specs.declared.known.KnownForm.TheVariants as form
 use Rattle.unfold_parts.specs.Parts.{Is_one, one, not_one, Is_scalar, a_scalar, no_scalar, Is_one_scalar, one_scalar, not_one_scalar, Is_two_scalars, two_scalars, not_two_scalars}
 use Rattle.unfold_parts.specs.declared.parts.Scalars.{Scalars}
-use Rattle.unfold_parts.specs.declared.refusal.Refusal.{Refusal}
+use Rattle.unfold_parts.specs.Held.{maybe_known}
+use Rattle.unfold_parts.proofs.Forms.{by_form, form_no_scalar}
 use Rattle.unfold_parts.proofs.Lists.{one_more}
 
 pub one_ok : (ss : List Held_known) (d : Held_known) → length ss ≡ 1 → Is_one (map known_of ss) (Some (get_or ss 0 d))
@@ -20,8 +23,8 @@ one_ok [] d e = absurd (omega (arith, e))
 one_ok (x ∷ []) d e = one refl
 one_ok (x ∷ y ∷ ss) d e = absurd (omega (arith, e))
 
-pub one_none : (ss : List Known) → Is_one ss None
-one_none ss = not_one
+pub one_none : (ss : List Held_known) → (length ss ≡ 1 → ⊥) → Is_one (map known_of ss) None
+one_none ss h = not_one (λ s e. h (sym (length-map ss known_of) ∙ ap length e))
 
 pub two_are : (ss : List Held_known) (d e : Held_known) → length ss ≡ 2 → map known_of ss ≡ known_of (get_or ss 0 d) ∷ known_of (get_or ss 1 e) ∷ []
 two_are [] d e q = absurd (omega (arith, q))
@@ -32,28 +35,43 @@ two_are (x ∷ y ∷ w ∷ ss) d e q = absurd (omega (arith, q))
 pub scalar_ok : (s : Held_known) (u : Atom) → s.form ≡ form.Scalar u → Is_scalar (known_of s) (Some u)
 scalar_ok s u e = a_scalar (known_scalar s u e)
 
-pub scalar_none : (s : Known) → Is_scalar s None
-scalar_none s = no_scalar
+pub scalar_none : (s : Held_known) → ((u : Atom) → s.form ≡ form.Scalar u → ⊥) → Is_scalar (known_of s) None
+scalar_none s h = no_scalar (form_no_scalar s h)
 
 pub one_scalar_ok : (ss : List Known) (s : Held_known) (o : Option Atom) → Is_one ss (Some s) → Is_scalar (known_of s) o → Is_one_scalar ss o
 one_scalar_ok ss s (Some u) (one e) (a_scalar q) = one_scalar (e ∙ ap (λ z. z ∷ []) q)
-one_scalar_ok ss s None h k = not_one_scalar
+one_scalar_ok ss s None (one e) (no_scalar lacks) = not_one_scalar (λ u q. lacks u (head-eq_of_cons-eq (sym e ∙ q)))
 
-pub one_scalar_none : (ss : List Known) → Is_one_scalar ss None
-one_scalar_none ss = not_one_scalar
+pub one_scalar_none : (ss : List Known) → Is_one ss None → Is_one_scalar ss None
+one_scalar_none ss (not_one lacks) = not_one_scalar (λ u q. lacks (Scalar_known u) q)
 
 pub two_scalars_ok : (ss : List Held_known) (d e : Held_known) (q : Scalars) → length ss ≡ 2 → Is_scalar (known_of (get_or ss 0 d)) (Some q.first) → Is_scalar (known_of (get_or ss 1 e)) (Some q.second) → Is_two_scalars (map known_of ss) (Some q)
 two_scalars_ok ss d e q i (a_scalar f) (a_scalar g) = two_scalars (two_are ss d e i ∙ ap (λ z. z ∷ known_of (get_or ss 1 e) ∷ []) f ∙ ap (λ z. Scalar_known q.first ∷ z ∷ []) g)
 
-pub two_scalars_none : (ss : List Known) → Is_two_scalars ss None
-two_scalars_none ss = not_two_scalars
+-- another number of parts, or a part that is no scalar
+module _ (ss : List Held_known) where
+  pub two_scalars_many : (length ss ≡ 2 → ⊥) → Is_two_scalars (map known_of ss) None
+  two_scalars_many h = not_two_scalars (λ u w e. h (sym (length-map ss known_of) ∙ ap length e))
 
-pub ruleset parting = (one_ok, one_none, scalar_ok, scalar_none, one_scalar_ok, one_scalar_none, two_scalars_ok, two_scalars_none)
+  pub two_scalars_first : (d : Held_known) → length ss ≡ 2 → Is_scalar (known_of (get_or ss 0 d)) None → Is_two_scalars (map known_of ss) None
+  two_scalars_first d i (no_scalar lacks) = not_two_scalars (λ u w q. lacks u (head-eq_of_cons-eq (sym (two_are ss d d i) ∙ q)))
+
+  pub two_scalars_second : (d : Held_known) → length ss ≡ 2 → Is_scalar (known_of (get_or ss 1 d)) None → Is_two_scalars (map known_of ss) None
+  two_scalars_second d i (no_scalar lacks) = not_two_scalars (λ u w q. lacks w (head-eq_of_cons-eq (tail-eq_of_cons-eq (sym (two_are ss d d i) ∙ q))))
+
+pub ruleset parting = (one_ok, scalar_ok, one_scalar_ok, one_scalar_none, two_scalars_ok)
 
 -- ---- the parts of a tuple
 
-pub part_tuple : (name : Text) (s : Held_known) (ss : Bor (List Held_known)) (r : Result Held_known Refusal) → s.form ≡ form.Tuple ss → IfOk r (λ x. part_from 0 name (knowns (map known_of ss.now)) ≡ Some (known_of x)) → IfOk r (λ x. part name (known_of s) ≡ Some (known_of x))
-part_tuple name s ss r i h = subst (λ z. IfOk r (λ x. part name z ≡ Some (known_of x))) (sym (known_tuple s ss i)) h
+pub part_tuple : (name : Text) (s : Held_known) (ss : Bor (List Held_known)) (o : Option Held_known) → s.form ≡ form.Tuple ss → maybe_known o ≡ part_from 0 name (knowns (map known_of ss.now)) → maybe_known o ≡ part name (known_of s)
+part_tuple name s ss o i h = h ∙ sym (ap (part name) (known_tuple s ss i))
+
+pub part_record : (name : Text) (s : Held_known) (fs : Bor (List Field)) (o : Option Held_known) → s.form ≡ form.Record fs → maybe_known o ≡ field name (fields_known (map field_of fs.now)) → maybe_known o ≡ part name (known_of s)
+part_record name s fs o i h = h ∙ sym (ap (part name) (known_record s fs i))
+
+-- what is no tuple and no record has no parts
+pub part_none : (name : Text) (s : Held_known) → ((ss : Bor (List Held_known)) → s.form ≡ form.Tuple ss → ⊥) → ((fs : Bor (List Field)) → s.form ≡ form.Record fs → ⊥) → None ≡ part name (known_of s)
+part_none name s t r = by_form s (λ k. None ≡ part name k) (λ u is. refl) (λ ss is. absurd (t ss is)) (λ fs is. absurd (r fs is)) (λ ps e lo sc. refl) (λ p at ss. refl)
 
 pub pick : (ss : List Held_known) (i : ℕ) → i < length ss → Held_known
 pick [] i lt = absurd (omega (arith, lt))
@@ -68,3 +86,6 @@ module _ (k : ℕ) (name : Text) (ss : List Held_known) where
 
   pub part_on : (i : ℕ) (d : Held_known) (o : Option Known) → i < length ss → o ≡ part_from k name (knowns (map known_of (drop i ss))) → bytes_eq (decimal k) name ≡ false → o ≡ part_from (k + 1) name (knowns (map known_of (drop (i + 1) ss)))
   part_on i d o lt e h = e ∙ part_step i d lt ∙ ap (λ z. cond z (Some (known_of (get_or ss i d))) (part_from (k + 1) name (knowns (map known_of (drop (i + 1) ss))))) h
+
+  pub part_done : (i : ℕ) (o : Option Known) → length ss ≤ i → o ≡ part_from k name (knowns (map known_of (drop i ss))) → None ≡ o
+  part_done i o le e = sym (e ∙ ap (λ z. part_from k name (knowns (map known_of z))) (drop_all i ss le))

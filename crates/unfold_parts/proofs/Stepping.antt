@@ -1,6 +1,6 @@
 -- Steps are put one behind the other.
 use Rattle.std.proofs.Common.{◌≡◌, ℕ, ◌+◌, ◌++◌, List, [], ◌∷◌, map, length, take, drop, Ok, Err, false, refl, sym, ap, ◌∙◌, subst, arith}
-use Rattle.std.specs.Prelude.{Result, IfOk}
+use Rattle.std.specs.Prelude.{Result, IfErr, IfOk}
 use Rattle.std.specs.Borrow.{Bor}
 use Rattle.std.proofs.lemmas.List.{map-append}
 use mathlib.Core.List.{cons≢nil, head-eq_of_cons-eq, tail-eq_of_cons-eq}
@@ -17,18 +17,19 @@ use Rattle.fut_blocks.specs.Plain.{Action, Operate, Give, If, action_of, binding
 use Rattle.unfold.specs.Unfolding.{Bindings, both_hold}
 use Rattle.unfold_parts.specs.Answers.{Named_as, named_as, not_named, Pushed, pushed, not_pushed, Computed, computed, not_computed, Blocked, blocked, not_blocked}
 use Rattle.unfold_parts.specs.declared.refusal.Refusal.{Refusal}
+use Rattle.unfold_parts.specs.declared.refusal.Refusal.TheVariants.{Memory}
 
 pub named_ok : (n next : ℕ) → next ≡ n + 1 → Named_as n next (Ok n)
 named_ok n next e = named_as (e ∙ omega arith)
 
-pub named_err : (n next : ℕ) (r : Refusal) → Named_as n next (Err r)
-named_err n next r = not_named
+pub named_err : (n next : ℕ) → Named_as n next (Err Memory)
+named_err n next = not_named
 
 pub pushed_ok : (s : Step) (items items' : List Step) (u : Unit {0}) → items' ≡ items ++ s ∷ [] → Pushed (binding_of s) (map binding_of items) (map binding_of items') (Ok u)
 pushed_ok s items items' u e = pushed (ap (map binding_of) e ∙ map-append binding_of items (s ∷ []))
 
-pub pushed_err : (s : List ℕ × Action) (before after : Bindings) (r : Refusal) → Pushed s before after (Err r)
-pushed_err s before after r = not_pushed
+pub pushed_err : (s : List ℕ × Action) (before after : Bindings) → Pushed s before after (Err Memory)
+pushed_err s before after = not_pushed
 
 -- a step is pushed under a new name
 pub named_step : (s : Step) (names : Bor (List ℕ)) (x n mid next : ℕ) (before between after : Bindings) (u : Unit {0}) → Named_as n mid (Ok x) → between ≡ before → names.now ≡ x ∷ [] → next ≡ mid → Pushed (binding_of (roll-Step record { names = names; act = s.act })) between after (Ok u) → Computed (binding_of s).1 n before after next (Ok (atom.Name x))
@@ -45,8 +46,16 @@ module _ (names : Bor (List ℕ)) (n next : ℕ) (before after : Bindings) (r : 
   pub as_both : (u w : Atom) (yea nay : Bor Block) → body_of yea.now ≡ Give (w ∷ []) → body_of nay.now ≡ Give (atom.Constant (scalar.Bool false) ∷ []) → Computed (binding_of (roll-Step record { names = names; act = act.If u yea nay })).1 n before after next r → Computed (both_hold u w) n before after next r
   as_both u w yea nay y f h = as_act (act.If u yea nay) (both_hold u w) (action_of-If u yea nay ∙ ap (λ z. If u z (body_of nay.now)) y ∙ ap (λ z. If u (Give (w ∷ [])) z) f) h
 
-pub computed_err : (a : Action) (n next : ℕ) (before after : Bindings) (r : Refusal) → Computed a n before after next (Err r)
-computed_err a n next before after r = not_computed
+-- no memory, or no name, is left for the step
+module _ (a : Action) (n next : ℕ) (before after : Bindings) where
+  pub unnamed_step : {m mid : ℕ} {r : Refusal} → Named_as m mid (Err r) → Computed a n before after next (Err r)
+  unnamed_step not_named = not_computed
+
+  pub unpushed_step : {s : List ℕ × Action} {between behind : Bindings} {r : Refusal} → Pushed s between behind (Err r) → Computed a n before after next (Err r)
+  unpushed_step not_pushed = not_computed
+
+  pub unmade_step : {r : Refusal} → r ≡ Memory → Computed a n before after next (Err r)
+  unmade_step e = subst (λ z. Computed a n before after next (Err z)) (sym e) not_computed
 
 -- ---- blocks
 
@@ -61,14 +70,11 @@ parted [] inside items e = (refl, e)
 parted (o ∷ os) inside [] e = absurd (cons≢nil (sym e))
 parted (o ∷ os) inside (x ∷ xs) e = let r = parted os inside xs (tail-eq_of_cons-eq e) in (ap (λ z. z ∷ map binding_of (take (length os) xs)) (head-eq_of_cons-eq e) ∙ ap (λ z. o ∷ z) r.0, r.1)
 
-pub blocked_is : (mark : ℕ) (us : Bor (List Atom)) (items items' : List Step) (row : Bor (List Step)) (r : Result (Bor Block) Refusal) → row.now ≡ drop mark items → items' ≡ take mark items → IfOk r (λ b. b.now ≡ roll-Block record { steps = row; results = us }) → Blocked mark us.now (map binding_of items) (map binding_of items') r
-blocked_is mark us items items' row (Err r) q i e = not_blocked
-blocked_is mark us items items' row (Ok b) q i e = blocked parts
+pub blocked_is : (mark : ℕ) (us : Bor (List Atom)) (items items' : List Step) (row : Bor (List Step)) (r : Result (Bor Block) Refusal) → row.now ≡ drop mark items → items' ≡ take mark items → IfOk r (λ b. b.now ≡ roll-Block record { steps = row; results = us }) → IfErr r (λ x. x ≡ Memory) → Blocked mark us.now (map binding_of items) (map binding_of items') r
+blocked_is mark us items items' row (Err r) q i e f = subst (λ z. Blocked mark us.now (map binding_of items) (map binding_of items') (Err z)) (sym f) not_blocked
+blocked_is mark us items items' row (Ok b) q i e f = blocked parts
   where
     parts : (outside inside : Bindings) → length outside ≡ mark → map binding_of items ≡ outside ++ inside → (map binding_of items' ≡ outside) × (body_of b.now ≡ lets inside us.now)
     parts outside inside l k = let r = parted outside inside items k in (ap (map binding_of) (i ∙ ap (λ z. take z items) (sym l)) ∙ r.0, ap body_of e ∙ body_of-made (record { steps = row; results = us }) ∙ ap (λ z. lets (map binding_of z) us.now) (q ∙ ap (λ z. drop z items) (sym l)) ∙ ap (λ z. lets z us.now) r.1)
-
-pub blocked_err : (mark : ℕ) (us : List Atom) (before after : Bindings) (r : Refusal) → Blocked mark us before after (Err r)
-blocked_err mark us before after r = not_blocked
 
 pub ruleset stepping = (named_ok, named_err, pushed_ok, pushed_err)

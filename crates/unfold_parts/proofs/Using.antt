@@ -7,9 +7,9 @@ use Rattle.fut_scalar.specs.declared.place.Place.{Place}
 use Rattle.fut_scalar.specs.declared.scalar.IntType.{IntType}
 use Rattle.fut_scalar.specs.declared.scalar.IntType.TheVariants.{I8, I16, I32, I64, U8, U16, U32, U64}
 use Rattle.fut_scalar.specs.declared.scalar.Scalar.TheVariants as scalar
+use Rattle.fut_scalar.specs.declared.scalar.ScalarType.{ScalarType}
 use Rattle.fut_flat.specs.declared.prim.Primitive.{Primitive}
 use Rattle.fut_flat.specs.declared.prim.Primitive.TheVariants as prim
-use Rattle.fut_flat.specs.declared.prim.Ref.{Ref}
 use Rattle.fut_flat.specs.declared.prim.Ref.TheVariants as ref
 use Rattle.fut_flat.specs.Terms.{Use}
 use Rattle.fut_blocks.specs.declared.block.Atom.TheVariants as atom
@@ -18,12 +18,14 @@ use Rattle.fut_meaning.specs.Operators.{lowest, highest}
 use Rattle.unfold.proofs.Mirror.{known_primitive}
 use Rattle.unfold.specs.Held.{known_of}
 use Rattle.unfold.specs.Knowns.{Known, Scalar_known, Primitive_known, knowns, Scope, no_name, name_and, Tops, find}
+use Rattle.unfold.specs.Stuck.{no_such_name, type_name}
 use Rattle.unfold.specs.Unfolding.{Unfolds, u_name, u_primitive, u_constant, constant_of}
 use Rattle.unfold.specs.declared.known.Known.{Known as Held_known}
 use Rattle.unfold.specs.declared.known.KnownForm.TheVariants as form
 use Rattle.unfold_parts.specs.Answers.{Used, used, not_used, Primitive_used}
 use Rattle.unfold_parts.specs.Locals.{local}
-use Rattle.unfold_parts.specs.declared.refusal.Refusal.{Refusal}
+use Rattle.unfold_parts.specs.Refused.{lost}
+use Rattle.unfold_parts.specs.declared.refusal.Refusal.TheVariants.{Lost}
 
 abbrev or_top : Option Known → Option Known → Option Known
 or_top None o = o
@@ -48,8 +50,13 @@ module _ (tops : Tops) (sc : Scope) (b : BindId) (at : Place) (s : Held_known) w
   pub used_primitive : (p : Primitive) → Primitive_used p at (known_of s) → Used tops sc (ref.Prim p) at (Ok s)
   used_primitive p h = used (λ integer_at lo k n. h integer_at tops sc lo k n)
 
-pub used_err : (tops : Tops) (sc : Scope) (name : Ref) (at : Place) (r : Refusal) → Used tops sc name at (Err r)
-used_err tops sc name at r = not_used
+module _ (tops : Tops) (sc : Scope) (at : Place) where
+  -- a name that is neither local nor defined
+  pub used_none : (b : BindId) → None ≡ local sc b.0 → None ≡ look tops b.0 → Used tops sc (ref.Bound b) at (Err Lost)
+  used_none b e q = not_used (lost (λ integer_at lo k. no_such_name (found tops sc b.0 ∙ ap (λ z. or_top z (look tops b.0)) (sym e) ∙ sym q)))
+
+  pub used_type : (t : ScalarType) → Used tops sc (ref.Scalar t) at (Err Lost)
+  used_type t = not_used (lost (λ integer_at lo k. type_name))
 
 -- ---- primitives
 
@@ -142,6 +149,6 @@ no_constant (prim.NumBits t) l h b = absurd (b t refl)
 pub used_function : (p : Primitive) (at : Place) (s : Held_known) (none : Bor (List Held_known)) → ((t : IntType) → p ≡ prim.Lowest t → ⊥) → ((t : IntType) → p ≡ prim.Highest t → ⊥) → ((t : IntType) → p ≡ prim.NumBits t → ⊥) → none.now ≡ [] → s.form ≡ form.Primitive p at none → Primitive_used p at (known_of s)
 used_function p at s none l h b e i integer_at tops sc lo k m = subst (λ z. Unfolds integer_at tops sc lo (Use (ref.Prim p) at k) m [] z m) (sym (known_primitive s p at none i ∙ ap (λ z. Primitive_known p at (knowns (map known_of z))) e)) (u_primitive (no_constant p l h b))
 
-pub ruleset using_names = (used_local, used_top, used_primitive, used_err)
+pub ruleset using_names = (used_local, used_top, used_primitive, used_none, used_type)
 
 pub ruleset primitives_used = (used_lowest, used_highest, used_width, used_function)

@@ -1,5 +1,5 @@
--- What the calls of unfolding answer. A refusal says nothing.
-use Rattle.std.specs.Prelude.{◌≡◌, ℕ, suc, ◌++◌, List, [], ◌∷◌, length, true, Result, Ok, Err, IfOk, Some}
+-- What the calls of unfolding answer. Where one is lost there is no way on; want of memory says nothing.
+use Rattle.std.specs.Prelude.{◌≡◌, ℕ, suc, ◌++◌, List, [], ◌∷◌, length, Bool, true, false, Result, Ok, Err, Some}
 use Rattle.std.specs.Str.{bytes_eq}
 use Rattle.std.specs.Borrow.{Bor}
 use Rattle.fut_scalar.specs.declared.operator.BinOp.{BinOp}
@@ -21,56 +21,59 @@ use Rattle.fut_blocks.specs.declared.block.Operation.TheVariants as operation
 use Rattle.fut_blocks.specs.Plain.{Action, Operate, lets, body_of}
 use Rattle.unfold.specs.Held.{known_of, scope_of}
 use Rattle.unfold.specs.Knowns.{Known, Scalar_known, Primitive_known, Knowns, Known_fields, Scope, Tops, record_parts}
+use Rattle.unfold.specs.Stuck.{Not_bound, No_operation, No_primitive, Stuck, Stuck_run}
 use Rattle.unfold.specs.Unfolding.{Bindings, step, named, both_hold, Binds, All_bind, Equals, Operates, Primitive_operates, Unfolds, Applies}
 use Rattle.unfold.specs.declared.known.Known.{Known as Held_known}
 use Rattle.unfold.specs.declared.known.Scope.{Scope as Held_scope}
+use Rattle.unfold_parts.specs.Refused.{Refused, Not_all_bound, Not_fields_bound, Not_compared}
 use Rattle.unfold_parts.specs.declared.refusal.Refusal.{Refusal}
+use Rattle.unfold_parts.specs.declared.refusal.Refusal.TheVariants.{Memory}
 
 -- the steps grew by some that give this answer, and so far the names are taken
-pub data Answered {A : Type 0} (Gives : Bindings → A → ℕ → Type 0) (before after : Bindings) (next : ℕ) : Result A Refusal → Type 0 where
-  answered : {a : A} (bs : Bindings) → after ≡ before ++ bs → Gives bs a next → Answered Gives before after next (Ok a)
-  unanswered : {r : Refusal} → Answered Gives before after next (Err r)
+pub data Answered {A : Type 0} (Gives : Bindings → A → ℕ → Type 0) (Lacks : Type 0) (before after : Bindings) (next : ℕ) : Result A Refusal → Type 0 where
+  answered : {a : A} (bs : Bindings) → after ≡ before ++ bs → Gives bs a next → Answered Gives Lacks before after next (Ok a)
+  unanswered : {r : Refusal} → Refused Lacks r → Answered Gives Lacks before after next (Err r)
 
 -- ---- names and patterns
 
 pub data Used (tops : Tops) (sc : Scope) (name : Ref) (at : Place) : Result Held_known Refusal → Type 0 where
   used : {s : Held_known} → ((integer_at : ℕ → IntType) (lo k n : ℕ) → Unfolds integer_at tops sc lo (Use name at k) n [] (known_of s) n) → Used tops sc name at (Ok s)
-  not_used : {r : Refusal} → Used tops sc name at (Err r)
+  not_used : {r : Refusal} → Refused ((integer_at : ℕ → IntType) (lo k : ℕ) → Stuck integer_at tops sc lo (Use name at k)) r → Used tops sc name at (Err r)
 
 abbrev pub Primitive_used : Primitive → Place → Known → Type 0
 Primitive_used p at s = (integer_at : ℕ → IntType) (tops : Tops) (sc : Scope) (lo k n : ℕ) → Unfolds integer_at tops sc lo (Use (ref.Prim p) at k) n [] s n
 
 pub data Bound_to (p : FlatPattern) (s : Known) (sc : Scope) : Result (Bor Held_scope) Refusal → Type 0 where
   bound_to : {inner : Bor Held_scope} → Binds p s sc (scope_of inner.now) → Bound_to p s sc (Ok inner)
-  not_bound : {r : Refusal} → Bound_to p s sc (Err r)
+  not_bound : {r : Refusal} → Refused (Not_bound p s) r → Bound_to p s sc (Err r)
 
 pub data All_bound_to (ps : Patterns Ref BindId) (ss : List Known) (sc : Scope) : Result (Bor Held_scope) Refusal → Type 0 where
   all_bound_to : {inner : Bor Held_scope} → All_bind ps ss sc (scope_of inner.now) → All_bound_to ps ss sc (Ok inner)
-  not_all_bound : {r : Refusal} → All_bound_to ps ss sc (Err r)
+  not_all_bound : {r : Refusal} → Refused (Not_all_bound ps ss) r → All_bound_to ps ss sc (Err r)
 
 pub data Fields_bound_to (fs : List Text) (ps : Patterns Ref BindId) (known : Known_fields) (sc : Scope) : Result (Bor Held_scope) Refusal → Type 0 where
   fields_bound_to : {inner : Bor Held_scope} {ss : List Known} → record_parts fs known ≡ Some ss → All_bind ps ss sc (scope_of inner.now) → Fields_bound_to fs ps known sc (Ok inner)
-  no_fields_bound : {r : Refusal} → Fields_bound_to fs ps known sc (Err r)
+  no_fields_bound : {r : Refusal} → Refused (Not_fields_bound fs ps known) r → Fields_bound_to fs ps known sc (Err r)
 
 -- ---- steps
 
 pub data Named_as (n next : ℕ) : Result ℕ Refusal → Type 0 where
   named_as : next ≡ suc n → Named_as n next (Ok n)
-  not_named : {r : Refusal} → Named_as n next (Err r)
+  not_named : Named_as n next (Err Memory)
 
 pub data Pushed (s : List ℕ × Action) (before after : Bindings) : Result (Unit {0}) Refusal → Type 0 where
   pushed : {u : Unit {0}} → after ≡ before ++ s ∷ [] → Pushed s before after (Ok u)
-  not_pushed : {r : Refusal} → Pushed s before after (Err r)
+  not_pushed : Pushed s before after (Err Memory)
 
 -- one step, whose result has the next name
 pub data Computed (a : Action) (n : ℕ) (before after : Bindings) (next : ℕ) : Result Atom Refusal → Type 0 where
   computed : after ≡ before ++ step (n ∷ []) a → next ≡ suc n → Computed a n before after next (Ok (atom.Name n))
-  not_computed : {r : Refusal} → Computed a n before after next (Err r)
+  not_computed : Computed a n before after next (Err Memory)
 
 -- the steps behind the first ones are those of the block, and the first ones are left
 pub data Blocked (mark : ℕ) (us : List Atom) (before after : Bindings) : Result (Bor Block) Refusal → Type 0 where
   blocked : {b : Bor Block} → ((outside inside : Bindings) → length outside ≡ mark → before ≡ outside ++ inside → (after ≡ outside) × (body_of b.now ≡ lets inside us)) → Blocked mark us before after (Ok b)
-  not_blocked : {r : Refusal} → Blocked mark us before after (Err r)
+  not_blocked : Blocked mark us before after (Err Memory)
 
 -- ---- operations
 
@@ -86,22 +89,25 @@ pub data On_two (op : BinOp) (at : Place) (ss : List Known) (n : ℕ) (bs : Bind
   on_two : {u w : Atom} → ss ≡ Scalar_known u ∷ Scalar_known w ∷ [] → Is_step (Operate (operation.Binary op at u w)) n bs s next → On_two op at ss n bs s next
 
 -- an operation without steps
-abbrev pub At_once : IntType → Operation Ref BindId → List Known → Result Held_known Refusal → Type 0
-At_once t o ss r = IfOk r (λ s. (at : Place) (n : ℕ) → Operates t o at ss n [] (known_of s) n)
+pub data At_once (t : IntType) (o : Operation Ref BindId) (ss : List Known) : Result Held_known Refusal → Type 0 where
+  at_once : {s : Held_known} → ((at : Place) (n : ℕ) → Operates t o at ss n [] (known_of s) n) → At_once t o ss (Ok s)
+  not_at_once : {r : Refusal} → Refused ((at : Place) → No_operation t o at ss) r → At_once t o ss (Err r)
 
 abbrev pub Operated : IntType → Operation Ref BindId → Place → List Known → ℕ → Bindings → Bindings → ℕ → Result Held_known Refusal → Type 0
-Operated t o at ss n = Answered (λ bs s next. Operates t o at ss n bs (known_of s) next)
+Operated t o at ss n = Answered (λ bs s next. Operates t o at ss n bs (known_of s) next) (No_operation t o at ss)
 
 abbrev pub Operated_primitive : Primitive → Place → List Known → ℕ → Bindings → Bindings → ℕ → Result Held_known Refusal → Type 0
-Operated_primitive p at ss n = Answered (λ bs s next. Primitive_operates p at ss n bs (known_of s) next)
+Operated_primitive p at ss n = Answered (λ bs s next. Primitive_operates p at ss n bs (known_of s) next) (No_primitive p at ss)
 
 abbrev pub Applied_primitive : Primitive → Place → Knowns → Known → ℕ → Bindings → Bindings → ℕ → Result Held_known Refusal → Type 0
-Applied_primitive p at ss s n before after next r = (integer_at : ℕ → IntType) (tops : Tops) → Answered (λ bs s' next. Applies integer_at tops (Primitive_known p at ss) s n bs (known_of s') next) before after next r
+Applied_primitive p at ss s n before after next r =
+    (integer_at : ℕ → IntType) (tops : Tops)
+    → Answered (λ bs s' next. Applies integer_at tops (Primitive_known p at ss) s n bs (known_of s') next) (Stuck_run integer_at tops (Primitive_known p at ss) s) before after next r
 
 -- ---- equality
 
 abbrev pub Equal_to : Place → Known → Known → ℕ → Bindings → Bindings → ℕ → Result Atom Refusal → Type 0
-Equal_to at s t n = Answered (Equals at s t n)
+Equal_to at s t n = Answered (Equals at s t n) (Not_compared at s t)
 
 -- the comparisons of parts, one after the other
 pub data All_compared (at : Place) : List Known → List Known → ℕ → Bindings → List Atom → ℕ → Type 0 where
@@ -117,3 +123,7 @@ pub data All_hold : List Atom → ℕ → Bindings → Atom → ℕ → Type 0 w
 pub data Same_names : List (Text × Known) → List (Text × Known) → Type 0 where
   no_names : Same_names [] []
   same_name : {f g : Text × Known} {fs gs : List (Text × Known)} → bytes_eq f.0 g.0 ≡ true → Same_names fs gs → Same_names (f ∷ fs) (g ∷ gs)
+
+pub data Names_told (fs gs : List (Text × Known)) : Bool → Type 0 where
+  same_names : Same_names fs gs → Names_told fs gs true
+  other_names : (Same_names fs gs → ⊥) → Names_told fs gs false

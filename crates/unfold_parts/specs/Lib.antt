@@ -3,6 +3,7 @@ pub mod Locals
 pub mod Patterns
 pub mod States
 pub mod Tables
+pub mod Refused
 pub mod Layouts
 pub mod Parts
 pub mod Answers

@@ -1,29 +1,51 @@
 -- Parts of values, by how many there are.
-use Rattle.std.specs.Prelude.{◌≡◌, List, [], ◌∷◌, Option, Some, None}
+use Rattle.std.specs.Prelude.{◌≡◌, List, [], ◌∷◌, Option, Some, None, Result, Ok, Err}
 use Rattle.fut_ast.specs.Sorts.{Text}
 use Rattle.fut_blocks.specs.declared.block.Atom.{Atom}
 use Rattle.fut_meaning.specs.Operations.{named_values}
 use Rattle.unfold.specs.Held.{known_of}
 use Rattle.unfold.specs.Knowns.{Known, Scalar_known, Record_known, fields}
+use Rattle.unfold.specs.Stuck.{No_scalar}
 use Rattle.unfold.specs.declared.known.Known.{Known as Held_known}
+use Rattle.unfold_parts.specs.Refused.{Refused}
 use Rattle.unfold_parts.specs.declared.parts.Scalars.{Scalars}
+use Rattle.unfold_parts.specs.declared.refusal.Refusal.{Refusal}
+use Rattle.unfold_parts.specs.declared.refusal.Refusal.TheVariants.{Lost}
+
+abbrev pub Not_one : List Known → Type 0
+Not_one ss = (s : Known) → ss ≡ s ∷ [] → ⊥
+
+abbrev pub Not_one_scalar : List Known → Type 0
+Not_one_scalar ss = (u : Atom) → ss ≡ Scalar_known u ∷ [] → ⊥
+
+abbrev pub Not_two_scalars : List Known → Type 0
+Not_two_scalars ss = (u w : Atom) → ss ≡ Scalar_known u ∷ Scalar_known w ∷ [] → ⊥
 
 pub data Is_one (ss : List Known) : Option Held_known → Type 0 where
   one : {s : Held_known} → ss ≡ known_of s ∷ [] → Is_one ss (Some s)
-  not_one : Is_one ss None
+  not_one : Not_one ss → Is_one ss None
 
 pub data Is_scalar (s : Known) : Option Atom → Type 0 where
   a_scalar : {u : Atom} → s ≡ Scalar_known u → Is_scalar s (Some u)
-  no_scalar : Is_scalar s None
+  no_scalar : No_scalar s → Is_scalar s None
 
 pub data Is_one_scalar (ss : List Known) : Option Atom → Type 0 where
   one_scalar : {u : Atom} → ss ≡ Scalar_known u ∷ [] → Is_one_scalar ss (Some u)
-  not_one_scalar : Is_one_scalar ss None
+  not_one_scalar : Not_one_scalar ss → Is_one_scalar ss None
 
 pub data Is_two_scalars (ss : List Known) : Option Scalars → Type 0 where
   two_scalars : {p : Scalars} → ss ≡ Scalar_known p.first ∷ Scalar_known p.second ∷ [] → Is_two_scalars ss (Some p)
-  not_two_scalars : Is_two_scalars ss None
+  not_two_scalars : Not_two_scalars ss → Is_two_scalars ss None
+
+pub data One_to (ss : List Known) : Result Held_known Refusal → Type 0 where
+  one_to : {s : Held_known} → ss ≡ known_of s ∷ [] → One_to ss (Ok s)
+  not_one_to : Not_one ss → One_to ss (Err Lost)
 
 -- the record of these names and values
 pub data Is_record (names : List Text) (ss : List Known) (s : Known) : Type 0 where
   is_record : {known : List (Text × Known)} → named_values names ss ≡ Some known → s ≡ Record_known (fields known) → Is_record names ss s
+
+-- there is none where there are not as many values as names
+pub data Recorded_to (names : List Text) (ss : List Known) : Result Held_known Refusal → Type 0 where
+  recorded_to : {s : Held_known} → Is_record names ss (known_of s) → Recorded_to names ss (Ok s)
+  not_recorded : {r : Refusal} → Refused (named_values names ss ≡ None) r → Recorded_to names ss (Err r)

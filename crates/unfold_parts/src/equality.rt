@@ -1,8 +1,11 @@
 // Whether data is equal.
-ghost use Rattle.std.specs.Prelude.{◌≡◌, true, IfOk, OnOk, map};
-ghost use Rattle.unfold.specs.Held.{field_of, known_of};
+ghost use Rattle.std.specs.Prelude.{◌≡◌, IfErr, IfOk, OnOk, map};
+ghost use Rattle.unfold.specs.Held.{field_of, fields_known, known_of};
 ghost use Rattle.unfold.specs.declared.known.Field.{Field as Held_field};
-ghost use Rattle.unfold_parts.specs.Answers.{All_compared, All_hold, Answered, Equal_to, Same_names};
+ghost use Rattle.unfold.specs.Knowns.{knowns};
+ghost use Rattle.unfold_parts.specs.Answers.{All_compared, All_hold, Answered, Equal_to, Names_told, Same_names};
+ghost use Rattle.unfold_parts.specs.Refused.{Not_all_compared, Not_fields_compared};
+ghost use Rattle.unfold_parts.specs.declared.refusal.Refusal.TheVariants as refusal;
 ghost use Rattle.unfold_parts.specs.States.{steps_of};
 
 use crate::laying::MOST_DEEP;
@@ -72,7 +75,7 @@ fn compare_all<'a>(
     lefts: &'a [Known<'a>],
     rights: &'a [Known<'a>],
 ) -> Result<&'a [Atom], Refusal>
-    ensures { Answered (λ bs us next. All_compared place (map known_of lefts.now) (map known_of rights.now) work.old.next bs us.now next) (steps_of work.old) (steps_of work.new) work.new.next result }
+    ensures { Answered (λ bs us next. All_compared place (map known_of lefts.now) (map known_of rights.now) work.old.next bs us.now next) (Not_all_compared place (knowns (map known_of lefts.now)) (knowns (map known_of rights.now))) (steps_of work.old) (steps_of work.new) work.new.next result }
 {
     if lefts.len() != rights.len() {
         return Err(Refusal::Lost);
@@ -103,7 +106,7 @@ fn compare_fields<'a>(
     lefts: &'a [Field<'a>],
     rights: &'a [Field<'a>],
 ) -> Result<&'a [Atom], Refusal>
-    ensures compared { Answered (λ bs us next. All_compared place (map (λ (f : Held_field). known_of f.known) lefts.now) (map (λ (f : Held_field). known_of f.known) rights.now) work.old.next bs us.now next) (steps_of work.old) (steps_of work.new) work.new.next result }
+    ensures compared { Answered (λ bs us next. All_compared place (map (λ (f : Held_field). known_of f.known) lefts.now) (map (λ (f : Held_field). known_of f.known) rights.now) work.old.next bs us.now next) (Not_fields_compared place (fields_known (map field_of lefts.now)) (fields_known (map field_of rights.now))) (steps_of work.old) (steps_of work.new) work.new.next result }
     ensures named { OnOk result (Same_names (map field_of lefts.now) (map field_of rights.now)) }
 {
     if !same_names(lefts, rights) {
@@ -121,7 +124,8 @@ fn compare_fields<'a>(
 
 // What is known of the fields.
 fn values<'a>(bump: &'a Bump, fields: &'a [Field<'a>]) -> Result<&'a [Known<'a>], Refusal>
-    ensures { IfOk result (λ ss. map known_of ss.now ≡ map (λ (f : Held_field). known_of f.known) fields.now) }
+    ensures ok { IfOk result (λ ss. map known_of ss.now ≡ map (λ (f : Held_field). known_of f.known) fields.now) }
+    ensures err { IfErr result (λ r. r ≡ refusal.Memory) }
 {
     let mut values = Vec::new(bump);
     for field in fields {
@@ -135,7 +139,7 @@ fn values<'a>(bump: &'a Bump, fields: &'a [Field<'a>]) -> Result<&'a [Known<'a>]
 
 // Whether two records have fields of the same names.
 fn same_names<'a>(lefts: &'a [Field<'a>], rights: &'a [Field<'a>]) -> bool
-    ensures { result ≡ true → Same_names (map field_of lefts.now) (map field_of rights.now) }
+    ensures { Names_told (map field_of lefts.now) (map field_of rights.now) result }
 {
     if lefts.len() != rights.len() {
         return false;
@@ -153,7 +157,7 @@ fn same_names<'a>(lefts: &'a [Field<'a>], rights: &'a [Field<'a>]) -> bool
 
 // Whether all hold.
 fn all_hold<'a>(work: &mut Unfolding<'a>, truths: &'a [Atom]) -> Result<Atom, Refusal>
-    ensures { Answered (All_hold truths.now work.old.next) (steps_of work.old) (steps_of work.new) work.new.next result }
+    ensures { Answered (All_hold truths.now work.old.next) ⊥ (steps_of work.old) (steps_of work.new) work.new.next result }
 {
     let mut all = Atom::Constant(Scalar::Bool(true));
     let mut at = truths.len();

@@ -1,9 +1,11 @@
 // New names for data.
-ghost use Rattle.std.specs.Prelude.{◌≡◌, ◌≤◌, ◌-◌, IfOk, map};
+ghost use Rattle.std.specs.Prelude.{◌≡◌, ◌≤◌, ◌-◌, IfErr, IfOk, map};
 ghost use Rattle.unfold.specs.Held.{field_of, fields_known, known_of};
 ghost use Rattle.unfold.specs.Knowns.{knowns};
 ghost use Rattle.unfold.specs.Shapes.{All_laid, Fields_laid, Laid, Scalar_shape};
-ghost use Rattle.unfold_parts.specs.Layouts.{Has_names, Renewed, field_shapes_of, numbers_from, shape_of, shapes_of};
+ghost use Rattle.unfold_parts.specs.Layouts.{Has_names, None_are, Renewed, field_shapes_of, numbers_from, shape_of, shapes_of};
+ghost use Rattle.unfold_parts.specs.Refused.{Refused};
+ghost use Rattle.unfold_parts.specs.declared.refusal.Refusal.TheVariants as refusal;
 ghost use Rattle.unfold_parts.specs.States.{steps_of};
 
 use crate::laying::{MOST_DEEP, MOST_PARTS};
@@ -43,7 +45,7 @@ struct RenamedFields<'a> {
 impl<'a> Unfolding<'a> {
     /// Data of the same shape as `like`, whose components are new names.
     pub fn fresh(&mut self, like: Known<'a>) -> Result<Fresh<'a>, Refusal>
-        ensures fresh { Renewed (shape_of (known_of like.entry)) self.old.next self.new.next result }
+        ensures fresh { Renewed (known_of like.entry) self.old.next self.new.next result }
         ensures steps { steps_of self.new ≡ steps_of self.old }
     {
         let bump = self.bump;
@@ -69,7 +71,8 @@ impl<'a> Unfolding<'a> {
 // The names from one on, up to another.
 #[tactic(auto, using(crate::proofs::Naming::number_more))]
 fn names_between<'a>(bump: &'a Bump, first: u32, behind: u32) -> Result<&'a [u32], Refusal>
-    ensures { IfOk result (λ names. names.now ≡ numbers_from first (behind - first)) }
+    ensures ok { IfOk result (λ names. names.now ≡ numbers_from first (behind - first)) }
+    ensures err { IfErr result (λ r. r ≡ refusal.Memory) }
 {
     let mut names = Vec::new(bump);
     for name in first..behind {
@@ -82,7 +85,8 @@ fn names_between<'a>(bump: &'a Bump, first: u32, behind: u32) -> Result<&'a [u32
 }
 
 fn rename_scalar<'a>(name: u32) -> Result<Renamed<'a>, Refusal>
-    ensures { IfOk result (λ r. Has_names (Laid Scalar_shape (known_of r.known)) name r.next) }
+    ensures ok { IfOk result (λ r. Has_names (Laid Scalar_shape (known_of r.known)) name r.next) }
+    ensures err { IfErr result (λ r. r ≡ refusal.Memory) }
 {
     match name.checked_add(1) {
         Some(next) => Ok(Renamed {
@@ -103,7 +107,8 @@ fn rename<'a>(
     like: Known<'a>,
     first: u32,
 ) -> Result<Renamed<'a>, Refusal>
-    ensures { IfOk result (λ r. Has_names (Laid (shape_of (known_of like.entry)) (known_of r.known)) first r.next) }
+    ensures ok { IfOk result (λ r. Has_names (Laid (shape_of (known_of like.entry)) (known_of r.known)) first r.next) }
+    ensures err { IfErr result (Refused (None_are (Laid (shape_of (known_of like.entry)) (known_of like.entry)))) }
 {
     if deep >= MOST_DEEP {
         return Err(Refusal::Memory);
@@ -148,7 +153,8 @@ fn rename_all<'a>(
     likes: &'a [Known<'a>],
     first: u32,
 ) -> Result<RenamedParts<'a>, Refusal>
-    ensures { IfOk result (λ r. Has_names (All_laid (shapes_of (knowns (map known_of likes.now))) (knowns (map known_of r.parts.now))) first r.next) }
+    ensures ok { IfOk result (λ r. Has_names (All_laid (shapes_of (knowns (map known_of likes.now))) (knowns (map known_of r.parts.now))) first r.next) }
+    ensures err { IfErr result (Refused (None_are (All_laid (shapes_of (knowns (map known_of likes.now))) (knowns (map known_of likes.now))))) }
 {
     let mut parts = Vec::new(bump);
     let mut next = first;
@@ -177,7 +183,8 @@ fn rename_fields<'a>(
     likes: &'a [Field<'a>],
     first: u32,
 ) -> Result<RenamedFields<'a>, Refusal>
-    ensures { IfOk result (λ r. Has_names (Fields_laid (field_shapes_of (fields_known (map field_of likes.now))) (fields_known (map field_of r.fields.now))) first r.next) }
+    ensures ok { IfOk result (λ r. Has_names (Fields_laid (field_shapes_of (fields_known (map field_of likes.now))) (fields_known (map field_of r.fields.now))) first r.next) }
+    ensures err { IfErr result (Refused (None_are (Fields_laid (field_shapes_of (fields_known (map field_of likes.now))) (fields_known (map field_of likes.now))))) }
 {
     let mut fields = Vec::new(bump);
     let mut next = first;

@@ -47,10 +47,6 @@ fn lay_behind<'a>(
     }
     *room -= 1;
     match like.form {
-        KnownForm::Scalar(_) => match known.form {
-            KnownForm::Scalar(atom) => put(atom, atoms),
-            _ => Err(Refusal::Lost),
-        },
         KnownForm::Tuple(likes) => match known.form {
             KnownForm::Tuple(parts) => lay_all(room, deep + 1, likes, parts, atoms),
             _ => Err(Refusal::Lost),
@@ -59,7 +55,10 @@ fn lay_behind<'a>(
             KnownForm::Record(fields) => lay_fields(room, deep + 1, likes, fields, atoms),
             _ => Err(Refusal::Lost),
         },
-        _ => Err(Refusal::Lost),
+        _ => match known.form {
+            KnownForm::Scalar(atom) => put(atom, atoms),
+            _ => Err(Refusal::Lost),
+        },
     }
 }
 

@@ -1,7 +1,8 @@
 //! The parts of unfolding that do not walk over terms: names and patterns, operations, data laid out in components, and new
 //! names for it, with the steps so far.
 //!
-//! What is unfolded is said by the definitions of `unfold`; `specs/Answers.antt` says what the calls answer.
+//! What is unfolded is said by the definitions of `unfold`; `specs/Answers.antt` says what the calls answer. `Lost` is answered
+//! only where what is given has no way on, and each contract says what lacks.
 #![tactic(auto)]
 
 mod equality;

@@ -1,11 +1,12 @@
 // Operations on evaluated parts.
-ghost use Rattle.std.specs.Prelude.{◌≡◌, ◌∷◌, [], IfOk, map};
+ghost use Rattle.std.specs.Prelude.{◌≡◌, map};
 ghost use Rattle.fut_flat.specs.Erased.{operation_of, texts, type_of};
 ghost use Rattle.fut_flat.specs.Terms.{Ascribe, Assert, Binary, Coerce, Declared, Integer, Project, Record_of, Replace, Truth};
 ghost use Rattle.fut_scalar.specs.declared.operator.BinOp.TheVariants as operator;
 ghost use Rattle.unfold.specs.Held.{known_of};
 ghost use Rattle.unfold.specs.Unfolding.{literal_type};
 ghost use Rattle.unfold_parts.specs.Answers.{At_once, Operated};
+ghost use Rattle.unfold_parts.specs.Parts.{One_to};
 ghost use Rattle.unfold_parts.specs.Tables.{integer_at};
 ghost use Rattle.unfold_parts.specs.States.{steps_of};
 
@@ -43,7 +44,7 @@ fn literal_type(ty: IntType, suffix: Option<IntType>) -> IntType
     }
 }
 
-#[tactic(auto, using(crate::proofs::Operated::at_once))]
+#[tactic(auto, using(crate::proofs::Operated::literals))]
 fn literal<'a>(
     ty: IntType,
     value: u64,
@@ -61,7 +62,7 @@ fn literal<'a>(
     })
 }
 
-#[tactic(auto, using(crate::proofs::Operated::at_once))]
+#[tactic(auto, using(crate::proofs::Operated::literals))]
 fn truth<'a>(ty: IntType, value: bool, parts: &'a [Known<'a>]) -> Result<Known<'a>, Refusal>
     ensures { At_once ty (Truth value) (map known_of parts.now) result }
 {
@@ -73,17 +74,18 @@ fn truth<'a>(ty: IntType, value: bool, parts: &'a [Known<'a>]) -> Result<Known<'
     })
 }
 
-#[tactic(auto, using(crate::proofs::Operated::at_once))]
 fn project<'a>(ty: IntType, name: &str, parts: &'a [Known<'a>]) -> Result<Known<'a>, Refusal>
     ensures { At_once ty (Project name.now) (map known_of parts.now) result }
 {
     match one(parts) {
-        Some(whole) => part(whole, name),
+        Some(whole) => match part(whole, name) {
+            Some(known) => Ok(known),
+            None => Err(Refusal::Lost),
+        },
         None => Err(Refusal::Lost),
     }
 }
 
-#[tactic(auto, using(crate::proofs::Operated::at_once))]
 fn replace<'a>(
     bump: &'a Bump,
     ty: IntType,
@@ -109,7 +111,6 @@ fn replace<'a>(
     }
 }
 
-#[tactic(auto, using(crate::proofs::Operated::stepped))]
 fn equal_parts<'a>(
     work: &mut Unfolding<'a>,
     ty: IntType,
@@ -130,7 +131,6 @@ fn equal_parts<'a>(
     }
 }
 
-#[tactic(auto, using(crate::proofs::Operated::stepped))]
 fn unequal_parts<'a>(
     work: &mut Unfolding<'a>,
     ty: IntType,
@@ -149,7 +149,6 @@ fn unequal_parts<'a>(
     }
 }
 
-#[tactic(auto, using(crate::proofs::Operated::stepped))]
 fn operate_binary<'a>(
     work: &mut Unfolding<'a>,
     ty: IntType,
@@ -167,7 +166,7 @@ fn operate_binary<'a>(
 }
 
 // The condition is asserted by a step without names.
-#[tactic(auto, using(crate::proofs::Operated::stepped))]
+#[tactic(auto, using(crate::proofs::Operated::assert_ok))]
 fn assert_first<'a>(
     work: &mut Unfolding<'a>,
     ty: IntType,
@@ -194,9 +193,8 @@ fn assert_first<'a>(
 }
 
 // What has a written type is what it was.
-#[tactic(auto, using(crate::proofs::Operated::one_is))]
 fn same<'a>(parts: &'a [Known<'a>]) -> Result<Known<'a>, Refusal>
-    ensures { IfOk result (λ s. map known_of parts.now ≡ known_of s ∷ []) }
+    ensures { One_to (map known_of parts.now) result }
 {
     match one(parts) {
         Some(known) => Ok(known),
@@ -230,6 +228,9 @@ pub fn operate<'a>(
         Act::Coerce(_) => same(parts),
         Act::Declared(_) => same(parts),
         Act::Assert => assert_first(work, ty, mark, parts),
-        _ => Err(Refusal::Lost),
+        Act::Array => Err(Refusal::Lost),
+        Act::Index(_) => Err(Refusal::Lost),
+        Act::Update => Err(Refusal::Lost),
+        Act::Range { .. } => Err(Refusal::Lost),
     }
 }

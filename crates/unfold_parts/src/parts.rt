@@ -1,11 +1,11 @@
 // Parts of values, by how many there are.
-ghost use Rattle.std.specs.Prelude.{◌≡◌, IfOk, Some, map};
+ghost use Rattle.std.specs.Prelude.{◌≡◌, map};
 ghost use Rattle.unfold.specs.Held.{known_of};
 ghost use Rattle.unfold.specs.Knowns.{knowns, part, part_from};
+ghost use Rattle.unfold_parts.specs.Held.{maybe_known};
 ghost use Rattle.unfold_parts.specs.Parts.{Is_one, Is_one_scalar, Is_scalar, Is_two_scalars};
 
 use crate::records::field_known;
-use crate::refusal::Refusal;
 use fut_blocks::Atom;
 use itoa::Buffer;
 use unfold::{Known, KnownForm};
@@ -51,7 +51,7 @@ pub fn one_scalar<'a>(parts: &'a [Known<'a>]) -> Option<Atom>
 }
 
 /// Both parts, where there are two, and they are scalars.
-#[tactic(auto, using(crate::proofs::Parting::parting))]
+#[tactic(auto, using(crate::proofs::Parting::two_scalars_ok))]
 pub fn two_scalars<'a>(parts: &'a [Known<'a>]) -> Option<Scalars>
     ensures { Is_two_scalars (map known_of parts.now) result }
 {
@@ -68,30 +68,27 @@ pub fn two_scalars<'a>(parts: &'a [Known<'a>]) -> Option<Scalars>
 }
 
 // The part of a tuple whose position is spelled so.
-fn position<'a>(parts: &'a [Known<'a>], name: &str) -> Result<Known<'a>, Refusal>
-    ensures { IfOk result (λ s. part_from 0 name.now (knowns (map known_of parts.now)) ≡ Some (known_of s)) }
+fn position<'a>(parts: &'a [Known<'a>], name: &str) -> Option<Known<'a>>
+    ensures { maybe_known result ≡ part_from 0 name.now (knowns (map known_of parts.now)) }
 {
     let mut buffer = Buffer::new();
     let mut at: usize = 0;
     for known in parts {
         if buffer.format(at) == name {
-            return Ok(*known);
+            return Some(*known);
         }
         at += 1;
     }
-    Err(Refusal::Lost)
+    None
 }
 
 /// The part of that name: of a tuple by its position, of a record by its field.
-pub fn part<'a>(known: Known<'a>, name: &str) -> Result<Known<'a>, Refusal>
-    ensures { IfOk result (λ s. part name.now (known_of known.entry) ≡ Some (known_of s)) }
+pub fn part<'a>(known: Known<'a>, name: &str) -> Option<Known<'a>>
+    ensures { maybe_known result ≡ part name.now (known_of known.entry) }
 {
     match known.form {
         KnownForm::Tuple(parts) => position(parts, name),
-        KnownForm::Record(fields) => match field_known(fields, name) {
-            Some(part) => Ok(part),
-            None => Err(Refusal::Lost),
-        },
-        _ => Err(Refusal::Lost),
+        KnownForm::Record(fields) => field_known(fields, name),
+        _ => None,
     }
 }

@@ -33,11 +33,17 @@ pub fn bind<'a>(
         PatForm::Wild => Ok(scope),
         PatForm::Tuple(parts) => match known.form {
             KnownForm::Tuple(given) => bind_all(bump, parts, given, scope),
-            _ => Err(Refusal::Lost),
+            KnownForm::Scalar(_) => Err(Refusal::Lost),
+            KnownForm::Record(_) => Err(Refusal::Lost),
+            KnownForm::Function(_) => Err(Refusal::Lost),
+            KnownForm::Primitive(_, _, _) => Err(Refusal::Lost),
         },
         PatForm::Record(fields) => match known.form {
             KnownForm::Record(known_fields) => bind_fields(bump, fields, known_fields, scope),
-            _ => Err(Refusal::Lost),
+            KnownForm::Scalar(_) => Err(Refusal::Lost),
+            KnownForm::Tuple(_) => Err(Refusal::Lost),
+            KnownForm::Function(_) => Err(Refusal::Lost),
+            KnownForm::Primitive(_, _, _) => Err(Refusal::Lost),
         },
         PatForm::Typed(inner, _) => bind(bump, inner, known, scope),
     }

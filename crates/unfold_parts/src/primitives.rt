@@ -1,5 +1,5 @@
 // Primitives, and the arguments that they have.
-ghost use Rattle.std.specs.Prelude.{◌≡◌, ◌++◌, ◌∷◌, [], IfOk, ℕ, map};
+ghost use Rattle.std.specs.Prelude.{◌≡◌, ◌++◌, ◌∷◌, [], IfErr, IfOk, ℕ, map};
 ghost use Rattle.fut_blocks.specs.declared.block.Atom.TheVariants as atom;
 ghost use Rattle.fut_flat.specs.declared.prim.Primitive.TheVariants as prim;
 ghost use Rattle.fut_meaning.specs.Operations.{arity};
@@ -10,6 +10,7 @@ ghost use Rattle.fut_scalar.specs.declared.scalar.Scalar.TheVariants as scalar;
 ghost use Rattle.unfold.specs.Held.{known_of};
 ghost use Rattle.unfold.specs.Knowns.{Scalar_known, knowns};
 ghost use Rattle.unfold_parts.specs.Answers.{Applied_primitive, Operated_primitive, Primitive_used};
+ghost use Rattle.unfold_parts.specs.declared.refusal.Refusal.TheVariants as refusal;
 ghost use Rattle.unfold_parts.specs.States.{steps_of};
 
 use crate::parts::one_scalar;
@@ -148,7 +149,8 @@ fn with_known<'a>(
     given: &'a [Known<'a>],
     known: Known<'a>,
 ) -> Result<&'a [Known<'a>], Refusal>
-    ensures { IfOk result (λ all. all.now ≡ given.now ++ known.entry ∷ []) }
+    ensures ok { IfOk result (λ all. all.now ≡ given.now ++ known.entry ∷ []) }
+    ensures err { IfErr result (λ r. r ≡ refusal.Memory) }
 {
     let mut all = Vec::new(bump);
     match all.extend_from_slice(given) {

@@ -1,11 +1,12 @@
 // Records, their fields in order of their names.
-ghost use Rattle.std.specs.Prelude.{◌≡◌, ◌≤◌, ◌++◌, ◌∷◌, IfOk, length, map, take, drop};
+ghost use Rattle.std.specs.Prelude.{◌≡◌, ◌≤◌, ◌++◌, ◌∷◌, IfErr, IfOk, length, map, take, drop};
 ghost use Rattle.fut_flat.specs.Erased.{texts};
 ghost use Rattle.fut_meaning.specs.Values.{is_before};
 ghost use Rattle.unfold.specs.Held.{field_of, fields_known, known_of};
 ghost use Rattle.unfold.specs.Knowns.{Known as Known_value, field, replaced, with_field};
 ghost use Rattle.unfold_parts.specs.Held.{maybe_known};
-ghost use Rattle.unfold_parts.specs.Parts.{Is_record};
+ghost use Rattle.unfold_parts.specs.Parts.{Recorded_to};
+ghost use Rattle.unfold_parts.specs.declared.refusal.Refusal.TheVariants as refusal;
 
 use crate::refusal::Refusal;
 use bumpalo::Bump;
@@ -51,7 +52,7 @@ pub fn record_of<'a>(
     names: &'a [&'a str],
     parts: &'a [Known<'a>],
 ) -> Result<Known<'a>, Refusal>
-    ensures { IfOk result (λ s. Is_record (texts names.now) (map known_of parts.now) (known_of s)) }
+    ensures { Recorded_to (texts names.now) (map known_of parts.now) result }
 {
     if names.len() != parts.len() {
         return Err(Refusal::Lost);
@@ -82,7 +83,8 @@ pub fn replaced<'a>(
     known: Known<'a>,
     fields: &'a [Field<'a>],
 ) -> Result<&'a [Field<'a>], Refusal>
-    ensures { IfOk result (λ made. fields_known (map field_of made.now) ≡ replaced name.now (known_of known.entry) (fields_known (map field_of fields.now))) }
+    ensures ok { IfOk result (λ made. fields_known (map field_of made.now) ≡ replaced name.now (known_of known.entry) (fields_known (map field_of fields.now))) }
+    ensures err { IfErr result (λ r. r ≡ refusal.Memory) }
 {
     let mut made = Vec::new(bump);
     let mut is_done = false;

@@ -7,7 +7,7 @@ use std::alloc::{AllocError, AllocFailed};
 /// Why unfolding ends before its end.
 #[derive(Clone, Copy, Debug, PartialEq, Eq)]
 pub enum Refusal {
-    /// A term has no way on, which no typed program comes to that was measured.
+    /// Unfolding has no way on, which no typed program comes to.
     Lost,
     /// No memory, or no name, is left, or data lies more than 1,000 deep or has more than 1,048,576 parts.
     Memory,

@@ -1,9 +1,10 @@
 // Local names.
-ghost use Rattle.std.specs.Prelude.{◌≡◌, IfOk};
+ghost use Rattle.std.specs.Prelude.{◌≡◌, IfErr, IfOk};
 ghost use Rattle.unfold.specs.Held.{known_of, scope_of};
 ghost use Rattle.unfold.specs.Knowns.{name_and};
 ghost use Rattle.unfold_parts.specs.Held.{maybe_known};
 ghost use Rattle.unfold_parts.specs.Locals.{local};
+ghost use Rattle.unfold_parts.specs.declared.refusal.Refusal.TheVariants as refusal;
 
 use crate::refusal::Refusal;
 use bumpalo::Bump;
@@ -33,7 +34,8 @@ pub fn bound<'a>(
     known: Known<'a>,
     scope: &'a Scope<'a>,
 ) -> Result<&'a Scope<'a>, Refusal>
-    ensures { IfOk result (λ inner. scope_of inner.now ≡ name_and bind (known_of known.entry) (scope_of scope.now)) }
+    ensures ok { IfOk result (λ inner. scope_of inner.now ≡ name_and bind (known_of known.entry) (scope_of scope.now)) }
+    ensures err { IfErr result (λ r. r ≡ refusal.Memory) }
 {
     match bump.try_alloc_slice_copy(&[Scope::Bind(bind, known, scope)]) {
         Ok(cells) => {

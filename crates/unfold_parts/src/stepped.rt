@@ -3,6 +3,7 @@ ghost use Rattle.std.specs.Prelude.{map};
 ghost use Rattle.fut_blocks.specs.Plain.{Operate};
 ghost use Rattle.unfold.specs.Held.{known_of};
 ghost use Rattle.unfold_parts.specs.Answers.{Answered, Is_step, On_one, On_two};
+ghost use Rattle.unfold_parts.specs.Parts.{Not_one_scalar, Not_two_scalars};
 ghost use Rattle.unfold_parts.specs.States.{steps_of};
 
 use crate::parts::{one_scalar, two_scalars};
@@ -14,7 +15,7 @@ use unfold::{Known, KnownForm};
 
 /// One more step, and the scalar that it gives.
 pub fn computed<'a>(work: &mut Unfolding<'a>, operation: Operation) -> Result<Known<'a>, Refusal>
-    ensures { Answered (λ bs s next. Is_step (Operate operation) work.old.next bs (known_of s) next) (steps_of work.old) (steps_of work.new) work.new.next result }
+    ensures { Answered (λ bs s next. Is_step (Operate operation) work.old.next bs (known_of s) next) ⊥ (steps_of work.old) (steps_of work.new) work.new.next result }
 {
     match work.compute(operation) {
         Ok(atom) => Ok(Known {
@@ -29,7 +30,7 @@ pub fn unary<'a>(
     op: UnOp,
     parts: &'a [Known<'a>],
 ) -> Result<Known<'a>, Refusal>
-    ensures { Answered (λ bs s next. On_one op (map known_of parts.now) work.old.next bs (known_of s) next) (steps_of work.old) (steps_of work.new) work.new.next result }
+    ensures { Answered (λ bs s next. On_one op (map known_of parts.now) work.old.next bs (known_of s) next) (Not_one_scalar (map known_of parts.now)) (steps_of work.old) (steps_of work.new) work.new.next result }
 {
     match one_scalar(parts) {
         Some(atom) => computed(work, Operation::Unary(op, atom)),
@@ -43,7 +44,7 @@ pub fn binary<'a>(
     place: Place,
     parts: &'a [Known<'a>],
 ) -> Result<Known<'a>, Refusal>
-    ensures { Answered (λ bs s next. On_two op place (map known_of parts.now) work.old.next bs (known_of s) next) (steps_of work.old) (steps_of work.new) work.new.next result }
+    ensures { Answered (λ bs s next. On_two op place (map known_of parts.now) work.old.next bs (known_of s) next) (Not_two_scalars (map known_of parts.now)) (steps_of work.old) (steps_of work.new) work.new.next result }
 {
     match two_scalars(parts) {
         Some(pair) => computed(work, Operation::Binary(op, place, pair.first, pair.second)),

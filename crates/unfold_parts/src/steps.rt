@@ -1,9 +1,10 @@
 // The steps so far.
-ghost use Rattle.std.specs.Prelude.{◌≡◌, ◌∷◌, [], IfOk, length};
+ghost use Rattle.std.specs.Prelude.{◌≡◌, ◌≤◌, ◌∷◌, [], IfErr, IfOk, length};
 ghost use Rattle.fut_blocks.specs.Plain.{Give, Operate, binding_of, body_of};
 ghost use Rattle.unfold.specs.Unfolding.{both_hold};
 ghost use Rattle.unfold_parts.specs.Answers.{Blocked, Computed, Named_as, Pushed};
 ghost use Rattle.unfold_parts.specs.States.{steps_of};
+ghost use Rattle.unfold_parts.specs.declared.refusal.Refusal.TheVariants as refusal;
 
 use crate::refusal::Refusal;
 use bumpalo::Bump;
@@ -87,7 +88,8 @@ impl<'a> Unfolding<'a> {
 
     // The block in a place of its own.
     fn kept(&self, block: Block<'a>) -> Result<&'a Block<'a>, Refusal>
-        ensures { IfOk result (λ b. b.now ≡ block.entry) }
+        ensures ok { IfOk result (λ b. b.now ≡ block.entry) }
+        ensures err { IfErr result (λ r. r ≡ refusal.Memory) }
     {
         match self.bump.try_alloc_slice_copy(&[block]) {
             Ok(cells) => {
@@ -98,14 +100,13 @@ impl<'a> Unfolding<'a> {
         }
     }
 
-    /// The steps from the mark on as a block with these results, which are steps no longer.
+    /// The steps from the mark on as a block with these results, which are steps no longer. The mark is no
+    /// more than `mark` says now.
     pub fn block(&mut self, mark: usize, results: &'a [Atom]) -> Result<&'a Block<'a>, Refusal>
+        requires mark { mark ≤ length (steps_of self.old) }
         ensures block { Blocked mark results.now (steps_of self.old) (steps_of self.new) result }
         ensures next { self.new.next ≡ self.old.next }
     {
-        if mark > self.steps.len() {
-            return Err(Refusal::Lost);
-        }
         match self.bump.try_alloc_slice_copy(&self.steps[mark..]) {
             Ok(steps) => {
                 self.steps.truncate(mark);
@@ -117,7 +118,8 @@ impl<'a> Unfolding<'a> {
 
     // A block without steps.
     fn giving(&self, atom: Atom) -> Result<&'a Block<'a>, Refusal>
-        ensures { IfOk result (λ b. body_of b.now ≡ Give (atom ∷ [])) }
+        ensures ok { IfOk result (λ b. body_of b.now ≡ Give (atom ∷ [])) }
+        ensures err { IfErr result (λ r. r ≡ refusal.Memory) }
     {
         match self.bump.try_alloc_slice_copy(&[atom]) {
             Ok(results) => self.kept(Block {

@@ -1,11 +1,12 @@
 // What is known of the definitions.
-ghost use Rattle.std.specs.Prelude.{◌≡◌, ◌∷◌, [], IfOk};
+ghost use Rattle.std.specs.Prelude.{◌≡◌, ◌∷◌, [], IfErr, IfOk};
 ghost use Rattle.fut_blocks.specs.Meaning.{look};
 ghost use Rattle.unfold.specs.Held.{known_of, scope_of};
 ghost use Rattle.unfold.specs.Knowns.{no_name};
 ghost use Rattle.unfold_parts.specs.Answers.{Used};
 ghost use Rattle.unfold_parts.specs.Held.{maybe_known};
 ghost use Rattle.unfold_parts.specs.Tables.{Kept, tops_of};
+ghost use Rattle.unfold_parts.specs.declared.refusal.Refusal.TheVariants as refusal;
 
 use crate::primitives::use_of_primitive;
 use crate::refusal::Refusal;
@@ -57,6 +58,7 @@ impl<'a> Tops<'a> {
         requires kept { Kept self }
         ensures kept { IfOk result (λ made. Kept made) }
         ensures tops { IfOk result (λ made. tops_of made ≡ (number.0, known_of known.entry) ∷ tops_of self.entry) }
+        ensures err { IfErr result (λ r. r ≡ refusal.Memory) }
     {
         let bump = self.bump;
         let list = match bound(bump, number, known, self.list) {

@@ -10,6 +10,7 @@ use Rattle.fut_blocks.specs.declared.block.Block.{Block}
 use Rattle.fut_blocks.specs.declared.block.Step.{roll-Step}
 use Rattle.fut_blocks.specs.Plain.{If, For, While, binding_of, body_of}
 use Rattle.unfold.specs.Knowns.{Known, Scope}
+use Rattle.unfold.specs.Stuck.{Stuck}
 use Rattle.unfold.specs.Unfolding.{Bindings, Unfolds}
 use Rattle.unfold_program.specs.declared.walked.Context.{Context}
 use Rattle.unfold_program.specs.Answers.{defined, told}
@@ -24,6 +25,9 @@ module _ {A : Type 0} where
 -- what a term unfolds to, where its number, the term or the known value is given otherwise
 pub moved : (c : Context) {sc : Scope} {t : FlatTerm} {lo lo' n m : ℕ} {bs : Bindings} {s : Known} → lo ≡ lo' → Unfolds (told c) (defined c) sc lo t n bs s m → Unfolds (told c) (defined c) sc lo' t n bs s m
 moved c {sc} {t} {n = n} {m} {bs} {s} e u = subst (λ z. Unfolds (told c) (defined c) sc z t n bs s m) e u
+
+pub stuck_at : (c : Context) {sc : Scope} {t : FlatTerm} {lo lo' : ℕ} → lo ≡ lo' → Stuck (told c) (defined c) sc lo t → Stuck (told c) (defined c) sc lo' t
+stuck_at c {sc} {t} e w = subst (λ z. Stuck (told c) (defined c) sc z t) e w
 
 pub known_as : (c : Context) {sc : Scope} {t : FlatTerm} {lo n m : ℕ} {bs : Bindings} {s s' : Known} → s ≡ s' → Unfolds (told c) (defined c) sc lo t n bs s m → Unfolds (told c) (defined c) sc lo t n bs s' m
 known_as c {sc} {t} {lo} {n} {m} {bs} e u = subst (λ z. Unfolds (told c) (defined c) sc lo t n bs z m) e u

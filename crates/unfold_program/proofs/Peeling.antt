@@ -13,8 +13,12 @@ use Rattle.fut_flat.specs.Terms.{Strict, Declared, no_term, term_and}
 use Rattle.fut_flat.proofs.ErasedForms.{row_of, term_strict, term_lets}
 use Rattle.unfold.specs.Held.{known_of}
 use Rattle.unfold.specs.Knowns.{Scope}
+use Rattle.unfold.specs.Stuck.{Stuck, stuck_here, stuck_parts}
 use Rattle.unfold.specs.Unfolding.{Unfolds, u_strict, u_more, u_none, o_declared}
+use Rattle.unfold_parts.proofs.Refusing.{refused_as}
+use Rattle.unfold_parts.specs.Refused.{no_memory}
 use Rattle.unfold_parts.specs.declared.refusal.Refusal.{Refusal}
+use Rattle.unfold_parts.specs.declared.refusal.Refusal.TheVariants.{Memory}
 use Rattle.unfold_parts.specs.declared.steps.Unfolding.{Unfolding}
 use Rattle.unfold_program.specs.declared.peel.Peeled.{Peeled}
 use Rattle.unfold_program.specs.declared.walked.Context.{Context}
@@ -24,8 +28,8 @@ use Rattle.unfold_program.specs.Answers.{is_declared, Peels, bare, declared, Pee
 pub peel_bare : (lo : ℕ) (e : Bor Exp) → Peeled_to lo (term_of e.now) (Ok (record { exp = e; at = lo }))
 peel_bare lo e = peeled_to bare
 
-pub peel_err : (lo : ℕ) (e : FlatTerm) (r : Refusal) → Peeled_to lo e (Err r)
-peel_err lo e r = not_peeled
+pub peel_err : (lo : ℕ) (e : FlatTerm) (r : Refusal) → r ≡ Memory → Peeled_to lo e (Err r)
+peel_err lo e r m = subst (λ z. Peeled_to lo e (Err z)) (sym m) not_peeled
 
 pub peel_declared : (e : Exp) (a : Act) (mark : Place) (es : Bor (List Exp)) (d : Exp) (lo inside : ℕ) (r : Result Peeled Refusal) → e.form ≡ form.Strict a mark es → is_declared a ≡ true → length es.now ≡ 1 → inside ≡ lo + 1 → Peeled_to inside (term_of (get_or es.now 0 d)) r → Peeled_to lo (term_of e) r
 unfolding terms
@@ -64,7 +68,7 @@ peel_lets e ls b lo r is n p = subst (λ z. Peeled_to lo z r) (sym (term_lets e 
     nothing [] n = refl
     nothing (x ∷ xs) n = absurd (omega (arith, n))
 
--- what is peeled unfolds as its inside does
+-- what is peeled unfolds as its inside does, and is stuck where that is
 peels_unfolded : {c : Context} {sc : Scope} {lo lo' : ℕ} {e t : FlatTerm} {old new : Unfolding} {r : Walked} → Peels lo e lo' t → Unfolded c sc lo' t old new (Ok r) → Unfolded c sc lo e old new (Ok r)
 peels_unfolded bare u = u
 peels_unfolded {c} {sc} {lo} {old = old} {new} {r} (declared {u = u} {mark} {e} p) h = around (peels_unfolded p h)
@@ -72,8 +76,15 @@ peels_unfolded {c} {sc} {lo} {old = old} {new} {r} (declared {u = u} {mark} {e} 
     around : Unfolded c sc (lo + 1) e old new (Ok r) → Unfolded c sc lo (Strict (Declared u) mark (term_and e no_term)) old new (Ok r)
     around (unfolded bs g v b) = unfolded bs g (subst (λ z. Unfolds (told c) (defined c) sc lo (Strict (Declared u) mark (term_and e no_term)) old.next z (known_of r.known) new.next) (append-nil (bs ++ []) ∙ append-nil bs) (u_strict (u_more v u_none) o_declared)) (omega (arith, b))
 
+peels_stuck : (c : Context) {sc : Scope} {lo lo' : ℕ} {e t : FlatTerm} → Peels lo e lo' t → Stuck (told c) (defined c) sc lo' t → Stuck (told c) (defined c) sc lo e
+peels_stuck c bare w = w
+peels_stuck c (declared p) w = stuck_parts (stuck_here (peels_stuck c p w))
+
+pub unpeeled : (c : Context) (sc : Scope) (lo : ℕ) (e : FlatTerm) (old new : Unfolding) (r : Refusal) → Peeled_to lo e (Err r) → Unfolded c sc lo e old new (Err r)
+unpeeled c sc lo e old new _ not_peeled = refused no_memory
+
 pub peeled_unfolded : (c : Context) (sc : Scope) (lo : ℕ) (e : FlatTerm) (p : Peeled) (old new : Unfolding) (r : Result Walked Refusal) → Peeled_to lo e (Ok p) → Unfolded c sc p.at (term_of p.exp.now) old new r → Unfolded c sc lo e old new r
 peeled_unfolded c sc lo e p old new (Ok r) (peeled_to q) h = peels_unfolded q h
-peeled_unfolded c sc lo e p old new (Err x) (peeled_to q) h = refused
+peeled_unfolded c sc lo e p old new (Err x) (peeled_to q) (refused h) = refused (refused_as (peels_stuck c q) h)
 
 pub ruleset peeling = (peel_bare, peel_err)

@@ -1,11 +1,14 @@
--- Programs: their definitions one after the other, and then the entry.
-use Rattle.std.proofs.Common.{◌≡◌, ℕ, zero, suc, ◌+◌, ◌<◌, ◌≤◌, ◌++◌, List, [], ◌∷◌, map, length, get_or, drop, Bool, true, false, Some, Ok, Err, refl, sym, ap, ◌∙◌, subst, arith, append_assoc, append-nil}
+-- Programs: their definitions one after the other, and then the entry; or that there is no way on in one of them.
+use Rattle.std.proofs.Common.{◌≡◌, ℕ, zero, suc, ◌+◌, ◌<◌, ◌≤◌, ◌++◌, List, [], ◌∷◌, map, length, get_or, drop, Bool, true, false, None, Some, Ok, Err, refl, sym, ap, ◌∙◌, subst, arith, append_assoc, append-nil}
+use mathlib.Core.List.{map-append}
 use Rattle.std.specs.Prelude.{Result, Option}
 use Rattle.std.specs.Borrow.{Bor}
 use Rattle.fut_scalar.specs.declared.place.BindId.{BindId}
+use Rattle.fut_scalar.specs.declared.place.Place.{Place}
 use Rattle.fut_scalar.specs.declared.scalar.IntType.{IntType}
 use Rattle.fut_scalar.specs.declared.scalar.ScalarType.{ScalarType}
 use Rattle.fut_flat.specs.declared.program.Definition.{Definition}
+use Rattle.fut_flat.specs.declared.prim.Primitive.{Primitive}
 use Rattle.fut_flat.specs.Erased.{FlatTerm, term_of}
 use Rattle.fut_flat.specs.Numbers.{numbers}
 use Rattle.fut_meaning.specs.Flats.{FlatTop, flat_tops, is_flat_use}
@@ -20,63 +23,102 @@ use Rattle.reach.specs.Reach.{Reached, reached, is_set, named_term}
 use Rattle.unfold.specs.Held.{known_of}
 use Rattle.unfold.specs.Knowns.{Known, Tuple_known, Knowns, knowns, listed, no_name, Scalar_known, Scope, Tops}
 use Rattle.unfold.specs.Programs.{Applies_all, a_none, a_more, Definitions_unfold, d_none, d_reached, d_other}
-use Rattle.unfold.specs.Shapes.{All_laid, Laid, Scalar_shape, Shapes, no_shape, shape_and, Tuple_shape, laid_tuple}
+use Rattle.unfold.specs.Shapes.{All_laid, Laid, Shapes, no_shape, Tuple_shape, laid_more, laid_none, laid_scalar, laid_tuple}
+use Rattle.unfold.specs.Stuck.{Definitions_stuck, Program_stuck, Stuck, Stuck_runs, in_definitions, in_entry, no_entry, no_result, stuck_definition, stuck_next, stuck_on, stuck_other, stuck_run}
 use Rattle.unfold.specs.Unfolding.{Bindings, Unfolds, names}
+use Rattle.unfold.specs.declared.known.Field.{Field}
+use Rattle.unfold.specs.declared.known.Function.{Function}
 use Rattle.unfold.specs.declared.known.Known.{Known as Held_known}
 use Rattle.unfold.specs.declared.known.KnownForm.TheVariants as form
-use Rattle.unfold.proofs.Mirror.{known_tuple}
-use Rattle.unfold_parts.specs.Answers.{Blocked, blocked}
+use Rattle.unfold.proofs.Mirror.{known_function, known_primitive, known_record, known_scalar, known_tuple}
+use Rattle.unfold_parts.specs.Answers.{Blocked, blocked, not_blocked}
 use Rattle.unfold_parts.specs.Held.{maybe_known}
-use Rattle.unfold_parts.specs.Layouts.{Laid_to, laid_to, Renewed, renewed, shape_of, shapes_of}
+use Rattle.unfold_parts.specs.Layouts.{Laid_to, laid_to, not_laid, Renewed, renewed, not_renewed, shape_of}
+use Rattle.unfold_parts.specs.Refused.{lost, no_memory}
 use Rattle.unfold_parts.specs.States.{steps_of}
 use Rattle.unfold_parts.specs.Tables.{integer_at}
 use Rattle.unfold_parts.specs.declared.fresh.Fresh.{Fresh}
 use Rattle.unfold_parts.specs.declared.refusal.Refusal.{Refusal}
+use Rattle.unfold_parts.specs.declared.refusal.Refusal.TheVariants.{Lost, Memory}
 use Rattle.unfold_parts.specs.declared.steps.Unfolding.{Unfolding}
+use Rattle.unfold_parts.proofs.Refusing.{refused_as, only_memory}
+use Rattle.unfold_parts.proofs.Shapeless.{laid_shape, no_data}
 use Rattle.unfold_program.specs.declared.program.Given.{Given}
 use Rattle.unfold_program.specs.declared.program.Made.{Made}
 use Rattle.unfold_program.specs.declared.walked.Context.{Context}
 use Rattle.unfold_program.specs.declared.walked.Walked.{Walked}
-use Rattle.unfold_program.specs.Answers.{Applied, applied, Unfolded, unfolded, defined, told}
-use Rattle.unfold_program.specs.Whole.{scalars, Given_to, given_to, not_given, Defined_to, passed_over, defined_to, not_defined, Definitions_to, definitions_to, no_definitions, All_applied, all_applied, not_all_applied, Entry_to, entry_to, no_entry, Finished, finished, not_finished, Unfolds_to, unfolds_to, no_program}
-use Rattle.unfold_program.proofs.Growing.{grown, not_grown, moved}
+use Rattle.unfold_program.specs.Answers.{Applied, applied, not_applied, Unfolded, unfolded, refused, defined, told}
+use Rattle.unfold_program.specs.Whole.{scalars, Are_scalars, Given_to, given_to, not_given, Defined_to, passed_over, defined_to, not_defined, Definitions_to, definitions_to, no_definitions, All_applied, all_applied, not_all_applied, Entry_stuck, not_known, stuck_there, Entry_to, entry_to, not_entered, Finished, finished, not_finished, Unfolds_to, unfolds_to, no_program}
+use Rattle.unfold_program.proofs.Growing.{grown, not_grown, moved, stuck_at}
 
 -- ---- parameters
 
 -- one scalar more, behind others
-abbrev with_scalar : Shapes → Shapes
-with_scalar no_shape = shape_and Scalar_shape no_shape
-with_scalar (shape_and h hs) = shape_and h (with_scalar hs)
+scalar_behind : (n : ℕ) (ss : List Known) (u : Atom) (us : List Atom) → All_laid (scalars n) (knowns ss) us [] → All_laid (scalars (suc n)) (knowns (ss ++ Scalar_known u ∷ [])) (us ++ u ∷ []) []
+scalar_behind zero [] u _ laid_none = laid_more laid_scalar laid_none
+scalar_behind zero (s ∷ ss) u us l = elim l [ ]
+scalar_behind (suc n) [] u us l = elim l [ ]
+scalar_behind (suc n) (_ ∷ ss) u _ (laid_more (laid_scalar {u = w}) l) = laid_more laid_scalar (scalar_behind n ss u _ l)
 
-one_scalar : (n : ℕ) → with_scalar (scalars n) ≡ scalars (suc n)
-one_scalar zero = refl
-one_scalar (suc n) = ap (λ z. shape_and Scalar_shape z) (one_scalar n)
+pub scalars_more : (ss ss' : List Held_known) (n : ℕ) (k : Held_known) (u : Atom) → Are_scalars n (map known_of ss) → known_of k ≡ Scalar_known u → ss' ≡ ss ++ k ∷ [] → Are_scalars (n + 1) (map known_of ss')
+scalars_more ss ss' n k u h e q =
+    record {
+      atoms = h.atoms ++ u ∷ [];
+      laid = let next : suc n ≡ n + 1 = omega arith in subst (λ z. All_laid (scalars z) (knowns (map known_of ss')) (h.atoms ++ u ∷ []) []) next (subst (λ z. All_laid (scalars (suc n)) (knowns z) (h.atoms ++ u ∷ []) []) (sym (ap (map known_of) q ∙ map-append known_of ss (k ∷ []) ∙ ap (λ z. map known_of ss ++ z ∷ []) e)) (scalar_behind n (map known_of ss) u h.atoms h.laid));
+    }
 
-shapes_with : (ss : List Held_known) (k : Held_known) (u : Atom) → known_of k ≡ Scalar_known u → shapes_of (knowns (map known_of (ss ++ k ∷ []))) ≡ with_scalar (shapes_of (knowns (map known_of ss)))
-unfolding shapes_of shape_of
-shapes_with [] k u e = ap (λ z. shape_and (shape_of z) no_shape) e
-shapes_with (s ∷ ss) k u e = ap (λ z. shape_and (shape_of (known_of s)) z) (shapes_with ss k u e)
+pub no_scalars : (ss : List Held_known) → ss ≡ [] → Are_scalars 0 (map known_of ss)
+no_scalars ss e = record { atoms = []; laid = subst (λ z. All_laid no_shape (knowns (map known_of z)) [] []) (sym e) laid_none }
 
--- so many scalars
-abbrev pub Are_scalars : List Held_known → ℕ → Type 0
-Are_scalars ss n = shapes_of (knowns (map known_of ss)) ≡ scalars n
-
-pub scalars_more : (ss ss' : List Held_known) (n : ℕ) (k : Held_known) (u : Atom) → Are_scalars ss n → known_of k ≡ Scalar_known u → ss' ≡ ss ++ k ∷ [] → shapes_of (knowns (map known_of ss')) ≡ scalars (n + 1)
-scalars_more ss ss' n k u h e q = let next : suc n ≡ n + 1 = omega arith in ap (λ z. shapes_of (knowns (map known_of z))) q ∙ shapes_with ss k u e ∙ ap with_scalar h ∙ one_scalar n ∙ ap scalars next
-
-pub no_scalars : (ss : List Held_known) → ss ≡ [] → shapes_of (knowns (map known_of ss)) ≡ scalars 0
-unfolding shapes_of
-no_scalars ss e = ap (λ z. shapes_of (knowns (map known_of z))) e
+pub scalars_done : (ss : List Held_known) (n : ℕ) (all : Bor (List Held_known)) → Are_scalars n (map known_of ss) → all.now ≡ ss → Are_scalars n (map known_of all.now)
+scalars_done ss n all h e = subst (λ z. Are_scalars n (map known_of z)) (sym e) h
 
 parts_laid : {hs : Shapes} {ss : Knowns} {us : List Atom} → Laid (Tuple_shape hs) (Tuple_known ss) us [] → All_laid hs ss us []
 parts_laid (laid_tuple h) = h
 
-pub given_ok : (count n next : ℕ) (like : Held_known) (row : Bor (List Held_known)) (f : Fresh) (arguments : Bor (List Held_known)) → Are_scalars row.now count → like.form ≡ form.Tuple row → Renewed (shape_of (known_of like)) n next (Ok f) → f.known.form ≡ form.Tuple arguments → Given_to count n next (Ok (record { names = f.names; arguments = arguments }))
-unfolding shape_of
-given_ok count n next like row f arguments e is (renewed up l) is' = given_to up (parts_laid (subst (λ z. Laid (Tuple_shape z) (Tuple_known (knowns (map known_of arguments.now))) (names f.names.now) []) e (subst (λ z. Laid (shape_of z) (Tuple_known (knowns (map known_of arguments.now))) (names f.names.now) []) (known_tuple like row is) (subst (λ z. Laid (shape_of (known_of like)) z (names f.names.now) []) (known_tuple f.known arguments is') l))))
+-- the shape of so many scalars
+scalars_shape : (count : ℕ) (ss : List Known) → Are_scalars count ss → shape_of (Tuple_known (knowns ss)) ≡ Tuple_shape (scalars count)
+scalars_shape count ss h = sym (laid_shape (Tuple_shape (scalars count)) (Tuple_known (knowns ss)) h.atoms [] (laid_tuple h.laid))
 
-pub given_err : (count n next : ℕ) (r : Refusal) → Given_to count n next (Err r)
-given_err count n next r = not_given
+module _ (count : ℕ) (like : Held_known) (row : Bor (List Held_known)) (are : Are_scalars count (map known_of row.now)) (is : like.form ≡ form.Tuple row) where
+  like_shape : shape_of (known_of like) ≡ Tuple_shape (scalars count)
+  like_shape = ap shape_of (known_tuple like row is) ∙ scalars_shape count (map known_of row.now) are
+
+  laid_like : (f : Fresh) → Laid (shape_of (known_of like)) (known_of f.known) (names f.names.now) [] → Laid (Tuple_shape (scalars count)) (known_of f.known) (names f.names.now) []
+  laid_like f l = subst (λ z. Laid z (known_of f.known) (names f.names.now) []) like_shape l
+
+  pub given_ok : (n next : ℕ) (f : Fresh) (arguments : Bor (List Held_known)) → Renewed (known_of like) n next (Ok f) → f.known.form ≡ form.Tuple arguments → Given_to count n next (Ok (record { names = f.names; arguments = arguments }))
+  given_ok n next f arguments (renewed up l) is' = given_to up (parts_laid (subst (λ z. Laid (Tuple_shape (scalars count)) z (names f.names.now) []) (known_tuple f.known arguments is') (laid_like f l)))
+
+  -- scalars have new names
+  pub given_unnamed : (n next m m' : ℕ) (r : Refusal) → Renewed (known_of like) m m' (Err r) → Given_to count n next (Err r)
+  given_unnamed n next m m' _ (not_renewed no_memory) = not_given
+  given_unnamed n next m m' _ (not_renewed (lost lacks)) = absurd (lacks (Tuple_shape (scalars count)) are.atoms (subst (λ z. Laid (Tuple_shape (scalars count)) z are.atoms []) (sym (known_tuple like row is)) (laid_tuple are.laid)))
+
+  -- and are a tuple again
+  module _ (m m' : ℕ) (f : Fresh) (e : Renewed (known_of like) m m' (Ok f)) where
+    no_other : (t : Known) → known_of f.known ≡ t → ((hs : Shapes) (us : List Atom) → Laid (Tuple_shape hs) t us [] → ⊥) → ⊥
+    no_other t q lacks = none e
+      where
+        none : Renewed (known_of like) m m' (Ok f) → ⊥
+        none (renewed up l) = lacks (scalars count) (names f.names.now) (subst (λ z. Laid (Tuple_shape (scalars count)) z (names f.names.now) []) q (laid_like f l))
+
+    pub given_scalar : (u : Atom) → f.known.form ≡ form.Scalar u → ⊥
+    given_scalar u is' = no_other _ (known_scalar f.known u is') (λ hs us l. elim l [ ])
+
+    pub given_record : (fs : Bor (List Field)) → f.known.form ≡ form.Record fs → ⊥
+    given_record fs is' = no_other _ (known_record f.known fs is') (λ hs us l. elim l [ ])
+
+    pub given_function : (g : Function) → f.known.form ≡ form.Function g → ⊥
+    given_function g is' = no_other _ (known_function f.known g is') (λ hs us l. elim l [ ])
+
+    pub given_primitive : (p : Primitive) (at : Place) (ss : Bor (List Held_known)) → f.known.form ≡ form.Primitive p at ss → ⊥
+    given_primitive p at ss is' = no_other _ (known_primitive f.known p at ss is') (λ hs us l. elim l [ ])
+
+pub given_err : (count n next : ℕ) (r : Refusal) → r ≡ Memory → Given_to count n next (Err r)
+given_err count n next r m = subst (λ z. Given_to count n next (Err z)) (sym m) not_given
+
+pub ruleset giving = (given_err, given_unnamed)
 
 -- ---- one definition
 
@@ -91,23 +133,29 @@ module _ (b : BindId) (e : FlatTerm) (made : Made) (old : Unfolding) where
       (subst (λ z. Unfolds (told z) (defined z) no_name (1 + made.at) e old.next bs (known_of w.known) new.next) is (moved c (omega (arith, q)) (subst (λ z. Unfolds (told c) (defined c) z first e old.next bs (known_of w.known) new.next) none u)))
       (ts ∙ ap (λ (z : Context). z.types.now) is) (ds ∙ ap (λ z. (b.0, known_of w.known) ∷ defined z) is) (omega (arith, q, k))
 
-  pub define_err : (is_reached_here : Bool) (new : Unfolding) (r : Refusal) → Defined_to b e is_reached_here made old new (Err r)
-  define_err is_reached_here new r = not_defined
+  pub define_err : (is_reached_here : Bool) (new : Unfolding) (r : Refusal) → r ≡ Memory → Defined_to b e is_reached_here made old new (Err r)
+  define_err is_reached_here new r m = not_defined (only_memory m)
+
+  pub define_stuck : (is_reached_here : Bool) (c : Context) (sc : Scope) (first : ℕ) (mid new : Unfolding) (r : Refusal) → is_reached_here ≡ true → c ≡ made.context → sc ≡ no_name → first ≡ made.at + 1 → Unfolded c sc first e old mid (Err r) → Defined_to b e is_reached_here made old new (Err r)
+  define_stuck is_reached_here c sc first mid new r h is none q (refused x) =
+      not_defined (refused_as (λ w. (h, subst (λ z. Stuck (told z) (defined z) no_name (1 + made.at) e) is (stuck_at c (omega (arith, q)) (subst (λ z. Stuck (told c) (defined c) z first e) none w)))) x)
+
+pub ruleset defining = (define_passed, define_ok, define_err, define_stuck)
 
 -- ---- one definition after the other
 
 -- how far the definitions have come
 pub data Definitions_from (entry : ℕ) (ds : List Definition) (types : List IntType) (old now : Unfolding) (made : Made) (i : ℕ) : Type 0 where
-  definitions_from : (bs : Bindings) → steps_of now ≡ steps_of old ++ bs → made.context.types.now ≡ types → ((end : Tops) (cs : Bindings) (m : ℕ) → Definitions_unfold (integer_at types) entry (defined made.context) (flat_tops made.at (map named_term (drop i ds))) now.next cs end m → Definitions_unfold (integer_at types) entry [] (flat_tops 0 (map named_term ds)) old.next (bs ++ cs) end m) → Definitions_from entry ds types old now made i
+  definitions_from : (bs : Bindings) → steps_of now ≡ steps_of old ++ bs → made.context.types.now ≡ types → ((end : Tops) (cs : Bindings) (m : ℕ) → Definitions_unfold (integer_at types) entry (defined made.context) (flat_tops made.at (map named_term (drop i ds))) now.next cs end m → Definitions_unfold (integer_at types) entry [] (flat_tops 0 (map named_term ds)) old.next (bs ++ cs) end m) → (Definitions_stuck (integer_at types) entry (defined made.context) (flat_tops made.at (map named_term (drop i ds))) → Definitions_stuck (integer_at types) entry [] (flat_tops 0 (map named_term ds))) → Definitions_from entry ds types old now made i
 
 module _ (entry : ℕ) (ds : List Definition) (old : Unfolding) where
   pub from_start : (c : Context) → defined c ≡ [] → Definitions_from entry ds c.types.now old old (record { context = c; at = 0 }) 0
-  from_start c e = definitions_from [] (not_grown (steps_of old) (steps_of old) refl) refl (λ end cs m u. subst (λ z. Definitions_unfold (integer_at c.types.now) entry z (flat_tops 0 (map named_term ds)) old.next cs end m) e u)
+  from_start c e = definitions_from [] (not_grown (steps_of old) (steps_of old) refl) refl (λ end cs m u. subst (λ z. Definitions_unfold (integer_at c.types.now) entry z (flat_tops 0 (map named_term ds)) old.next cs end m) e u) (λ w. subst (λ z. Definitions_stuck (integer_at c.types.now) entry z (flat_tops 0 (map named_term ds))) e w)
 
   module _ (types : List IntType) (now : Unfolding) (made : Made) (i : ℕ) where
     pub from_more : (new : Unfolding) (r : Made) (d : Definition) (flags : List Bool) (c : Bool) → i < length ds → Reached entry ds flags → c ≡ is_set flags i → Definitions_from entry ds types old now made i → Defined_to (get_or ds i d).bind (term_of (get_or ds i d).value.now) c made now new (Ok r) → Definitions_from entry ds types old new r (i + 1)
     unfolding flat_tops
-    from_more new r d flags c lt (reached l f) flag (definitions_from bs g ts k) h = on h
+    from_more new r d flags c lt (reached l f) flag (definitions_from bs g ts k kw) h = on h
       where
         x : Definition
         x = get_or ds i d
@@ -124,59 +172,86 @@ module _ (entry : ℕ) (ds : List Definition) (old : Unfolding) where
         behind : {tops : Tops} {n : ℕ} (cs : Bindings) (end : Tops) (m : ℕ) → defined r.context ≡ tops → r.at ≡ next → new.next ≡ n → Definitions_unfold (integer_at types) entry (defined r.context) (flat_tops r.at (map named_term (drop (i + 1) ds))) new.next cs end m → Definitions_unfold (integer_at types) entry tops (flat_tops next (map named_term (drop (i + 1) ds))) n cs end m
         behind {tops} {n} cs end m e q p u = subst (λ z. Definitions_unfold (integer_at types) entry z (flat_tops next (map named_term (drop (i + 1) ds))) n cs end m) e (subst (λ z. Definitions_unfold (integer_at types) entry (defined r.context) (flat_tops z (map named_term (drop (i + 1) ds))) n cs end m) q (subst (λ z. Definitions_unfold (integer_at types) entry (defined r.context) (flat_tops r.at (map named_term (drop (i + 1) ds))) z cs end m) p u))
 
+        stuck_here : Definitions_stuck (integer_at types) entry (defined made.context) (flat_tops made.at (map named_term (x ∷ drop (i + 1) ds))) → Definitions_stuck (integer_at types) entry [] (flat_tops 0 (map named_term ds))
+        stuck_here w = kw (subst (λ z. Definitions_stuck (integer_at types) entry (defined made.context) (flat_tops made.at (map named_term z))) (sym (one_more ds i d lt)) w)
+
+        stuck_then : {tops : Tops} → defined r.context ≡ tops → r.at ≡ next → Definitions_stuck (integer_at types) entry (defined r.context) (flat_tops r.at (map named_term (drop (i + 1) ds))) → Definitions_stuck (integer_at types) entry tops (flat_tops next (map named_term (drop (i + 1) ds)))
+        stuck_then e q w = subst (λ z. Definitions_stuck (integer_at types) entry z (flat_tops next (map named_term (drop (i + 1) ds)))) e (subst (λ z. Definitions_stuck (integer_at types) entry (defined r.context) (flat_tops z (map named_term (drop (i + 1) ds)))) q w)
+
         on : Defined_to x.bind (term_of x.value.now) c made now new (Ok r) → Definitions_from entry ds types old new r (i + 1)
-        on (passed_over passed gn nn tn dn an) = definitions_from bs (gn ∙ g) (tn ∙ ts) (λ end cs m u. here end cs m (d_other (sym told_here ∙ passed) (behind cs end m dn an nn u)))
+        on (passed_over passed gn nn tn dn an) = definitions_from bs (gn ∙ g) (tn ∙ ts) (λ end cs m u. here end cs m (d_other (sym told_here ∙ passed) (behind cs end m dn an nn u))) (λ w. stuck_here (stuck_other (sym told_here ∙ passed) (stuck_then dn an w)))
         on (defined_to {s = s} cs taken gn v tn dn an) = definitions_from (bs ++ cs) (grown (steps_of old) (steps_of now) (steps_of new) bs cs g gn) (tn ∙ ts)
             (λ end es m u. subst (λ z. Definitions_unfold (integer_at types) entry [] (flat_tops 0 (map named_term ds)) old.next z end m) (sym (append_assoc bs cs es))
             (here end (cs ++ es) m (d_reached (sym told_here ∙ taken) (subst (λ z. Unfolds (integer_at z) (defined made.context) no_name (1 + made.at) (term_of x.value.now) now.next cs s new.next) ts v) (behind es end m dn an refl u))))
+            (λ w. stuck_here (stuck_next (sym told_here ∙ taken) (subst (λ z. Unfolds (integer_at z) (defined made.context) no_name (1 + made.at) (term_of x.value.now) now.next cs s new.next) ts v) (stuck_then dn an w)))
 
     pub from_done : length ds ≤ i → Definitions_from entry ds types old now made i → Definitions_to types entry (flat_tops 0 (map named_term ds)) old now (Ok made)
     unfolding flat_tops
-    from_done le (definitions_from bs g ts k) = definitions_to bs g ts (subst (λ z. Definitions_unfold (integer_at types) entry [] (flat_tops 0 (map named_term ds)) old.next z (defined made.context) now.next) (append-nil bs) (k (defined made.context) [] now.next (subst (λ z. Definitions_unfold (integer_at types) entry (defined made.context) (flat_tops made.at (map named_term z)) now.next [] (defined made.context) now.next) (sym (drop_end i ds le)) d_none)))
+    from_done le (definitions_from bs g ts k kw) = definitions_to bs g ts (subst (λ z. Definitions_unfold (integer_at types) entry [] (flat_tops 0 (map named_term ds)) old.next z (defined made.context) now.next) (append-nil bs) (k (defined made.context) [] now.next (subst (λ z. Definitions_unfold (integer_at types) entry (defined made.context) (flat_tops made.at (map named_term z)) now.next [] (defined made.context) now.next) (sym (drop_end i ds le)) d_none)))
 
-pub definitions_err : (types : List IntType) (entry : ℕ) (ds : List FlatTop) (old new : Unfolding) (r : Refusal) → Definitions_to types entry ds old new (Err r)
-definitions_err types entry ds old new r = no_definitions
+    -- a definition that is stuck
+    pub from_err : (new : Unfolding) (r : Refusal) (d : Definition) (flags : List Bool) (c : Bool) → i < length ds → Reached entry ds flags → c ≡ is_set flags i → Definitions_from entry ds types old now made i → Defined_to (get_or ds i d).bind (term_of (get_or ds i d).value.now) c made now new (Err r) → Definitions_to types entry (flat_tops 0 (map named_term ds)) old new (Err r)
+    unfolding flat_tops
+    from_err new r d flags c lt (reached l f) flag (definitions_from bs g ts k kw) (not_defined h) = no_definitions (refused_as here h)
+      where
+        x : Definition
+        x = get_or ds i d
+
+        next : ℕ
+        next = made.at + (1 + numbers (term_of x.value.now))
+
+        here : (c ≡ true) × Stuck (told made.context) (defined made.context) no_name (1 + made.at) (term_of x.value.now) → Definitions_stuck (integer_at types) entry [] (flat_tops 0 (map named_term ds))
+        here w = kw (subst (λ z. Definitions_stuck (integer_at types) entry (defined made.context) (flat_tops made.at (map named_term z))) (sym (one_more ds i d lt)) (stuck_definition (sym (flag ∙ f next i d lt) ∙ w.0) (subst (λ z. Stuck (integer_at z) (defined made.context) no_name (1 + made.at) (term_of x.value.now)) ts w.1)))
 
 -- ---- the entry
 
--- what a function still comes to, from the arguments that it has had
+-- what a function still comes to, from the arguments that it has had, or that there is no way on
 pub data Applied_from (c : Context) (ss : List Held_known) (f : Known) (old now : Unfolding) (made : Held_known) (i : ℕ) : Type 0 where
-  applied_from : (bs : Bindings) → steps_of now ≡ steps_of old ++ bs → ((cs : Bindings) (s : Known) (m : ℕ) → Applies_all (told c) (defined c) (map known_of (drop i ss)) (known_of made) now.next cs s m → Applies_all (told c) (defined c) (map known_of ss) f old.next (bs ++ cs) s m) → Applied_from c ss f old now made i
+  applied_from : (bs : Bindings) → steps_of now ≡ steps_of old ++ bs → ((cs : Bindings) (s : Known) (m : ℕ) → Applies_all (told c) (defined c) (map known_of (drop i ss)) (known_of made) now.next cs s m → Applies_all (told c) (defined c) (map known_of ss) f old.next (bs ++ cs) s m) → (Stuck_runs (told c) (defined c) (map known_of (drop i ss)) (known_of made) → Stuck_runs (told c) (defined c) (map known_of ss) f) → Applied_from c ss f old now made i
 
 module _ (c : Context) (ss : List Held_known) (old : Unfolding) where
   pub all_start : (f : Held_known) → Applied_from c ss (known_of f) old old f 0
-  all_start f = applied_from [] (not_grown (steps_of old) (steps_of old) refl) (λ cs s m u. u)
+  all_start f = applied_from [] (not_grown (steps_of old) (steps_of old) refl) (λ cs s m u. u) (λ w. w)
 
   module _ (f : Known) (now : Unfolding) (made : Held_known) (i : ℕ) where
     pub all_more : (new : Unfolding) (r d : Held_known) → i < length ss → Applied_from c ss f old now made i → Applied c (known_of made) (known_of (get_or ss i d)) now new (Ok r) → Applied_from c ss f old new r (i + 1)
-    all_more new r d lt (applied_from bs g k) (applied cs g' a) = applied_from (bs ++ cs) (grown (steps_of old) (steps_of now) (steps_of new) bs cs g g')
+    all_more new r d lt (applied_from bs g k kw) (applied cs g' a) = applied_from (bs ++ cs) (grown (steps_of old) (steps_of now) (steps_of new) bs cs g g')
         (λ es s m u. subst (λ z. Applies_all (told c) (defined c) (map known_of ss) f old.next z s m) (sym (append_assoc bs cs es)) (k (cs ++ es) s m (subst (λ z. Applies_all (told c) (defined c) (map known_of z) (known_of made) now.next (cs ++ es) s m) (sym (one_more ss i d lt)) (a_more a u))))
+        (λ w. kw (subst (λ z. Stuck_runs (told c) (defined c) (map known_of z) (known_of made)) (sym (one_more ss i d lt)) (stuck_on a w)))
 
     pub all_done : length ss ≤ i → Applied_from c ss f old now made i → All_applied c (map known_of ss) f old now (Ok made)
-    all_done le (applied_from bs g k) = all_applied bs g (subst (λ z. Applies_all (told c) (defined c) (map known_of ss) f old.next z (known_of made) now.next) (append-nil bs) (k [] (known_of made) now.next (subst (λ z. Applies_all (told c) (defined c) (map known_of z) (known_of made) now.next [] (known_of made) now.next) (sym (drop_end i ss le)) a_none)))
+    all_done le (applied_from bs g k kw) = all_applied bs g (subst (λ z. Applies_all (told c) (defined c) (map known_of ss) f old.next z (known_of made) now.next) (append-nil bs) (k [] (known_of made) now.next (subst (λ z. Applies_all (told c) (defined c) (map known_of z) (known_of made) now.next [] (known_of made) now.next) (sym (drop_end i ss le)) a_none)))
 
-pub all_err : (c : Context) (ss : List Known) (f : Known) (old new : Unfolding) (r : Refusal) → All_applied c ss f old new (Err r)
-all_err c ss f old new r = not_all_applied
+    pub all_err : (new : Unfolding) (d : Held_known) (r : Refusal) → i < length ss → Applied_from c ss f old now made i → Applied c (known_of made) (known_of (get_or ss i d)) now new (Err r) → All_applied c (map known_of ss) f old new (Err r)
+    all_err new d r lt (applied_from bs g k kw) (not_applied x) = not_all_applied (refused_as (λ w. kw (subst (λ z. Stuck_runs (told c) (defined c) (map known_of z) (known_of made)) (sym (one_more ss i d lt)) (stuck_run w))) x)
 
 module _ (c : Context) (entry : ℕ) (ss : List Known) (old new : Unfolding) where
   pub entry_ok : (f : Held_known) (o : Option Held_known) (r : Result Held_known Refusal) → maybe_known o ≡ look (defined c) entry → o ≡ Some f → All_applied c ss (known_of f) old new r → Entry_to c entry ss old new r
   entry_ok f o (Ok r) e is a = entry_to (sym e ∙ ap maybe_known is) a
-  entry_ok f o (Err x) e is a = no_entry
+  entry_ok f o (Err x) e is (not_all_applied h) = not_entered (refused_as (stuck_there (sym e ∙ ap maybe_known is)) h)
 
-  pub entry_err : (r : Refusal) → Entry_to c entry ss old new (Err r)
-  entry_err r = no_entry
+  pub entry_err : (o : Option Held_known) → maybe_known o ≡ look (defined c) entry → o ≡ None → Entry_to c entry ss old new (Err Lost)
+  entry_err o e is = not_entered (lost (not_known (sym e ∙ ap maybe_known is)))
 
 -- ---- the whole
 
 pub finish_ok : (params : Bor (List ℕ)) (types : Bor (List ScalarType)) (s : Known) (old new : Unfolding) (us : Bor (List Atom)) (b : Bor Block) → Laid_to (shape_of s) s (Ok us) → Blocked 0 us.now (steps_of old) (steps_of new) (Ok b) → new.next ≡ old.next → Finished params.now types.now s old (Ok (record { params = params; types = types; body = b.now; names = new.next }))
 finish_ok params types s old new us b (laid_to l) (blocked f) n = finished refl refl l ((f [] (steps_of old) refl refl).1) n
 
-pub finish_err : (params : List ℕ) (types : List ScalarType) (s : Known) (old : Unfolding) (r : Refusal) → Finished params types s old (Err r)
-finish_err params types s old r = not_finished
+pub finish_unlaid : (params : List ℕ) (types : List ScalarType) (s : Known) (old : Unfolding) (r : Refusal) → Laid_to (shape_of s) s (Err r) → Finished params types s old (Err r)
+finish_unlaid params types s old r (not_laid x) = not_finished (refused_as (no_data s) x)
+
+pub finish_err : (params : List ℕ) (types : List ScalarType) (s : Known) (old : Unfolding) (mark : ℕ) (us : List Atom) (before after : Bindings) (r : Refusal) → Blocked mark us before after (Err r) → Finished params types s old (Err r)
+finish_err params types s old mark us before after _ not_blocked = not_finished no_memory
+
+pub ruleset finishing = (finish_unlaid, finish_err)
 
 listed_knowns : (ss : List Known) → listed (knowns ss) ≡ ss
 listed_knowns [] = refl
 listed_knowns (s ∷ ss) = ap (λ z. s ∷ z) (listed_knowns ss)
+
+application_of : (types : List IntType) (made : Made) (ss : List Held_known) (f : Known) (n m : ℕ) (cs : Bindings) (s : Known) → made.context.types.now ≡ types → Applies_all (told made.context) (defined made.context) (map known_of ss) f n cs s m → Applies_all (integer_at types) (defined made.context) (listed (knowns (map known_of ss))) f n cs s m
+application_of types made ss f n m cs s ts a = subst (λ z. Applies_all (integer_at z) (defined made.context) (listed (knowns (map known_of ss))) f n cs s m) ts (subst (λ z. Applies_all (told made.context) (defined made.context) z f n cs s m) (sym (listed_knowns (map known_of ss))) a)
 
 pub whole_ok : (types : List IntType) (ds : List FlatTop) (entry : ℕ) (sorts : List ScalarType) (m0 m1 m2 m3 : Unfolding) (g : Given) (made : Made) (r : Held_known) (answer : Result Program Refusal) → m0.next ≡ 0 → steps_of m0 ≡ [] → Given_to (length sorts) m0.next m1.next (Ok g) → steps_of m1 ≡ steps_of m0 → Definitions_to types entry ds m1 m2 (Ok made) → Entry_to made.context entry (map known_of g.arguments.now) m2 m3 (Ok r) → Finished g.names.now sorts (known_of r) m3 answer → Unfolds_to (integer_at types) ds entry sorts answer
 whole_ok types ds entry sorts m0 m1 m2 m3 g made r _ zero_first none (given_to up laid) same (definitions_to bs gb ts du) (entry_to {f = f} is (all_applied cs gc a)) (finished {p = p} {us} ps ss l body below) =
@@ -194,13 +269,30 @@ whole_ok types ds entry sorts m0 m1 m2 m3 g made r _ zero_first none (given_to u
       applied = cs;
       result = known_of r;
       end = m3.next;
-      application = subst (λ z. Applies_all (integer_at z) (defined made.context) (listed (knowns (map known_of g.arguments.now))) f m2.next cs (known_of r) m3.next) ts (subst (λ z. Applies_all (told made.context) (defined made.context) z f m2.next cs (known_of r) m3.next) (sym (listed_knowns (map known_of g.arguments.now))) a);
+      application = application_of types made g.arguments.now f m2.next m3.next cs (known_of r) ts a;
       results = us;
       laid = l;
       body = body ∙ ap (λ z. Rattle.fut_blocks.specs.Plain.lets z us) (gc ∙ ap (λ z. z ++ cs) (gb ∙ ap (λ z. z ++ bs) (same ∙ none)));
       below = omega (arith, below);
     }) ss
-whole_ok types ds entry sorts m0 m1 m2 m3 g made r _ zero_first none (given_to up laid) same (definitions_to bs gb ts du) (entry_to is (all_applied cs gc a)) not_finished = no_program
+whole_ok types ds entry sorts m0 m1 m2 m3 g made r _ zero_first none (given_to up laid) same (definitions_to bs gb ts du) (entry_to {f = f} is (all_applied cs gc a)) (not_finished x) =
+    no_program (refused_as (λ lacks. no_result du is laid (application_of types made g.arguments.now f m2.next m3.next cs (known_of r) ts a) lacks) x)
 
-pub whole_err : (told_types : ℕ → IntType) (ds : List FlatTop) (entry : ℕ) (sorts : List ScalarType) (r : Refusal) → Unfolds_to told_types ds entry sorts (Err r)
-whole_err told_types ds entry sorts r = no_program
+module _ (types : List IntType) (ds : List FlatTop) (entry : ℕ) (sorts : List ScalarType) where
+  pub whole_err : (r : Refusal) → r ≡ Memory → Unfolds_to (integer_at types) ds entry sorts (Err r)
+  whole_err r m = no_program (only_memory m)
+
+  pub whole_ungiven : (count n n' : ℕ) (r : Refusal) → Given_to count n n' (Err r) → Unfolds_to (integer_at types) ds entry sorts (Err r)
+  whole_ungiven count n n' _ not_given = no_program no_memory
+
+  pub whole_undefined : (old new : Unfolding) (r : Refusal) → Definitions_to types entry ds old new (Err r) → Unfolds_to (integer_at types) ds entry sorts (Err r)
+  whole_undefined old new r (no_definitions x) = no_program (refused_as in_definitions x)
+
+  pub whole_stuck : (n n' : ℕ) (m1 m2 m3 : Unfolding) (g : Given) (made : Made) (r : Refusal) → Given_to (length sorts) n n' (Ok g) → Definitions_to types entry ds m1 m2 (Ok made) → Entry_to made.context entry (map known_of g.arguments.now) m2 m3 (Err r) → Unfolds_to (integer_at types) ds entry sorts (Err r)
+  whole_stuck n n' m1 m2 m3 g made r (given_to up laid) (definitions_to bs gb ts du) (not_entered x) = no_program (refused_as here x)
+    where
+      here : Entry_stuck made.context entry (map known_of g.arguments.now) → Program_stuck (integer_at types) ds entry (scalars (length sorts))
+      here (not_known is) = no_entry du is
+      here (stuck_there {f = f} is w) = in_entry du is laid (subst (λ z. Stuck_runs (integer_at z) (defined made.context) (listed (knowns (map known_of g.arguments.now))) f) ts (subst (λ z. Stuck_runs (told made.context) (defined made.context) z f) (sym (listed_knowns (map known_of g.arguments.now))) w))
+
+  pub ruleset wholes = (whole_err, whole_ungiven, whole_undefined)

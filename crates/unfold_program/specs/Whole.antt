@@ -1,5 +1,5 @@
--- What the calls for whole programs answer. A refusal says nothing.
-use Rattle.std.specs.Prelude.{◌≡◌, ℕ, zero, suc, ◌+◌, ◌++◌, List, [], ◌∷◌, map, length, Bool, true, false, Result, Ok, Err, Some}
+-- What the calls for whole programs answer. Where one is lost, unfolding is stuck; want of memory says nothing.
+use Rattle.std.specs.Prelude.{◌≡◌, ℕ, zero, suc, ◌+◌, ◌++◌, List, [], ◌∷◌, map, length, Bool, true, false, Result, Ok, Err, Some, None}
 use Rattle.fut_scalar.specs.declared.place.BindId.{BindId}
 use Rattle.fut_scalar.specs.declared.scalar.IntType.{IntType}
 use Rattle.fut_scalar.specs.declared.scalar.ScalarType.{ScalarType}
@@ -15,12 +15,15 @@ use Rattle.unfold.specs.Held.{known_of}
 use Rattle.unfold.specs.Knowns.{Known, knowns, no_name}
 use Rattle.unfold.specs.Programs.{Applies_all, Definitions_unfold, Program_unfolds}
 use Rattle.unfold.specs.Shapes.{All_laid, Laid, Scalar_shape, Shape, Shapes, no_shape, shape_and}
+use Rattle.unfold.specs.Stuck.{Definitions_stuck, No_data, Program_stuck, Stuck, Stuck_runs}
 use Rattle.unfold.specs.Unfolding.{Bindings, Unfolds, names}
 use Rattle.unfold.specs.declared.known.Known.{Known as Held_known}
 use Rattle.unfold_parts.specs.Layouts.{shape_of}
+use Rattle.unfold_parts.specs.Refused.{Refused}
 use Rattle.unfold_parts.specs.States.{steps_of}
 use Rattle.unfold_parts.specs.Tables.{integer_at}
 use Rattle.unfold_parts.specs.declared.refusal.Refusal.{Refusal}
+use Rattle.unfold_parts.specs.declared.refusal.Refusal.TheVariants.{Memory}
 use Rattle.unfold_parts.specs.declared.steps.Unfolding.{Unfolding}
 use Rattle.unfold_program.specs.declared.program.Given.{Given}
 use Rattle.unfold_program.specs.declared.program.Made.{Made}
@@ -32,37 +35,48 @@ abbrev pub scalars : ℕ → Shapes
 scalars zero = no_shape
 scalars (suc k) = shape_and Scalar_shape (scalars k)
 
+-- what is known of so many scalars
+pub record Are_scalars (count : ℕ) (ss : List Known) : Type 0 where
+  pub atoms : List Atom
+  pub laid : All_laid (scalars count) (knowns ss) atoms []
+
 -- new names for so many scalars
 pub data Given_to (count n next : ℕ) : Result Given Refusal → Type 0 where
   given_to : {r : Given} → Upward n r.names.now next → All_laid (scalars count) (knowns (map known_of r.arguments.now)) (names r.names.now) [] → Given_to count n next (Ok r)
-  not_given : {r : Refusal} → Given_to count n next (Err r)
+  not_given : Given_to count n next (Err Memory)
 
 -- one more definition, which is passed over where it is not reached
 pub data Defined_to (b : BindId) (e : FlatTerm) (reached : Bool) (before : Made) (old new : Unfolding) : Result Made Refusal → Type 0 where
   passed_over : {r : Made} → reached ≡ false → steps_of new ≡ steps_of old → new.next ≡ old.next → r.context.types.now ≡ before.context.types.now → defined r.context ≡ defined before.context → r.at ≡ before.at + (1 + numbers e) → Defined_to b e reached before old new (Ok r)
   defined_to : {r : Made} {s : Known} (bs : Bindings) → reached ≡ true → steps_of new ≡ steps_of old ++ bs → Unfolds (told before.context) (defined before.context) no_name (1 + before.at) e old.next bs s new.next → r.context.types.now ≡ before.context.types.now → defined r.context ≡ (b.0, s) ∷ defined before.context → r.at ≡ before.at + (1 + numbers e) → Defined_to b e reached before old new (Ok r)
-  not_defined : {r : Refusal} → Defined_to b e reached before old new (Err r)
+  not_defined : {r : Refusal} → Refused ((reached ≡ true) × Stuck (told before.context) (defined before.context) no_name (1 + before.at) e) r → Defined_to b e reached before old new (Err r)
 
 -- the definitions that an entry reaches
 pub data Definitions_to (types : List IntType) (entry : ℕ) (ds : List FlatTop) (old new : Unfolding) : Result Made Refusal → Type 0 where
   definitions_to : {r : Made} (bs : Bindings) → steps_of new ≡ steps_of old ++ bs → r.context.types.now ≡ types → Definitions_unfold (integer_at types) entry [] ds old.next bs (defined r.context) new.next → Definitions_to types entry ds old new (Ok r)
-  no_definitions : {r : Refusal} → Definitions_to types entry ds old new (Err r)
+  no_definitions : {r : Refusal} → Refused (Definitions_stuck (integer_at types) entry [] ds) r → Definitions_to types entry ds old new (Err r)
 
 pub data All_applied (c : Context) (ss : List Known) (f : Known) (old new : Unfolding) : Result Held_known Refusal → Type 0 where
   all_applied : {r : Held_known} (bs : Bindings) → steps_of new ≡ steps_of old ++ bs → Applies_all (told c) (defined c) ss f old.next bs (known_of r) new.next → All_applied c ss f old new (Ok r)
-  not_all_applied : {r : Refusal} → All_applied c ss f old new (Err r)
+  not_all_applied : {r : Refusal} → Refused (Stuck_runs (told c) (defined c) ss f) r → All_applied c ss f old new (Err r)
+
+-- why an entry gives nothing: it was not defined, or there is no way on in it
+pub data Entry_stuck (c : Context) (entry : ℕ) (ss : List Known) : Type 0 where
+  not_known : look (defined c) entry ≡ None → Entry_stuck c entry ss
+  stuck_there : {f : Known} → look (defined c) entry ≡ Some f → Stuck_runs (told c) (defined c) ss f → Entry_stuck c entry ss
 
 -- the entry, if it was defined, applied to arguments
 pub data Entry_to (c : Context) (entry : ℕ) (ss : List Known) (old new : Unfolding) : Result Held_known Refusal → Type 0 where
   entry_to : {r : Held_known} {f : Known} → look (defined c) entry ≡ Some f → All_applied c ss f old new (Ok r) → Entry_to c entry ss old new (Ok r)
-  no_entry : {r : Refusal} → Entry_to c entry ss old new (Err r)
+  not_entered : {r : Refusal} → Refused (Entry_stuck c entry ss) r → Entry_to c entry ss old new (Err r)
 
 -- all steps so far as a program, whose result this is
 pub data Finished (params : List ℕ) (types : List ScalarType) (s : Known) (before : Unfolding) : Result Program Refusal → Type 0 where
   finished : {p : Program} {us : List Atom} → p.params.now ≡ params → p.types.now ≡ types → Laid (shape_of s) s us [] → body_of p.body ≡ lets (steps_of before) us → p.names ≡ before.next → Finished params types s before (Ok p)
-  not_finished : {r : Refusal} → Finished params types s before (Err r)
+  not_finished : {r : Refusal} → Refused (No_data s) r → Finished params types s before (Err r)
 
--- The public answer, for an entry with scalars of these types: the program that it unfolds to, whose result has some shape.
+-- The public answer, for an entry with scalars of these types: the program that it unfolds to, whose result has some shape. It
+-- is lost only where unfolding the program is stuck.
 pub data Unfolds_to (integer_at : ℕ → IntType) (ds : List FlatTop) (entry : ℕ) (types : List ScalarType) : Result Program Refusal → Type 0 where
   unfolds_to : {p : Program} (h : Shape) → Program_unfolds integer_at ds entry (scalars (length types)) h p → p.types.now ≡ types → Unfolds_to integer_at ds entry types (Ok p)
-  no_program : {r : Refusal} → Unfolds_to integer_at ds entry types (Err r)
+  no_program : {r : Refusal} → Refused (Program_stuck integer_at ds entry (scalars (length types))) r → Unfolds_to integer_at ds entry types (Err r)

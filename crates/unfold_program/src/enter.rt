@@ -18,7 +18,10 @@ pub fn scalar_of(known: Known<'_>) -> Result<Atom, Refusal>
 {
     match known.form {
         KnownForm::Scalar(atom) => Ok(atom),
-        _ => Err(Refusal::Lost),
+        KnownForm::Tuple(_) => Err(Refusal::Lost),
+        KnownForm::Record(_) => Err(Refusal::Lost),
+        KnownForm::Function(_) => Err(Refusal::Lost),
+        KnownForm::Primitive(_, _, _) => Err(Refusal::Lost),
     }
 }
 

@@ -1,17 +1,17 @@
 // The public call: the definitions that the entry reaches, and then the entry, applied to its parameters.
-ghost use Rattle.std.specs.Prelude.{◌≡◌, ◌≤◌, [], IfOk, length, map};
+ghost use Rattle.std.specs.Prelude.{◌≡◌, ◌≤◌, [], IfErr, IfOk, length, map};
 ghost use Rattle.fut_flat.specs.Erased.{term_of};
 ghost use Rattle.fut_meaning.specs.Flats.{flat_tops, named_terms};
 ghost use Rattle.reach.specs.Reach.{Reached, named_term};
 ghost use Rattle.unfold.specs.Held.{known_of, scope_of};
-ghost use Rattle.unfold.specs.Knowns.{knowns, no_name};
+ghost use Rattle.unfold.specs.Knowns.{no_name};
 ghost use Rattle.unfold.specs.Programs.{Program_unfolds};
 ghost use Rattle.unfold.specs.Shapes.{Shape};
-ghost use Rattle.unfold_parts.specs.Layouts.{shapes_of};
 ghost use Rattle.unfold_parts.specs.States.{steps_of};
 ghost use Rattle.unfold_parts.specs.Tables.{Kept, integer_at};
+ghost use Rattle.unfold_parts.specs.declared.refusal.Refusal.TheVariants as refusal;
 ghost use Rattle.unfold_program.specs.Answers.{defined};
-ghost use Rattle.unfold_program.specs.Whole.{All_applied, Defined_to, Definitions_to, Entry_to, Finished, Given_to, Unfolds_to, scalars};
+ghost use Rattle.unfold_program.specs.Whole.{All_applied, Are_scalars, Defined_to, Definitions_to, Entry_to, Finished, Given_to, Unfolds_to};
 
 use crate::walk::{apply, walk};
 use crate::walked::Context;
@@ -44,9 +44,9 @@ struct Given<'a> {
 ///
 /// # Errors
 ///
-/// - `Lost`: the program is not typed, its entry is none of its definitions, or takes other arguments, or gives a function.
+/// - `Lost`: unfolding is stuck, as no typed program is at an entry that takes such arguments and gives data.
 /// - `Memory`: no memory or no name is left, or the program has more nodes or is deeper than a measured one.
-#[tactic(auto, using(crate::proofs::Programs::whole_err))]
+#[tactic(auto, using(crate::proofs::Programs::wholes))]
 pub fn unfold<'a>(
     bump: &'a Bump,
     integer_types: &'a [IntType],
@@ -76,7 +76,8 @@ pub fn unfold<'a>(
 
 #[tactic(auto, using(unfold::proofs::Mirror::scope_empty))]
 fn nothing_known<'a>(bump: &'a Bump) -> Result<&'a Scope<'a>, Refusal>
-    ensures { IfOk result (λ nothing. scope_of nothing.now ≡ no_name) }
+    ensures ok { IfOk result (λ nothing. scope_of nothing.now ≡ no_name) }
+    ensures err { IfErr result (λ r. r ≡ refusal.Memory) }
 {
     let cells: &'a [Scope<'a>] = bump.try_alloc_slice_copy(&[Scope::Empty])?;
     Ok(&cells[0])
@@ -84,7 +85,8 @@ fn nothing_known<'a>(bump: &'a Bump) -> Result<&'a Scope<'a>, Refusal>
 
 // So many scalars, whichever.
 fn scalars<'a>(bump: &'a Bump, count: usize) -> Result<&'a [Known<'a>], Refusal>
-    ensures { IfOk result (λ row. shapes_of (knowns (map known_of row.now)) ≡ scalars count) }
+    ensures ok { IfOk result (λ row. Are_scalars count (map known_of row.now)) }
+    ensures err { IfErr result (λ r. r ≡ refusal.Memory) }
 {
     let mut row = Vec::new(bump);
     for _ in 0..count {
@@ -96,7 +98,7 @@ fn scalars<'a>(bump: &'a Bump, count: usize) -> Result<&'a [Known<'a>], Refusal>
 }
 
 // New names for so many scalars.
-#[tactic(auto, using(crate::proofs::Programs::given_err))]
+#[tactic(auto, using(crate::proofs::Programs::giving))]
 fn parameters<'a>(count: usize, state: &mut Unfolding<'a>) -> Result<Given<'a>, Refusal>
     ensures given { Given_to count state.old.next state.new.next result }
     ensures steps { steps_of state.new ≡ steps_of state.old }
@@ -110,12 +112,15 @@ fn parameters<'a>(count: usize, state: &mut Unfolding<'a>) -> Result<Given<'a>, 
             names: made.names,
             arguments,
         }),
-        _ => Err(Refusal::Lost),
+        KnownForm::Scalar(_) => unreachable!(),
+        KnownForm::Record(_) => unreachable!(),
+        KnownForm::Function(_) => unreachable!(),
+        KnownForm::Primitive(_, _, _) => unreachable!(),
     }
 }
 
 // One more definition, if it is reached.
-#[tactic(auto, using(crate::proofs::Programs::define_err, crate::proofs::Programs::define_passed, crate::proofs::Programs::define_ok))]
+#[tactic(auto, using(crate::proofs::Programs::defining))]
 fn unfold_definition<'a>(
     made: Made<'a>,
     reached: bool,
@@ -144,7 +149,6 @@ fn unfold_definition<'a>(
 }
 
 // The definitions that are reached, in their order.
-#[tactic(auto, using(crate::proofs::Programs::definitions_err))]
 fn unfold_definitions<'a>(
     context: Context<'a>,
     entry: BindId,
@@ -188,7 +192,6 @@ fn unfold_entry<'a>(
 }
 
 // A function applied to arguments, one after the other.
-#[tactic(auto, using(crate::proofs::Programs::all_err))]
 fn apply_all<'a>(
     context: &Context<'a>,
     function: Known<'a>,
@@ -206,7 +209,7 @@ fn apply_all<'a>(
 }
 
 // The steps as the body of a program, whose results are the components of what is known of its result.
-#[tactic(auto, using(crate::proofs::Programs::finish_err))]
+#[tactic(auto, using(crate::proofs::Programs::finishing))]
 fn finish<'a>(
     params: &'a [u32],
     types: &'a [ScalarType],

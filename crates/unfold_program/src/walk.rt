@@ -22,7 +22,7 @@ use unfold_parts::{
 
 /// What is known of the value of an expression, whose node has the number `at`. The expression lies inside `level` others.
 #[cycle(walk)]
-#[tactic(auto, using(crate::proofs::Arms::unfolded_err, crate::proofs::Peeling::peeled_unfolded))]
+#[tactic(auto, using(crate::proofs::Arms::unfolded_err, crate::proofs::Peeling::unpeeled, crate::proofs::Peeling::peeled_unfolded))]
 pub fn walk<'a>(
     context: &Context<'a>,
     level: u32,
@@ -102,7 +102,7 @@ fn walk_lambda<'a>(
 
 // Parts from left to right, then the operation.
 #[cycle(walk)]
-#[tactic(auto, using(crate::proofs::Arms::unfolded_err, crate::proofs::Arms::strict_ok))]
+#[tactic(auto, using(crate::proofs::Arms::strictly))]
 fn walk_strict<'a>(
     context: &Context<'a>,
     level: u32,
@@ -152,7 +152,7 @@ fn walk_parts<'a>(
 }
 
 #[cycle(walk)]
-#[tactic(auto, using(crate::proofs::Arms::unfolded_err, crate::proofs::Arms::apply_ok))]
+#[tactic(auto, using(crate::proofs::Arms::applied_terms))]
 fn walk_apply<'a>(
     context: &Context<'a>,
     level: u32,
@@ -175,7 +175,7 @@ fn walk_apply<'a>(
 
 // Both branches give data of one shape, whose components get new names.
 #[cycle(walk)]
-#[tactic(auto, using(crate::proofs::Arms::unfolded_err))]
+#[tactic(auto, using(crate::proofs::Arms::branches))]
 fn walk_if<'a>(
     context: &Context<'a>,
     level: u32,
@@ -208,7 +208,7 @@ fn walk_if<'a>(
 
 // An expression as a block of its own, which gives data of the shape of `like`, if there is one.
 #[cycle(walk)]
-#[tactic(auto, using(crate::proofs::Arms::block_err))]
+#[tactic(auto, using(crate::proofs::Arms::blocks))]
 fn walk_block<'a>(
     context: &Context<'a>,
     level: u32,
@@ -234,7 +234,7 @@ fn walk_block<'a>(
 }
 
 #[cycle(walk)]
-#[tactic(auto, using(crate::proofs::Arms::unfolded_err, crate::proofs::Looping::loop_counted, crate::proofs::Looping::loop_tested))]
+#[tactic(auto, using(crate::proofs::Arms::unfolded_err, crate::proofs::Looping::loops))]
 fn walk_loop<'a>(
     context: &Context<'a>,
     level: u32,
@@ -261,7 +261,7 @@ fn walk_loop<'a>(
 
 // A turn is unfolded once, on new names, and gives data of the shape of the first value.
 #[cycle(walk)]
-#[tactic(auto, using(crate::proofs::Looping::counted_err))]
+#[tactic(auto, using(crate::proofs::Looping::counting))]
 fn walk_for<'a>(
     context: &Context<'a>,
     level: u32,
@@ -316,7 +316,7 @@ fn walk_for<'a>(
 }
 
 #[cycle(walk)]
-#[tactic(auto, using(crate::proofs::Looping::tested_err))]
+#[tactic(auto, using(crate::proofs::Looping::testing))]
 fn walk_while<'a>(
     context: &Context<'a>,
     level: u32,
@@ -371,7 +371,7 @@ fn walk_while<'a>(
 
 // Rows of `let`s and the body behind them.
 #[cycle(walk)]
-#[tactic(auto, using(crate::proofs::Arms::unfolded_err, crate::proofs::Rows::whole_rows))]
+#[tactic(auto, using(crate::proofs::Rows::whole_rows))]
 fn walk_lets<'a>(
     context: &Context<'a>,
     level: u32,
@@ -462,7 +462,7 @@ pub fn apply<'a>(
 }
 
 #[cycle(walk)]
-#[tactic(auto, using(crate::proofs::Running::apply_err))]
+#[tactic(auto, using(crate::proofs::Running::functions))]
 fn apply_function<'a>(
     context: &Context<'a>,
     level: u32,

@@ -1,7 +1,6 @@
 use Rattle.std.proofs.Common.{length, le_refl, arith}
-use Rattle.unfold_parts.specs.Answers.{unanswered}
 use Rattle.unfold_parts.specs.States.{steps_of}
-use Rattle.unfold_parts.proofs.Equating.{held_start, held_on, held_end}
+use Rattle.unfold_parts.proofs.Equating.{held_start, held_on, held_end, held_err}
 use Rattle.unfold_parts.proofs.equality.all_hold.Goals as goal
 
 pub loop-at-init : goal.loop-at-init
@@ -14,4 +13,4 @@ pub returns : goal.returns
 returns c = held_end _ _ _ c.loop-at.at _ _ _ (omega (arith, c.loop-at-test.false)) c.loop-at.invariant.1
 
 pub returns-in-Err : goal.returns-in-Err
-returns-in-Err c = unanswered
+returns-in-Err c = held_err _ _ _ _ _ _ _ _ _ c.in-Err.ensures

@@ -1,13 +1,21 @@
 use Rattle.std.proofs.Common.{refl}
-use Rattle.unfold_parts.specs.Answers.{unanswered}
-use Rattle.unfold_parts.proofs.Operated.{act_integer, act_truth, act_tuple, act_record, act_binary, act_negate, act_complement, act_project, act_replace, act_ascribe, act_coerce, act_declared, act_assert}
+use Rattle.unfold_parts.proofs.Operated.{act_integer, act_truth, act_tuple, act_record, act_binary, act_negate, act_complement, act_project, act_replace, act_ascribe, act_coerce, act_declared, act_assert, act_array, act_index, act_update, act_range}
 use Rattle.unfold_parts.proofs.operations.operate.Goals as goal
 
 pub returns-in-Tuple : goal.returns-in-Tuple
 returns-in-Tuple c = act_tuple _ _ _ _ _ _ _ c.in-Tuple.is refl
 
-pub returns-in_default : goal.returns-in_default
-returns-in_default c = unanswered
+pub returns-in-Array : goal.returns-in-Array
+returns-in-Array c = act_array _ _ _ _ _ _ _ _ c.in-Array.is
+
+pub returns-in-Index : goal.returns-in-Index
+returns-in-Index c = act_index _ _ _ _ _ _ _ _ _ c.in-Index.is
+
+pub returns-in-Update : goal.returns-in-Update
+returns-in-Update c = act_update _ _ _ _ _ _ _ _ c.in-Update.is
+
+pub returns-in-Range : goal.returns-in-Range
+returns-in-Range c = act_range _ _ _ _ _ _ _ _ _ _ c.in-Range.is
 
 pub returns-in-Int : goal.returns-in-Int
 returns-in-Int c = act_integer _ _ _ _ _ _ _ _ _ c.in-Int.is c.literal.ensures

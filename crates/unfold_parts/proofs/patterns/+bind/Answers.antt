@@ -1,10 +1,11 @@
 use Rattle.std.proofs.Common.{refl, arith}
-use Rattle.unfold_parts.specs.Answers.{not_bound, not_all_bound, no_fields_bound}
-use Rattle.unfold_parts.proofs.Binding.{bound_name, bound_wild, bound_typed, bound_tuple, bound_record, all_lead_on, all_lead_end, fields_lead_on, fields_lead_end}
+use Rattle.unfold.proofs.Mirror.{known_scalar, known_tuple, known_record, known_function, known_primitive}
+use Rattle.unfold_parts.proofs.Binding.{bound_name, bound_wild, bound_typed, bound_tuple, bound_record, tuple_other, record_other, all_bound_unequal, all_bound_err, all_lead_on, all_lead_end, fields_bound_none, fields_bound_err, fields_lead_on, fields_lead_end}
+use Rattle.unfold_parts.proofs.Lacking.{scalar_no_tuple, record_no_tuple, function_no_tuple, primitive_no_tuple, scalar_no_record, tuple_no_record, function_no_record, primitive_no_record}
 use Rattle.unfold_parts.proofs.patterns.+bind.Goals as goal
 
 pub bind-returns-in-Bound : goal.bind-returns-in-Bound
-bind-returns-in-Bound t c = bound_name _ _ _ _ _ c.in-Bound.is c.bound.ensures
+bind-returns-in-Bound t c = bound_name _ _ _ _ _ c.in-Bound.is c.bound.ensures.ok c.bound.ensures.err
 
 pub bind-returns-in-Wild : goal.bind-returns-in-Wild
 bind-returns-in-Wild t c = bound_wild _ _ _ _ c.in-Wild.is refl
@@ -15,8 +16,35 @@ bind-returns-in-Typed t c = bound_typed _ _ _ _ _ _ c.in-Typed.is c.bind.ensures
 pub bind-returns-in-Tuple-form : goal.bind-returns-in-Tuple-form
 bind-returns-in-Tuple-form t c = bound_tuple _ _ _ _ _ _ c.in-Tuple.is c.in-Tuple-form.is c.bind_all.ensures
 
+pub bind-returns-in-Scalar : goal.bind-returns-in-Scalar
+bind-returns-in-Scalar t c = tuple_other _ _ _ _ _ c.in-Tuple.is (known_scalar _ _ c.in-Scalar.is) (scalar_no_tuple _)
+
 pub bind-returns-in-Record-form : goal.bind-returns-in-Record-form
-bind-returns-in-Record-form t c = bound_record _ _ _ _ _ _ c.in-Record.is c.in-Record-form.is c.bind_fields.ensures
+bind-returns-in-Record-form t c = tuple_other _ _ _ _ _ c.in-Tuple.is (known_record _ _ c.in-Record-form.is) (record_no_tuple _)
+
+pub bind-returns-in-Function : goal.bind-returns-in-Function
+bind-returns-in-Function t c = tuple_other _ _ _ _ _ c.in-Tuple.is (known_function _ _ c.in-Function.is) (function_no_tuple _ _ _ _)
+
+pub bind-returns-in-Primitive : goal.bind-returns-in-Primitive
+bind-returns-in-Primitive t c = tuple_other _ _ _ _ _ c.in-Tuple.is (known_primitive _ _ _ _ c.in-Primitive.is) (primitive_no_tuple _ _ _)
+
+pub bind-returns-in-Record-form-2 : goal.bind-returns-in-Record-form-2
+bind-returns-in-Record-form-2 t c = bound_record _ _ _ _ _ _ c.in-Record.is c.in-Record-form-2.is c.bind_fields.ensures
+
+pub bind-returns-in-Scalar-form : goal.bind-returns-in-Scalar-form
+bind-returns-in-Scalar-form t c = record_other _ _ _ _ _ c.in-Record.is (known_scalar _ _ c.in-Scalar-form.is) (scalar_no_record _)
+
+pub bind-returns-in-Tuple-form-2 : goal.bind-returns-in-Tuple-form-2
+bind-returns-in-Tuple-form-2 t c = record_other _ _ _ _ _ c.in-Record.is (known_tuple _ _ c.in-Tuple-form-2.is) (tuple_no_record _)
+
+pub bind-returns-in-Function-form : goal.bind-returns-in-Function-form
+bind-returns-in-Function-form t c = record_other _ _ _ _ _ c.in-Record.is (known_function _ _ c.in-Function-form.is) (function_no_record _ _ _ _)
+
+pub bind-returns-in-Primitive-form : goal.bind-returns-in-Primitive-form
+bind-returns-in-Primitive-form t c = record_other _ _ _ _ _ c.in-Record.is (known_primitive _ _ _ _ c.in-Primitive-form.is) (primitive_no_record _ _ _)
+
+pub bind_all-returns-then-parts-given : goal.bind_all-returns-then-parts-given
+bind_all-returns-then-parts-given t c = all_bound_unequal _ _ _ c.if-parts-given.true
 
 pub bind_all-loop-part-init : goal.bind_all-loop-part-init
 bind_all-loop-part-init t c = (refl, λ inner h. h)
@@ -24,32 +52,23 @@ bind_all-loop-part-init t c = (refl, λ inner h. h)
 pub bind_all-loop-part-preserved : goal.bind_all-loop-part-preserved
 bind_all-loop-part-preserved t c = (omega (arith, c.loop-part.invariant.0), all_lead_on _ _ _ _ _ _ _ _ _ c.loop-part-test.true (omega (arith, c.loop-part.invariant.0, c.loop-part-test.true, c.if-parts-given.false)) c.loop-part.invariant.1 c.in-Ok.ensures)
 
+pub bind_all-returns-in-Err : goal.bind_all-returns-in-Err
+bind_all-returns-in-Err t c = all_bound_err _ _ _ _ _ _ _ _ _ c.loop-part.invariant.0 c.loop-part-test.true (omega (arith, c.loop-part.invariant.0, c.loop-part-test.true, c.if-parts-given.false)) c.in-Err.ensures
+
 pub bind_all-returns : goal.bind_all-returns
 bind_all-returns t c = all_lead_end _ _ _ _ _ _ (omega (arith, c.loop-part-test.false)) (omega (arith, c.loop-part.invariant.0, c.loop-part-test.false, c.if-parts-given.false)) c.loop-part.invariant.1
 
 pub bind_fields-loop-field-init : goal.bind_fields-loop-field-init
 bind_fields-loop-field-init t c = λ inner h. h
 
+pub bind_fields-returns-in-None : goal.bind_fields-returns-in-None
+bind_fields-returns-in-None t c = fields_bound_none _ _ _ _ _ c.loop-field-test.true c.in-None.ensures
+
 pub bind_fields-loop-field-preserved : goal.bind_fields-loop-field-preserved
 bind_fields-loop-field-preserved t c = fields_lead_on _ _ _ _ _ _ _ _ c.loop-field-test.true c.in-Some.ensures c.loop-field.invariant c.in-Ok.ensures
 
+pub bind_fields-returns-in-Err : goal.bind_fields-returns-in-Err
+bind_fields-returns-in-Err t c = fields_bound_err _ _ _ _ _ _ _ _ c.loop-field-test.true c.in-Some.ensures c.in-Err.ensures
+
 pub bind_fields-returns : goal.bind_fields-returns
 bind_fields-returns t c = fields_lead_end _ _ _ _ _ (omega (arith, c.loop-field-test.false)) c.loop-field.invariant
-
-pub bind-returns-in_default : goal.bind-returns-in_default
-bind-returns-in_default t c = not_bound
-
-pub bind-returns-in_default-form : goal.bind-returns-in_default-form
-bind-returns-in_default-form t c = not_bound
-
-pub bind_all-returns-then-parts-given : goal.bind_all-returns-then-parts-given
-bind_all-returns-then-parts-given t c = not_all_bound
-
-pub bind_all-returns-in-Err : goal.bind_all-returns-in-Err
-bind_all-returns-in-Err t c = not_all_bound
-
-pub bind_fields-returns-in-None : goal.bind_fields-returns-in-None
-bind_fields-returns-in-None t c = no_fields_bound
-
-pub bind_fields-returns-in-Err : goal.bind_fields-returns-in-Err
-bind_fields-returns-in-Err t c = no_fields_bound

@@ -1,5 +1,4 @@
-use Rattle.unfold_parts.specs.Answers.{unanswered}
-use Rattle.unfold_parts.proofs.Operated.{primitive_convert, primitive_min, primitive_max, primitive_abs, primitive_popc}
+use Rattle.unfold_parts.proofs.Operated.{primitive_convert, primitive_min, primitive_max, primitive_abs, primitive_popc, primitive_other}
 use Rattle.unfold_parts.proofs.primitives.operate_primitive.Goals as goal
 
 pub returns-in-Convert : goal.returns-in-Convert
@@ -18,4 +17,4 @@ pub returns-in-Popc : goal.returns-in-Popc
 returns-in-Popc c = primitive_popc _ _ _ _ _ _ _ _ _ c.in-Popc.is c.unary-in-Popc.ensures
 
 pub returns-in_default : goal.returns-in_default
-returns-in_default c = unanswered
+returns-in_default c = primitive_other _ _ _ _ _ _ _ c.in_default.not-Convert c.in_default.not-Min c.in_default.not-Max c.in_default.not-Abs c.in_default.not-Popc

@@ -1,5 +1,7 @@
 use Rattle.std.proofs.Common.{length, refl, sym, subst, le_refl, arith}
-use Rattle.unfold_parts.proofs.Fielding.{Recorded, recorded_start, recorded_on, recorded_end}
+use Rattle.unfold_parts.proofs.Fielding.{Recorded, recorded_start, recorded_on, recorded_end, recorded_many}
+use Rattle.unfold_parts.specs.Parts.{not_recorded}
+use Rattle.unfold_parts.specs.Refused.{no_memory}
 use Rattle.unfold_parts.proofs.records.record_of.Goals as goal
 
 pub loop-at-init : goal.loop-at-init
@@ -10,3 +12,9 @@ loop-at-preserved c = (omega (arith, c.loop-at.invariant.0), recorded_on c.args.
 
 pub returns : goal.returns
 returns c = recorded_end c.args.names.now c.args.parts.now _ c.loop-at.at _ _ (omega (arith, c.if-names-parts.false)) (omega (arith, c.loop-at-test.false)) c.loop-at.invariant.1 c.into_bump_slice.ensures refl
+
+pub returns-then-names-parts : goal.returns-then-names-parts
+returns-then-names-parts c = recorded_many _ _ c.if-names-parts.true
+
+pub returns-in-Err : goal.returns-in-Err
+returns-in-Err c = not_recorded no_memory

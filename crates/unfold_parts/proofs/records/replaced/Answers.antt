@@ -10,5 +10,5 @@ loop-field-preserved c = elim c.if-is_done.branch [
   | else-is_done+else-eq+in_ok-push-3 w ↦ rw (w.made-is, w.is_done-is, w.if-is_done.false) (so_far_other _ _ _ _ _ _ _ c.loop-field-test.true c.loop-field.is_done w.if-is_done.false (sym w.eq.ensures ∙ w.if-eq.false) c.loop-field.invariant w.in_ok-push-3.ensures.items)
 ]
 
-pub returns : goal.returns
-returns c = so_far_end _ _ _ c.loop-field.is_done _ c.loop-field.field-index c.into_bump_slice.result (omega (arith, c.loop-field-test.false)) c.loop-field.invariant c.into_bump_slice.ensures
+pub returns-clause-ok : goal.returns-clause-ok
+returns-clause-ok c = so_far_end _ _ _ c.loop-field.is_done _ c.loop-field.field-index c.into_bump_slice.result (omega (arith, c.loop-field-test.false)) c.loop-field.invariant c.into_bump_slice.ensures
