@@ -27,7 +27,7 @@ abbrev pub layer : Layer → Known
 layer (KnownForm-F.Scalar u) = Scalar_known u
 layer (KnownForm-F.Tuple ss) = Tuple_known (knowns (map known_of ss.now))
 layer (KnownForm-F.Record fs) = Record_known (fields_known (map field_of fs.now))
-layer (KnownForm-F.Function f) = function_of f
+layer (KnownForm-F.Function f) = function_of f.now
 layer (KnownForm-F.Primitive p at ss) = Primitive_known p at (knowns (map known_of ss.now))
 
 layer_is : (l : Layer) → known_form (map-KnownForm KnownForm Held_scope Field Function Held_known Known Scope (Text × Known) Known Known form_known scope_of field_of function_of known_of l) ≡ layer l
@@ -60,8 +60,8 @@ known_tuple s ss is = known_at s _ _ is (form.outs-Tuple ss)
 pub known_record : (s : Held_known) (fs : Bor (List Field)) → s.form ≡ form.Record fs → known_of s ≡ Record_known (fields_known (map field_of fs.now))
 known_record s fs is = known_at s _ _ is (form.outs-Record fs)
 
-pub known_function : (s : Held_known) (f : Function) → s.form ≡ form.Function f → known_of s ≡ Function_known (patterns (map pattern_of f.parameters.now)) (term_of f.body.now) f.first (scope_of f.scope.now)
-known_function s f is = known_at s _ _ is (form.outs-Function f) ∙ function_is f
+pub known_function : (s : Held_known) (f : Bor Function) → s.form ≡ form.Function f → known_of s ≡ Function_known (patterns (map pattern_of f.now.parameters.now)) (term_of f.now.body.now) f.now.first (scope_of f.now.scope.now)
+known_function s f is = known_at s _ _ is (form.outs-Function f) ∙ function_is f.now
 
 pub known_primitive : (s : Held_known) (p : Primitive) (at : Place) (ss : Bor (List Held_known)) → s.form ≡ form.Primitive p at ss → known_of s ≡ Primitive_known p at (knowns (map known_of ss.now))
 known_primitive s p at ss is = known_at s _ _ is (form.outs-Primitive p at ss)

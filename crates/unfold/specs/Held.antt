@@ -17,7 +17,7 @@ unfoldable pub known_form : KnownForm-F Known Scope (Text × Known) Known Known 
 known_form (KnownForm-F.Scalar u) = Scalar_known u
 known_form (KnownForm-F.Tuple ss) = Tuple_known (knowns ss.now)
 known_form (KnownForm-F.Record fs) = Record_known (fields_known fs.now)
-known_form (KnownForm-F.Function f) = f
+known_form (KnownForm-F.Function f) = f.now
 known_form (KnownForm-F.Primitive p at ss) = Primitive_known p at (knowns ss.now)
 
 unfoldable pub scope_form : Scope-F Known Scope (Text × Known) Known Known → Scope

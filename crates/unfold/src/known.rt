@@ -18,7 +18,7 @@ pub enum KnownForm<'a> {
     Tuple(&'a [Known<'a>]),
     /// Fields in order of their names.
     Record(&'a [Field<'a>]),
-    Function(Function<'a>),
+    Function(&'a Function<'a>),
     /// A primitive, where it reports, and the arguments that it has.
     Primitive(Primitive, Place, &'a [Known<'a>]),
 }

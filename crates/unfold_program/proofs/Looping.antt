@@ -58,8 +58,8 @@ scalar_of_tuple h ss is = other_known h _ (known_tuple h ss is) (λ u q. let z :
 pub scalar_of_record : (h : Held_known) (fs : Bor (List Field)) → h.form ≡ form.Record fs → Scalar_to (known_of h) (Err Lost)
 scalar_of_record h fs is = other_known h _ (known_record h fs is) (λ u q. let z : Record_known (fields_known (map field_of fs.now)) ≡ Scalar_known u = q in cc)
 
-pub scalar_of_function : (h : Held_known) (f : Function) → h.form ≡ form.Function f → Scalar_to (known_of h) (Err Lost)
-scalar_of_function h f is = other_known h _ (known_function h f is) (λ u q. let z : Function_known (patterns (map pattern_of f.parameters.now)) (term_of f.body.now) f.first (scope_of f.scope.now) ≡ Scalar_known u = q in cc)
+pub scalar_of_function : (h : Held_known) (f : Bor Function) → h.form ≡ form.Function f → Scalar_to (known_of h) (Err Lost)
+scalar_of_function h f is = other_known h _ (known_function h f is) (λ u q. let z : Function_known (patterns (map pattern_of f.now.parameters.now)) (term_of f.now.body.now) f.now.first (scope_of f.now.scope.now) ≡ Scalar_known u = q in cc)
 
 pub scalar_of_primitive : (h : Held_known) (p : Primitive) (at : Place) (ss : Bor (List Held_known)) → h.form ≡ form.Primitive p at ss → Scalar_to (known_of h) (Err Lost)
 scalar_of_primitive h p at ss is = other_known h _ (known_primitive h p at ss is) (λ u q. let z : Primitive_known p at (knowns (map known_of ss.now)) ≡ Scalar_known u = q in cc)

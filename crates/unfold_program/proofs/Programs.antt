@@ -109,7 +109,7 @@ module _ (count : ℕ) (like : Held_known) (row : Bor (List Held_known)) (are : 
     pub given_record : (fs : Bor (List Field)) → f.known.form ≡ form.Record fs → ⊥
     given_record fs is' = no_other _ (known_record f.known fs is') (λ hs us l. elim l [ ])
 
-    pub given_function : (g : Function) → f.known.form ≡ form.Function g → ⊥
+    pub given_function : (g : Bor Function) → f.known.form ≡ form.Function g → ⊥
     given_function g is' = no_other _ (known_function f.known g is') (λ hs us l. elim l [ ])
 
     pub given_primitive : (p : Primitive) (at : Place) (ss : Bor (List Held_known)) → f.known.form ≡ form.Primitive p at ss → ⊥

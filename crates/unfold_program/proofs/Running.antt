@@ -1,6 +1,6 @@
 -- Known functions applied to arguments, and where there is no way on in them.
 use Rattle.std.proofs.Common.{◌≡◌, List, [], ◌∷◌, map, length, get_or, drop, false, Ok, Err, refl, sym, ap, ◌∙◌, subst, arith}
-use Rattle.std.specs.Prelude.{Result}
+use Rattle.std.specs.Prelude.{IfErr, IfOk, Result}
 use Rattle.std.specs.Borrow.{Bor}
 use Rattle.fut_scalar.specs.declared.place.Place.{Place}
 use Rattle.fut_flat.specs.declared.pat.Pat.{Pat}
@@ -18,11 +18,11 @@ use Rattle.unfold.specs.declared.known.KnownForm.TheVariants as form
 use Rattle.unfold.specs.declared.known.Scope.{Scope as Held_scope}
 use Rattle.unfold.proofs.Mirror.{function_is, known_function, known_primitive, known_record, known_scalar, known_tuple}
 use Rattle.unfold_parts.specs.Answers.{answered, unanswered, Answered, Applied_primitive, Bound_to, bound_to, not_bound}
-use Rattle.unfold_parts.proofs.Refusing.{refused_as}
+use Rattle.unfold_parts.proofs.Refusing.{only_memory, refused_as}
 use Rattle.unfold_parts.specs.Refused.{lost}
 use Rattle.unfold_parts.specs.States.{steps_of}
 use Rattle.unfold_parts.specs.declared.refusal.Refusal.{Refusal}
-use Rattle.unfold_parts.specs.declared.refusal.Refusal.TheVariants.{Lost}
+use Rattle.unfold_parts.specs.declared.refusal.Refusal.TheVariants.{Lost, Memory}
 use Rattle.unfold_parts.specs.declared.steps.Unfolding.{Unfolding}
 use Rattle.unfold_program.specs.declared.walked.Context.{Context}
 use Rattle.unfold_program.specs.declared.walked.Walked.{Walked}
@@ -43,8 +43,8 @@ module _ (c : Context) (s : Known) (old new : Unfolding) where
   apply_of_record h fs is = no_function_known h _ (known_record h fs is) refl
 
   module _ (h : Held_known) (r : Result Held_known Refusal) where
-    pub apply_of_function : (f : Function) → h.form ≡ form.Function f → Applied c (function_of f) s old new r → Applied c (known_of h) s old new r
-    apply_of_function f is a = subst (λ z. Applied c z s old new r) (function_is f ∙ sym (known_function h f is)) a
+    pub apply_of_function : (f : Bor Function) → h.form ≡ form.Function f → Applied c (function_of f.now) s old new r → Applied c (known_of h) s old new r
+    apply_of_function f is a = subst (λ z. Applied c z s old new r) (function_is f.now ∙ sym (known_function h f is)) a
 
     pub apply_of_primitive : (p : Primitive) (at : Place) (ss : Bor (List Held_known)) → h.form ≡ form.Primitive p at ss → Applied_primitive p at (knowns (map known_of ss.now)) s old.next (steps_of old) (steps_of new) new.next r → Applied c (known_of h) s old new r
     apply_of_primitive p at ss is a = subst (λ z. Applied c z s old new r) (sym (known_primitive h p at ss is)) (made r (a (told c) (defined c)))
@@ -104,5 +104,9 @@ module _ (c : Context) (s : Known) (old : Unfolding) (f : Function) where
         waits [] n n' h e = absurd (n refl)
         waits (p ∷ []) n n' h e = absurd (n' refl)
         waits (p ∷ q ∷ ps) n n' (bound_to x) e = applied [] (not_grown (steps_of old) (steps_of old) refl) (subst (λ z. Applies (told c) (defined c) (Function_known (patterns (map pattern_of (p ∷ q ∷ ps))) (term_of f.body.now) f.first (scope_of f.scope.now)) s old.next [] z old.next) (sym (is ∙ ap (λ z. Function_known (patterns (map pattern_of z)) (term_of f.body.now) f.first (scope_of inner.now)) e)) (a_waits x))
+
+    pub function_waiting : (qs : List Pat) (r : Result Held_known Refusal) → (length f.parameters.now ≡ 0 → ⊥) → (length f.parameters.now ≡ 1 → ⊥) → qs ≡ drop 1 f.parameters.now → IfOk r (λ k. known_of k ≡ Function_known (patterns (map pattern_of qs)) (term_of f.body.now) f.first (scope_of inner.now)) → IfErr r (λ x. x ≡ Memory) → Applied c (function_of f) s old old r
+    function_waiting qs (Ok k) n n' e is m = function_waits qs k n n' e is
+    function_waiting qs (Err x) n n' e is m = not_applied (only_memory m)
 
 pub ruleset functions = (function_empty, function_unbound, function_stuck)

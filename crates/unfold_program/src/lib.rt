@@ -5,6 +5,7 @@
 #![tactic(auto)]
 
 mod enter;
+mod function;
 mod peel;
 mod program;
 mod walk;

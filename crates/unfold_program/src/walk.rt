@@ -8,8 +8,10 @@ ghost use Rattle.unfold_parts.specs.Tables.{Kept};
 ghost use Rattle.unfold_program.specs.Answers.{All_unfolded, Applied, Blocked_to, Counted_to, Lambda_known, Row_unfolded, Tested_to, Unfolded};
 
 use crate::enter::{enter, scalar_of};
+use crate::function::function_known;
 use crate::peel::stripped;
 use crate::walked::{Branch, Context, MOST_DEPTH, Parts, Row, Walked};
+use bumpalo::Bump;
 use bumpalo::collections::into_bump_slice;
 use fut_blocks::{Act, Atom, Step};
 use fut_flat::{Act as Operation, Exp, Form, Let, Loop, LoopForm, Pat};
@@ -64,7 +66,7 @@ fn walk_form<'a>(
         Form::Strict { act, mark, parts } => {
             walk_strict(context, level, scope, at, &act, mark, parts, state)
         }
-        Form::Lambda(params, body) => walk_lambda(scope, at, params, body),
+        Form::Lambda(params, body) => walk_lambda(state.bump, scope, at, params, body),
         Form::Apply(function, argument) => {
             walk_apply(context, level, scope, at, function, argument, state)
         }
@@ -77,6 +79,7 @@ fn walk_form<'a>(
 // A function is known by its parameters and its body, which are unfolded where it is applied.
 #[tactic(auto, using(crate::proofs::Arms::lambda_err))]
 fn walk_lambda<'a>(
+    bump: &'a Bump,
     scope: &'a Scope<'a>,
     at: u32,
     params: &'a [Pat<'a>],
@@ -87,17 +90,8 @@ fn walk_lambda<'a>(
     let inside = after(at, 1)?;
     let first = after_patterns(inside, params)?;
     let next = after_exp(first, body)?;
-    Ok(Walked {
-        known: Known {
-            form: KnownForm::Function(Function {
-                parameters: params,
-                body,
-                first,
-                scope,
-            }),
-        },
-        at: next,
-    })
+    let known = function_known(bump, params, body, first, scope)?;
+    Ok(Walked { known, at: next })
 }
 
 // Parts from left to right, then the operation.
@@ -466,13 +460,13 @@ pub fn apply<'a>(
 fn apply_function<'a>(
     context: &Context<'a>,
     level: u32,
-    lambda: Function<'a>,
+    lambda: &'a Function<'a>,
     argument: Known<'a>,
     state: &mut Unfolding<'a>,
 ) -> Result<Known<'a>, Refusal>
     requires kept { Kept context.now.tops }
     requires level { level ≤ 1000 }
-    ensures { Applied context.now (function_of lambda.entry) (known_of argument.entry) state.old state.new result }
+    ensures { Applied context.now (function_of lambda.now) (known_of argument.entry) state.old state.new result }
 {
     let params = lambda.parameters;
     if params.len() == 0 {
@@ -483,13 +477,6 @@ fn apply_function<'a>(
         let r = walk(context, level, inner, lambda.first, lambda.body, state)?;
         Ok(r.known)
     } else {
-        Ok(Known {
-            form: KnownForm::Function(Function {
-                parameters: &params[1..],
-                body: lambda.body,
-                first: lambda.first,
-                scope: inner,
-            }),
-        })
+        function_known(state.bump, &params[1..], lambda.body, lambda.first, inner)
     }
 }

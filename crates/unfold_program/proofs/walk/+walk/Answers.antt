@@ -1,12 +1,12 @@
 use Rattle.std.proofs.Common.{refl, arith}
 use Rattle.std.proofs.lemmas.Result.{err_from_is_err_and}
 use Rattle.std.proofs.lemmas.Slice.{between_to_end}
-use Rattle.unfold.proofs.Mirror.{known_function, known_scalar}
+use Rattle.unfold.proofs.Mirror.{known_scalar}
 use Rattle.unfold_program.proofs.Growing.{if_made, for_made, while_made}
 use Rattle.unfold_program.proofs.Arms.{strict_ok, strict_err, block_ok, if_ok}
 use Rattle.unfold_program.proofs.Looping.{counted_ok, counted_body_err, tested_ok, tested_test_err, tested_body_err}
 use Rattle.unfold_program.proofs.Rows.{parts_start, parts_more, parts_done, parts_err, row_start, row_more, row_done, row_err, lets_start, lets_more, lets_done, lets_err}
-use Rattle.unfold_program.proofs.Running.{function_last, function_waits}
+use Rattle.unfold_program.proofs.Running.{function_last, function_waiting}
 use Rattle.unfold_program.proofs.walk.+walk.Goals as goal
 
 pub walk_parts-loop-exp-init : goal.walk_parts-loop-exp-init
@@ -52,7 +52,7 @@ pub apply_function-returns-in_ok-r : goal.apply_function-returns-in_ok-r
 apply_function-returns-in_ok-r t c = function_last _ _ _ _ _ _ c.in_ok-inner.ensures _ _ c.if-params-eq1.true c.in_ok-r.ensures
 
 pub apply_function-returns-else-params-eq1 : goal.apply_function-returns-else-params-eq1
-apply_function-returns-else-params-eq1 t c = function_waits _ _ _ _ _ _ c.in_ok-inner.ensures _ _ c.if-params-eq0.false c.if-params-eq1.false (between_to_end c.args.lambda.parameters.now 1 _ (omega arith)) (known_function _ _ refl)
+apply_function-returns-else-params-eq1 t c = function_waiting _ _ _ _ _ _ c.in_ok-inner.ensures _ _ c.if-params-eq0.false c.if-params-eq1.false (between_to_end c.args.lambda.now.parameters.now 1 _ (omega arith)) c.function_known.ensures.ok c.function_known.ensures.err
 
 pub walk_strict-returns : goal.walk_strict-returns
 walk_strict-returns t c = strict_ok _ _ _ _ _ _ _ _ _ _ _ _ _ _ c.own_numbers_of.ensures c.in_ok-first.ensures c.in_ok-made.ensures c.literal_type_at-ty.ensures c.in_ok-known.ensures
