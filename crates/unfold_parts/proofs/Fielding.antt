@@ -146,6 +146,16 @@ module _ (name : Text) (fs : List Field) where
       ∙ ap (λ z. before (map field_of (take i fs)) (known_field_and name s z)) (sym (rest_done fs i le))
       ∙ joined i s
 
+-- the field is put there
+pub put_there : (g : Field) (place : ℕ) (view made made' : List Field) → view ≡ made → ((s : Known) → with_field g.name.now s (fields_known (map field_of view)) ≡ fields_known (map field_of (take place view) ++ (g.name.now, s) ∷ map field_of (drop place view))) → made' ≡ take place made ++ g ∷ drop place made → fields_known (map field_of made') ≡ with_field g.name.now (known_of g.known) (fields_known (map field_of made))
+put_there g place view made made' ev p q =
+    ap (λ z. fields_known (map field_of z)) q
+    ∙ ap fields_known (map-append field_of (take place made) (g ∷ drop place made))
+    ∙ ap (λ z. fields_known (map field_of (take place made) ++ z ∷ map field_of (drop place made))) (field_is g)
+    ∙ ap (λ z. fields_known (map field_of (take place z) ++ pair_of g ∷ map field_of (drop place z))) (sym ev)
+    ∙ sym (p (known_of g.known))
+    ∙ ap (λ z. with_field g.name.now (known_of g.known) (fields_known (map field_of z))) ev
+
 -- ---- a record, from its last field on
 
 abbrev pub paired : List Text → List Known → List (Text × Known)
@@ -177,19 +187,12 @@ module _ (names : List (Bor Text)) (parts : List Held_known) where
   unfolding fields_known
   recorded_start n le = sym (ap (λ z. fields (paired (texts z) (map known_of (drop n parts)))) (drop_all n names le))
 
-  -- one more field, where it belongs
-  pub recorded_on : (i j place : ℕ) (n : Bor Text) (d : Held_known) (g : Field) (view made made' : List Field) → i < length names → i < length parts → j ≡ i + 1 → g.name ≡ get_or names i n → g.known ≡ get_or parts i d → view ≡ made → ((s : Known) → with_field g.name.now s (fields_known (map field_of view)) ≡ fields_known (map field_of (take place view) ++ (g.name.now, s) ∷ map field_of (drop place view))) → made' ≡ take place made ++ g ∷ drop place made → Recorded made j → Recorded made' i
-  recorded_on i j place n d g view made made' lt lt' ej en ek ev p q r =
-      ap (λ z. fields_known (map field_of z)) q
-      ∙ ap fields_known (map-append field_of (take place made) (g ∷ drop place made))
-      ∙ ap (λ z. fields_known (map field_of (take place made) ++ z ∷ map field_of (drop place made))) (field_is g)
-      ∙ ap (λ z. fields_known (map field_of (take place z) ++ pair_of g ∷ map field_of (drop place z))) (sym ev)
-      ∙ sym (p (known_of g.known))
-      ∙ ap (λ z. with_field g.name.now (known_of g.known) (fields_known (map field_of z))) ev
-      ∙ ap (with_field g.name.now (known_of g.known)) r
-      ∙ ap (λ z. with_field g.name.now (known_of g.known) (fields (paired (texts (drop z names)) (map known_of (drop z parts))))) ej
-      ∙ ap (λ z. with_field z.now (known_of g.known) (fields (paired (texts (drop (i + 1) names)) (map known_of (drop (i + 1) parts))))) en
-      ∙ ap (λ z. with_field (get_or names i n).now (known_of z) (fields (paired (texts (drop (i + 1) names)) (map known_of (drop (i + 1) parts))))) ek
+  -- one more field
+  pub recorded_on : (i j : ℕ) (n : Bor Text) (d : Held_known) (made made' : List Field) → i < length names → i < length parts → j ≡ i + 1 → fields_known (map field_of made') ≡ with_field (get_or names i n).now (known_of (get_or parts i d)) (fields_known (map field_of made)) → Recorded made j → Recorded made' i
+  recorded_on i j n d made made' lt lt' ej p r =
+      p
+      ∙ ap (with_field (get_or names i n).now (known_of (get_or parts i d))) r
+      ∙ ap (λ z. with_field (get_or names i n).now (known_of (get_or parts i d)) (fields (paired (texts (drop z names)) (map known_of (drop z parts))))) ej
       ∙ ap (λ z. fields (paired (texts z) (map known_of (get_or parts i d ∷ drop (i + 1) parts)))) (sym (one_more names i n lt))
       ∙ ap (λ z. fields (paired (texts (drop i names)) (map known_of z))) (sym (one_more parts i d lt'))
 

@@ -5,6 +5,7 @@ pub mod Lacking
 pub mod Forms
 pub mod Shapeless
 pub mod Operands
+pub mod Pairing
 pub mod Tabling
 pub mod Using
 pub mod Stepping

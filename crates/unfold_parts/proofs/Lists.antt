@@ -6,6 +6,12 @@ use Rattle.std.proofs.Math.Seq.{drop-cons}
 pub one_more : {X : Type 0} (xs : List X) (i : ℕ) (d : X) → i < length xs → drop i xs ≡ get_or xs i d ∷ drop (i + 1) xs
 one_more xs i d lt = let e : suc i ≡ i + 1 = omega arith in drop-cons xs i d lt ∙ ap (λ z. get_or xs i d ∷ drop z xs) e
 
+-- the same of what is made of each
+pub one_mapped : {X Y : Type 0} (f : X → Y) (xs : List X) (i : ℕ) (d : X) → i < length xs → drop i (map f xs) ≡ f (get_or xs i d) ∷ drop (i + 1) (map f xs)
+one_mapped f [] i d lt = absurd (omega (arith, lt))
+one_mapped f (x ∷ xs) zero d lt = refl
+one_mapped f (x ∷ xs) (suc i) d lt = let e : suc (i + 1) ≡ suc i + 1 = omega arith in one_mapped f xs i d (omega (arith, lt)) ∙ ap (λ z. f (get_or xs i d) ∷ drop z (f x ∷ map f xs)) e
+
 pub take_more : {X : Type 0} (xs : List X) (i : ℕ) (d : X) → i < length xs → take (i + 1) xs ≡ take i xs ++ get_or xs i d ∷ []
 take_more [] i d lt = absurd (omega (arith, lt))
 take_more (x ∷ xs) zero d lt = refl

@@ -18,7 +18,6 @@ use Rattle.unfold.specs.declared.known.KnownForm.TheVariants as form
 use Rattle.unfold_parts.specs.Layouts.{shape_of, shapes_of, field_shapes_of, numbers_from, Has_names, has_names, Renewed, renewed, not_renewed}
 use Rattle.unfold_parts.specs.Refused.{Refused}
 use Rattle.unfold_parts.specs.declared.fresh.Fresh.{Fresh}
-use Rattle.unfold_parts.specs.declared.fresh.Renamed.{Renamed}
 use Rattle.unfold_parts.specs.declared.refusal.Refusal.{Refusal}
 use Rattle.unfold_parts.proofs.Lacking.{Not_laid_out, Not_all_laid, Not_fields_laid, parts_unlaid, fields_unlaid}
 use Rattle.unfold_parts.proofs.Lists.{one_more}
@@ -58,9 +57,9 @@ renewed_err s n next r h = not_renewed (refused_as (λ lacks. no_data s (not_lai
 pub scalar_named : (n next : ℕ) (s : Held_known) → s.form ≡ form.Scalar (atom.Name n) → next ≡ n + 1 → Has_names (Laid Scalar_shape (known_of s)) n next
 scalar_named n next s i e = has_names 1 e (λ rest. subst (λ z. Laid Scalar_shape z (atom.Name n ∷ rest) rest) (sym (known_scalar s _ i)) laid_scalar)
 
-pub scalar_like : (like : Held_known) (u : Atom) (n : ℕ) (r : Result Renamed Refusal) → like.form ≡ form.Scalar u → IfOk r (λ (x : Renamed). Has_names (Laid Scalar_shape (known_of x.known)) n x.next) → IfOk r (λ (x : Renamed). Has_names (Laid (shape_of (known_of like)) (known_of x.known)) n x.next)
+pub scalar_like : (like : Held_known) (u : Atom) (n next : ℕ) (r : Result Held_known Refusal) → like.form ≡ form.Scalar u → IfOk r (λ (s : Held_known). Has_names (Laid Scalar_shape (known_of s)) n next) → IfOk r (λ (s : Held_known). Has_names (Laid (shape_of (known_of like)) (known_of s)) n next)
 unfolding shape_of
-scalar_like like u n r i h = subst (λ z. IfOk r (λ (x : Renamed). Has_names (Laid (shape_of z) (known_of x.known)) n x.next)) (sym (known_scalar like u i)) h
+scalar_like like u n next r i h = subst (λ z. IfOk r (λ (s : Held_known). Has_names (Laid (shape_of z) (known_of s)) n next)) (sym (known_scalar like u i)) h
 
 module _ (like s : Held_known) (n next : ℕ) where
   pub tuple_named : (likes parts : Bor (List Held_known)) → like.form ≡ form.Tuple likes → s.form ≡ form.Tuple parts → Has_names (All_laid (shapes_of (knowns (map known_of likes.now))) (knowns (map known_of parts.now))) n next → Has_names (Laid (shape_of (known_of like)) (known_of s)) n next

@@ -16,18 +16,14 @@ use Rattle.fut_flat.specs.Erased.{FlatTerm, FlatType}
 use Rattle.fut_flat.specs.Terms.{Patterns, Integer, Truth, Record_of, Array_of, Binary, Negate, Complement, Index, Project, Update, Range, Replace, Ascribe, Coerce, Declared, Assert}
 use Rattle.fut_meaning.specs.Operations.{named_values}
 use Rattle.fut_blocks.specs.declared.block.Atom.{Atom}
-use Rattle.unfold.specs.Held.{known_of, fields_known}
-use Rattle.unfold.specs.Knowns.{Known, Scalar_known, Tuple_known, Record_known, Function_known, Primitive_known, Knowns, known_and, Known_fields, known_field_and, Scope, knowns, part}
+use Rattle.unfold.specs.Held.{known_of}
+use Rattle.unfold.specs.Knowns.{Known, Scalar_known, Tuple_known, Record_known, Function_known, Primitive_known, Knowns, known_and, Known_fields, Scope, knowns, part}
 use Rattle.unfold.specs.Stuck.{No_scalar, No_operation, No_primitive}
-use Rattle.unfold.specs.Unfolding.{Bindings, e_scalars, e_tuples, e_records, All_equal, e_none, e_more, Fields_equal, e_no_field, e_field, o_integer, o_truth, o_record, o_binary, o_equal, o_unequal, o_negate, o_complement, o_project, o_replace, o_ascribe, o_coerce, o_declared, o_assert, p_convert, p_min, p_max, p_abs, p_popc}
+use Rattle.unfold.specs.Unfolding.{Bindings, e_scalars, e_tuples, e_records, e_more, o_integer, o_truth, o_record, o_binary, o_equal, o_unequal, o_negate, o_complement, o_project, o_replace, o_ascribe, o_coerce, o_declared, o_assert, p_convert, p_min, p_max, p_abs, p_popc}
 use Rattle.unfold.specs.declared.known.Known.{Known as Held_known}
-use Rattle.unfold_parts.specs.Answers.{Same_names, no_names, same_name}
 use Rattle.unfold_parts.specs.Parts.{Not_one, Not_one_scalar, Not_two_scalars}
-use Rattle.unfold_parts.specs.Refused.{Not_compared, Not_all_compared, Not_fields_compared}
+use Rattle.unfold_parts.specs.Refused.{Not_compared, Not_both_compared, Not_all_compared, Not_fields_compared}
 use Rattle.unfold_parts.proofs.Lacking.{No_tuple, No_record}
-
-abbrev pub held_values : List (Text × Known) → List Known
-held_values = map (λ (f : Text × Known). f.1)
 
 -- ---- comparisons
 module _ (at : Place) where
@@ -67,50 +63,19 @@ module _ (at : Place) where
   many_uncompared (s ∷ ss) [] e n n' bs u x = elim x [ ]
   many_uncompared (s ∷ ss) (t ∷ ts) e n n' bs u x = rest_uncompared (known_of s) (known_of t) (knowns (map known_of ss)) (knowns (map known_of ts)) (many_uncompared ss ts (λ q. e (ap suc q))) n n' bs u x
 
-  pub part_uncompared : (ss ts : List Held_known) (i : ℕ) (s t : Held_known) → i < length ss → i < length ts → Not_compared at (known_of (get_or ss i s)) (known_of (get_or ts i t)) → Not_all_compared at (knowns (map known_of ss)) (knowns (map known_of ts))
-  part_uncompared [] ts i s t lt lt' lacks = absurd (let z : i < 0 = lt in omega (arith, z))
-  part_uncompared (x ∷ ss) [] i s t lt lt' lacks = absurd (let z : i < 0 = lt' in omega (arith, z))
-  part_uncompared (x ∷ ss) (y ∷ ts) zero s t lt lt' lacks = first_uncompared (known_of x) (known_of y) (knowns (map known_of ss)) (knowns (map known_of ts)) lacks
-  part_uncompared (x ∷ ss) (y ∷ ts) (suc i) s t lt lt' lacks = rest_uncompared (known_of x) (known_of y) (knowns (map known_of ss)) (knowns (map known_of ts)) (part_uncompared ss ts i s t (omega (arith, lt)) (omega (arith, lt')) lacks)
-
-  -- ---- fields: what is compared has the same names, and what the fields hold is compared
-
-  abbrev Names_known : List (Text × Known) → List (Text × Known) → Type 0
-  Names_known fs gs = (n n' : ℕ) (bs : Bindings) (u : Atom) → Fields_equal at (fields_known fs) (fields_known gs) n bs u n' → Same_names fs gs
-
-  one_name : (f g : Text × Known) (fs gs : List (Text × Known)) (ks ls : Known_fields) → ((n n' : ℕ) (bs : Bindings) (u : Atom) → Fields_equal at ks ls n bs u n' → Same_names fs gs) → (s t : Known) (n n' : ℕ) (bs : Bindings) (u : Atom) → Fields_equal at (known_field_and f.0 s ks) (known_field_and g.0 t ls) n bs u n' → Same_names (f ∷ fs) (g ∷ gs)
-  one_name f g fs gs ks ls rest s t n _ _ _ (e_field {n1 = n1} {n2 = n2} {cs = cs} {w = w} q x xs le) = same_name q (rest n1 n2 cs w xs)
-
-  names_compared : (fs gs : List (Text × Known)) → Names_known fs gs
-  unfolding fields_known
-  names_compared [] [] n n' bs u x = no_names
-  names_compared [] (g ∷ gs) n n' bs u x = elim x [ ]
-  names_compared (f ∷ fs) [] n n' bs u x = elim x [ ]
-  names_compared (f ∷ fs) (g ∷ gs) n n' bs u x = one_name f g fs gs (fields_known fs) (fields_known gs) (names_compared fs gs) f.1 g.1 n n' bs u x
-
-  pub names_uncompared : (fs gs : List (Text × Known)) → (Same_names fs gs → ⊥) → Not_fields_compared at (fields_known fs) (fields_known gs)
-  names_uncompared fs gs lacks n n' bs u x = lacks (names_compared fs gs n n' bs u x)
-
-  one_value : (f g : Text) (ks ls : Known_fields) (ss ts : Knowns) → ((n n' : ℕ) (bs : Bindings) (u : Atom) → Fields_equal at ks ls n bs u n' → All_equal at ss ts n bs u n') → (s t : Known) (n n' : ℕ) (bs : Bindings) (u : Atom) → Fields_equal at (known_field_and f s ks) (known_field_and g t ls) n bs u n' → All_equal at (known_and s ss) (known_and t ts) n bs u n'
-  one_value f g ks ls ss ts rest s t n _ _ _ (e_field {n1 = n1} {n2 = n2} {cs = cs} {w = w} q x xs le) = e_more x (rest n1 n2 cs w xs) le
-
-  values_compared : (fs gs : List (Text × Known)) (n n' : ℕ) (bs : Bindings) (u : Atom) → Fields_equal at (fields_known fs) (fields_known gs) n bs u n' → All_equal at (knowns (held_values fs)) (knowns (held_values gs)) n bs u n'
-  unfolding fields_known
-  values_compared [] [] _ _ _ _ e_no_field = e_none
-  values_compared [] (g ∷ gs) n n' bs u x = elim x [ ]
-  values_compared (f ∷ fs) [] n n' bs u x = elim x [ ]
-  values_compared (f ∷ fs) (g ∷ gs) n n' bs u x = one_value f.0 g.0 (fields_known fs) (fields_known gs) (knowns (held_values fs)) (knowns (held_values gs)) (values_compared fs gs) f.1 g.1 n n' bs u x
-
-  pub values_uncompared : (fs gs : List (Text × Known)) → Not_all_compared at (knowns (held_values fs)) (knowns (held_values gs)) → Not_fields_compared at (fields_known fs) (fields_known gs)
-  values_uncompared fs gs lacks n n' bs u x = lacks n n' bs u (values_compared fs gs n n' bs u x)
+  pub part_uncompared : {X : Type 0} (f : X → Known) (ss ts : List X) (i : ℕ) (s t : X) → i < length ss → i < length ts → Not_compared at (f (get_or ss i s)) (f (get_or ts i t)) → Not_all_compared at (knowns (map f ss)) (knowns (map f ts))
+  part_uncompared f [] ts i s t lt lt' lacks = absurd (let z : i < 0 = lt in omega (arith, z))
+  part_uncompared f (x ∷ ss) [] i s t lt lt' lacks = absurd (let z : i < 0 = lt' in omega (arith, z))
+  part_uncompared f (x ∷ ss) (y ∷ ts) zero s t lt lt' lacks = first_uncompared (f x) (f y) (knowns (map f ss)) (knowns (map f ts)) lacks
+  part_uncompared f (x ∷ ss) (y ∷ ts) (suc i) s t lt lt' lacks = rest_uncompared (f x) (f y) (knowns (map f ss)) (knowns (map f ts)) (part_uncompared f ss ts i s t (omega (arith, lt)) (omega (arith, lt')) lacks)
 
 -- ---- operations
 module _ (t : IntType) (at : Place) where
-  pub integer_lacks : (m : ℕ) (suffix : Option IntType) (ss : List Known) → 0 < length ss → No_operation t (Integer m suffix) at ss
-  integer_lacks m suffix _ lt n _ _ _ (o_integer e) = let z : 0 < 0 = lt in omega (arith, z)
+  pub integer_lacks : (m : ℕ) (suffix : Option IntType) (ss : List Known) → (ss ≡ [] → ⊥) → No_operation t (Integer m suffix) at ss
+  integer_lacks m suffix _ lacks n _ _ _ (o_integer e) = lacks refl
 
-  pub truth_lacks : (b : Bool) (ss : List Known) → 0 < length ss → No_operation t (Truth b) at ss
-  truth_lacks b _ lt n _ _ _ o_truth = let z : 0 < 0 = lt in omega (arith, z)
+  pub truth_lacks : (b : Bool) (ss : List Known) → (ss ≡ [] → ⊥) → No_operation t (Truth b) at ss
+  truth_lacks b _ lacks n _ _ _ o_truth = lacks refl
 
   pub record_lacks : (names : List Text) (ss : List Known) → named_values names ss ≡ None → No_operation t (Record_of names) at ss
   record_lacks names ss e n _ _ _ (o_record {known = known} f) = let z : None ≡ Some known = sym e ∙ f in cc
@@ -161,25 +126,19 @@ module _ (t : IntType) (at : Place) where
   pub range_lacks : (stepped : Bool) (end : End) (ss : List Known) → No_operation t (Range stepped end) at ss
   range_lacks stepped end ss n n' bs s x = elim x [ ]
 
-  -- parts of another number
-  pub two_lack : (o : BinOp) (ss : List Known) → length ss ≢ 2 → No_operation t (Binary o) at ss
-  two_lack o _ ne n _ _ _ (o_binary le) = ne refl
-  two_lack _ _ ne n _ _ _ (o_equal e) = ne refl
-  two_lack _ _ ne n _ _ _ (o_unequal e le) = ne refl
-
   -- other operations than comparisons
   pub binary_lacks : (o : BinOp) (ss : List Known) → o ≢ binary.Eq → o ≢ binary.Ne → Not_two_scalars ss → No_operation t (Binary o) at ss
   binary_lacks o _ ne ne' lacks n _ _ _ (o_binary {u = u} {w = w} le) = lacks u w refl
   binary_lacks _ _ ne ne' lacks n _ _ _ (o_equal e) = ne refl
   binary_lacks _ _ ne ne' lacks n _ _ _ (o_unequal e le) = ne' refl
 
-  pub equal_lacks : (s r : Known) → Not_compared at s r → No_operation t (Binary binary.Eq) at (s ∷ r ∷ [])
-  equal_lacks _ _ lacks n _ _ _ (o_binary {u = u} {w = w} le) = lacks n _ _ _ (e_scalars le)
-  equal_lacks s r lacks n n' bs _ (o_equal {u = u} e) = lacks n n' bs u e
+  pub equal_lacks : (ss : List Known) → Not_both_compared at ss → No_operation t (Binary binary.Eq) at ss
+  equal_lacks _ lacks n _ _ _ (o_binary {u = u} {w = w} le) = lacks (Scalar_known u) (Scalar_known w) refl n _ _ _ (e_scalars le)
+  equal_lacks _ lacks n n' bs _ (o_equal {s = s} {s' = r} {u = u} e) = lacks s r refl n n' bs u e
 
-  pub unequal_lacks : (s r : Known) → Not_compared at s r → No_operation t (Binary binary.Ne) at (s ∷ r ∷ [])
-  unequal_lacks _ _ lacks n _ _ _ (o_binary {u = u} {w = w} le) = lacks n _ _ _ (e_scalars le)
-  unequal_lacks s r lacks n _ _ _ (o_unequal {n' = n'} {bs = bs} {u = u} e le) = lacks n n' bs u e
+  pub unequal_lacks : (ss : List Known) → Not_both_compared at ss → No_operation t (Binary binary.Ne) at ss
+  unequal_lacks _ lacks n _ _ _ (o_binary {u = u} {w = w} le) = lacks (Scalar_known u) (Scalar_known w) refl n _ _ _ (e_scalars le)
+  unequal_lacks _ lacks n _ _ _ (o_unequal {n' = n'} {s = s} {s' = r} {bs = bs} {u = u} e le) = lacks s r refl n n' bs u e
 
 -- ---- primitives
 module _ (at : Place) where

@@ -7,6 +7,7 @@ use Rattle.std.proofs.Math.IntN.{pos-+ℤ-pos}
 use Rattle.std.proofs.lemmas.Int.{int_rem_euclid_is}
 use Rattle.std.proofs.lemmas.List.{map-append, length-map}
 use Rattle.std.proofs.lemmas.Nat.{pow_pos}
+use mathlib.Core.List.{head-eq_of_cons-eq, tail-eq_of_cons-eq}
 use Rattle.fut_scalar.specs.Integers.{width_of}
 use Rattle.fut_scalar.specs.declared.operator.BinOp.{BinOp}
 use Rattle.fut_scalar.specs.declared.operator.BinOp.TheVariants as binary
@@ -15,6 +16,7 @@ use Rattle.fut_scalar.specs.declared.operator.UnOp.TheVariants as unary
 use Rattle.fut_scalar.specs.declared.place.BindId.{BindId}
 use Rattle.fut_scalar.specs.declared.place.Place.{Place}
 use Rattle.fut_scalar.specs.declared.scalar.IntType.{IntType}
+use Rattle.fut_scalar.specs.declared.scalar.Scalar.{Scalar}
 use Rattle.fut_scalar.specs.declared.scalar.Scalar.TheVariants as scalar
 use Rattle.fut_scalar.specs.declared.scalar.ScalarType.{ScalarType}
 use Rattle.fut_ast.specs.Sorts.{Text}
@@ -42,35 +44,30 @@ use Rattle.unfold.proofs.Mirror.{known_scalar, known_tuple, known_record, known_
 use Rattle.unfold.specs.Held.{known_of, field_of, fields_known}
 use Rattle.unfold.specs.Knowns.{Known, Scalar_known, Record_known, Primitive_known, Knowns, listed, knowns, replaced, part}
 use Rattle.unfold.specs.Stuck.{No_operation, No_primitive, Stuck_run, no_primitive}
-use Rattle.unfold.specs.Unfolding.{Bindings, step, named, literal_type, Equals, Operates, o_integer, o_truth, o_tuple, o_record, o_binary, o_equal, o_unequal, o_negate, o_complement, o_project, o_replace, o_ascribe, o_coerce, o_declared, o_assert, Primitive_operates, p_convert, p_min, p_max, p_abs, p_popc, Applies, a_primitive_waits, a_primitive}
+use Rattle.unfold.specs.Unfolding.{Bindings, step, named, constant, literal_type, Equals, Operates, o_integer, o_truth, o_tuple, o_record, o_binary, o_equal, o_unequal, o_negate, o_complement, o_project, o_replace, o_ascribe, o_coerce, o_declared, o_assert, Primitive_operates, p_convert, p_min, p_max, p_abs, p_popc, Applies, a_primitive_waits, a_primitive}
 use Rattle.unfold.specs.declared.known.Field.{Field}
 use Rattle.unfold.specs.declared.known.Known.{Known as Held_known}
 use Rattle.unfold.specs.declared.known.KnownForm.TheVariants as form
-use Rattle.unfold_parts.specs.Answers.{Answered, answered, unanswered, Pushed, pushed, not_pushed, Computed, computed, not_computed, Is_step, is_step, On_one, on_one, On_two, on_two, At_once, at_once, not_at_once, Operated, Operated_primitive, Applied_primitive, Equal_to}
-use Rattle.unfold_parts.specs.Parts.{Not_one, Not_one_scalar, Not_two_scalars, Is_one, one, not_one, Is_scalar, a_scalar, no_scalar, Is_one_scalar, one_scalar, not_one_scalar, Is_two_scalars, two_scalars, not_two_scalars, One_to, one_to, not_one_to, is_record, Recorded_to, recorded_to, not_recorded}
-use Rattle.unfold_parts.specs.Refused.{lost, no_memory}
+use Rattle.unfold_parts.specs.Answers.{Answered, answered, unanswered, Pushed, pushed, not_pushed, Computed, computed, not_computed, Is_step, is_step, On_one, on_one, On_two, on_two, At_once, at_once, not_at_once, Operated, Operated_primitive, Applied_primitive, Equal_to, both_equal, Both_equal_to}
+use Rattle.unfold_parts.specs.Parts.{Not_one, Not_one_scalar, Not_two_scalars, Is_scalar, a_scalar, no_scalar, Is_one_scalar, one_scalar, not_one_scalar, Is_two_scalars, two_scalars, not_two_scalars, Constant_to, constant_to, not_constant, One_to, one_to, not_one_to, is_record, Recorded_to, recorded_to, not_recorded}
+use Rattle.unfold_parts.specs.Refused.{lost, no_memory, Not_compared}
 use Rattle.unfold_parts.specs.declared.parts.Scalars.{Scalars}
-use Rattle.unfold_parts.proofs.Parting.{two_are}
+use Rattle.unfold_parts.proofs.Parting.{not_one, one_is, two_are}
 use Rattle.unfold_parts.specs.declared.refusal.Refusal.{Refusal}
 use Rattle.unfold_parts.specs.declared.refusal.Refusal.TheVariants.{Lost, Memory}
 use Rattle.unfold_parts.proofs.Lacking.{No_record}
-use Rattle.unfold_parts.proofs.Operands.{integer_lacks, truth_lacks, record_lacks, project_lacks, project_one, replace_two, replace_lacks, negate_lacks, complement_lacks, ascribe_lacks, coerce_lacks, declared_lacks, assert_two, assert_lacks, array_lacks, index_lacks, update_lacks, range_lacks, two_lack, binary_lacks, equal_lacks, unequal_lacks, convert_lacks, min_lacks, max_lacks, abs_lacks, popc_lacks, other_lacks}
-use Rattle.unfold_parts.proofs.Refusing.{refused_as, only_memory}
+use Rattle.unfold_parts.proofs.Operands.{integer_lacks, truth_lacks, record_lacks, project_lacks, project_one, replace_two, replace_lacks, negate_lacks, complement_lacks, ascribe_lacks, coerce_lacks, declared_lacks, assert_two, assert_lacks, array_lacks, index_lacks, update_lacks, range_lacks, binary_lacks, equal_lacks, unequal_lacks, convert_lacks, min_lacks, max_lacks, abs_lacks, popc_lacks, other_lacks}
+use Rattle.unfold_parts.proofs.Refusing.{refused_as, only_memory, answered_as}
 
 -- ---- answers
-
--- what gives one thing gives another, and what lacks the one lacks the other
-pub answered_as : {A : Type 0} {P Q : Bindings → A → ℕ → Type 0} {C D : Type 0} {before after : Bindings} {next : ℕ} {r : Result A Refusal} → ((bs : Bindings) (a : A) (n : ℕ) → P bs a n → Q bs a n) → (C → D) → Answered P C before after next r → Answered Q D before after next r
-answered_as f g (answered bs e h) = answered bs e (f bs _ _ h)
-answered_as f g (unanswered h) = unanswered (refused_as g h)
 
 no_steps : {A : Type 0} (Gives : Bindings → A → ℕ → Type 0) (Lacks : Type 0) (before : Bindings) (n : ℕ) (a : A) → Gives [] a n → Answered Gives Lacks before before n (Ok a)
 no_steps Gives Lacks before n a h = answered [] (sym (append-nil before)) h
 
 -- an answer without steps
-at_once_is : (t : IntType) (o : Operation Ref BindId) (at : Place) (ss : List Known) (n : ℕ) (before : Bindings) (r : Result Held_known Refusal) → At_once t o ss r → Operated t o at ss n before before n r
-at_once_is t o at ss n before (Ok s) (at_once h) = no_steps (λ bs (s : Held_known) next. Operates t o at ss n bs (known_of s) next) (No_operation t o at ss) before n s (h at n)
-at_once_is t o at ss n before (Err r) (not_at_once h) = unanswered (refused_as (λ lacks. lacks at) h)
+at_once_is : (t : IntType) (o : Operation Ref BindId) (at : Place) (ss : List Known) (n : ℕ) (before : Bindings) (r : Result Held_known Refusal) → At_once o ss r → Operated t o at ss n before before n r
+at_once_is t o at ss n before (Ok s) (at_once h) = no_steps (λ bs (s : Held_known) next. Operates t o at ss n bs (known_of s) next) (No_operation t o at ss) before n s (h t at n)
+at_once_is t o at ss n before (Err r) (not_at_once h) = unanswered (refused_as (λ lacks. lacks t at) h)
 
 -- ---- single steps
 
@@ -144,47 +141,55 @@ module _ (ss : List Known) (n next : ℕ) (before after : Bindings) (r : Result 
 
 -- ---- equality and assertions
 
-module _ (t : IntType) (at : Place) (ss : List Held_known) (c d : Held_known) (n next : ℕ) (before after : Bindings) (s : Held_known) where
-  pub equal_ok : (u : Atom) → length ss ≡ 2 → Equal_to at (known_of (get_or ss 0 c)) (known_of (get_or ss 1 d)) n before after next (Ok u) → s.form ≡ form.Scalar u → Operated t (Binary binary.Eq) at (map known_of ss) n before after next (Ok s)
-  equal_ok u i2 (answered bs q h) i = answered bs q (subst (λ z. Operates t (Binary binary.Eq) at z n bs (known_of s) next) (sym (two_are ss c d i2)) (subst (λ z. Operates t (Binary binary.Eq) at (known_of (get_or ss 0 c) ∷ known_of (get_or ss 1 d) ∷ []) n bs z next) (sym (known_scalar s u i)) (o_equal h)))
+module _ (at : Place) (ss : List Held_known) (n next : ℕ) (before after : Bindings) where
+  pub both_is : (c d : Held_known) (r : Result Atom Refusal) → length ss ≡ 2 → Equal_to at (known_of (get_or ss 0 c)) (known_of (get_or ss 1 d)) n before after next r → Both_equal_to at (map known_of ss) n before after next r
+  both_is c d r i2 h = answered_as (λ bs u m x. both_equal (two_are ss c d i2) x) (λ lacks s t e. as_two s t (sym (two_are ss c d i2) ∙ e) lacks) h
+    where
+      as_two : (s t : Known) → known_of (get_or ss 0 c) ∷ known_of (get_or ss 1 d) ∷ [] ≡ s ∷ t ∷ [] → Not_compared at (known_of (get_or ss 0 c)) (known_of (get_or ss 1 d)) → Not_compared at s t
+      as_two s t e lacks = subst (λ z. Not_compared at z t) (head-eq_of_cons-eq e) (subst (Not_compared at (known_of (get_or ss 0 c))) (head-eq_of_cons-eq (tail-eq_of_cons-eq e)) lacks)
 
-module _ (t : IntType) (at : Place) (ss : List Held_known) (c d : Held_known) (n next : ℕ) (before after : Bindings) where
-  pub equal_err : (x : Refusal) → length ss ≡ 2 → Equal_to at (known_of (get_or ss 0 c)) (known_of (get_or ss 1 d)) n before after next (Err x) → Operated t (Binary binary.Eq) at (map known_of ss) n before after next (Err x)
-  equal_err x i2 (unanswered h) = unanswered (refused_as (λ lacks. subst (No_operation t (Binary binary.Eq) at) (sym (two_are ss c d i2)) (equal_lacks t at (known_of (get_or ss 0 c)) (known_of (get_or ss 1 d)) lacks)) h)
+  pub both_many : (length ss ≡ 2 → ⊥) → Both_equal_to at (map known_of ss) n before after next (Err Lost)
+  both_many h = unanswered (lost (λ s t e. absurd (h (sym (length-map ss known_of) ∙ ap length e))))
 
-  pub unequal_err : (mid : ℕ) (between : Bindings) (x : Refusal) → length ss ≡ 2 → Equal_to at (known_of (get_or ss 0 c)) (known_of (get_or ss 1 d)) n before between mid (Err x) → Operated t (Binary binary.Ne) at (map known_of ss) n before after next (Err x)
-  unequal_err mid between x i2 (unanswered h) = unanswered (refused_as (λ lacks. subst (No_operation t (Binary binary.Ne) at) (sym (two_are ss c d i2)) (unequal_lacks t at (known_of (get_or ss 0 c)) (known_of (get_or ss 1 d)) lacks)) h)
+module _ (at : Place) (op : BinOp) (ss : List Known) (n next : ℕ) (before after : Bindings) where
+  -- what is said of one operation is said of what equals it
+  as_binary : (t : IntType) (o : BinOp) (r : Result Held_known Refusal) → op ≡ o → Operated t (Binary o) at ss n before after next r → Operated t (Binary op) at ss n before after next r
+  as_binary t o r e h = subst (λ z. Operated t (Binary z) at ss n before after next r) (sym e) h
 
--- another number of parts
-module _ (t : IntType) (at : Place) (ss : List Held_known) (n next : ℕ) (before after : Bindings) (h : length ss ≡ 2 → ⊥) where
-  not_two : length (map known_of ss) ≡ 2 → ⊥
-  not_two e = h (sym (length-map ss known_of) ∙ e)
+  pub equal_is : (t : IntType) (u : Atom) (s : Held_known) → op ≡ binary.Eq → Both_equal_to at ss n before after next (Ok u) → s.form ≡ form.Scalar u → Operated t (Binary op) at ss n before after next (Ok s)
+  equal_is t u s e h i = as_binary t binary.Eq (Ok s) e (ok h)
+    where
+      ok : Both_equal_to at ss n before after next (Ok u) → Operated t (Binary binary.Eq) at ss n before after next (Ok s)
+      ok (answered bs q (both_equal {s = c} {t = d} f x)) = answered bs q (subst (λ z. Operates t (Binary binary.Eq) at z n bs (known_of s) next) (sym f) (subst (λ z. Operates t (Binary binary.Eq) at (c ∷ d ∷ []) n bs z next) (sym (known_scalar s u i)) (o_equal x)))
 
-  pub equal_many : (op : BinOp) → Operated t (Binary op) at (map known_of ss) n before after next (Err Lost)
-  equal_many op = unanswered (lost (two_lack t at op (map known_of ss) not_two))
+  pub equal_err : (t : IntType) (mid : ℕ) (between : Bindings) (x : Refusal) → op ≡ binary.Eq → Both_equal_to at ss n before between mid (Err x) → Operated t (Binary op) at ss n before after next (Err x)
+  equal_err t mid between x e (unanswered h) = as_binary t binary.Eq (Err x) e (unanswered (refused_as (equal_lacks t at ss) h))
 
-  pub assert_many : Operated t Assert at (map known_of ss) n before after next (Err Lost)
-  assert_many = unanswered (lost (assert_two t at (map known_of ss) not_two))
+  pub unequal_err : (t : IntType) (mid : ℕ) (between : Bindings) (x : Refusal) → op ≡ binary.Ne → Both_equal_to at ss n before between mid (Err x) → Operated t (Binary op) at ss n before after next (Err x)
+  unequal_err t mid between x e (unanswered h) = as_binary t binary.Ne (Err x) e (unanswered (refused_as (unequal_lacks t at ss) h))
 
-pub unequal_is : (t : IntType) (at : Place) (ss : List Held_known) (c d : Held_known) (n mid next : ℕ) (before between after : Bindings) (u : Atom) (r : Result Held_known Refusal) → length ss ≡ 2 → Equal_to at (known_of (get_or ss 0 c)) (known_of (get_or ss 1 d)) n before between mid (Ok u) → Answered (λ bs (s : Held_known) m. Is_step (Operate (operation.Unary unary.Not u)) mid bs (known_of s) m) ⊥ between after next r → Operated t (Binary binary.Ne) at (map known_of ss) n before after next r
-unequal_is t at ss c d n mid next before between after u (Ok s) i2 (answered bs q h) (answered cs k x) = answered (bs ++ cs) (k ∙ ap (λ z. z ++ cs) q ∙ append_assoc before bs cs) (by_step bs cs (known_of s) next h x)
-  where
-    by_step : (bs cs : Bindings) (s : Known) (m : ℕ) → Equals at (known_of (get_or ss 0 c)) (known_of (get_or ss 1 d)) n bs u mid → Is_step (Operate (operation.Unary unary.Not u)) mid cs s m → Operates t (Binary binary.Ne) at (map known_of ss) n (bs ++ cs) s m
-    by_step bs _ _ _ h is_step = subst (λ z. Operates t (Binary binary.Ne) at z n (bs ++ step (mid ∷ []) (Operate (operation.Unary unary.Not u))) (named mid) (suc mid)) (sym (two_are ss c d i2)) (o_unequal h (le_refl mid))
-unequal_is t at ss c d n mid next before between after u (Err e) i2 h (unanswered x) = unanswered (refused_as (λ never. absurd never) x)
+  pub unequal_is : (t : IntType) (mid : ℕ) (between : Bindings) (u : Atom) (r : Result Held_known Refusal) → op ≡ binary.Ne → Both_equal_to at ss n before between mid (Ok u) → Answered (λ bs (s : Held_known) m. Is_step (Operate (operation.Unary unary.Not u)) mid bs (known_of s) m) ⊥ between after next r → Operated t (Binary op) at ss n before after next r
+  unequal_is t mid between u r e h k = as_binary t binary.Ne r e (both r h k)
+    where
+      by_step : (c d : Known) (bs cs : Bindings) (s : Known) (m : ℕ) → ss ≡ c ∷ d ∷ [] → Equals at c d n bs u mid → Is_step (Operate (operation.Unary unary.Not u)) mid cs s m → Operates t (Binary binary.Ne) at ss n (bs ++ cs) s m
+      by_step c d bs _ _ _ f x is_step = subst (λ z. Operates t (Binary binary.Ne) at z n (bs ++ step (mid ∷ []) (Operate (operation.Unary unary.Not u))) (named mid) (suc mid)) (sym f) (o_unequal x (le_refl mid))
+
+      both : (r : Result Held_known Refusal) → Both_equal_to at ss n before between mid (Ok u) → Answered (λ bs (s : Held_known) m. Is_step (Operate (operation.Unary unary.Not u)) mid bs (known_of s) m) ⊥ between after next r → Operated t (Binary binary.Ne) at ss n before after next r
+      both (Ok s) (answered bs q (both_equal {s = c} {t = d} f x)) (answered cs k y) = answered (bs ++ cs) (k ∙ ap (λ z. z ++ cs) q ∙ append_assoc before bs cs) (by_step c d bs cs (known_of s) next f x y)
+      both (Err e) h (unanswered y) = unanswered (refused_as (λ never. absurd never) y)
 
 pub assert_ok : (t : IntType) (at : Place) (ss : List Held_known) (c d : Held_known) (n : ℕ) (before after : Bindings) (u : Atom) (none : Bor (List ℕ)) (x : Unit {0}) → length ss ≡ 2 → Is_scalar (known_of (get_or ss 0 c)) (Some u) → none.now ≡ [] → Pushed (binding_of (roll-Step record { names = none; act = act.Operate (operation.Assert at u) })) before after (Ok x) → Operated t Assert at (map known_of ss) n before after n (Ok (get_or ss 1 d))
 assert_ok t at ss c d n before after u none x i2 (a_scalar q) k (pushed h) = answered (step [] (Operate (operation.Assert at u))) (h ∙ ap (λ z. before ++ z ∷ []) (binding_of-made (record { names = none; act = act.Operate (operation.Assert at u) }) ∙ ap (λ z. (z, action_of (act.Operate (operation.Assert at u)))) k ∙ ap (λ z. ([], z)) (action_of-Operate (operation.Assert at u)))) (subst (λ z. Operates t Assert at z n (step [] (Operate (operation.Assert at u))) (known_of (get_or ss 1 d)) n) (sym (two_are ss c d i2 ∙ ap (λ z. z ∷ known_of (get_or ss 1 d) ∷ []) q)) o_assert)
 
 module _ (t : IntType) (at : Place) (ss : List Held_known) (n next : ℕ) (before after : Bindings) where
+  pub assert_many : (length ss ≡ 2 → ⊥) → Operated t Assert at (map known_of ss) n before after next (Err Lost)
+  assert_many h = unanswered (lost (assert_two t at (map known_of ss) (λ e. h (sym (length-map ss known_of) ∙ e))))
+
   pub assert_none : (c : Held_known) → length ss ≡ 2 → Is_scalar (known_of (get_or ss 0 c)) None → Operated t Assert at (map known_of ss) n before after next (Err Lost)
   assert_none c i2 (no_scalar lacks) = unanswered (lost (subst (No_operation t Assert at) (sym (two_are ss c c i2)) (assert_lacks t at (known_of (get_or ss 0 c)) (known_of (get_or ss 1 c)) lacks)))
 
   pub assert_err : {s : List ℕ × Action} {between later : Bindings} (x : Refusal) → Pushed s between later (Err x) → Operated t Assert at (map known_of ss) n before after next (Err x)
   assert_err _ not_pushed = unanswered no_memory
-
-pub binary_as : (t : IntType) (op o : BinOp) (at : Place) (ss : List Known) (n next : ℕ) (before after : Bindings) (r : Result Held_known Refusal) → op ≡ o → Operated t (Binary o) at ss n before after next r → Operated t (Binary op) at ss n before after next r
-binary_as t op o at ss n next before after r e h = subst (λ z. Operated t (Binary z) at ss n before after next r) (sym e) h
 
 -- ---- operations without steps
 
@@ -194,58 +199,45 @@ at_zero m k some = let e : m + 0 * k ≡ m = omega arith in ap unsigned_abs (int
 fitted_integer : (t : IntType) (m : ℕ) → fitted (scalar.Int t m) ≡ integer t (pos m)
 fitted_integer t m = ap (scalar.Int t) (sym (at_zero m (2 ^ width_of t) (pow_pos (width_of t))))
 
-no_parts : (ss : List Held_known) → (0 < length ss → ⊥) → map known_of ss ≡ []
-no_parts [] h = refl
-no_parts (s ∷ ss) h = absurd (h (omega arith))
+no_parts : (ss : List Held_known) → length ss ≡ 0 → map known_of ss ≡ []
+no_parts [] e = refl
+no_parts (s ∷ ss) e = absurd (omega (arith, e))
 
-module _ (t : IntType) (ss : List Held_known) (s : Held_known) where
-  pub literal_ok : (m : ℕ) (suffix : Option IntType) (u : IntType) → (0 < length ss → ⊥) → u ≡ literal_type t suffix → s.form ≡ form.Scalar (atom.Constant (scalar.Int u m)) → At_once t (Integer m suffix) (map known_of ss) (Ok s)
-  literal_ok m suffix u h e i = at_once (λ at n. subst (λ z. Operates t (Integer m suffix) at z n [] (known_of s) n) (sym (no_parts ss h)) (subst (λ z. Operates t (Integer m suffix) at [] n [] z n) (sym (known_scalar s _ i)) (o_integer (fitted_integer u m ∙ ap (λ z. integer z (pos m)) e))))
+module _ (c : Scalar) (ss : List Held_known) where
+  pub constant_is : (s : Held_known) → length ss ≡ 0 → s.form ≡ form.Scalar (atom.Constant c) → Constant_to c (map known_of ss) (Ok s)
+  constant_is s e i = constant_to (no_parts ss e) (known_scalar s (atom.Constant c) i)
 
-  pub truth_ok : (b : Bool) → (0 < length ss → ⊥) → s.form ≡ form.Scalar (atom.Constant (scalar.Bool b)) → At_once t (Truth b) (map known_of ss) (Ok s)
-  truth_ok b h i = at_once (λ at n. subst (λ z. Operates t (Truth b) at z n [] (known_of s) n) (sym (no_parts ss h)) (subst (λ z. Operates t (Truth b) at [] n [] z n) (sym (known_scalar s _ i)) o_truth))
+  pub constant_many : (length ss ≡ 0 → ⊥) → Constant_to c (map known_of ss) (Err Lost)
+  constant_many h = not_constant (λ e. h (sym (length-map ss known_of) ∙ ap length e))
 
--- a literal has no parts
-module _ (t : IntType) (ss : List Held_known) (lt : 0 < length ss) where
-  some_parts : 0 < length (map known_of ss)
-  some_parts = subst (λ z. 0 < z) (sym (length-map ss known_of)) lt
+module _ (f : Text) (ss : List Held_known) where
+  pub project_ok : (c s : Held_known) → length ss ≡ 1 → Some (known_of s) ≡ part f (known_of (get_or ss 0 c)) → At_once (Project f) (map known_of ss) (Ok s)
+  project_ok c s i h = at_once (λ t at n. subst (λ z. Operates t (Project f) at z n [] (known_of s) n) (sym (one_is ss c i)) (o_project (sym h)))
 
-  pub literal_many : (m : ℕ) (suffix : Option IntType) → At_once t (Integer m suffix) (map known_of ss) (Err Lost)
-  literal_many m suffix = not_at_once (lost (λ at. integer_lacks t at m suffix (map known_of ss) some_parts))
+  pub project_none : (c : Held_known) → length ss ≡ 1 → None ≡ part f (known_of (get_or ss 0 c)) → At_once (Project f) (map known_of ss) (Err Lost)
+  project_none c i h = not_at_once (lost (λ t at. subst (No_operation t (Project f) at) (sym (one_is ss c i)) (project_lacks t at f (known_of (get_or ss 0 c)) (sym h))))
 
-  pub truth_many : (b : Bool) → At_once t (Truth b) (map known_of ss) (Err Lost)
-  truth_many b = not_at_once (lost (λ at. truth_lacks t at b (map known_of ss) some_parts))
+  pub project_many : (length ss ≡ 1 → ⊥) → At_once (Project f) (map known_of ss) (Err Lost)
+  project_many h = not_at_once (lost (λ t at. project_one t at f (map known_of ss) (not_one ss h)))
 
-module _ (t : IntType) (f : Text) (ss : List Known) where
-  pub project_ok : (whole s : Held_known) → Is_one ss (Some whole) → Some (known_of s) ≡ part f (known_of whole) → At_once t (Project f) ss (Ok s)
-  project_ok whole s (one e) h = at_once (λ at n. subst (λ z. Operates t (Project f) at z n [] (known_of s) n) (sym e) (o_project (sym h)))
+pub replace_ok : (f : Text) (ss : List Held_known) (c d : Held_known) (fs gs : Bor (List Field)) (s : Held_known) → length ss ≡ 2 → (get_or ss 0 c).form ≡ form.Record fs → s.form ≡ form.Record gs → fields_known (map field_of gs.now) ≡ replaced f (known_of (get_or ss 1 d)) (fields_known (map field_of fs.now)) → At_once (Replace f) (map known_of ss) (Ok s)
+replace_ok f ss c d fs gs s i2 i j q = at_once (λ t at n. subst (λ z. Operates t (Replace f) at z n [] (known_of s) n) (sym (two_are ss c d i2 ∙ ap (λ z. z ∷ known_of (get_or ss 1 d) ∷ []) (known_record (get_or ss 0 c) fs i))) (subst (λ z. Operates t (Replace f) at (Record_known (fields_known (map field_of fs.now)) ∷ known_of (get_or ss 1 d) ∷ []) n [] z n) (sym (known_record s gs j ∙ ap Record_known q)) o_replace))
 
-  pub project_none : (whole : Held_known) → Is_one ss (Some whole) → None ≡ part f (known_of whole) → At_once t (Project f) ss (Err Lost)
-  project_none whole (one e) h = not_at_once (lost (λ at. subst (No_operation t (Project f) at) (sym e) (project_lacks t at f (known_of whole) (sym h))))
+module _ (f : Text) (ss : List Held_known) where
+  pub replace_many : (length ss ≡ 2 → ⊥) → At_once (Replace f) (map known_of ss) (Err Lost)
+  replace_many h = not_at_once (lost (λ t at. replace_two t at f (map known_of ss) (λ e. h (sym (length-map ss known_of) ∙ e))))
 
-  pub project_many : Is_one ss None → At_once t (Project f) ss (Err Lost)
-  project_many (not_one lacks) = not_at_once (lost (λ at. project_one t at f ss lacks))
+  pub replace_other : (c : Held_known) → length ss ≡ 2 → No_record (known_of (get_or ss 0 c)) → At_once (Replace f) (map known_of ss) (Err Lost)
+  replace_other c i2 lacks = not_at_once (lost (λ t at. subst (No_operation t (Replace f) at) (sym (two_are ss c c i2)) (replace_lacks t at f (known_of (get_or ss 0 c)) (known_of (get_or ss 1 c)) lacks)))
 
-pub replace_ok : (t : IntType) (f : Text) (ss : List Held_known) (c d : Held_known) (fs gs : Bor (List Field)) (s : Held_known) → length ss ≡ 2 → (get_or ss 0 c).form ≡ form.Record fs → s.form ≡ form.Record gs → fields_known (map field_of gs.now) ≡ replaced f (known_of (get_or ss 1 d)) (fields_known (map field_of fs.now)) → At_once t (Replace f) (map known_of ss) (Ok s)
-replace_ok t f ss c d fs gs s i2 i j q = at_once (λ at n. subst (λ z. Operates t (Replace f) at z n [] (known_of s) n) (sym (two_are ss c d i2 ∙ ap (λ z. z ∷ known_of (get_or ss 1 d) ∷ []) (known_record (get_or ss 0 c) fs i))) (subst (λ z. Operates t (Replace f) at (Record_known (fields_known (map field_of fs.now)) ∷ known_of (get_or ss 1 d) ∷ []) n [] z n) (sym (known_record s gs j ∙ ap Record_known q)) o_replace))
+pub at_once_err : (o : Operation Ref BindId) (ss : List Known) (x : Refusal) → x ≡ Memory → At_once o ss (Err x)
+at_once_err o ss x e = not_at_once (only_memory e)
 
-module _ (t : IntType) (f : Text) (ss : List Held_known) where
-  pub replace_many : (length ss ≡ 2 → ⊥) → At_once t (Replace f) (map known_of ss) (Err Lost)
-  replace_many h = not_at_once (lost (λ at. replace_two t at f (map known_of ss) (λ e. h (sym (length-map ss known_of) ∙ e))))
+pub same_one : (ss : List Held_known) (c : Held_known) → length ss ≡ 1 → One_to (map known_of ss) (Ok (get_or ss 0 c))
+same_one ss c i = one_to (one_is ss c i)
 
-  pub replace_other : (c : Held_known) → length ss ≡ 2 → No_record (known_of (get_or ss 0 c)) → At_once t (Replace f) (map known_of ss) (Err Lost)
-  replace_other c i2 lacks = not_at_once (lost (λ at. subst (No_operation t (Replace f) at) (sym (two_are ss c c i2)) (replace_lacks t at f (known_of (get_or ss 0 c)) (known_of (get_or ss 1 c)) lacks)))
-
-pub at_once_err : (t : IntType) (o : Operation Ref BindId) (ss : List Known) (x : Refusal) → x ≡ Memory → At_once t o ss (Err x)
-at_once_err t o ss x e = not_at_once (only_memory e)
-
-pub same_one : (ss : List Known) (s : Held_known) → Is_one ss (Some s) → One_to ss (Ok s)
-same_one ss s (one e) = one_to e
-
-pub same_none : (ss : List Known) → Is_one ss None → One_to ss (Err Lost)
-same_none ss (not_one lacks) = not_one_to lacks
-
-pub ruleset literals = (literal_ok, truth_ok)
+pub same_many : (ss : List Held_known) → (length ss ≡ 1 → ⊥) → One_to (map known_of ss) (Err Lost)
+same_many ss h = not_one_to (not_one ss h)
 
 -- ---- by act
 
@@ -267,44 +259,51 @@ module _ (t : IntType) (a : Act) (at : Place) (n : ℕ) (before : Bindings) wher
     act_assert e h = as_act Assert (ap operation_of e) h
 
   module _ (ss : List Known) (r : Result Held_known Refusal) where
-    now_as : (o : Operation Ref BindId) → operation_of a ≡ o → At_once t o ss r → Operated t (operation_of a) at ss n before before n r
+    now_as : (o : Operation Ref BindId) → operation_of a ≡ o → At_once o ss r → Operated t (operation_of a) at ss n before before n r
     now_as o e h = as_act ss n before r o e (at_once_is t o at ss n before r h)
 
-    pub act_integer : (m : ℕ) (suffix : Option IntType) → a ≡ flat.Int m suffix → At_once t (Integer m suffix) ss r → Operated t (operation_of a) at ss n before before n r
-    act_integer m suffix e h = now_as (Integer m suffix) (ap operation_of e) h
+    constant_as : (o : Operation Ref BindId) (c : Scalar) → operation_of a ≡ o → (ss ≡ [] → Operates t o at ss n [] (Scalar_known (atom.Constant c)) n) → ((ss ≡ [] → ⊥) → No_operation t o at ss) → Constant_to c ss r → Operated t (operation_of a) at ss n before before n r
+    constant_as o c e f g h = as_act ss n before r o e (is r h)
+      where
+        is : (r : Result Held_known Refusal) → Constant_to c ss r → Operated t o at ss n before before n r
+        is (Ok s) (constant_to q i) = no_steps (λ bs (s : Held_known) next. Operates t o at ss n bs (known_of s) next) (No_operation t o at ss) before n s (subst (λ z. Operates t o at ss n [] z n) (sym i) (f q))
+        is _ (not_constant lacks) = unanswered (lost (g lacks))
 
-    pub act_truth : (b : Bool) → a ≡ flat.Truth b → At_once t (Truth b) ss r → Operated t (operation_of a) at ss n before before n r
-    act_truth b e h = now_as (Truth b) (ap operation_of e) h
+    pub act_integer : (m : ℕ) (suffix : Option IntType) (u : IntType) → a ≡ flat.Int m suffix → u ≡ literal_type t suffix → Constant_to (scalar.Int u m) ss r → Operated t (operation_of a) at ss n before before n r
+    act_integer m suffix u e q h = constant_as (Integer m suffix) (scalar.Int u m) (ap operation_of e) (λ i. subst (λ z. Operates t (Integer m suffix) at z n [] (constant (scalar.Int u m)) n) (sym i) (o_integer (fitted_integer u m ∙ ap (λ z. integer z (pos m)) q))) (integer_lacks t at m suffix ss) h
 
-    pub act_project : (f : Bor Text) → a ≡ flat.Project f → At_once t (Project f.now) ss r → Operated t (operation_of a) at ss n before before n r
+    pub act_truth : (b : Bool) → a ≡ flat.Truth b → Constant_to (scalar.Bool b) ss r → Operated t (operation_of a) at ss n before before n r
+    act_truth b e h = constant_as (Truth b) (scalar.Bool b) (ap operation_of e) (λ i. subst (λ z. Operates t (Truth b) at z n [] (constant (scalar.Bool b)) n) (sym i) o_truth) (truth_lacks t at b ss) h
+
+    pub act_project : (f : Bor Text) → a ≡ flat.Project f → At_once (Project f.now) ss r → Operated t (operation_of a) at ss n before before n r
     act_project f e h = now_as (Project f.now) (ap operation_of e) h
 
-    pub act_replace : (f : Bor Text) → a ≡ flat.Replace f → At_once t (Replace f.now) ss r → Operated t (operation_of a) at ss n before before n r
+    pub act_replace : (f : Bor Text) → a ≡ flat.Replace f → At_once (Replace f.now) ss r → Operated t (operation_of a) at ss n before before n r
     act_replace f e h = now_as (Replace f.now) (ap operation_of e) h
 
     pub act_record : (fs : Bor (List (Bor Text))) → a ≡ flat.Record fs → Recorded_to (texts fs.now) ss r → Operated t (operation_of a) at ss n before before n r
     act_record fs e h = now_as (Record_of (texts fs.now)) (ap operation_of e) (made r h)
       where
-        made : (r : Result Held_known Refusal) → Recorded_to (texts fs.now) ss r → At_once t (Record_of (texts fs.now)) ss r
-        made (Ok s) (recorded_to (is_record q i)) = at_once (λ at n. subst (λ z. Operates t (Record_of (texts fs.now)) at ss n [] z n) (sym i) (o_record q))
-        made (Err r) (not_recorded h) = not_at_once (refused_as (λ lacks at. record_lacks t at (texts fs.now) ss lacks) h)
+        made : (r : Result Held_known Refusal) → Recorded_to (texts fs.now) ss r → At_once (Record_of (texts fs.now)) ss r
+        made (Ok s) (recorded_to (is_record q i)) = at_once (λ u at n. subst (λ z. Operates u (Record_of (texts fs.now)) at ss n [] z n) (sym i) (o_record q))
+        made (Err r) (not_recorded h) = not_at_once (refused_as (λ lacks u at. record_lacks u at (texts fs.now) ss lacks) h)
 
     -- what has one part is as that part
-    same_as : (o : Operation Ref BindId) → ((at : Place) (n : ℕ) (s : Known) → Operates t o at (s ∷ []) n [] s n) → ((at : Place) → Not_one ss → No_operation t o at ss) → (r : Result Held_known Refusal) → One_to ss r → At_once t o ss r
-    same_as o f g (Ok s) (one_to e) = at_once (λ at n. subst (λ z. Operates t o at z n [] (known_of s) n) (sym e) (f at n (known_of s)))
-    same_as o f g _ (not_one_to lacks) = not_at_once (lost (λ at. g at lacks))
+    same_as : (o : Operation Ref BindId) → ((u : IntType) (at : Place) (n : ℕ) (s : Known) → Operates u o at (s ∷ []) n [] s n) → ((u : IntType) (at : Place) → Not_one ss → No_operation u o at ss) → (r : Result Held_known Refusal) → One_to ss r → At_once o ss r
+    same_as o f g (Ok s) (one_to e) = at_once (λ u at n. subst (λ z. Operates u o at z n [] (known_of s) n) (sym e) (f u at n (known_of s)))
+    same_as o f g _ (not_one_to lacks) = not_at_once (lost (λ u at. g u at lacks))
 
     pub act_ascribe : (u : Bor TypeExp) → a ≡ flat.Ascribe u → One_to ss r → Operated t (operation_of a) at ss n before before n r
-    act_ascribe u e h = now_as (Ascribe (type_of u.now)) (ap operation_of e) (same_as (Ascribe (type_of u.now)) (λ at n s. o_ascribe) (λ at. ascribe_lacks t at (type_of u.now) ss) r h)
+    act_ascribe u e h = now_as (Ascribe (type_of u.now)) (ap operation_of e) (same_as (Ascribe (type_of u.now)) (λ v at n s. o_ascribe) (λ v at. ascribe_lacks v at (type_of u.now) ss) r h)
 
     pub act_coerce : (u : Bor TypeExp) → a ≡ flat.Coerce u → One_to ss r → Operated t (operation_of a) at ss n before before n r
-    act_coerce u e h = now_as (Coerce (type_of u.now)) (ap operation_of e) (same_as (Coerce (type_of u.now)) (λ at n s. o_coerce) (λ at. coerce_lacks t at (type_of u.now) ss) r h)
+    act_coerce u e h = now_as (Coerce (type_of u.now)) (ap operation_of e) (same_as (Coerce (type_of u.now)) (λ v at n s. o_coerce) (λ v at. coerce_lacks v at (type_of u.now) ss) r h)
 
     pub act_declared : (u : Bor TypeExp) → a ≡ flat.Declared u → One_to ss r → Operated t (operation_of a) at ss n before before n r
-    act_declared u e h = now_as (Declared (type_of u.now)) (ap operation_of e) (same_as (Declared (type_of u.now)) (λ at n s. o_declared) (λ at. declared_lacks t at (type_of u.now) ss) r h)
+    act_declared u e h = now_as (Declared (type_of u.now)) (ap operation_of e) (same_as (Declared (type_of u.now)) (λ v at n s. o_declared) (λ v at. declared_lacks v at (type_of u.now) ss) r h)
 
   pub act_tuple : (ss : Bor (List Held_known)) (s : Held_known) → a ≡ flat.Tuple → s.form ≡ form.Tuple ss → Operated t (operation_of a) at (map known_of ss.now) n before before n (Ok s)
-  act_tuple ss s e i = now_as (map known_of ss.now) (Ok s) Tuple_of (ap operation_of e) (at_once (λ at n. subst (λ z. Operates t Tuple_of at (map known_of ss.now) n [] z n) (sym (known_tuple s ss i)) o_tuple))
+  act_tuple ss s e i = now_as (map known_of ss.now) (Ok s) Tuple_of (ap operation_of e) (at_once (λ u at n. subst (λ z. Operates u Tuple_of at (map known_of ss.now) n [] z n) (sym (known_tuple s ss i)) o_tuple))
 
   -- what arrays take is not unfolded
   module _ (ss : List Known) (next : ℕ) (after : Bindings) where

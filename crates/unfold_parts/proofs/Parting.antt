@@ -12,19 +12,19 @@ use Rattle.unfold.specs.Knowns.{Known, Scalar_known, knowns, field, part, part_f
 use Rattle.unfold.specs.declared.known.Field.{Field}
 use Rattle.unfold.specs.declared.known.Known.{Known as Held_known}
 use Rattle.unfold.specs.declared.known.KnownForm.TheVariants as form
-use Rattle.unfold_parts.specs.Parts.{Is_one, one, not_one, Is_scalar, a_scalar, no_scalar, Is_one_scalar, one_scalar, not_one_scalar, Is_two_scalars, two_scalars, not_two_scalars}
+use Rattle.unfold_parts.specs.Parts.{Not_one, Is_scalar, a_scalar, no_scalar, Is_one_scalar, one_scalar, not_one_scalar, Is_two_scalars, two_scalars, not_two_scalars}
 use Rattle.unfold_parts.specs.declared.parts.Scalars.{Scalars}
-use Rattle.unfold_parts.specs.Held.{maybe_known}
+use Rattle.unfold_parts.specs.Held.{maybe_held}
 use Rattle.unfold_parts.proofs.Forms.{by_form, form_no_scalar}
 use Rattle.unfold_parts.proofs.Lists.{one_more}
 
-pub one_ok : (ss : List Held_known) (d : Held_known) → length ss ≡ 1 → Is_one (map known_of ss) (Some (get_or ss 0 d))
-one_ok [] d e = absurd (omega (arith, e))
-one_ok (x ∷ []) d e = one refl
-one_ok (x ∷ y ∷ ss) d e = absurd (omega (arith, e))
+pub one_is : (ss : List Held_known) (d : Held_known) → length ss ≡ 1 → map known_of ss ≡ known_of (get_or ss 0 d) ∷ []
+one_is [] d e = absurd (omega (arith, e))
+one_is (x ∷ []) d e = refl
+one_is (x ∷ y ∷ ss) d e = absurd (omega (arith, e))
 
-pub one_none : (ss : List Held_known) → (length ss ≡ 1 → ⊥) → Is_one (map known_of ss) None
-one_none ss h = not_one (λ s e. h (sym (length-map ss known_of) ∙ ap length e))
+pub not_one : (ss : List Held_known) → (length ss ≡ 1 → ⊥) → Not_one (map known_of ss)
+not_one ss h s e = h (sym (length-map ss known_of) ∙ ap length e)
 
 pub two_are : (ss : List Held_known) (d e : Held_known) → length ss ≡ 2 → map known_of ss ≡ known_of (get_or ss 0 d) ∷ known_of (get_or ss 1 e) ∷ []
 two_are [] d e q = absurd (omega (arith, q))
@@ -38,12 +38,12 @@ scalar_ok s u e = a_scalar (known_scalar s u e)
 pub scalar_none : (s : Held_known) → ((u : Atom) → s.form ≡ form.Scalar u → ⊥) → Is_scalar (known_of s) None
 scalar_none s h = no_scalar (form_no_scalar s h)
 
-pub one_scalar_ok : (ss : List Known) (s : Held_known) (o : Option Atom) → Is_one ss (Some s) → Is_scalar (known_of s) o → Is_one_scalar ss o
-one_scalar_ok ss s (Some u) (one e) (a_scalar q) = one_scalar (e ∙ ap (λ z. z ∷ []) q)
-one_scalar_ok ss s None (one e) (no_scalar lacks) = not_one_scalar (λ u q. lacks u (head-eq_of_cons-eq (sym e ∙ q)))
+pub one_scalar_is : (ss : List Held_known) (d : Held_known) (o : Option Atom) → length ss ≡ 1 → Is_scalar (known_of (get_or ss 0 d)) o → Is_one_scalar (map known_of ss) o
+one_scalar_is ss d (Some u) i (a_scalar q) = one_scalar (one_is ss d i ∙ ap (λ z. z ∷ []) q)
+one_scalar_is ss d None i (no_scalar lacks) = not_one_scalar (λ u q. lacks u (head-eq_of_cons-eq (sym (one_is ss d i) ∙ q)))
 
-pub one_scalar_none : (ss : List Known) → Is_one ss None → Is_one_scalar ss None
-one_scalar_none ss (not_one lacks) = not_one_scalar (λ u q. lacks (Scalar_known u) q)
+pub one_scalar_many : (ss : List Held_known) → (length ss ≡ 1 → ⊥) → Is_one_scalar (map known_of ss) None
+one_scalar_many ss h = not_one_scalar (λ u e. h (sym (length-map ss known_of) ∙ ap length e))
 
 pub two_scalars_ok : (ss : List Held_known) (d e : Held_known) (q : Scalars) → length ss ≡ 2 → Is_scalar (known_of (get_or ss 0 d)) (Some q.first) → Is_scalar (known_of (get_or ss 1 e)) (Some q.second) → Is_two_scalars (map known_of ss) (Some q)
 two_scalars_ok ss d e q i (a_scalar f) (a_scalar g) = two_scalars (two_are ss d e i ∙ ap (λ z. z ∷ known_of (get_or ss 1 e) ∷ []) f ∙ ap (λ z. Scalar_known q.first ∷ z ∷ []) g)
@@ -59,14 +59,12 @@ module _ (ss : List Held_known) where
   pub two_scalars_second : (d : Held_known) → length ss ≡ 2 → Is_scalar (known_of (get_or ss 1 d)) None → Is_two_scalars (map known_of ss) None
   two_scalars_second d i (no_scalar lacks) = not_two_scalars (λ u w q. lacks w (head-eq_of_cons-eq (tail-eq_of_cons-eq (sym (two_are ss d d i) ∙ q))))
 
-pub ruleset parting = (one_ok, scalar_ok, one_scalar_ok, one_scalar_none, two_scalars_ok)
-
 -- ---- the parts of a tuple
 
-pub part_tuple : (name : Text) (s : Held_known) (ss : Bor (List Held_known)) (o : Option Held_known) → s.form ≡ form.Tuple ss → maybe_known o ≡ part_from 0 name (knowns (map known_of ss.now)) → maybe_known o ≡ part name (known_of s)
+pub part_tuple : (name : Text) (s : Held_known) (ss : Bor (List Held_known)) (o : Option (Bor Held_known)) → s.form ≡ form.Tuple ss → maybe_held o ≡ part_from 0 name (knowns (map known_of ss.now)) → maybe_held o ≡ part name (known_of s)
 part_tuple name s ss o i h = h ∙ sym (ap (part name) (known_tuple s ss i))
 
-pub part_record : (name : Text) (s : Held_known) (fs : Bor (List Field)) (o : Option Held_known) → s.form ≡ form.Record fs → maybe_known o ≡ field name (fields_known (map field_of fs.now)) → maybe_known o ≡ part name (known_of s)
+pub part_record : (name : Text) (s : Held_known) (fs : Bor (List Field)) (o : Option (Bor Held_known)) → s.form ≡ form.Record fs → maybe_held o ≡ field name (fields_known (map field_of fs.now)) → maybe_held o ≡ part name (known_of s)
 part_record name s fs o i h = h ∙ sym (ap (part name) (known_record s fs i))
 
 -- what is no tuple and no record has no parts

@@ -22,10 +22,10 @@ use Rattle.fut_blocks.specs.Plain.{Action, Operate, lets, body_of}
 use Rattle.unfold.specs.Held.{known_of, scope_of}
 use Rattle.unfold.specs.Knowns.{Known, Scalar_known, Primitive_known, Knowns, Known_fields, Scope, Tops, record_parts}
 use Rattle.unfold.specs.Stuck.{Not_bound, No_operation, No_primitive, Stuck, Stuck_run}
-use Rattle.unfold.specs.Unfolding.{Bindings, step, named, both_hold, Binds, All_bind, Equals, Operates, Primitive_operates, Unfolds, Applies}
+use Rattle.unfold.specs.Unfolding.{Bindings, step, named, both_hold, Binds, All_bind, Equals, All_equal, Fields_equal, Operates, Primitive_operates, Unfolds, Applies}
 use Rattle.unfold.specs.declared.known.Known.{Known as Held_known}
 use Rattle.unfold.specs.declared.known.Scope.{Scope as Held_scope}
-use Rattle.unfold_parts.specs.Refused.{Refused, Not_all_bound, Not_fields_bound, Not_compared}
+use Rattle.unfold_parts.specs.Refused.{Refused, Not_all_bound, Not_fields_bound, Not_compared, Not_both_compared, Not_all_compared, Not_fields_compared}
 use Rattle.unfold_parts.specs.declared.refusal.Refusal.{Refusal}
 use Rattle.unfold_parts.specs.declared.refusal.Refusal.TheVariants.{Memory}
 
@@ -88,10 +88,10 @@ pub data On_one (op : UnOp) (ss : List Known) (n : ℕ) (bs : Bindings) (s : Kno
 pub data On_two (op : BinOp) (at : Place) (ss : List Known) (n : ℕ) (bs : Bindings) (s : Known) (next : ℕ) : Type 0 where
   on_two : {u w : Atom} → ss ≡ Scalar_known u ∷ Scalar_known w ∷ [] → Is_step (Operate (operation.Binary op at u w)) n bs s next → On_two op at ss n bs s next
 
--- an operation without steps
-pub data At_once (t : IntType) (o : Operation Ref BindId) (ss : List Known) : Result Held_known Refusal → Type 0 where
-  at_once : {s : Held_known} → ((at : Place) (n : ℕ) → Operates t o at ss n [] (known_of s) n) → At_once t o ss (Ok s)
-  not_at_once : {r : Refusal} → Refused ((at : Place) → No_operation t o at ss) r → At_once t o ss (Err r)
+-- an operation without steps, whatever the type of an integer without a suffix
+pub data At_once (o : Operation Ref BindId) (ss : List Known) : Result Held_known Refusal → Type 0 where
+  at_once : {s : Held_known} → ((t : IntType) (at : Place) (n : ℕ) → Operates t o at ss n [] (known_of s) n) → At_once o ss (Ok s)
+  not_at_once : {r : Refusal} → Refused ((t : IntType) (at : Place) → No_operation t o at ss) r → At_once o ss (Err r)
 
 abbrev pub Operated : IntType → Operation Ref BindId → Place → List Known → ℕ → Bindings → Bindings → ℕ → Result Held_known Refusal → Type 0
 Operated t o at ss n = Answered (λ bs s next. Operates t o at ss n bs (known_of s) next) (No_operation t o at ss)
@@ -108,6 +108,19 @@ Applied_primitive p at ss s n before after next r =
 
 abbrev pub Equal_to : Place → Known → Known → ℕ → Bindings → Bindings → ℕ → Result Atom Refusal → Type 0
 Equal_to at s t n = Answered (Equals at s t n) (Not_compared at s t)
+
+-- whether both of two parts are equal
+pub data Both_equal (at : Place) (ss : List Known) (n : ℕ) (bs : Bindings) (u : Atom) (next : ℕ) : Type 0 where
+  both_equal : {s t : Known} → ss ≡ s ∷ t ∷ [] → Equals at s t n bs u next → Both_equal at ss n bs u next
+
+abbrev pub Both_equal_to : Place → List Known → ℕ → Bindings → Bindings → ℕ → Result Atom Refusal → Type 0
+Both_equal_to at ss n = Answered (Both_equal at ss n) (Not_both_compared at ss)
+
+abbrev pub All_equal_to : Place → Knowns → Knowns → ℕ → Bindings → Bindings → ℕ → Result Atom Refusal → Type 0
+All_equal_to at ss ts n = Answered (All_equal at ss ts n) (Not_all_compared at ss ts)
+
+abbrev pub Fields_equal_to : Place → Known_fields → Known_fields → ℕ → Bindings → Bindings → ℕ → Result Atom Refusal → Type 0
+Fields_equal_to at fs gs n = Answered (Fields_equal at fs gs n) (Not_fields_compared at fs gs)
 
 -- the comparisons of parts, one after the other
 pub data All_compared (at : Place) : List Known → List Known → ℕ → Bindings → List Atom → ℕ → Type 0 where

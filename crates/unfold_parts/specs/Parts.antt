@@ -1,7 +1,9 @@
 -- Parts of values, by how many there are.
 use Rattle.std.specs.Prelude.{◌≡◌, List, [], ◌∷◌, Option, Some, None, Result, Ok, Err}
+use Rattle.fut_scalar.specs.declared.scalar.Scalar.{Scalar}
 use Rattle.fut_ast.specs.Sorts.{Text}
 use Rattle.fut_blocks.specs.declared.block.Atom.{Atom}
+use Rattle.fut_blocks.specs.declared.block.Atom.TheVariants as atom
 use Rattle.fut_meaning.specs.Operations.{named_values}
 use Rattle.unfold.specs.Held.{known_of}
 use Rattle.unfold.specs.Knowns.{Known, Scalar_known, Record_known, fields}
@@ -21,10 +23,6 @@ Not_one_scalar ss = (u : Atom) → ss ≡ Scalar_known u ∷ [] → ⊥
 abbrev pub Not_two_scalars : List Known → Type 0
 Not_two_scalars ss = (u w : Atom) → ss ≡ Scalar_known u ∷ Scalar_known w ∷ [] → ⊥
 
-pub data Is_one (ss : List Known) : Option Held_known → Type 0 where
-  one : {s : Held_known} → ss ≡ known_of s ∷ [] → Is_one ss (Some s)
-  not_one : Not_one ss → Is_one ss None
-
 pub data Is_scalar (s : Known) : Option Atom → Type 0 where
   a_scalar : {u : Atom} → s ≡ Scalar_known u → Is_scalar s (Some u)
   no_scalar : No_scalar s → Is_scalar s None
@@ -36,6 +34,11 @@ pub data Is_one_scalar (ss : List Known) : Option Atom → Type 0 where
 pub data Is_two_scalars (ss : List Known) : Option Scalars → Type 0 where
   two_scalars : {p : Scalars} → ss ≡ Scalar_known p.first ∷ Scalar_known p.second ∷ [] → Is_two_scalars ss (Some p)
   not_two_scalars : Not_two_scalars ss → Is_two_scalars ss None
+
+-- a constant, which has no parts
+pub data Constant_to (c : Scalar) (ss : List Known) : Result Held_known Refusal → Type 0 where
+  constant_to : {s : Held_known} → ss ≡ [] → known_of s ≡ Scalar_known (atom.Constant c) → Constant_to c ss (Ok s)
+  not_constant : (ss ≡ [] → ⊥) → Constant_to c ss (Err Lost)
 
 pub data One_to (ss : List Known) : Result Held_known Refusal → Type 0 where
   one_to : {s : Held_known} → ss ≡ known_of s ∷ [] → One_to ss (Ok s)

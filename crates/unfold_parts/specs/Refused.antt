@@ -1,5 +1,5 @@
 -- Why a call of unfolding refuses, and what lacks a way on.
-use Rattle.std.specs.Prelude.{◌≡◌, ℕ, List, Some}
+use Rattle.std.specs.Prelude.{◌≡◌, ◌∷◌, [], ℕ, List, Some}
 use Rattle.fut_scalar.specs.declared.place.BindId.{BindId}
 use Rattle.fut_scalar.specs.declared.place.Place.{Place}
 use Rattle.fut_ast.specs.Sorts.{Text}
@@ -27,6 +27,10 @@ Not_fields_bound names ps fs = (ss : List Known) → record_parts names fs ≡ S
 -- no steps say whether both are equal: they have other forms, or other parts
 abbrev pub Not_compared : Place → Known → Known → Type 0
 Not_compared at s t = (n n' : ℕ) (bs : Bindings) (u : Atom) → Equals at s t n bs u n' → ⊥
+
+-- and so for two parts, where there are two
+abbrev pub Not_both_compared : Place → List Known → Type 0
+Not_both_compared at ss = (s t : Known) → ss ≡ s ∷ t ∷ [] → Not_compared at s t
 
 abbrev pub Not_all_compared : Place → Knowns → Knowns → Type 0
 Not_all_compared at ss ts = (n n' : ℕ) (bs : Bindings) (u : Atom) → All_equal at ss ts n bs u n' → ⊥

@@ -1,17 +1,13 @@
 // Whether data is equal.
-ghost use Rattle.std.specs.Prelude.{◌≡◌, IfErr, IfOk, OnOk, map};
+ghost use Rattle.std.specs.Prelude.{map};
 ghost use Rattle.unfold.specs.Held.{field_of, fields_known, known_of};
-ghost use Rattle.unfold.specs.declared.known.Field.{Field as Held_field};
 ghost use Rattle.unfold.specs.Knowns.{knowns};
-ghost use Rattle.unfold_parts.specs.Answers.{All_compared, All_hold, Answered, Equal_to, Names_told, Same_names};
-ghost use Rattle.unfold_parts.specs.Refused.{Not_all_compared, Not_fields_compared};
-ghost use Rattle.unfold_parts.specs.declared.refusal.Refusal.TheVariants as refusal;
+ghost use Rattle.unfold_parts.specs.Answers.{All_equal_to, All_hold, Answered, Equal_to, Fields_equal_to, Names_told};
 ghost use Rattle.unfold_parts.specs.States.{steps_of};
 
 use crate::laying::MOST_DEEP;
 use crate::refusal::Refusal;
 use crate::steps::Unfolding;
-use bumpalo::Bump;
 use bumpalo::collections::into_bump_slice;
 use fut_blocks::{Atom, Operation};
 use fut_scalar::{BinOp, Place, Scalar};
@@ -25,10 +21,10 @@ pub fn equal<'a>(
     room: &mut u32,
     deep: u32,
     place: Place,
-    left: Known<'a>,
-    right: Known<'a>,
+    left: &Known<'a>,
+    right: &Known<'a>,
 ) -> Result<Atom, Refusal>
-    ensures { Equal_to place (known_of left.entry) (known_of right.entry) work.old.next (steps_of work.old) (steps_of work.new) work.new.next result }
+    ensures { Equal_to place (known_of left.now) (known_of right.now) work.old.next (steps_of work.old) (steps_of work.new) work.new.next result }
 {
     if deep >= MOST_DEEP {
         return Err(Refusal::Memory);
@@ -45,37 +41,28 @@ pub fn equal<'a>(
             _ => Err(Refusal::Lost),
         },
         KnownForm::Tuple(lefts) => match right.form {
-            KnownForm::Tuple(rights) => {
-                match compare_all(work, room, deep + 1, place, lefts, rights) {
-                    Ok(truths) => all_hold(work, truths),
-                    Err(refusal) => Err(refusal),
-                }
-            }
+            KnownForm::Tuple(rights) => equal_all(work, room, deep + 1, place, lefts, rights),
             _ => Err(Refusal::Lost),
         },
         KnownForm::Record(lefts) => match right.form {
-            KnownForm::Record(rights) => {
-                match compare_fields(work, room, deep + 1, place, lefts, rights) {
-                    Ok(truths) => all_hold(work, truths),
-                    Err(refusal) => Err(refusal),
-                }
-            }
+            KnownForm::Record(rights) => equal_fields(work, room, deep + 1, place, lefts, rights),
             _ => Err(Refusal::Lost),
         },
         _ => Err(Refusal::Lost),
     }
 }
 
+// Whether all parts are equal: all comparisons come first.
 #[cycle(equal)]
-fn compare_all<'a>(
+fn equal_all<'a>(
     work: &mut Unfolding<'a>,
     room: &mut u32,
     deep: u32,
     place: Place,
     lefts: &'a [Known<'a>],
     rights: &'a [Known<'a>],
-) -> Result<&'a [Atom], Refusal>
-    ensures { Answered (λ bs us next. All_compared place (map known_of lefts.now) (map known_of rights.now) work.old.next bs us.now next) (Not_all_compared place (knowns (map known_of lefts.now)) (knowns (map known_of rights.now))) (steps_of work.old) (steps_of work.new) work.new.next result }
+) -> Result<Atom, Refusal>
+    ensures { All_equal_to place (knowns (map known_of lefts.now)) (knowns (map known_of rights.now)) work.old.next (steps_of work.old) (steps_of work.new) work.new.next result }
 {
     if lefts.len() != rights.len() {
         return Err(Refusal::Lost);
@@ -83,7 +70,7 @@ fn compare_all<'a>(
     let mut truths = Vec::new(work.bump);
     let mut at = 0;
     for left in lefts {
-        let truth = match equal(work, room, deep, place, *left, rights[at]) {
+        let truth = match equal(work, room, deep, place, left, &rights[at]) {
             Ok(truth) => truth,
             Err(refusal) => return Err(refusal),
         };
@@ -93,48 +80,38 @@ fn compare_all<'a>(
         }
         at += 1;
     }
-    Ok(into_bump_slice(truths))
+    all_hold(work, into_bump_slice(truths))
 }
 
-// The fields of two records, which have the same names.
+// The same for fields, which have to have the same names.
 #[cycle(equal)]
-fn compare_fields<'a>(
+fn equal_fields<'a>(
     work: &mut Unfolding<'a>,
     room: &mut u32,
     deep: u32,
     place: Place,
     lefts: &'a [Field<'a>],
     rights: &'a [Field<'a>],
-) -> Result<&'a [Atom], Refusal>
-    ensures compared { Answered (λ bs us next. All_compared place (map (λ (f : Held_field). known_of f.known) lefts.now) (map (λ (f : Held_field). known_of f.known) rights.now) work.old.next bs us.now next) (Not_fields_compared place (fields_known (map field_of lefts.now)) (fields_known (map field_of rights.now))) (steps_of work.old) (steps_of work.new) work.new.next result }
-    ensures named { OnOk result (Same_names (map field_of lefts.now) (map field_of rights.now)) }
+) -> Result<Atom, Refusal>
+    ensures { Fields_equal_to place (fields_known (map field_of lefts.now)) (fields_known (map field_of rights.now)) work.old.next (steps_of work.old) (steps_of work.new) work.new.next result }
 {
     if !same_names(lefts, rights) {
         return Err(Refusal::Lost);
     }
-    let lefts = match values(work.bump, lefts) {
-        Ok(lefts) => lefts,
-        Err(refusal) => return Err(refusal),
-    };
-    match values(work.bump, rights) {
-        Ok(rights) => compare_all(work, room, deep, place, lefts, rights),
-        Err(refusal) => Err(refusal),
-    }
-}
-
-// What is known of the fields.
-fn values<'a>(bump: &'a Bump, fields: &'a [Field<'a>]) -> Result<&'a [Known<'a>], Refusal>
-    ensures ok { IfOk result (λ ss. map known_of ss.now ≡ map (λ (f : Held_field). known_of f.known) fields.now) }
-    ensures err { IfErr result (λ r. r ≡ refusal.Memory) }
-{
-    let mut values = Vec::new(bump);
-    for field in fields {
-        match values.push(field.known) {
+    let mut truths = Vec::new(work.bump);
+    let mut at = 0;
+    for left in lefts {
+        let truth = match equal(work, room, deep, place, &left.known, &rights[at].known) {
+            Ok(truth) => truth,
+            Err(refusal) => return Err(refusal),
+        };
+        match truths.push(truth) {
             Ok(()) => {}
             Err(_) => return Err(Refusal::Memory),
         }
+        at += 1;
     }
-    Ok(into_bump_slice(values))
+    all_hold(work, into_bump_slice(truths))
 }
 
 // Whether two records have fields of the same names.

@@ -23,22 +23,11 @@ pub struct Fresh<'a> {
     pub known: Known<'a>,
 }
 
-// What is known under new names, and the next name behind them.
+// The next name, and room for so many parts.
 #[derive(Clone, Copy)]
-struct Renamed<'a> {
-    known: Known<'a>,
-    next: u32,
-}
-
-#[derive(Clone, Copy)]
-struct RenamedParts<'a> {
-    parts: &'a [Known<'a>],
-    next: u32,
-}
-
-#[derive(Clone, Copy)]
-struct RenamedFields<'a> {
-    fields: &'a [Field<'a>],
+struct Naming<'a> {
+    bump: &'a Bump,
+    room: u32,
     next: u32,
 }
 
@@ -50,19 +39,19 @@ impl<'a> Unfolding<'a> {
     {
         let bump = self.bump;
         let first = self.next;
-        let mut room = MOST_PARTS;
-        let made = match rename(&mut room, bump, 0, like, first) {
-            Ok(made) => made,
-            Err(refusal) => return Err(refusal),
+        let mut naming = Naming {
+            bump,
+            room: MOST_PARTS,
+            next: first,
         };
-        match names_between(bump, first, made.next) {
-            Ok(names) => {
-                self.next = made.next;
-                Ok(Fresh {
-                    names,
-                    known: made.known,
-                })
-            }
+        match rename(&mut naming, 0, &like) {
+            Ok(known) => match names_between(bump, first, naming.next) {
+                Ok(names) => {
+                    self.next = naming.next;
+                    Ok(Fresh { names, known })
+                }
+                Err(refusal) => Err(refusal),
+            },
             Err(refusal) => Err(refusal),
         }
     }
@@ -84,126 +73,97 @@ fn names_between<'a>(bump: &'a Bump, first: u32, behind: u32) -> Result<&'a [u32
     Ok(into_bump_slice(names))
 }
 
-fn rename_scalar<'a>(name: u32) -> Result<Renamed<'a>, Refusal>
-    ensures ok { IfOk result (λ r. Has_names (Laid Scalar_shape (known_of r.known)) name r.next) }
+fn rename_scalar<'a>(naming: &mut Naming<'a>) -> Result<Known<'a>, Refusal>
+    ensures ok { IfOk result (λ s. Has_names (Laid Scalar_shape (known_of s)) naming.old.next naming.new.next) }
     ensures err { IfErr result (λ r. r ≡ refusal.Memory) }
 {
+    let name = naming.next;
     match name.checked_add(1) {
-        Some(next) => Ok(Renamed {
-            known: Known {
+        Some(next) => {
+            naming.next = next;
+            Ok(Known {
                 form: KnownForm::Scalar(Atom::Name(name)),
-            },
-            next,
-        }),
+            })
+        }
         None => Err(Refusal::Memory),
     }
 }
 
 #[cycle(rename)]
-fn rename<'a>(
-    room: &mut u32,
-    bump: &'a Bump,
-    deep: u32,
-    like: Known<'a>,
-    first: u32,
-) -> Result<Renamed<'a>, Refusal>
-    ensures ok { IfOk result (λ r. Has_names (Laid (shape_of (known_of like.entry)) (known_of r.known)) first r.next) }
-    ensures err { IfErr result (Refused (None_are (Laid (shape_of (known_of like.entry)) (known_of like.entry)))) }
+fn rename<'a>(naming: &mut Naming<'a>, deep: u32, like: &Known<'a>) -> Result<Known<'a>, Refusal>
+    ensures ok { IfOk result (λ s. Has_names (Laid (shape_of (known_of like.now)) (known_of s)) naming.old.next naming.new.next) }
+    ensures err { IfErr result (Refused (None_are (Laid (shape_of (known_of like.now)) (known_of like.now)))) }
 {
     if deep >= MOST_DEEP {
         return Err(Refusal::Memory);
     }
-    if *room == 0 {
+    if naming.room == 0 {
         return Err(Refusal::Memory);
     }
-    *room -= 1;
+    naming.room -= 1;
     match like.form {
-        KnownForm::Scalar(_) => rename_scalar(first),
-        KnownForm::Tuple(likes) => {
-            match rename_all(room, bump, deep + 1, likes, first) {
-                Ok(made) => Ok(Renamed {
-                    known: Known {
-                        form: KnownForm::Tuple(made.parts),
-                    },
-                    next: made.next,
-                }),
-                Err(refusal) => Err(refusal),
-            }
-        }
-        KnownForm::Record(likes) => {
-            match rename_fields(room, bump, deep + 1, likes, first) {
-                Ok(made) => Ok(Renamed {
-                    known: Known {
-                        form: KnownForm::Record(made.fields),
-                    },
-                    next: made.next,
-                }),
-                Err(refusal) => Err(refusal),
-            }
-        }
+        KnownForm::Scalar(_) => rename_scalar(naming),
+        KnownForm::Tuple(likes) => match rename_all(naming, deep + 1, likes) {
+            Ok(parts) => Ok(Known {
+                form: KnownForm::Tuple(parts),
+            }),
+            Err(refusal) => Err(refusal),
+        },
+        KnownForm::Record(likes) => match rename_fields(naming, deep + 1, likes) {
+            Ok(fields) => Ok(Known {
+                form: KnownForm::Record(fields),
+            }),
+            Err(refusal) => Err(refusal),
+        },
         _ => Err(Refusal::Lost),
     }
 }
 
 #[cycle(rename)]
 fn rename_all<'a>(
-    room: &mut u32,
-    bump: &'a Bump,
+    naming: &mut Naming<'a>,
     deep: u32,
     likes: &'a [Known<'a>],
-    first: u32,
-) -> Result<RenamedParts<'a>, Refusal>
-    ensures ok { IfOk result (λ r. Has_names (All_laid (shapes_of (knowns (map known_of likes.now))) (knowns (map known_of r.parts.now))) first r.next) }
+) -> Result<&'a [Known<'a>], Refusal>
+    ensures ok { IfOk result (λ parts. Has_names (All_laid (shapes_of (knowns (map known_of likes.now))) (knowns (map known_of parts.now))) naming.old.next naming.new.next) }
     ensures err { IfErr result (Refused (None_are (All_laid (shapes_of (knowns (map known_of likes.now))) (knowns (map known_of likes.now))))) }
 {
-    let mut parts = Vec::new(bump);
-    let mut next = first;
+    let mut parts = Vec::new(naming.bump);
     for like in likes {
-        let made = match rename(room, bump, deep, *like, next) {
-            Ok(made) => made,
+        let known = match rename(naming, deep, like) {
+            Ok(known) => known,
             Err(refusal) => return Err(refusal),
         };
-        match parts.push(made.known) {
+        match parts.push(known) {
             Ok(()) => {}
             Err(_) => return Err(Refusal::Memory),
         }
-        next = made.next;
     }
-    Ok(RenamedParts {
-        parts: into_bump_slice(parts),
-        next,
-    })
+    Ok(into_bump_slice(parts))
 }
 
 #[cycle(rename)]
 fn rename_fields<'a>(
-    room: &mut u32,
-    bump: &'a Bump,
+    naming: &mut Naming<'a>,
     deep: u32,
     likes: &'a [Field<'a>],
-    first: u32,
-) -> Result<RenamedFields<'a>, Refusal>
-    ensures ok { IfOk result (λ r. Has_names (Fields_laid (field_shapes_of (fields_known (map field_of likes.now))) (fields_known (map field_of r.fields.now))) first r.next) }
+) -> Result<&'a [Field<'a>], Refusal>
+    ensures ok { IfOk result (λ fields. Has_names (Fields_laid (field_shapes_of (fields_known (map field_of likes.now))) (fields_known (map field_of fields.now))) naming.old.next naming.new.next) }
     ensures err { IfErr result (Refused (None_are (Fields_laid (field_shapes_of (fields_known (map field_of likes.now))) (fields_known (map field_of likes.now))))) }
 {
-    let mut fields = Vec::new(bump);
-    let mut next = first;
+    let mut fields = Vec::new(naming.bump);
     for like in likes {
-        let made = match rename(room, bump, deep, like.known, next) {
-            Ok(made) => made,
+        let known = match rename(naming, deep, &like.known) {
+            Ok(known) => known,
             Err(refusal) => return Err(refusal),
         };
         match fields.push(Field {
             name: like.name,
-            known: made.known,
+            known,
         }) {
             Ok(()) => {}
             Err(_) => return Err(Refusal::Memory),
         }
-        next = made.next;
     }
-    Ok(RenamedFields {
-        fields: into_bump_slice(fields),
-        next,
-    })
+    Ok(into_bump_slice(fields))
 }

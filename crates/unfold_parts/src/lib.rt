@@ -25,6 +25,6 @@ pub use operations::{literal_type_at, operate};
 pub use patterns::bind;
 pub use primitives::{apply_primitive, arity};
 pub use refusal::Refusal;
-pub use scope::{bound, find};
+pub use scope::bound;
 pub use steps::Unfolding;
 pub use tops::{Tops, known_use};

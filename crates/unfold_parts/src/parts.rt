@@ -2,8 +2,8 @@
 ghost use Rattle.std.specs.Prelude.{◌≡◌, map};
 ghost use Rattle.unfold.specs.Held.{known_of};
 ghost use Rattle.unfold.specs.Knowns.{knowns, part, part_from};
-ghost use Rattle.unfold_parts.specs.Held.{maybe_known};
-ghost use Rattle.unfold_parts.specs.Parts.{Is_one, Is_one_scalar, Is_scalar, Is_two_scalars};
+ghost use Rattle.unfold_parts.specs.Held.{maybe_held};
+ghost use Rattle.unfold_parts.specs.Parts.{Is_one_scalar, Is_scalar, Is_two_scalars};
 
 use crate::records::field_known;
 use fut_blocks::Atom;
@@ -16,22 +16,9 @@ pub struct Scalars {
     pub second: Atom,
 }
 
-/// The only part.
-#[tactic(auto, using(crate::proofs::Parting::parting))]
-pub fn one<'a>(parts: &'a [Known<'a>]) -> Option<Known<'a>>
-    ensures { Is_one (map known_of parts.now) result }
-{
-    if parts.len() == 1 {
-        Some(parts[0])
-    } else {
-        None
-    }
-}
-
 /// The name or constant of a scalar.
-#[tactic(auto, using(crate::proofs::Parting::parting, unfold::proofs::Mirror::known_scalar))]
-pub fn scalar(known: Known<'_>) -> Option<Atom>
-    ensures { Is_scalar (known_of known.entry) result }
+pub fn scalar(known: &Known<'_>) -> Option<Atom>
+    ensures { Is_scalar (known_of known.now) result }
 {
     match known.form {
         KnownForm::Scalar(atom) => Some(atom),
@@ -40,26 +27,24 @@ pub fn scalar(known: Known<'_>) -> Option<Atom>
 }
 
 /// The only part, a scalar.
-#[tactic(auto, using(crate::proofs::Parting::parting))]
 pub fn one_scalar<'a>(parts: &'a [Known<'a>]) -> Option<Atom>
     ensures { Is_one_scalar (map known_of parts.now) result }
 {
-    match one(parts) {
-        Some(known) => scalar(known),
-        None => None,
+    if parts.len() != 1 {
+        return None;
     }
+    scalar(&parts[0])
 }
 
 /// Both parts, where there are two, and they are scalars.
-#[tactic(auto, using(crate::proofs::Parting::two_scalars_ok))]
 pub fn two_scalars<'a>(parts: &'a [Known<'a>]) -> Option<Scalars>
     ensures { Is_two_scalars (map known_of parts.now) result }
 {
     if parts.len() != 2 {
         return None;
     }
-    match scalar(parts[0]) {
-        Some(first) => match scalar(parts[1]) {
+    match scalar(&parts[0]) {
+        Some(first) => match scalar(&parts[1]) {
             Some(second) => Some(Scalars { first, second }),
             None => None,
         },
@@ -68,14 +53,14 @@ pub fn two_scalars<'a>(parts: &'a [Known<'a>]) -> Option<Scalars>
 }
 
 // The part of a tuple whose position is spelled so.
-fn position<'a>(parts: &'a [Known<'a>], name: &str) -> Option<Known<'a>>
-    ensures { maybe_known result ≡ part_from 0 name.now (knowns (map known_of parts.now)) }
+fn position<'a>(parts: &'a [Known<'a>], name: &str) -> Option<&'a Known<'a>>
+    ensures { maybe_held result ≡ part_from 0 name.now (knowns (map known_of parts.now)) }
 {
     let mut buffer = Buffer::new();
     let mut at: usize = 0;
     for known in parts {
         if buffer.format(at) == name {
-            return Some(*known);
+            return Some(known);
         }
         at += 1;
     }
@@ -83,8 +68,8 @@ fn position<'a>(parts: &'a [Known<'a>], name: &str) -> Option<Known<'a>>
 }
 
 /// The part of that name: of a tuple by its position, of a record by its field.
-pub fn part<'a>(known: Known<'a>, name: &str) -> Option<Known<'a>>
-    ensures { maybe_known result ≡ part name.now (known_of known.entry) }
+pub fn part<'a>(known: &Known<'a>, name: &str) -> Option<&'a Known<'a>>
+    ensures { maybe_held result ≡ part name.now (known_of known.now) }
 {
     match known.form {
         KnownForm::Tuple(parts) => position(parts, name),

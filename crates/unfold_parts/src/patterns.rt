@@ -19,7 +19,6 @@ struct Names<'a> {
 }
 
 /// The names with those of a pattern, and what is known of the parts of the value.
-#[cycle(bind)]
 pub fn bind<'a>(
     bump: &'a Bump,
     pat: &Pat<'_>,
@@ -28,24 +27,30 @@ pub fn bind<'a>(
 ) -> Result<&'a Scope<'a>, Refusal>
     ensures { Bound_to (pattern_of pat.now) (known_of known.entry) (scope_of scope.now) result }
 {
+    bind_known(bump, pat, &known, scope)
+}
+
+#[cycle(bind)]
+fn bind_known<'a>(
+    bump: &'a Bump,
+    pat: &Pat<'_>,
+    known: &Known<'a>,
+    scope: &'a Scope<'a>,
+) -> Result<&'a Scope<'a>, Refusal>
+    ensures { Bound_to (pattern_of pat.now) (known_of known.now) (scope_of scope.now) result }
+{
     match pat.form {
-        PatForm::Bound(number) => bound(bump, number, known, scope),
+        PatForm::Bound(number) => bound(bump, number, *known, scope),
         PatForm::Wild => Ok(scope),
         PatForm::Tuple(parts) => match known.form {
             KnownForm::Tuple(given) => bind_all(bump, parts, given, scope),
-            KnownForm::Scalar(_) => Err(Refusal::Lost),
-            KnownForm::Record(_) => Err(Refusal::Lost),
-            KnownForm::Function(_) => Err(Refusal::Lost),
-            KnownForm::Primitive(_, _, _) => Err(Refusal::Lost),
+            _ => Err(Refusal::Lost),
         },
         PatForm::Record(fields) => match known.form {
             KnownForm::Record(known_fields) => bind_fields(bump, fields, known_fields, scope),
-            KnownForm::Scalar(_) => Err(Refusal::Lost),
-            KnownForm::Tuple(_) => Err(Refusal::Lost),
-            KnownForm::Function(_) => Err(Refusal::Lost),
-            KnownForm::Primitive(_, _, _) => Err(Refusal::Lost),
+            _ => Err(Refusal::Lost),
         },
-        PatForm::Typed(inner, _) => bind(bump, inner, known, scope),
+        PatForm::Typed(inner, _) => bind_known(bump, inner, known, scope),
     }
 }
 
@@ -64,7 +69,7 @@ fn bind_all<'a>(
     let mut names = Names { scope };
     let mut at = 0;
     for part in parts {
-        let scope = match bind(bump, part, given[at], names.scope) {
+        let scope = match bind_known(bump, part, &given[at], names.scope) {
             Ok(scope) => scope,
             Err(refusal) => return Err(refusal),
         };
@@ -89,7 +94,7 @@ fn bind_fields<'a>(
             Some(known) => known,
             None => return Err(Refusal::Lost),
         };
-        let scope = match bind(bump, &field.pat, known, names.scope) {
+        let scope = match bind_known(bump, &field.pat, known, names.scope) {
             Ok(scope) => scope,
             Err(refusal) => return Err(refusal),
         };

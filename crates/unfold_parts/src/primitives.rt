@@ -22,6 +22,7 @@ use bumpalo::collections::into_bump_slice;
 use fut_blocks::{Atom, Operation};
 use fut_flat::Primitive;
 use fut_scalar::{BinOp, IntType, Place, Scalar, ScalarType, UnOp};
+use std::slice;
 use unfold::{Known, KnownForm};
 
 fn lowest(ty: IntType) -> u64
@@ -32,10 +33,7 @@ fn lowest(ty: IntType) -> u64
         IntType::I16 => 32768,
         IntType::I32 => 2147483648,
         IntType::I64 => 9223372036854775808,
-        IntType::U8 => 0,
-        IntType::U16 => 0,
-        IntType::U32 => 0,
-        IntType::U64 => 0,
+        IntType::U8 | IntType::U16 | IntType::U32 | IntType::U64 => 0,
     }
 }
 
@@ -58,14 +56,10 @@ fn width(ty: IntType) -> u64
     ensures { result ≡ width_of ty }
 {
     match ty {
-        IntType::I8 => 8,
-        IntType::I16 => 16,
-        IntType::I32 => 32,
-        IntType::I64 => 64,
-        IntType::U8 => 8,
-        IntType::U16 => 16,
-        IntType::U32 => 32,
-        IntType::U64 => 64,
+        IntType::I8 | IntType::U8 => 8,
+        IntType::I16 | IntType::U16 => 16,
+        IntType::I32 | IntType::U32 => 32,
+        IntType::I64 | IntType::U64 => 64,
     }
 }
 
@@ -143,22 +137,21 @@ pub fn arity(primitive: Primitive) -> usize
     }
 }
 
-/// The arguments with one more behind them.
+// The arguments with one more behind them.
 fn with_known<'a>(
     bump: &'a Bump,
     given: &'a [Known<'a>],
-    known: Known<'a>,
+    known: &Known<'a>,
 ) -> Result<&'a [Known<'a>], Refusal>
-    ensures ok { IfOk result (λ all. all.now ≡ given.now ++ known.entry ∷ []) }
+    ensures ok { IfOk result (λ all. all.now ≡ given.now ++ known.now ∷ []) }
     ensures err { IfErr result (λ r. r ≡ refusal.Memory) }
 {
     let mut all = Vec::new(bump);
     match all.extend_from_slice(given) {
-        Ok(()) => {}
-        Err(_) => return Err(Refusal::Memory),
-    }
-    match all.push(known) {
-        Ok(()) => Ok(into_bump_slice(all)),
+        Ok(()) => match all.extend_from_slice(slice::from_ref(known)) {
+            Ok(()) => Ok(into_bump_slice(all)),
+            Err(_) => Err(Refusal::Memory),
+        },
         Err(_) => Err(Refusal::Memory),
     }
 }
@@ -207,7 +200,7 @@ pub fn apply_primitive<'a>(
 ) -> Result<Known<'a>, Refusal>
     ensures { Applied_primitive primitive place (knowns (map known_of given.now)) (known_of known.entry) work.old.next (steps_of work.old) (steps_of work.new) work.new.next result }
 {
-    let arguments = match with_known(work.bump, given, known) {
+    let arguments = match with_known(work.bump, given, &known) {
         Ok(arguments) => arguments,
         Err(refusal) => return Err(refusal),
     };

@@ -1,10 +1,10 @@
 // Records, their fields in order of their names.
-ghost use Rattle.std.specs.Prelude.{◌≡◌, ◌≤◌, ◌++◌, ◌∷◌, IfErr, IfOk, length, map, take, drop};
+ghost use Rattle.std.specs.Prelude.{◌≡◌, ◌≤◌, ◌++◌, ◌∷◌, IfErr, IfOk, OnOk, length, map, take, drop};
 ghost use Rattle.fut_flat.specs.Erased.{texts};
 ghost use Rattle.fut_meaning.specs.Values.{is_before};
 ghost use Rattle.unfold.specs.Held.{field_of, fields_known, known_of};
 ghost use Rattle.unfold.specs.Knowns.{Known as Known_value, field, replaced, with_field};
-ghost use Rattle.unfold_parts.specs.Held.{maybe_known};
+ghost use Rattle.unfold_parts.specs.Held.{maybe_held};
 ghost use Rattle.unfold_parts.specs.Parts.{Recorded_to};
 ghost use Rattle.unfold_parts.specs.declared.refusal.Refusal.TheVariants as refusal;
 
@@ -14,12 +14,12 @@ use bumpalo::collections::into_bump_slice;
 use unfold::{Field, Known, KnownForm};
 
 /// What is known of a field.
-pub fn field_known<'a>(fields: &'a [Field<'a>], name: &str) -> Option<Known<'a>>
-    ensures { maybe_known result ≡ field name.now (fields_known (map field_of fields.now)) }
+pub fn field_known<'a>(fields: &'a [Field<'a>], name: &str) -> Option<&'a Known<'a>>
+    ensures { maybe_held result ≡ field name.now (fields_known (map field_of fields.now)) }
 {
     for field in fields {
         if field.name == name {
-            return Some(field.known);
+            return Some(&field.known);
         }
     }
     None
@@ -46,6 +46,28 @@ fn place_of(fields: &[Field<'_>], name: &str) -> usize
     at
 }
 
+// Puts a field where it belongs.
+fn put_field<'a>(
+    fields: &mut Vec<Field<'a>, &'a Bump>,
+    name: &'a str,
+    known: &Known<'a>,
+) -> Result<(), Refusal>
+    ensures ok { OnOk result (fields_known (map field_of fields.new.items) ≡ with_field name.now (known_of known.now) (fields_known (map field_of fields.old.items))) }
+    ensures err { IfErr result (λ r. r ≡ refusal.Memory) }
+{
+    let place = place_of(fields, name);
+    match fields.insert(
+        place,
+        Field {
+            name,
+            known: *known,
+        },
+    ) {
+        Ok(()) => Ok(()),
+        Err(_) => Err(Refusal::Memory),
+    }
+}
+
 /// A record of these parts. It takes as many moves of fields as there are fields out of order, and few otherwise.
 pub fn record_of<'a>(
     bump: &'a Bump,
@@ -61,14 +83,9 @@ pub fn record_of<'a>(
     let mut at = parts.len();
     while at > 0 {
         at -= 1;
-        let field = Field {
-            name: names[at],
-            known: parts[at],
-        };
-        let place = place_of(&fields, field.name);
-        match fields.insert(place, field) {
+        match put_field(&mut fields, names[at], &parts[at]) {
             Ok(()) => {}
-            Err(_) => return Err(Refusal::Memory),
+            Err(refusal) => return Err(refusal),
         }
     }
     Ok(Known {
@@ -80,10 +97,10 @@ pub fn record_of<'a>(
 pub fn replaced<'a>(
     bump: &'a Bump,
     name: &str,
-    known: Known<'a>,
+    known: &Known<'a>,
     fields: &'a [Field<'a>],
 ) -> Result<&'a [Field<'a>], Refusal>
-    ensures ok { IfOk result (λ made. fields_known (map field_of made.now) ≡ replaced name.now (known_of known.entry) (fields_known (map field_of fields.now))) }
+    ensures ok { IfOk result (λ made. fields_known (map field_of made.now) ≡ replaced name.now (known_of known.now) (fields_known (map field_of fields.now))) }
     ensures err { IfErr result (λ r. r ≡ refusal.Memory) }
 {
     let mut made = Vec::new(bump);
@@ -94,7 +111,7 @@ pub fn replaced<'a>(
         } else if field.name == name {
             made.push(Field {
                 name: field.name,
-                known,
+                known: *known,
             })?;
             is_done = true;
         } else {

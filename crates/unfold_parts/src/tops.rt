@@ -91,7 +91,7 @@ pub fn known_use<'a>(
 {
     match reference {
         Ref::Bound(number) => match find(scope, number) {
-            Some(known) => Ok(known),
+            Some(known) => Ok(*known),
             None => match tops.of(number) {
                 Some(known) => Ok(known),
                 None => Err(Refusal::Lost),

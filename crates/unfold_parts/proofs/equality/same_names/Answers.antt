@@ -1,5 +1,5 @@
 use Rattle.std.proofs.Common.{sym, ◌∙◌, arith}
-use Rattle.unfold_parts.proofs.Equating.{names_on, names_end, names_many, names_other}
+use Rattle.unfold_parts.proofs.Pairing.{names_on, names_end, names_many, names_other}
 use Rattle.unfold_parts.proofs.equality.same_names.Goals as goal
 
 pub loop-left-preserved : goal.loop-left-preserved

@@ -1,5 +1,5 @@
 use Rattle.std.proofs.Common.{◌≡◌}
-use Rattle.unfold_parts.proofs.Equating.{Names_lead}
+use Rattle.unfold_parts.proofs.Pairing.{Names_lead}
 use Rattle.unfold_parts.proofs.equality.same_names.Given as goal
 
 abbrev pub invariant-loop-left : goal.invariant-loop-left

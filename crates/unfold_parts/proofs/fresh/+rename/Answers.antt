@@ -7,7 +7,7 @@ use Rattle.unfold_parts.proofs.Naming.{scalar_like, tuple_named, record_named, t
 use Rattle.unfold_parts.proofs.fresh.+rename.Goals as goal
 
 pub rename-returns-in-Scalar-clause-ok : goal.rename-returns-in-Scalar-clause-ok
-rename-returns-in-Scalar-clause-ok t c = scalar_like _ _ _ _ c.in-Scalar.is c.rename_scalar.ensures.ok
+rename-returns-in-Scalar-clause-ok t c = scalar_like _ _ _ _ _ c.in-Scalar.is c.rename_scalar.ensures.ok
 
 pub rename-returns-in-Ok-clause-ok : goal.rename-returns-in-Ok-clause-ok
 rename-returns-in-Ok-clause-ok t c = tuple_named _ _ _ _ _ _ c.in-Tuple.is refl c.in-Ok.ensures.ok
@@ -16,7 +16,7 @@ pub rename-returns-in-Ok-rename_fields-clause-ok : goal.rename-returns-in-Ok-ren
 rename-returns-in-Ok-rename_fields-clause-ok t c = record_named _ _ _ _ _ _ c.in-Record.is refl c.in-Ok-rename_fields.ensures.ok
 
 pub rename_all-loop-like-init : goal.rename_all-loop-like-init
-rename_all-loop-like-init t c = subst (λ z. Names_lead (All_named c.args.likes.now 0) (All_named c.args.likes.now 0) c.args.first c.args.first (map known_of z)) (sym c.new-parts.ensures.items) (all_named_start c.args.likes.now c.args.first)
+rename_all-loop-like-init t c = subst (λ z. Names_lead (All_named c.args.likes.now 0) (All_named c.args.likes.now 0) c.args.naming.now.next c.args.naming.now.next (map known_of z)) (sym c.new-parts.ensures.items) (all_named_start c.args.likes.now c.args.naming.now.next)
 
 pub rename_all-loop-like-preserved : goal.rename_all-loop-like-preserved
 rename_all-loop-like-preserved t c = all_named_on _ _ _ _ _ _ _ _ _ c.loop-like-test.true c.loop-like.invariant c.in-Ok.ensures.ok c.in-Ok-push.ensures.items
@@ -25,7 +25,7 @@ pub rename_all-returns-clause-ok : goal.rename_all-returns-clause-ok
 rename_all-returns-clause-ok t c = all_named_end _ _ _ _ _ c.into_bump_slice.result (omega (arith, c.loop-like-test.false)) c.loop-like.invariant c.into_bump_slice.ensures
 
 pub rename_fields-loop-like-init : goal.rename_fields-loop-like-init
-rename_fields-loop-like-init t c = subst (λ z. Names_lead (Fields_named c.args.likes.now 0) (Fields_named c.args.likes.now 0) c.args.first c.args.first (map field_of z)) (sym c.new-fields.ensures.items) (fields_named_start c.args.likes.now c.args.first)
+rename_fields-loop-like-init t c = subst (λ z. Names_lead (Fields_named c.args.likes.now 0) (Fields_named c.args.likes.now 0) c.args.naming.now.next c.args.naming.now.next (map field_of z)) (sym c.new-fields.ensures.items) (fields_named_start c.args.likes.now c.args.naming.now.next)
 
 pub rename_fields-loop-like-preserved : goal.rename_fields-loop-like-preserved
 rename_fields-loop-like-preserved t c = fields_named_on _ _ _ _ _ _ _ _ _ c.loop-like-test.true refl c.loop-like.invariant c.in-Ok.ensures.ok c.in-Ok-push.ensures.items
@@ -36,8 +36,8 @@ rename_fields-returns-clause-ok t c = fields_named_end _ _ _ _ _ c.into_bump_sli
 pub rename-returns-then-deep-ge-MOST_DEEP-clause-err : goal.rename-returns-then-deep-ge-MOST_DEEP-clause-err
 rename-returns-then-deep-ge-MOST_DEEP-clause-err t c = no_memory
 
-pub rename-returns-then-room-eq0-clause-err : goal.rename-returns-then-room-eq0-clause-err
-rename-returns-then-room-eq0-clause-err t c = no_memory
+pub rename-returns-then-naming-eq0-clause-err : goal.rename-returns-then-naming-eq0-clause-err
+rename-returns-then-naming-eq0-clause-err t c = no_memory
 
 pub rename-returns-in-Scalar-clause-err : goal.rename-returns-in-Scalar-clause-err
 rename-returns-in-Scalar-clause-err t c = if_memory _ _ c.rename_scalar.ensures.err

@@ -13,7 +13,7 @@ abbrev pub decreases-rename_fields : goal.decreases-rename_fields
 decreases-rename_fields l = 2 * (1001 - l.deep) + 1
 
 abbrev pub invariant-rename_all-loop-like : goal.invariant-rename_all-loop-like
-invariant-rename_all-loop-like l = Names_lead (All_named l.likes 0) (All_named l.likes l.like-index) l.first l.next (map known_of l.parts.items)
+invariant-rename_all-loop-like l = Names_lead (All_named l.likes 0) (All_named l.likes l.like-index) l.fn.naming.next l.naming.next (map known_of l.parts.items)
 
 abbrev pub invariant-rename_fields-loop-like : goal.invariant-rename_fields-loop-like
-invariant-rename_fields-loop-like l = Names_lead (Fields_named l.likes 0) (Fields_named l.likes l.like-index) l.first l.next (map field_of l.fields.items)
+invariant-rename_fields-loop-like l = Names_lead (Fields_named l.likes 0) (Fields_named l.likes l.like-index) l.fn.naming.next l.naming.next (map field_of l.fields.items)

@@ -36,8 +36,8 @@ lay_behind-returns-in-Record-form t c = laid_fields _ _ _ _ _ _ _ c.in-Record.is
 pub lay_behind-returns-then-deep-ge-MOST_DEEP : goal.lay_behind-returns-then-deep-ge-MOST_DEEP
 lay_behind-returns-then-deep-ge-MOST_DEEP t c = not_behind no_memory
 
-pub lay_behind-returns-then-room-eq0 : goal.lay_behind-returns-then-room-eq0
-lay_behind-returns-then-room-eq0 t c = not_behind no_memory
+pub lay_behind-returns-then-laying-eq0 : goal.lay_behind-returns-then-laying-eq0
+lay_behind-returns-then-laying-eq0 t c = not_behind no_memory
 
 pub lay_behind-returns-in_default-form : goal.lay_behind-returns-in_default-form
 lay_behind-returns-in_default-form t c = other_than_parts _ _ _ _ _ c.in-Tuple.is (form_no_tuple _ c.in_default-form.not-Tuple)

@@ -12,7 +12,7 @@ abbrev pub decreases-lay_fields : goal.decreases-lay_fields
 decreases-lay_fields l = 2 * (1001 - l.deep) + 1
 
 abbrev pub invariant-lay_all-loop-like : goal.invariant-lay_all-loop-like
-invariant-lay_all-loop-like l = (l.like-index ≡ l.at) × Leads (All_from l.likes l.parts 0 0) (All_from l.likes l.parts l.like-index l.at) l.fn.atoms.items l.atoms.items
+invariant-lay_all-loop-like l = (l.like-index ≡ l.at) × Leads (All_from l.likes l.parts 0 0) (All_from l.likes l.parts l.like-index l.at) l.fn.laying.atoms.items l.laying.atoms.items
 
 abbrev pub invariant-lay_fields-loop-like : goal.invariant-lay_fields-loop-like
-invariant-lay_fields-loop-like l = (l.like-index ≡ l.at) × Leads (Fields_from l.likes l.fields 0 0) (Fields_from l.likes l.fields l.like-index l.at) l.fn.atoms.items l.atoms.items
+invariant-lay_fields-loop-like l = (l.like-index ≡ l.at) × Leads (Fields_from l.likes l.fields 0 0) (Fields_from l.likes l.fields l.like-index l.at) l.fn.laying.atoms.items l.laying.atoms.items

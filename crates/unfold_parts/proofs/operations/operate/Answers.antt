@@ -2,32 +2,20 @@ use Rattle.std.proofs.Common.{refl}
 use Rattle.unfold_parts.proofs.Operated.{act_integer, act_truth, act_tuple, act_record, act_binary, act_negate, act_complement, act_project, act_replace, act_ascribe, act_coerce, act_declared, act_assert, act_array, act_index, act_update, act_range}
 use Rattle.unfold_parts.proofs.operations.operate.Goals as goal
 
-pub returns-in-Tuple : goal.returns-in-Tuple
-returns-in-Tuple c = act_tuple _ _ _ _ _ _ _ c.in-Tuple.is refl
-
-pub returns-in-Array : goal.returns-in-Array
-returns-in-Array c = act_array _ _ _ _ _ _ _ _ c.in-Array.is
-
-pub returns-in-Index : goal.returns-in-Index
-returns-in-Index c = act_index _ _ _ _ _ _ _ _ _ c.in-Index.is
-
-pub returns-in-Update : goal.returns-in-Update
-returns-in-Update c = act_update _ _ _ _ _ _ _ _ c.in-Update.is
-
-pub returns-in-Range : goal.returns-in-Range
-returns-in-Range c = act_range _ _ _ _ _ _ _ _ _ _ c.in-Range.is
-
 pub returns-in-Int : goal.returns-in-Int
-returns-in-Int c = act_integer _ _ _ _ _ _ _ _ _ c.in-Int.is c.literal.ensures
+returns-in-Int c = act_integer _ _ _ _ _ _ _ _ _ _ c.in-Int.is c.literal_type-ty.ensures c.constant.ensures
 
 pub returns-in-Truth : goal.returns-in-Truth
-returns-in-Truth c = act_truth _ _ _ _ _ _ _ _ c.in-Truth.is c.truth.ensures
+returns-in-Truth c = act_truth _ _ _ _ _ _ _ _ c.in-Truth.is c.constant-in-Truth.ensures
+
+pub returns-in-Tuple : goal.returns-in-Tuple
+returns-in-Tuple c = act_tuple _ _ _ _ _ _ _ c.in-Tuple.is refl
 
 pub returns-in-Record : goal.returns-in-Record
 returns-in-Record c = act_record _ _ _ _ _ _ _ _ c.in-Record.is c.record_of.ensures
 
 pub returns-in-Binary : goal.returns-in-Binary
-returns-in-Binary c = act_binary _ _ _ _ _ _ _ _ _ _ c.in-Binary.is c.operate_binary.ensures
+returns-in-Binary c = act_binary _ _ _ _ _ _ _ _ _ _ c.in-Binary.is (c.operate_binary.ensures _)
 
 pub returns-in-Negate : goal.returns-in-Negate
 returns-in-Negate c = act_negate _ _ _ _ _ _ _ _ _ c.in-Negate.is c.unary.ensures
@@ -52,3 +40,15 @@ returns-in-Declared c = act_declared _ _ _ _ _ _ _ _ c.in-Declared.is c.same-in-
 
 pub returns-in-Assert : goal.returns-in-Assert
 returns-in-Assert c = act_assert _ _ _ _ _ _ _ _ _ c.in-Assert.is c.assert_first.ensures
+
+pub returns-in-Array : goal.returns-in-Array
+returns-in-Array c = act_array _ _ _ _ _ _ _ _ c.in-Array.is
+
+pub returns-in-Index : goal.returns-in-Index
+returns-in-Index c = act_index _ _ _ _ _ _ _ _ _ c.in-Index.is
+
+pub returns-in-Update : goal.returns-in-Update
+returns-in-Update c = act_update _ _ _ _ _ _ _ _ c.in-Update.is
+
+pub returns-in-Range : goal.returns-in-Range
+returns-in-Range c = act_range _ _ _ _ _ _ _ _ _ _ c.in-Range.is

@@ -1,8 +1,9 @@
-use Rattle.unfold_parts.proofs.Operated.{same_one, same_none}
+use Rattle.std.proofs.Common.{arith}
+use Rattle.unfold_parts.proofs.Operated.{same_one, same_many}
 use Rattle.unfold_parts.proofs.operations.same.Goals as goal
 
-pub returns-in-Some : goal.returns-in-Some
-returns-in-Some c = same_one _ _ c.in-Some.ensures
+pub returns-then-parts-ne1 : goal.returns-then-parts-ne1
+returns-then-parts-ne1 c = same_many _ c.if-parts-ne1.true
 
-pub returns-in-None : goal.returns-in-None
-returns-in-None c = same_none _ c.in-None.ensures
+pub returns : goal.returns
+returns c = same_one _ _ (omega (arith, c.if-parts-ne1.false))

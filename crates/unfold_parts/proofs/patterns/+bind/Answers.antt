@@ -1,47 +1,28 @@
 use Rattle.std.proofs.Common.{refl, arith}
-use Rattle.unfold.proofs.Mirror.{known_scalar, known_tuple, known_record, known_function, known_primitive}
 use Rattle.unfold_parts.proofs.Binding.{bound_name, bound_wild, bound_typed, bound_tuple, bound_record, tuple_other, record_other, all_bound_unequal, all_bound_err, all_lead_on, all_lead_end, fields_bound_none, fields_bound_err, fields_lead_on, fields_lead_end}
-use Rattle.unfold_parts.proofs.Lacking.{scalar_no_tuple, record_no_tuple, function_no_tuple, primitive_no_tuple, scalar_no_record, tuple_no_record, function_no_record, primitive_no_record}
+use Rattle.unfold_parts.proofs.Forms.{form_no_tuple, form_no_record}
 use Rattle.unfold_parts.proofs.patterns.+bind.Goals as goal
 
-pub bind-returns-in-Bound : goal.bind-returns-in-Bound
-bind-returns-in-Bound t c = bound_name _ _ _ _ _ c.in-Bound.is c.bound.ensures.ok c.bound.ensures.err
+pub bind_known-returns-in-Bound : goal.bind_known-returns-in-Bound
+bind_known-returns-in-Bound t c = bound_name _ _ _ _ _ c.in-Bound.is c.bound.ensures.ok c.bound.ensures.err
 
-pub bind-returns-in-Wild : goal.bind-returns-in-Wild
-bind-returns-in-Wild t c = bound_wild _ _ _ _ c.in-Wild.is refl
+pub bind_known-returns-in-Wild : goal.bind_known-returns-in-Wild
+bind_known-returns-in-Wild t c = bound_wild _ _ _ _ c.in-Wild.is refl
 
-pub bind-returns-in-Typed : goal.bind-returns-in-Typed
-bind-returns-in-Typed t c = bound_typed _ _ _ _ _ _ c.in-Typed.is c.bind.ensures
+pub bind_known-returns-in-Typed : goal.bind_known-returns-in-Typed
+bind_known-returns-in-Typed t c = bound_typed _ _ _ _ _ _ c.in-Typed.is c.bind_known.ensures
 
-pub bind-returns-in-Tuple-form : goal.bind-returns-in-Tuple-form
-bind-returns-in-Tuple-form t c = bound_tuple _ _ _ _ _ _ c.in-Tuple.is c.in-Tuple-form.is c.bind_all.ensures
+pub bind_known-returns-in-Tuple-form : goal.bind_known-returns-in-Tuple-form
+bind_known-returns-in-Tuple-form t c = bound_tuple _ _ _ _ _ _ c.in-Tuple.is c.in-Tuple-form.is c.bind_all.ensures
 
-pub bind-returns-in-Scalar : goal.bind-returns-in-Scalar
-bind-returns-in-Scalar t c = tuple_other _ _ _ _ _ c.in-Tuple.is (known_scalar _ _ c.in-Scalar.is) (scalar_no_tuple _)
+pub bind_known-returns-in_default : goal.bind_known-returns-in_default
+bind_known-returns-in_default t c = tuple_other _ _ _ _ _ c.in-Tuple.is refl (form_no_tuple _ c.in_default.not-Tuple)
 
-pub bind-returns-in-Record-form : goal.bind-returns-in-Record-form
-bind-returns-in-Record-form t c = tuple_other _ _ _ _ _ c.in-Tuple.is (known_record _ _ c.in-Record-form.is) (record_no_tuple _)
+pub bind_known-returns-in_default-form : goal.bind_known-returns-in_default-form
+bind_known-returns-in_default-form t c = record_other _ _ _ _ _ c.in-Record.is refl (form_no_record _ c.in_default-form.not-Record)
 
-pub bind-returns-in-Function : goal.bind-returns-in-Function
-bind-returns-in-Function t c = tuple_other _ _ _ _ _ c.in-Tuple.is (known_function _ _ c.in-Function.is) (function_no_tuple _ _ _ _)
-
-pub bind-returns-in-Primitive : goal.bind-returns-in-Primitive
-bind-returns-in-Primitive t c = tuple_other _ _ _ _ _ c.in-Tuple.is (known_primitive _ _ _ _ c.in-Primitive.is) (primitive_no_tuple _ _ _)
-
-pub bind-returns-in-Record-form-2 : goal.bind-returns-in-Record-form-2
-bind-returns-in-Record-form-2 t c = bound_record _ _ _ _ _ _ c.in-Record.is c.in-Record-form-2.is c.bind_fields.ensures
-
-pub bind-returns-in-Scalar-form : goal.bind-returns-in-Scalar-form
-bind-returns-in-Scalar-form t c = record_other _ _ _ _ _ c.in-Record.is (known_scalar _ _ c.in-Scalar-form.is) (scalar_no_record _)
-
-pub bind-returns-in-Tuple-form-2 : goal.bind-returns-in-Tuple-form-2
-bind-returns-in-Tuple-form-2 t c = record_other _ _ _ _ _ c.in-Record.is (known_tuple _ _ c.in-Tuple-form-2.is) (tuple_no_record _)
-
-pub bind-returns-in-Function-form : goal.bind-returns-in-Function-form
-bind-returns-in-Function-form t c = record_other _ _ _ _ _ c.in-Record.is (known_function _ _ c.in-Function-form.is) (function_no_record _ _ _ _)
-
-pub bind-returns-in-Primitive-form : goal.bind-returns-in-Primitive-form
-bind-returns-in-Primitive-form t c = record_other _ _ _ _ _ c.in-Record.is (known_primitive _ _ _ _ c.in-Primitive-form.is) (primitive_no_record _ _ _)
+pub bind_known-returns-in-Record-form : goal.bind_known-returns-in-Record-form
+bind_known-returns-in-Record-form t c = bound_record _ _ _ _ _ _ c.in-Record.is c.in-Record-form.is c.bind_fields.ensures
 
 pub bind_all-returns-then-parts-given : goal.bind_all-returns-then-parts-given
 bind_all-returns-then-parts-given t c = all_bound_unequal _ _ _ c.if-parts-given.true
