@@ -1,7 +1,8 @@
-use Rattle.std.proofs.Common.{true, false, length, ◌∙◌, ap}
+use Rattle.std.proofs.Common.{◌≡◌, true, false, length, ◌∙◌, ap, arith}
 use Rattle.fut_flat.specs.declared.act.Act.TheVariants as act
 use Rattle.fut_flat.specs.Terms.{Record_of, Integer, Truth, Negate, Complement, Binary, Assert, Range, Ascribe, Coerce, Declared}
 use Rattle.fut_flat.specs.Erased.{operation_of, texts, type_of}
+use Rattle.fut_typing.proofs.Ranges.{own_some}
 use Rattle.type_rules.proofs.Adding.{on_ok, if_err}
 use Rattle.type_constraints.proofs.Ruling.{has_parts, refused_count, rule_ok, rule_err, say_none, say_one, say_two, say_three, demanded_ok, demanded_err, never_err, written_ok, written_err, ascribe_is, coerce_is, declared_is}
 use Rattle.type_constraints.proofs.operations.constrain_rule.Goals as goal
@@ -104,3 +105,57 @@ returns-else-stepped-clause-ok c = rw (c.in-Range.is ∙ ap (λ b. act.Range b c
 
 pub returns-else-stepped-clause-err : goal.returns-else-stepped-clause-err
 returns-else-stepped-clause-err c = rw (c.in-Range.is ∙ ap (λ b. act.Range b c.in-Range.end) c.if-stepped.false) (if_err c.demand-in-Range.result (λ f from lt. demanded_err c.args.places c.args.base c.args.lo (Range false c.in-Range.end) c.args.parts.now (λ N E K a l. tt) c.args.inference.now c.demand-in-Range.new.inference c.range.result (say_two c.args.places (Range false c.in-Range.end) c.args.lo c.args.parts.now c.range.result (has_parts c.args.act.now (act.Range false c.in-Range.end) (length c.args.parts.now) (c.in-Range.is ∙ ap (λ b. act.Range b c.in-Range.end) c.if-stepped.false) (c.works_on.ensures.0 c.if-not-works_on.false)) (λ N K a. c.range.ensures.says N c.args.places c.in-Range.end (a c.args.lo) N.shapes K a)) c.range.ensures.allowed f c.args.depth from) c.demand-in-Range.ensures.err)
+
+pub bounds-parts-0 : goal.bounds-parts-0
+bounds-parts-0 c = let few : length c.args.parts.now ≡ 1 = has_parts c.args.act.now (act.Ascribe c.in-Ascribe.ty) (length c.args.parts.now) c.in-Ascribe.is (c.works_on.ensures.0 c.if-not-works_on.false) in omega (arith, few)
+
+pub bounds-parts-0-in-Coerce : goal.bounds-parts-0-in-Coerce
+bounds-parts-0-in-Coerce c = let few : length c.args.parts.now ≡ 1 = has_parts c.args.act.now (act.Coerce c.in-Coerce.ty) (length c.args.parts.now) c.in-Coerce.is (c.works_on.ensures.0 c.if-not-works_on.false) in omega (arith, few)
+
+pub bounds-parts-0-in-Declared : goal.bounds-parts-0-in-Declared
+bounds-parts-0-in-Declared c = let few : length c.args.parts.now ≡ 1 = has_parts c.args.act.now (act.Declared c.in-Declared.ty) (length c.args.parts.now) c.in-Declared.is (c.works_on.ensures.0 c.if-not-works_on.false) in omega (arith, few)
+
+pub bounds-parts-0-in-Negate : goal.bounds-parts-0-in-Negate
+bounds-parts-0-in-Negate c = let few : length c.args.parts.now ≡ 1 = has_parts c.args.act.now act.Negate (length c.args.parts.now) c.in-Negate.is (c.works_on.ensures.0 c.if-not-works_on.false) in omega (arith, few)
+
+pub bounds-parts-0-in-Complement : goal.bounds-parts-0-in-Complement
+bounds-parts-0-in-Complement c = let few : length c.args.parts.now ≡ 1 = has_parts c.args.act.now act.Complement (length c.args.parts.now) c.in-Complement.is (c.works_on.ensures.0 c.if-not-works_on.false) in omega (arith, few)
+
+pub bounds-parts-0-in-Binary : goal.bounds-parts-0-in-Binary
+bounds-parts-0-in-Binary c = let few : length c.args.parts.now ≡ 2 = has_parts c.args.act.now (act.Binary c.in-Binary.op) (length c.args.parts.now) c.in-Binary.is (c.works_on.ensures.0 c.if-not-works_on.false) in omega (arith, few)
+
+pub bounds-parts-0-in-Assert : goal.bounds-parts-0-in-Assert
+bounds-parts-0-in-Assert c = let few : length c.args.parts.now ≡ 2 = has_parts c.args.act.now act.Assert (length c.args.parts.now) c.in-Assert.is (c.works_on.ensures.0 c.if-not-works_on.false) in omega (arith, few)
+
+pub bounds-parts-0-then-stepped : goal.bounds-parts-0-then-stepped
+bounds-parts-0-then-stepped c = let few : length c.args.parts.now ≡ 3 = has_parts c.args.act.now (act.Range true c.in-Range.end) (length c.args.parts.now) (c.in-Range.is ∙ ap (λ b. act.Range b c.in-Range.end) c.if-stepped.true) (c.works_on.ensures.0 c.if-not-works_on.false) in omega (arith, few)
+
+pub bounds-parts-0-in-Range : goal.bounds-parts-0-in-Range
+bounds-parts-0-in-Range c = let few : length c.args.parts.now ≡ 2 = has_parts c.args.act.now (act.Range false c.in-Range.end) (length c.args.parts.now) (c.in-Range.is ∙ ap (λ b. act.Range b c.in-Range.end) c.if-stepped.false) (c.works_on.ensures.0 c.if-not-works_on.false) in omega (arith, few)
+
+pub bounds-parts-1 : goal.bounds-parts-1
+bounds-parts-1 c = let few : length c.args.parts.now ≡ 2 = has_parts c.args.act.now (act.Binary c.in-Binary.op) (length c.args.parts.now) c.in-Binary.is (c.works_on.ensures.0 c.if-not-works_on.false) in omega (arith, few)
+
+pub bounds-parts-1-in-Assert : goal.bounds-parts-1-in-Assert
+bounds-parts-1-in-Assert c = let few : length c.args.parts.now ≡ 2 = has_parts c.args.act.now act.Assert (length c.args.parts.now) c.in-Assert.is (c.works_on.ensures.0 c.if-not-works_on.false) in omega (arith, few)
+
+pub bounds-parts-1-then-stepped : goal.bounds-parts-1-then-stepped
+bounds-parts-1-then-stepped c = let few : length c.args.parts.now ≡ 3 = has_parts c.args.act.now (act.Range true c.in-Range.end) (length c.args.parts.now) (c.in-Range.is ∙ ap (λ b. act.Range b c.in-Range.end) c.if-stepped.true) (c.works_on.ensures.0 c.if-not-works_on.false) in omega (arith, few)
+
+pub bounds-parts-1-in-Range : goal.bounds-parts-1-in-Range
+bounds-parts-1-in-Range c = let few : length c.args.parts.now ≡ 2 = has_parts c.args.act.now (act.Range false c.in-Range.end) (length c.args.parts.now) (c.in-Range.is ∙ ap (λ b. act.Range b c.in-Range.end) c.if-stepped.false) (c.works_on.ensures.0 c.if-not-works_on.false) in omega (arith, few)
+
+pub bounds-parts-2 : goal.bounds-parts-2
+bounds-parts-2 c = let few : length c.args.parts.now ≡ 3 = has_parts c.args.act.now (act.Range true c.in-Range.end) (length c.args.parts.now) (c.in-Range.is ∙ ap (λ b. act.Range b c.in-Range.end) c.if-stepped.true) (c.works_on.ensures.0 c.if-not-works_on.false) in omega (arith, few)
+
+pub constrain_ascription-requires-clause-number : goal.constrain_ascription-requires-clause-number
+constrain_ascription-requires-clause-number c = omega (arith, c.requires.room, own_some (operation_of c.args.act.now))
+
+pub constrain_ascription-requires-in-Coerce-clause-number : goal.constrain_ascription-requires-in-Coerce-clause-number
+constrain_ascription-requires-in-Coerce-clause-number c = omega (arith, c.requires.room, own_some (operation_of c.args.act.now))
+
+pub constrain_ascription-requires-in-Declared-clause-number : goal.constrain_ascription-requires-in-Declared-clause-number
+constrain_ascription-requires-in-Declared-clause-number c = omega (arith, c.requires.room, own_some (operation_of c.args.act.now))
+
+pub constrain_fields-requires-clause-number : goal.constrain_fields-requires-clause-number
+constrain_fields-requires-clause-number c = omega (arith, c.requires.room, own_some (operation_of c.args.act.now))
