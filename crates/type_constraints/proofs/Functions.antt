@@ -1,14 +1,13 @@
 -- Parameters in a row, and functions of them.
-use Rattle.std.proofs.Common.{◌≡◌, ℕ, zero, suc, ◌+◌, ◌≤◌, ◌<◌, List, [], ◌∷◌, ◌++◌, length, map, take, slice_index_or, refl, sym, ◌∙◌, ap, subst, arith, append_assoc}
+use Rattle.std.proofs.Common.{◌≡◌, ℕ, ◌+◌, ◌≤◌, ◌<◌, List, [], ◌∷◌, ◌++◌, length, refl, sym, ◌∙◌, ap, subst, arith, append_assoc}
 use mathlib.Core.Logic.{◌⊎◌, inl, inr}
 use Rattle.fut_scalar.specs.declared.place.BindId.{BindId}
 use Rattle.fut_types.specs.declared.Kind.{Kind}
 use Rattle.fut_types.specs.Types.{Sub, Kinds, more}
 use Rattle.fut_flat.specs.declared.prim.Ref.{Ref}
-use Rattle.fut_flat.specs.declared.pat.Pat.{Pat}
 use Rattle.fut_flat.specs.Terms.{Lambda, Patterns, no_pattern, pattern_and}
 use Rattle.fut_flat.specs.Numbers.{numbers, pattern_numbers, all_pattern_numbers}
-use Rattle.fut_flat.specs.Erased.{FlatTerm, FlatPattern, pattern_of, patterns}
+use Rattle.fut_flat.specs.Erased.{FlatTerm, FlatPattern, patterns}
 use Rattle.fut_typing.specs.Names.{Names}
 use Rattle.fut_typing.specs.Scopes.{Scope, the_one}
 use Rattle.fut_typing.specs.Patterns.{pattern_types, arrows, with_pattern, with_patterns, Pattern_typed, Parameters_typed}

@@ -1,13 +1,14 @@
 -- The rules of operations.
-use Rattle.std.proofs.Common.{◌≡◌, ℕ, Bool, true, false, List, [], ◌∷◌, length, slice_index_or, Option, Some, None, refl, sym, ap, subst, arith}
+use Rattle.std.proofs.Common.{◌≡◌, ℕ, Bool, true, false, List, [], ◌∷◌, length, slice_index_or, Option, Some, None, refl, sym, ◌∙◌, ap, subst, arith}
 use Rattle.fut_ast.specs.Sorts.{Text}
 use Rattle.fut_ast.specs.declared.node.End.{End}
 use Rattle.fut_scalar.specs.declared.operator.BinOp.{BinOp}
 use Rattle.fut_scalar.specs.declared.scalar.IntType.{IntType}
 use Rattle.fut_scalar.specs.declared.place.BindId.{BindId}
 use Rattle.fut_flat.specs.declared.prim.Ref.{Ref}
-use Rattle.fut_flat.specs.Terms.{Operation, Integer, Truth, Binary, Negate, Complement, Project, Replace, Ascribe, Coerce, Declared, Assert, Range}
-use Rattle.fut_flat.specs.Erased.{FlatType}
+use Rattle.fut_flat.specs.declared.act.Act.{Act}
+use Rattle.fut_flat.specs.Terms.{Operation, Integer, Truth, Tuple_of, Record_of, Array_of, Binary, Negate, Complement, Index, Project, Update, Replace, Ascribe, Coerce, Declared, Assert, Range}
+use Rattle.fut_flat.specs.Erased.{FlatType, operation_of}
 use Rattle.fut_types.specs.declared.Kind.{Kind}
 use Rattle.fut_types.specs.Types.{Ty, Sub, Kinds, Tys, none, more}
 use Rattle.fut_typing.specs.Names.{Names}
@@ -22,6 +23,7 @@ use Rattle.type_scopes.specs.declared.Inference.{Inference}
 use Rattle.type_scopes.specs.Scopes.{Claim, Safe, Claimed, Refused}
 use Rattle.type_scopes.proofs.Claiming.{claimed_as, refused_as}
 use Rattle.type_patterns.specs.Asking.{Ascribed_claim}
+use Rattle.type_constraints.specs.Counts.{Works_on}
 use Rattle.type_constraints.specs.Parts.{Rule_claim, Rule_homes}
 use Rattle.type_constraints.proofs.Forms.{anywhere}
 
@@ -111,76 +113,76 @@ Never_rule places o parts = (N : Names) (K : Kinds) (a : Sub) (t u : Ty) → Rul
 pub never_err : (places : Kind) (base lo : ℕ) (o : Operation Ref BindId) (parts : List ℕ) (i : Inference) → Safe base i → Never_rule places o parts → (d from : ℕ) → Refused places base d from (Rule_claim places o lo parts) (Rule_homes d o lo) i i
 never_err places base lo o parts i s never d from = record { labels = s.labels; reads = λ N T born r. r; nowhere = λ N T home born E r rd h pl K a p q. never N K a (a lo) (a (operand o lo)) q.0 }
 
-pub integer_never : (places : Kind) (n : ℕ) (ty : Option IntType) (l : List ℕ) → (length l ≡ 0 → ⊥) → Never_rule places (Integer n ty) l
+integer_never : (places : Kind) (n : ℕ) (ty : Option IntType) (l : List ℕ) → (length l ≡ 0 → ⊥) → Never_rule places (Integer n ty) l
 unfolding types_of
 integer_never places n None [] ne N K a t u h = ne refl
 integer_never places n None (x ∷ l) ne N K a t u h = h
 integer_never places n (Some i) [] ne N K a t u h = ne refl
 integer_never places n (Some i) (x ∷ l) ne N K a t u h = h
 
-pub truth_never : (places : Kind) (b : Bool) (l : List ℕ) → (length l ≡ 0 → ⊥) → Never_rule places (Truth b) l
+truth_never : (places : Kind) (b : Bool) (l : List ℕ) → (length l ≡ 0 → ⊥) → Never_rule places (Truth b) l
 unfolding types_of
 truth_never places b [] ne N K a t u h = ne refl
 truth_never places b (x ∷ l) ne N K a t u h = h
 
-pub negate_never : (places : Kind) (l : List ℕ) → (length l ≡ 1 → ⊥) → Never_rule places (Negate) l
+negate_never : (places : Kind) (l : List ℕ) → (length l ≡ 1 → ⊥) → Never_rule places (Negate) l
 unfolding types_of
 negate_never places [] ne N K a t u h = h
 negate_never places (x ∷ []) ne N K a t u h = ne refl
 negate_never places (x ∷ y ∷ l) ne N K a t u h = h
 
-pub complement_never : (places : Kind) (l : List ℕ) → (length l ≡ 1 → ⊥) → Never_rule places (Complement) l
+complement_never : (places : Kind) (l : List ℕ) → (length l ≡ 1 → ⊥) → Never_rule places (Complement) l
 unfolding types_of
 complement_never places [] ne N K a t u h = h
 complement_never places (x ∷ []) ne N K a t u h = ne refl
 complement_never places (x ∷ y ∷ l) ne N K a t u h = h
 
-pub project_never : (places : Kind) (f : Text) (l : List ℕ) → (length l ≡ 1 → ⊥) → Never_rule places (Project f) l
+project_never : (places : Kind) (f : Text) (l : List ℕ) → (length l ≡ 1 → ⊥) → Never_rule places (Project f) l
 unfolding types_of
 project_never places f [] ne N K a t u h = h
 project_never places f (x ∷ []) ne N K a t u h = ne refl
 project_never places f (x ∷ y ∷ l) ne N K a t u h = h
 
-pub ascribe_never : (places : Kind) (e : FlatType) (l : List ℕ) → (length l ≡ 1 → ⊥) → Never_rule places (Ascribe e) l
+ascribe_never : (places : Kind) (e : FlatType) (l : List ℕ) → (length l ≡ 1 → ⊥) → Never_rule places (Ascribe e) l
 unfolding types_of
 ascribe_never places e [] ne N K a t u h = h
 ascribe_never places e (x ∷ []) ne N K a t u h = ne refl
 ascribe_never places e (x ∷ y ∷ l) ne N K a t u h = h
 
-pub coerce_never : (places : Kind) (e : FlatType) (l : List ℕ) → (length l ≡ 1 → ⊥) → Never_rule places (Coerce e) l
+coerce_never : (places : Kind) (e : FlatType) (l : List ℕ) → (length l ≡ 1 → ⊥) → Never_rule places (Coerce e) l
 unfolding types_of
 coerce_never places e [] ne N K a t u h = h
 coerce_never places e (x ∷ []) ne N K a t u h = ne refl
 coerce_never places e (x ∷ y ∷ l) ne N K a t u h = h
 
-pub declared_never : (places : Kind) (e : FlatType) (l : List ℕ) → (length l ≡ 1 → ⊥) → Never_rule places (Declared e) l
+declared_never : (places : Kind) (e : FlatType) (l : List ℕ) → (length l ≡ 1 → ⊥) → Never_rule places (Declared e) l
 unfolding types_of
 declared_never places e [] ne N K a t u h = h
 declared_never places e (x ∷ []) ne N K a t u h = ne refl
 declared_never places e (x ∷ y ∷ l) ne N K a t u h = h
 
-pub binary_never : (places : Kind) (o : BinOp) (l : List ℕ) → (length l ≡ 2 → ⊥) → Never_rule places (Binary o) l
+binary_never : (places : Kind) (o : BinOp) (l : List ℕ) → (length l ≡ 2 → ⊥) → Never_rule places (Binary o) l
 unfolding types_of
 binary_never places o [] ne N K a t u h = h
 binary_never places o (x ∷ []) ne N K a t u h = h
 binary_never places o (x ∷ y ∷ []) ne N K a t u h = ne refl
 binary_never places o (x ∷ y ∷ z ∷ l) ne N K a t u h = h
 
-pub assert_never : (places : Kind) (l : List ℕ) → (length l ≡ 2 → ⊥) → Never_rule places (Assert) l
+assert_never : (places : Kind) (l : List ℕ) → (length l ≡ 2 → ⊥) → Never_rule places (Assert) l
 unfolding types_of
 assert_never places [] ne N K a t u h = h
 assert_never places (x ∷ []) ne N K a t u h = h
 assert_never places (x ∷ y ∷ []) ne N K a t u h = ne refl
 assert_never places (x ∷ y ∷ z ∷ l) ne N K a t u h = h
 
-pub replace_never : (places : Kind) (f : Text) (l : List ℕ) → (length l ≡ 2 → ⊥) → Never_rule places (Replace f) l
+replace_never : (places : Kind) (f : Text) (l : List ℕ) → (length l ≡ 2 → ⊥) → Never_rule places (Replace f) l
 unfolding types_of
 replace_never places f [] ne N K a t u h = h
 replace_never places f (x ∷ []) ne N K a t u h = h
 replace_never places f (x ∷ y ∷ []) ne N K a t u h = ne refl
 replace_never places f (x ∷ y ∷ z ∷ l) ne N K a t u h = h
 
-pub range_by_never : (places : Kind) (end : End) (l : List ℕ) → (length l ≡ 3 → ⊥) → Never_rule places (Range true end) l
+range_by_never : (places : Kind) (end : End) (l : List ℕ) → (length l ≡ 3 → ⊥) → Never_rule places (Range true end) l
 unfolding types_of
 range_by_never places end [] ne N K a t u h = h
 range_by_never places end (x ∷ []) ne N K a t u h = h
@@ -188,12 +190,39 @@ range_by_never places end (x ∷ y ∷ []) ne N K a t u h = h
 range_by_never places end (x ∷ y ∷ z ∷ []) ne N K a t u h = ne refl
 range_by_never places end (x ∷ y ∷ z ∷ v ∷ l) ne N K a t u h = h
 
-pub range_never : (places : Kind) (end : End) (l : List ℕ) → (length l ≡ 2 → ⊥) → Never_rule places (Range false end) l
+range_never : (places : Kind) (end : End) (l : List ℕ) → (length l ≡ 2 → ⊥) → Never_rule places (Range false end) l
 unfolding types_of
 range_never places end [] ne N K a t u h = h
 range_never places end (x ∷ []) ne N K a t u h = h
 range_never places end (x ∷ y ∷ []) ne N K a t u h = ne refl
 range_never places end (x ∷ y ∷ z ∷ l) ne N K a t u h = h
+
+-- an operation works on no other number of parts
+never_works : (places : Kind) (o : Operation Ref BindId) (l : List ℕ) → (Works_on o (length l) → ⊥) → Never_rule places o l
+never_works places (Integer n t) l ne = integer_never places n t l ne
+never_works places (Truth b) l ne = truth_never places b l ne
+never_works places Tuple_of l ne = absurd (ne tt)
+never_works places (Record_of fs) l ne = absurd (ne tt)
+never_works places Array_of l ne = absurd (ne tt)
+never_works places (Binary o) l ne = binary_never places o l ne
+never_works places Negate l ne = negate_never places l ne
+never_works places Complement l ne = complement_never places l ne
+never_works places (Index ps) l ne = absurd (ne tt)
+never_works places (Project f) l ne = project_never places f l ne
+never_works places Update l ne = absurd (ne tt)
+never_works places (Replace f) l ne = replace_never places f l ne
+never_works places (Ascribe e) l ne = ascribe_never places e l ne
+never_works places (Coerce e) l ne = coerce_never places e l ne
+never_works places (Declared e) l ne = declared_never places e l ne
+never_works places Assert l ne = assert_never places l ne
+never_works places (Range true end) l ne = range_by_never places end l ne
+never_works places (Range false end) l ne = range_never places end l ne
+
+pub refused_count : (places : Kind) (o : Operation Ref BindId) (l : List ℕ) (b : Bool) → b ≡ false → (Works_on o (length l) → b ≡ true) → Never_rule places o l
+refused_count places o l b e w = never_works places o l (λ h. let x : true ≡ false = sym (w h) ∙ e in cc)
+
+pub has_parts : (x y : Act) (n : ℕ) → x ≡ y → Works_on (operation_of x) n → Works_on (operation_of y) n
+has_parts x y n e w = subst (λ z. Works_on (operation_of z) n) e w
 
 -- a type that is written
 abbrev pub Ascribes : Kind → FlatType → Operation Ref BindId → ℕ → Type 0

@@ -2,6 +2,8 @@
 use Rattle.std.specs.Prelude.{ℕ, zero, suc, ◌+◌, Bool, true, ◌&&◌, nat_lt, List, [], ◌∷◌, ◌++◌}
 use Rattle.fut_scalar.specs.declared.scalar.ScalarType.{ScalarType}
 use Rattle.fut_scalar.specs.declared.scalar.ScalarType.TheVariants as scalar
+use Rattle.fut_flat.specs.declared.prim.Primitive.{Primitive}
+use Rattle.fut_flat.specs.declared.prim.Primitive.TheVariants as prim
 use Rattle.fut_types.specs.Types.{Ty, Var, scalar_ty, fun_ty}
 use Rattle.fut_typing.specs.Primitives.{array_ty, pair_ty, triple_ty, bool_ty}
 use Rattle.type_primitives.specs.declared.pieces.Piece.{Piece}
@@ -39,6 +41,21 @@ module _ (own from : ScalarType) where
   -- the type that pieces make
   abbrev pub read : List Piece → Ty
   read ps = last (Var 0) (grow variables ps)
+
+-- the scalar type that a primitive is of or converts to, and the one that it converts from; the others have none
+abbrev pub own_of : Primitive → ScalarType
+own_of (prim.Convert to from) = to
+own_of (prim.Min t) = scalar.Int t
+own_of (prim.Max t) = scalar.Int t
+own_of (prim.Abs t) = scalar.Int t
+own_of (prim.Popc t) = scalar.Int t
+own_of (prim.Lowest t) = scalar.Int t
+own_of (prim.Highest t) = scalar.Int t
+own_of p = scalar.Bool
+
+abbrev pub from_of : Primitive → ScalarType
+from_of (prim.Convert to from) = from
+from_of p = scalar.Bool
 
 -- each names pieces before it, and there are not too many
 abbrev pub is_within : ℕ → Piece → Bool

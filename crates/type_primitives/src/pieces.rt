@@ -1,8 +1,7 @@
 // The types of primitives as data.
 ghost use Rattle.std.specs.Prelude.{◌≡◌, IsTrue};
 ghost use Rattle.fut_typing.specs.Primitives.{prim_type};
-ghost use Rattle.fut_scalar.specs.declared.scalar.ScalarType.TheVariants as scalar;
-ghost use Rattle.type_primitives.specs.Pieces.{are_within, read};
+ghost use Rattle.type_primitives.specs.Pieces.{are_within, from_of, own_of, read};
 
 use fut_flat::Primitive;
 use fut_scalar::{IntType, ScalarType};
@@ -272,23 +271,71 @@ const BOUND: [Piece; 1] = [Piece::Own];
 
 const WIDTH: [Piece; 1] = [Piece::Integer(IntType::I32)];
 
-fn plain(pieces: &'static [Piece]) -> Signature
-    ensures { result ≡ record { pieces = pieces.entry; own = scalar.Bool; from = scalar.Bool } }
+// The pieces of a primitive's type.
+fn pieces_of(primitive: Primitive) -> &'static [Piece]
+    ensures within { IsTrue (are_within 6 result.now) }
+    ensures is { read (own_of primitive) (from_of primitive) result.now ≡ prim_type primitive }
 {
-    Signature {
-        pieces,
-        own: ScalarType::Bool,
-        from: ScalarType::Bool,
+    match primitive {
+        Primitive::Map => &MAP,
+        Primitive::Map2 => &MAP2,
+        Primitive::Map3 => &MAP3,
+        Primitive::Map4 => &MAP4,
+        Primitive::Map5 => &MAP5,
+        Primitive::Reduce | Primitive::ReduceComm => &REDUCE,
+        Primitive::Scan => &SCAN,
+        Primitive::Filter => &FILTER,
+        Primitive::Partition => &PARTITION,
+        Primitive::Scatter => &SCATTER,
+        Primitive::ReduceByIndex => &REDUCE_BY_INDEX,
+        Primitive::Zip => &ZIP,
+        Primitive::Zip3 => &ZIP3,
+        Primitive::Unzip => &UNZIP,
+        Primitive::Unzip3 => &UNZIP3,
+        Primitive::Iota => &IOTA,
+        Primitive::Replicate => &REPLICATE,
+        Primitive::Tabulate => &TABULATE,
+        Primitive::Indices => &INDICES,
+        Primitive::Length => &LENGTH,
+        Primitive::Null => &NULL,
+        Primitive::Head | Primitive::Last => &END,
+        Primitive::Init | Primitive::Tail | Primitive::Reverse => &ONE_ARRAY,
+        Primitive::Take | Primitive::Drop | Primitive::Rotate => &PART,
+        Primitive::Concat => &CONCAT,
+        Primitive::Flatten => &FLATTEN,
+        Primitive::Unflatten => &UNFLATTEN,
+        Primitive::Transpose => &TRANSPOSE,
+        Primitive::Copy => &COPY,
+        Primitive::Convert { .. } => &CONVERT,
+        Primitive::Min(_) | Primitive::Max(_) => &TWO_INTEGERS,
+        Primitive::Abs(_) => &ONE_INTEGER,
+        Primitive::Popc(_) => &COUNT,
+        Primitive::Lowest(_) | Primitive::Highest(_) => &BOUND,
+        Primitive::NumBits(_) => &WIDTH,
     }
 }
 
-fn of_integers(pieces: &'static [Piece], ty: IntType) -> Signature
-    ensures { result ≡ record { pieces = pieces.entry; own = scalar.Int ty; from = scalar.Bool } }
+fn own_type(primitive: Primitive) -> ScalarType
+    ensures { result ≡ own_of primitive }
 {
-    Signature {
-        pieces,
-        own: ScalarType::Int(ty),
-        from: ScalarType::Bool,
+    match primitive {
+        Primitive::Convert { to, .. } => to,
+        Primitive::Min(ty)
+        | Primitive::Max(ty)
+        | Primitive::Abs(ty)
+        | Primitive::Popc(ty)
+        | Primitive::Lowest(ty)
+        | Primitive::Highest(ty) => ScalarType::Int(ty),
+        _ => ScalarType::Bool,
+    }
+}
+
+fn from_type(primitive: Primitive) -> ScalarType
+    ensures { result ≡ from_of primitive }
+{
+    match primitive {
+        Primitive::Convert { from, .. } => from,
+        _ => ScalarType::Bool,
     }
 }
 
@@ -297,53 +344,9 @@ pub fn signature_of(primitive: Primitive) -> Signature
     ensures within { IsTrue (are_within 6 result.pieces.now) }
     ensures is { read result.own result.from result.pieces.now ≡ prim_type primitive }
 {
-    match primitive {
-        Primitive::Map => plain(&MAP),
-        Primitive::Map2 => plain(&MAP2),
-        Primitive::Map3 => plain(&MAP3),
-        Primitive::Map4 => plain(&MAP4),
-        Primitive::Map5 => plain(&MAP5),
-        Primitive::Reduce => plain(&REDUCE),
-        Primitive::ReduceComm => plain(&REDUCE),
-        Primitive::Scan => plain(&SCAN),
-        Primitive::Filter => plain(&FILTER),
-        Primitive::Partition => plain(&PARTITION),
-        Primitive::Scatter => plain(&SCATTER),
-        Primitive::ReduceByIndex => plain(&REDUCE_BY_INDEX),
-        Primitive::Zip => plain(&ZIP),
-        Primitive::Zip3 => plain(&ZIP3),
-        Primitive::Unzip => plain(&UNZIP),
-        Primitive::Unzip3 => plain(&UNZIP3),
-        Primitive::Iota => plain(&IOTA),
-        Primitive::Replicate => plain(&REPLICATE),
-        Primitive::Tabulate => plain(&TABULATE),
-        Primitive::Indices => plain(&INDICES),
-        Primitive::Length => plain(&LENGTH),
-        Primitive::Null => plain(&NULL),
-        Primitive::Head => plain(&END),
-        Primitive::Last => plain(&END),
-        Primitive::Init => plain(&ONE_ARRAY),
-        Primitive::Tail => plain(&ONE_ARRAY),
-        Primitive::Take => plain(&PART),
-        Primitive::Drop => plain(&PART),
-        Primitive::Reverse => plain(&ONE_ARRAY),
-        Primitive::Rotate => plain(&PART),
-        Primitive::Concat => plain(&CONCAT),
-        Primitive::Flatten => plain(&FLATTEN),
-        Primitive::Unflatten => plain(&UNFLATTEN),
-        Primitive::Transpose => plain(&TRANSPOSE),
-        Primitive::Copy => plain(&COPY),
-        Primitive::Convert { to, from } => Signature {
-            pieces: &CONVERT,
-            own: to,
-            from,
-        },
-        Primitive::Min(ty) => of_integers(&TWO_INTEGERS, ty),
-        Primitive::Max(ty) => of_integers(&TWO_INTEGERS, ty),
-        Primitive::Abs(ty) => of_integers(&ONE_INTEGER, ty),
-        Primitive::Popc(ty) => of_integers(&COUNT, ty),
-        Primitive::Lowest(ty) => of_integers(&BOUND, ty),
-        Primitive::Highest(ty) => of_integers(&BOUND, ty),
-        Primitive::NumBits(ty) => of_integers(&WIDTH, ty),
+    Signature {
+        pieces: pieces_of(primitive),
+        own: own_type(primitive),
+        from: from_type(primitive),
     }
 }

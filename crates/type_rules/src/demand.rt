@@ -54,66 +54,28 @@ fn put_one(
         Demand::Has(i, kind) => {
             assert_task(alloc, table, base, nodes, entries, Task::Has(i, kind, FAR))
         }
+        Demand::Part(i, label, part) => {
+            let task = Task::Part(i, label, part);
+            assert_task(alloc, table, base, nodes, entries, task)
+        }
         Demand::Is(i, scalar) => {
-            assert_made(
-                alloc,
-                table,
-                base,
-                nodes,
-                entries,
-                i,
-                Head::Scalar(scalar),
-                &[],
-            )
+            let head = Head::Scalar(scalar);
+            assert_made(alloc, table, base, nodes, entries, i, head, &[])
         }
         Demand::Array(i, j) => {
             assert_made(alloc, table, base, nodes, entries, i, Head::Array, &[j])
         }
         Demand::Fun(i, from, to) => {
-            assert_made(
-                alloc,
-                table,
-                base,
-                nodes,
-                entries,
-                i,
-                Head::Fun,
-                &[from, to],
-            )
+            let parts = [from, to];
+            assert_made(alloc, table, base, nodes, entries, i, Head::Fun, &parts)
         }
         Demand::Pair(i, first, second) => {
-            assert_made(
-                alloc,
-                table,
-                base,
-                nodes,
-                entries,
-                i,
-                Head::Tuple,
-                &[first, second],
-            )
+            let parts = [first, second];
+            assert_made(alloc, table, base, nodes, entries, i, Head::Tuple, &parts)
         }
         Demand::Triple(i, first, second, third) => {
-            assert_made(
-                alloc,
-                table,
-                base,
-                nodes,
-                entries,
-                i,
-                Head::Tuple,
-                &[first, second, third],
-            )
-        }
-        Demand::Part(i, label, part) => {
-            assert_task(
-                alloc,
-                table,
-                base,
-                nodes,
-                entries,
-                Task::Part(i, label, part),
-            )
+            let parts = [first, second, third];
+            assert_made(alloc, table, base, nodes, entries, i, Head::Tuple, &parts)
         }
     }
 }

@@ -1,4 +1,4 @@
-use Rattle.std.proofs.Common.{◌≤◌, ◌<◌, ◌+◌, ◌++◌, List, [], ◌∷◌, map, take, slice_index_or, subst, sym, ◌∙◌, ap, refl, arith}
+use Rattle.std.proofs.Common.{◌≡◌, ◌≤◌, ◌<◌, ◌+◌, ◌++◌, List, [], ◌∷◌, map, take, slice_index_or, subst, sym, ◌∙◌, ap, refl, arith}
 use Rattle.fut_flat.specs.Numbers.{numbers, all_numbers}
 use Rattle.fut_flat.specs.Erased.{FlatTerm, operation_of, parameters, term_of, terms}
 use Rattle.type_uses.specs.Uses.{type_numbers}
@@ -13,13 +13,13 @@ use Rattle.type_constraints.proofs.Forms.{apply_ok, apply_err3, refused_apply, r
 use Rattle.type_constraints.proofs.Rows.{gone_none, gone_more, gone_refused, falls_in, room_in, take_more, at_place, starts_below, Gone_over, strict_ok, refused_strict, strict_err2}
 use Rattle.fut_flat.specs.declared.exp.Exp.{Exp}
 use Rattle.type_graph.specs.Graph.{Each}
-use Rattle.type_constraints.specs.Parts.{starts, pattern_starts}
+use Rattle.type_constraints.specs.Parts.{starts, pattern_starts, Terms_claim, Terms_homes}
 use Rattle.type_constraints.proofs.Functions.{lambda_ok, lambda_err1, lambda_err2, lambda_err3, starts_below as pattern_starts_below}
 use Rattle.fut_flat.specs.Numbers.{all_pattern_numbers}
 use Rattle.fut_flat.specs.Erased.{Row, pattern_of, patterns}
 use Rattle.fut_flat.proofs.ErasedForms.{row_of}
 use Rattle.fut_typing.specs.Rows.{behind, behind_all, env_rows}
-use Rattle.type_scopes.specs.Scopes.{Opened}
+use Rattle.type_scopes.specs.Scopes.{Claimed, Opened}
 use Rattle.type_scopes.proofs.Binding.{if_ok as ok_also, record_is, take_all}
 use Rattle.type_constraints.specs.Parts.{Rows_claim, Rows_homes, row_starts}
 use Rattle.type_constraints.proofs.Lets.{Lets_open, lets_none, lets_more, lets_refused, lets_err1, lets_err2, lets_err3, lets_ok, numbers_lets, behind_from, some_rows, row_starts_below, row_falls, row_room, row_split, row_more, value_is}
@@ -473,3 +473,60 @@ constrain_function-returns-in-Record-clause-err t c = function_refused c.args.pl
 
 pub constrain_function-returns-in-Typed-clause-err : goal.constrain_function-returns-in-Typed-clause-err
 constrain_function-returns-in-Typed-clause-err t c = function_refused c.args.places c.args.base c.args.depth c.args.lo c.args.one.now c.requires.function c.args.inference.now c.requires.safe (subst (λ (p : FlatPattern). Function_name c.args.one.now.sizes.now p → ⊥) (sym (pattern_typed c.args.one.now.pat c.in-Typed.field-0 c.in-Typed.field-1 c.in-Typed.is)) (no_typed c.args.one.now.sizes.now _ _))
+
+pub constrain_apply-constrain-requires : goal.constrain_apply-constrain-requires
+constrain_apply-constrain-requires t c = (omega arith, (c.requires.safe, omega (arith, c.requires.room)))
+
+pub constrain_apply-returns-in-Ok-demand-clause-next : goal.constrain_apply-returns-in-Ok-demand-clause-next
+constrain_apply-returns-in-Ok-demand-clause-next t c = omega (arith, c.in-Ok.ensures.next, c.in-Ok-constrain.ensures.next)
+
+pub constrain_if-constrain-requires : goal.constrain_if-constrain-requires
+constrain_if-constrain-requires t c = (omega arith, (c.requires.safe, omega (arith, c.requires.room)))
+
+pub constrain_if-returns-in-Ok-demand-clause-next : goal.constrain_if-returns-in-Ok-demand-clause-next
+constrain_if-returns-in-Ok-demand-clause-next t c = omega (arith, c.in-Ok.ensures.next, c.in-Ok-constrain.ensures.next, c.in-Ok-constrain-2.ensures.next)
+
+pub constrain_parts-returns-clause-next : goal.constrain_parts-returns-clause-next
+constrain_parts-returns-clause-next t c = subst (λ (l : List Exp). c.loop-part.at ≡ c.args.lo + all_numbers (terms (map term_of l))) (take_all c.args.parts.now c.loop-part.part-index c.loop-part-test.false) c.loop-part.invariant.next
+
+pub constrain_parts-returns-clause-begins : goal.constrain_parts-returns-clause-begins
+constrain_parts-returns-clause-begins t c = subst (λ (l : List Exp). c.loop-part.begins ≡ c.args.begins.now ++ starts (terms (map term_of l)) c.args.lo) (take_all c.args.parts.now c.loop-part.part-index c.loop-part-test.false) c.loop-part.invariant.noted
+
+pub constrain_parts-returns-clause-ok : goal.constrain_parts-returns-clause-ok
+constrain_parts-returns-clause-ok t c = subst (λ (l : List Exp). Claimed c.args.places c.args.base c.args.depth c.args.lo (Terms_claim c.args.places (terms (map term_of l)) c.args.lo) (Terms_homes c.args.depth (terms (map term_of l)) c.args.lo) c.args.inference.now c.loop-part.inference) (take_all c.args.parts.now c.loop-part.part-index c.loop-part-test.false) c.loop-part.invariant.claimed
+
+pub constrain_strict-constrain_parts-requires : goal.constrain_strict-constrain_parts-requires
+constrain_strict-constrain_parts-requires t c = (omega (arith, own_some (operation_of c.args.act.now)), (c.requires.safe, omega (arith, c.requires.room, c.own_numbers_of.ensures)))
+
+pub constrain_strict-returns-in-Ok-constrain_rule-clause-next : goal.constrain_strict-returns-in-Ok-constrain_rule-clause-next
+constrain_strict-returns-in-Ok-constrain_rule-clause-next t c = omega (arith, c.in-Ok.ensures.next, c.own_numbers_of.ensures)
+
+pub constrain_rows-returns-clause-next : goal.constrain_rows-returns-clause-next
+constrain_rows-returns-clause-next t c = subst (λ l. c.loop-one.at ≡ behind_all (map row_of l) c.args.lo) (take_all c.args.lets.now c.loop-one.one-index c.loop-one-test.false) c.loop-one.invariant.next
+
+pub constrain_rows-returns-clause-begins : goal.constrain_rows-returns-clause-begins
+constrain_rows-returns-clause-begins t c = subst (λ l. c.loop-one.begins ≡ c.args.begins.now ++ row_starts (map row_of l) c.args.lo) (take_all c.args.lets.now c.loop-one.one-index c.loop-one-test.false) c.loop-one.invariant.noted
+
+pub constrain_row-constrain_function-requires : goal.constrain_row-constrain_function-requires
+constrain_row-constrain_function-requires t c = (omega arith, (c.requires.safe, (c.requires.room, c.if-one.true)))
+
+pub constrain_bound-returns-in-Ok-demand-clause-next : goal.constrain_bound-returns-in-Ok-demand-clause-next
+constrain_bound-returns-in-Ok-demand-clause-next t c = omega (arith, c.in-Ok-constrain_pattern.ensures.next, c.in-Ok-constrain.ensures.next)
+
+pub constrain_while-returns-in-Ok-demand-clause-next : goal.constrain_while-returns-in-Ok-demand-clause-next
+constrain_while-returns-in-Ok-demand-clause-next t c = omega (arith, c.in-Ok.ensures.next, c.in-Ok-constrain.ensures.next)
+
+pub constrain_counted-enter_pattern-requires-clause-room : goal.constrain_counted-enter_pattern-requires-clause-room
+constrain_counted-enter_pattern-requires-clause-room t c = omega (arith, c.requires.room)
+
+pub constrain_counted-returns-in-Ok-enter-clause-next : goal.constrain_counted-returns-in-Ok-enter-clause-next
+constrain_counted-returns-in-Ok-enter-clause-next t c = omega (arith, c.in-Ok.ensures.next, c.in-Ok-constrain.ensures.next)
+
+pub constrain_over-enter_pattern-requires-clause-room : goal.constrain_over-enter_pattern-requires-clause-room
+constrain_over-enter_pattern-requires-clause-room t c = omega (arith, c.requires.room)
+
+pub constrain_over-enter_pattern-requires-2-clause-room : goal.constrain_over-enter_pattern-requires-2-clause-room
+constrain_over-enter_pattern-requires-2-clause-room t c = omega (arith, c.requires.room, c.in-Ok.ensures.next)
+
+pub constrain_definition-returns-in-Ok-generalise-clause-next : goal.constrain_definition-returns-in-Ok-generalise-clause-next
+constrain_definition-returns-in-Ok-generalise-clause-next t c = omega (arith, c.in-Ok-constrain.ensures.next)

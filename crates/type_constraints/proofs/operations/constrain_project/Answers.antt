@@ -2,7 +2,7 @@ use Rattle.std.proofs.Common.{slice_index_or}
 use Rattle.fut_flat.specs.Terms.{Project}
 use Rattle.fut_types.specs.Types.{none, more}
 use Rattle.type_rules.proofs.Adding.{on_ok, if_err}
-use Rattle.type_constraints.proofs.Ruling.{types_one, never_err, project_never}
+use Rattle.type_constraints.proofs.Ruling.{types_one}
 use Rattle.type_patterns.proofs.Labelling.{later_labels}
 use Rattle.type_constraints.proofs.Labelling.{labelled_ok, labelled_err}
 use Rattle.type_constraints.proofs.operations.constrain_project.Goals as goal
@@ -10,11 +10,8 @@ use Rattle.type_constraints.proofs.operations.constrain_project.Goals as goal
 pub demand-requires-clause-safe : goal.demand-requires-clause-safe
 demand-requires-clause-safe c = (later_labels c.args.base c.args.inference.now c.label.new.labels c.label.new.table c.requires.safe c.in-Ok.ensures.is c.in-Ok.ensures.on).safe
 
-pub returns-in-Ok-clause-ok : goal.returns-in-Ok-clause-ok
-returns-in-Ok-clause-ok c = rw c.in-Project.is (on_ok c.demand.result (labelled_ok c.args.base c.args.inference.now c.label.new.labels c.label.new.table c.requires.safe c.in-Ok.ensures.is c.in-Ok.ensures.on c.args.places c.args.lo (Project c.in-Project.text.now) c.args.parts.now (λ N E K a l. tt) (λ a. more (a (slice_index_or c.args.parts.now 0 0)) none) (λ a. types_one a c.args.parts.now c.if-parts-ne1.false) c.projection.result c.in-Project.text.now c.in-Ok.number c.in-Ok.ensures.number (λ N e K a. c.projection.ensures.says N c.args.places c.in-Project.text.now e K a) c.projection.ensures.allowed c.demand.new.inference) c.demand.ensures.ok)
+pub returns-clause-ok : goal.returns-clause-ok
+returns-clause-ok c = on_ok c.demand.result (λ f places. labelled_ok c.args.base c.args.inference.now c.label.new.labels c.label.new.table c.requires.safe c.in-Ok.ensures.is c.in-Ok.ensures.on places c.args.lo (Project c.args.name.now) c.args.parts.now (λ N E K a l. tt) (λ a. more (a (slice_index_or c.args.parts.now 0 0)) none) (λ a. types_one a c.args.parts.now c.requires.few) c.projection.result c.args.name.now c.in-Ok.number c.in-Ok.ensures.number (λ N e K a. c.projection.ensures.says N places c.args.name.now e K a) c.projection.ensures.allowed c.demand.new.inference f) c.demand.ensures.ok
 
-pub returns-in-Ok-clause-err : goal.returns-in-Ok-clause-err
-returns-in-Ok-clause-err c = rw c.in-Project.is (if_err c.demand.result (labelled_err c.args.base c.args.inference.now c.label.new.labels c.label.new.table c.requires.safe c.in-Ok.ensures.is c.in-Ok.ensures.on c.args.places c.args.lo (Project c.in-Project.text.now) c.args.parts.now (λ N E K a l. tt) (λ a. more (a (slice_index_or c.args.parts.now 0 0)) none) (λ a. types_one a c.args.parts.now c.if-parts-ne1.false) c.projection.result c.in-Project.text.now c.in-Ok.number c.in-Ok.ensures.number (λ N e K a. c.projection.ensures.says N c.args.places c.in-Project.text.now e K a) c.projection.ensures.allowed c.demand.new.inference) c.demand.ensures.err)
-
-pub returns-then-parts-ne1-clause-err : goal.returns-then-parts-ne1-clause-err
-returns-then-parts-ne1-clause-err c = rw c.in-Project.is (never_err c.args.places c.args.base c.args.lo (Project c.in-Project.text.now) c.args.parts.now c.args.inference.now c.requires.safe (project_never c.args.places c.in-Project.text.now c.args.parts.now c.if-parts-ne1.true))
+pub returns-clause-err : goal.returns-clause-err
+returns-clause-err c = if_err c.demand.result (λ f places. labelled_err c.args.base c.args.inference.now c.label.new.labels c.label.new.table c.requires.safe c.in-Ok.ensures.is c.in-Ok.ensures.on places c.args.lo (Project c.args.name.now) c.args.parts.now (λ N E K a l. tt) (λ a. more (a (slice_index_or c.args.parts.now 0 0)) none) (λ a. types_one a c.args.parts.now c.requires.few) c.projection.result c.args.name.now c.in-Ok.number c.in-Ok.ensures.number (λ N e K a. c.projection.ensures.says N places c.args.name.now e K a) c.projection.ensures.allowed c.demand.new.inference f) c.demand.ensures.err
