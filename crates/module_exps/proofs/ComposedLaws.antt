@@ -24,8 +24,6 @@ use Rattle.module_exps.specs.Heads.{Gathered, gathered, no_left, no_left_functio
 use Rattle.module_exps.specs.Lists.{is_then, operation_in}
 use Rattle.module_exps.proofs.Above.{back, one_above}
 
-pub ruleset gathering_rules = (gathered, no_left, no_left_function, no_right, no_right_function, no_argument)
-
 -- behind both functions
 abbrev second_step : Place → Bool → SourceTerm → Scope → BindId → FlatTerm → List Text → Numbered FlatTerm
 second_step at first g sc l f m = after (resolve g (a_value left_function l ∷ sc) (with_text m right_function)) (λ w k. Ok (composition at first l f (next m) w (next k), with_text k composed_name))

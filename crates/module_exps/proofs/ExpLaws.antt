@@ -23,19 +23,17 @@ use Rattle.module_scopes.specs.Resolve.{Numbered, after, resolve, resolve_parame
 use Rattle.module_scopes.specs.Scopes.{Scope, value_of}
 use Rattle.module_scopes.specs.Answers.{Walked, Went, went, refused, no_memory, Entered}
 use Rattle.module_scopes.specs.Table.{scope_of, made_of, outside}
-use Rattle.module_scopes.specs.Walks.{Doing}
-use Rattle.module_scopes.proofs.Walking.{doing_start, doing_next, doing_stops, doing_end}
+use Rattle.module_scopes.specs.Walks.{Doing, each}
+use Rattle.module_scopes.proofs.Walking.{doing_start, doing_next, doing_stops}
 use Rattle.module_nodes.specs.Built.{Built2, Built3}
 use Rattle.module_nodes.proofs.Steps.{of_two, of_three}
 use Rattle.module_types.specs.Bindings.{parameters_of}
+use Rattle.module_exps.specs.Lists.{Put, put, no_item, no_room}
 use Rattle.module_exps.specs.Order.{is_named, is_turned}
 use Rattle.module_exps.specs.Parts.{exp_part, source_of}
 use Rattle.module_exps.proofs.HeldExps.{exp_held, held_layer, place_held}
-use Rattle.module_exps.proofs.Grouping.{group_held}
-use Rattle.module_exps.proofs.StrictLaws.{none_went, one_went, two_went, three_went, binary_went, listed_went, ascribed_went, coerced_went, declared_went, plain_rules, record_names}
-use Rattle.module_exps.proofs.RowLaws.{lets_went}
-use Rattle.module_exps.proofs.TurnLaws.{loop_went, loop_stops}
-use Rattle.module_exps.proofs.ComposedLaws.{composed_at}
+use Rattle.module_exps.proofs.RowLaws.{rows_start}
+use Rattle.module_exps.proofs.StrictLaws.{declared_went}
 use Rattle.module_exps.proofs.Above.{parameters_rise, scoped}
 
 -- where a name stands changes nothing of what it is
@@ -81,6 +79,9 @@ pub behind_went : (f e : SourceExp) (s t u : Names) (a b c : Result Flat Stop) �
 unfolding source_of is_named is_turned
 behind_went f e s t u a b c is p q w = subst (λ does. Went term_of does s u c) (sym (application (placed f) (placed e) true is)) (of_two (λ x g. Apply g x) p q w)
 
+pub turned_alike : (f g a b : Bor SourceExp) → held_form.Apply f a ≡ held_form.Apply g b → is_turned f.now a.now ≡ false → is_turned g.now b.now ≡ false
+turned_alike f g a b same is = cc
+
 pub choice_went : (c a b : SourceTerm) (s t u v : Names) (x y z d : Result Flat Stop) → Went term_of (resolve c) s t x → Went term_of (resolve a) t u y → Went term_of (resolve b) u v z
     → Built3 (λ c a b w. term_of w ≡ If (term_of c) (term_of a) (term_of b)) x y z d → Went term_of (resolve (If c a b)) s v d
 unfolding resolve
@@ -98,23 +99,6 @@ lambda_went ps e s s1 s2 u h a b d params w hs out mk q =
 pub exp_went : {s t : Names} {c : Result Flat Stop} (e : Inside) (v : SourceExp) (f : Form) → exp_of e ≡ v → e.form ≡ f → Went term_of (resolve (held_layer f e.place e.mark)) s t c → Went term_of (resolve (source_of v)) s t c
 exp_went {s = s} {t = t} {c = c} e v f stands is w = subst (λ x. Went term_of (resolve (source_of x)) s t c) stands (subst (λ x. Went term_of (resolve x) s t c) (sym (exp_held e)) (subst (λ g. Went term_of (resolve (held_layer g e.place e.mark)) s t c) (sym is) w))
 
--- a range, with its second element or without
-pub range_went : {s t : Names} {c : Result Flat Stop} (e : Inside) (v : SourceExp) (a b : Bor SourceExp) (o : Option (Bor SourceExp)) (end : End) → exp_of e ≡ v → e.form ≡ held_form.Range a o end b → o ≡ None
-    → Went term_of (resolve (Strict (Range false end) e.mark (source.two (source_of a.now) (source_of b.now)))) s t c → Went term_of (resolve (source_of v)) s t c
-range_went e v a b o end stands is none w = exp_went e v (held_form.Range a None end b) stands (is ∙ ap (λ n. held_form.Range a n end b) none) w
-
-pub stepped_went : {s t : Names} {c : Result Flat Stop} (e : Inside) (v : SourceExp) (a n b : Bor SourceExp) (o : Option (Bor SourceExp)) (end : End) → exp_of e ≡ v → e.form ≡ held_form.Range a o end b → o ≡ Some n
-    → Went term_of (resolve (Strict (Range true end) e.mark (source.three (source_of a.now) (source_of n.now) (source_of b.now)))) s t c → Went term_of (resolve (source_of v)) s t c
-stepped_went e v a n b o end stands is some w = exp_went e v (held_form.Range a (Some n) end b) stands (is ∙ ap (λ n. held_form.Range a n end b) some) w
-
-pub ruleset form_rules = (exp_held, group_held, apply_went, behind_went, choice_went, lambda_went, lets_went)
-
-pub ruleset loop_rules = (exp_held, group_held, binary_went, composed_at, loop_went, loop_stops)
-
-pub ruleset strict_rules = (exp_held, group_held, none_went, one_went, two_went, three_went, listed_went, ascribed_went, coerced_went, plain_rules)
-
-pub ruleset list_form_rules = (exp_held, group_held, record_names, listed_went, plain_rules, no_memory)
-
 -- ---- bodies with a declared type
 
 pub plain_body : (e : SourceExp) (s t : Names) (c : Result Flat Stop) → Went term_of (resolve (source_of e)) s t c → Went term_of (resolve (declared None (placed e))) s t c
@@ -127,20 +111,20 @@ pub typed_body : (e : SourceExp) (y : SourceType) (at : Place) (s t u : Names) (
 unfolding source_of
 typed_body e y at s t u a b c is q w1 w2 = subst (λ p. Went term_of (resolve (Strict (Declared (source_type y)) p (term_and ((placed e).term) no_term))) s u c) (sym is) (declared_went (source_type y) ((placed e).term) at s t u a b c q w1 w2)
 
-pub ruleset body_rules = (plain_body, typed_body, place_held)
-
 -- ---- lists
 
-pub part_made : (h : Held SourceExp) (s t : Names) (a : Flat) → Went term_of (resolve (source_of h.at.now)) s t (Ok a) → Went term_of (exp_part h) s t (Ok a)
+part_went : (h : Held SourceExp) (s t : Names) (r : Result Flat Stop) → Went term_of (resolve (source_of h.at.now)) s t r → Went term_of (exp_part h) s t r
 unfolding exp_part
-part_made h s t a w = w
+part_went h s t r w = w
 
-pub part_stops : (h : Held SourceExp) (s t : Names) (e : Stop) → Went term_of (resolve (source_of h.at.now)) s t (Err e) → Went term_of (exp_part h) s t (Err e)
-unfolding exp_part
-part_stops h s t e w = w
-
-pub part_next : (xs : List (Held SourceExp)) (s t u : Names) (i : ℕ) (h : Held SourceExp) (done more : List Flat) (a : Flat) → i < length xs → h ≡ get_or xs i h → Went term_of (resolve (source_of h.at.now)) t u (Ok a) → more ≡ done ++ a ∷ []
+-- what a walk over one gave
+pub part_put : (xs : List (Held SourceExp)) (s t u : Names) (i : ℕ) (h : Held SourceExp) (done more : List Flat) (r : Result Flat Stop) (w : Unit {0}) → i < length xs → h ≡ get_or xs i h → Went term_of (resolve (source_of h.at.now)) t u r → Put r done more (Ok w)
     → Doing made_of term_of exp_part xs s (drop i xs) done t → Doing made_of term_of exp_part xs s (drop (i + 1) xs) more u
-part_next xs s t u i h done more a k is w so d = subst (λ l. Doing made_of term_of exp_part xs s (drop (i + 1) xs) l u) (sym so) (doing_next xs s t u i h done a k is (part_made h t u a w) d)
+part_put xs s t u i h done more _ w k is p (put {x = a} so) d = subst (λ l. Doing made_of term_of exp_part xs s (drop (i + 1) xs) l u) (sym so) (doing_next xs s t u i h done a k is (part_went h t u (Ok a) p) d)
 
-pub ruleset part_rules = (doing_start, doing_next, doing_stops, doing_end, part_made, part_stops, no_memory)
+pub part_put_stops : {Q : Type 0} {show : Q → List FlatTerm} (xs : List (Held SourceExp)) (s t u : Names) (i : ℕ) (h : Held SourceExp) (done more : List Flat) (r : Result Flat Stop) (e : Stop) → i < length xs → h ≡ get_or xs i h → Went term_of (resolve (source_of h.at.now)) t u r → Put r done more (Err e)
+    → Doing made_of term_of exp_part xs s (drop i xs) done t → Went show (each exp_part xs) s u (Err e)
+part_put_stops xs s t u i h done more _ e k is p no_item d = doing_stops xs s t u i h done e k is (part_went h t u (Err e) p) d
+part_put_stops xs s t u i h done more r _ k is p no_room d = no_memory
+
+pub ruleset start_rules = (doing_start, rows_start)

@@ -1,8 +1,13 @@
 -- Size names with a pattern, and names that stand for a while.
-use Rattle.std.proofs.Common.{◌≡◌, ℕ, List, length, refl, sym, ◌∙◌, ap, Result, Ok, Err}
+use Rattle.std.proofs.Common.{◌≡◌, ℕ, List, length, refl, sym, ◌∙◌, ap, subst, Result, Ok, Err}
+use Rattle.fut_scalar.specs.declared.place.BindId.{BindId}
 use Rattle.fut_ast.specs.Sorts.{Text}
+use Rattle.fut_ast.specs.declared.pat.Head.{Head as PlainHead}
 use Rattle.fut_flat.specs.Sources.{SourcePattern}
+use Rattle.module_scopes.specs.declared.refusal.Refusal.{Refusal as HeldRefusal}
 use Rattle.module_scopes.specs.declared.refusal.Stop.{Stop}
+use Rattle.module_scopes.specs.declared.refusal.Stop.TheVariants as stop
+use Rattle.module_scopes.specs.Names.{Refusal}
 use Rattle.module_scopes.specs.declared.table.Names.{Names}
 use Rattle.module_scopes.specs.declared.table.Entry.{Entry as HeldEntry}
 use Rattle.module_scopes.specs.Scopes.{enter}
@@ -12,9 +17,9 @@ use Rattle.module_scopes.specs.Table.{scope_of, made_of, entries_of, outside}
 use Rattle.module_nodes.proofs.Steps.{Does}
 use Rattle.module_types.specs.declared.binds.Sizes.{Sizes}
 use Rattle.module_types.specs.declared.pats.Bound.{Bound as HeldBound}
-use Rattle.module_types.specs.Bindings.{Brings, brings, brings_not, bound_pattern_of, bound_sizes_of, sizes_numbered}
+use Rattle.module_types.specs.Bindings.{Brings, brings, brings_not, bound_heads_of, bound_pattern_of, bound_sizes_of, heads_numbered, sizes_numbered}
 use Rattle.module_exps.specs.declared.heads.Head.{Head}
-use Rattle.module_exps.specs.Heads.{head_of, Behind, now_behind, not_behind}
+use Rattle.module_exps.specs.Heads.{head_of, Behind, now_behind, not_behind, Brought_head, not_brought_head, Brought_name, not_brought_name, Brought_pattern, not_brought_pattern, Brought_heads, not_brought_heads}
 use Rattle.module_exps.specs.Parts.{Headed, behind, inside_pattern, sized_pattern}
 use Rattle.module_exps.proofs.Above.{back, enter_above, above_all}
 
@@ -68,8 +73,6 @@ pub sized_second : (xs : List Text) (p : SourcePattern) (s s1 s2 s3 : Names) (z 
 unfolding sized_pattern
 sized_second xs p s s1 s2 s3 z w e ws bs wp = within_second {vx = bound_sizes_of} {vy = bound_pattern_of} (sizes_numbered xs) (resolve_pattern p) (λ s p. (s, p)) s s1 s2 s3 z z.names.now w e ws refl bs wp
 
-pub ruleset head_rules = (sized_made, sized_first, sized_second, bring_stops, no_memory)
-
 -- ---- what both bring
 
 pub both_bring : (h : Head) (s t u : Names) (w : Unit {0}) (r : Result (Unit {0}) Stop) → Brings h.sizes.names.now s t (Ok w) → Brings h.pat.names.now t u r → Behind (head_of h) s u r
@@ -99,4 +102,27 @@ element_stops p h s s1 s2 w _ (now_behind sb mb) no_memory = no_memory
 pub behind_stops : {A R : Type 0} {view : R → A} (does : Does (List Text) A) (h : Headed) (s t u v : Names) (e : Stop) → Behind h t u (Err e) → Went view does s v (Err e)
 behind_stops does h s t u v _ not_behind = no_memory
 
-pub ruleset element_rules = (element_made, element_stops, behind_stops)
+-- ---- what memory stops
+
+pub head_gone : {r : Result Head Stop} {h : Headed} {s t u v : Names} {e : Stop} → Behind h s t (Err e) → Brought_head r u v (Err e)
+head_gone not_behind = not_brought_head
+
+pub name_gone : {x : Text} {b : Result BindId Stop} {h : Headed} {s t u v : Names} {e : Stop} → Behind h s t (Err e) → Brought_name h x b u v (Err e)
+name_gone not_behind = not_brought_name
+
+pub pattern_gone : {r : Result HeldBound Stop} {h : Headed} {s t u v : Names} {e : Stop} → Behind h s t (Err e) → Brought_pattern h r u v (Err e)
+pattern_gone not_behind = not_brought_pattern
+
+pub pattern_names_gone : {r : Result HeldBound Stop} {h : Headed} {es : List HeldEntry} {s t u v : Names} {e : Stop} → Brings es s t (Err e) → Brought_pattern h r u v (Err e)
+pattern_names_gone brings_not = not_brought_pattern
+
+pub heads_names_gone : {hs : List (PlainHead Text)} {es : List HeldEntry} {s t u v : Names} {e : Stop} → Brings es s t (Err e) → Brought_heads hs u v (Err e)
+heads_names_gone brings_not = not_brought_heads
+
+no_refusal : {A : Type 0} {x : A} {r : Refusal} {q : HeldRefusal} → Ok x ≡ Err r → stop.Refused q ≡ stop.Memory
+no_refusal g = cc
+
+pub heads_gone : {hs : List (PlainHead Text)} {s t u v : Names} {e : Stop} → Went bound_heads_of (heads_numbered hs) s t (Err e) → Brought_heads hs u v (Err e)
+unfolding heads_numbered
+heads_gone {hs = hs} {u = u} {v = v} (refused g) = subst (λ z. Brought_heads hs u v (Err z)) (sym (no_refusal g)) not_brought_heads
+heads_gone no_memory = not_brought_heads

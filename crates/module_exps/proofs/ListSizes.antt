@@ -1,9 +1,12 @@
 -- The expressions of a list of other parts are smaller than the expression that holds the list, as walks measure both.
-use Rattle.std.proofs.Common.{◌≡◌, ℕ, ◌+◌, ◌*◌, ◌≤◌, ◌<◌, ◌++◌, List, [], ◌∷◌, None, Some, map, subst, ap, arith}
+use Rattle.std.proofs.Common.{◌≡◌, ℕ, ◌+◌, ◌*◌, ◌≤◌, ◌<◌, ◌++◌, List, [], ◌∷◌, Option, None, Some, map, subst, arith}
 use Rattle.std.specs.Borrow.{Bor}
 use Prim.Native.Nat.{max}
 use denote.Param.Weighed.{most}
-use Rattle.fut_ast.specs.Sorts.{SourceExp}
+use Rattle.fut_ast.specs.Sorts.{Path, Text, SourceExp}
+use Rattle.fut_ast.specs.declared.exp.Form.TheViews.{size_roll-Exp}
+use Rattle.fut_ast.specs.declared.node.End.{End}
+use Rattle.fut_ast.specs.declared.node.Oper.{Oper}
 use Rattle.fut_tree.specs.declared.held.Held.{Held}
 use Rattle.fut_tree.specs.declared.exp.Exp.TheInside.{Inside}
 use Rattle.fut_tree.specs.declared.exp.Exp.TheDeep.{deep-Form, size-Exp, size-ExpField, size-Ix}
@@ -13,16 +16,13 @@ use Rattle.fut_tree.specs.declared.exp.ExpField.{ExpField}
 use Rattle.fut_tree.specs.declared.exp.Ix.{Ix}
 use Rattle.fut_tree.specs.declared.exp.Ix.TheVariants as held_ix
 use Rattle.fut_tree.specs.Names.{all}
-use Rattle.fut_tree.specs.Exps.{exp_of, exp_size}
+use Rattle.fut_tree.specs.Exps.{exp_of, exp_size, form_of}
 use Rattle.fut_tree.specs.ExpsFall.{exp_falls}
-use Rattle.fut_tree.proofs.Sizes.{exps_size, record_parts, index_parts, update_parts}
-use Rattle.module_exps.specs.Lists.{all_exps, exps_of}
+use Rattle.fut_tree.proofs.Sizes.{exps_size, tuple_parts, array_parts, record_parts, index_parts, update_parts}
+use Rattle.module_exps.specs.Lists.{all_exps, exps_of, maybe_exp}
+use Rattle.module_exps.specs.Operations.{biggest}
 
-abbrev biggest : List SourceExp → ℕ
-biggest [] = 0
-biggest (e ∷ es) = max (size-Exp e) (biggest es)
-
-held_biggest : (hs : List (Held SourceExp)) → exps_size hs ≤ biggest (all hs)
+pub held_biggest : (hs : List (Held SourceExp)) → exps_size hs ≤ biggest (all hs)
 held_biggest [] = omega arith
 held_biggest (h ∷ hs) = omega (arith, held_biggest hs)
 
@@ -54,11 +54,36 @@ module _ (e : Inside) (v : SourceExp) (stands : exp_of e ≡ v) where
   under : (f : Form) → e.form ≡ f → deep-Form f ≤ exp_size v
   under f is = subst (λ g. deep-Form g ≤ exp_size v) is (subst (λ w. deep-Form e.form ≤ exp_size w) stands (omega (arith, exp_falls e)))
 
-  pub record_list : (fs : Bor (List ExpField)) (hs : List (Held SourceExp)) → e.form ≡ held_form.Record fs → all hs ≡ map (λ (f : ExpField). f.exp.now) fs.now → 2 * exps_size hs + 1 < 2 * size-Exp v
-  record_list fs hs is same = omega (arith, record_parts e v stands fs is, held_biggest hs, ap biggest same, fields_biggest fs.now)
+  pub none_smaller : 0 < size-Exp v
+  none_smaller = subst (λ w. 0 < size-Exp w) stands (omega (arith, size_roll-Exp Path Text (record { place = e.place; mark = e.mark; form = form_of e.form })))
 
-  pub index_list : (a : Bor SourceExp) (ixs : Bor (List Ix)) (hs : List (Held SourceExp)) → e.form ≡ held_form.Index a ixs → all hs ≡ a.now ∷ all_exps ixs.now → 2 * exps_size hs + 1 < 2 * size-Exp v
-  index_list a ixs hs is same = omega (arith, under (held_form.Index a ixs) is, index_parts e v stands a ixs is, held_biggest hs, ap biggest same, ixs_biggest ixs.now)
+  pub tuple_smaller : (es : Bor (List (Held SourceExp))) → e.form ≡ held_form.Tuple es → biggest (all es.now) < size-Exp v
+  tuple_smaller es is = omega (arith, tuple_parts e v stands es is, biggest_held es.now)
 
-  pub update_list : (a : Bor SourceExp) (es : Bor (List (Held SourceExp))) (w : Bor SourceExp) (hs : List (Held SourceExp)) → e.form ≡ held_form.Update a es w → all hs ≡ a.now ∷ all es.now ++ w.now ∷ [] → 2 * exps_size hs + 1 < 2 * size-Exp v
-  update_list a es w hs is same = omega (arith, under (held_form.Update a es w) is, update_parts e v stands a es w is, held_biggest hs, ap biggest same, biggest_of_both (all es.now) (w.now ∷ []), biggest_held es.now)
+  pub array_smaller : (es : Bor (List (Held SourceExp))) → e.form ≡ held_form.Array es → biggest (all es.now) < size-Exp v
+  array_smaller es is = omega (arith, array_parts e v stands es is, biggest_held es.now)
+
+  pub record_smaller : (fs : Bor (List ExpField)) → e.form ≡ held_form.Record fs → biggest (map (λ (f : ExpField). f.exp.now) fs.now) < size-Exp v
+  record_smaller fs is = omega (arith, record_parts e v stands fs is, fields_biggest fs.now)
+
+  pub index_smaller : (a : Bor SourceExp) (ixs : Bor (List Ix)) → e.form ≡ held_form.Index a ixs → biggest (a.now ∷ all_exps ixs.now) < size-Exp v
+  index_smaller a ixs is = omega (arith, under (held_form.Index a ixs) is, index_parts e v stands a ixs is, ixs_biggest ixs.now)
+
+  pub update_smaller : (a : Bor SourceExp) (es : Bor (List (Held SourceExp))) (w : Bor SourceExp) → e.form ≡ held_form.Update a es w → biggest (a.now ∷ all es.now ++ w.now ∷ []) < size-Exp v
+  update_smaller a es w is = omega (arith, under (held_form.Update a es w) is, update_parts e v stands a es w is, biggest_of_both (all es.now) (w.now ∷ []), biggest_held es.now)
+
+  pub unary_smaller : (op : Oper) (a : Bor SourceExp) → e.form ≡ held_form.Unary op a → biggest (a.now ∷ []) < size-Exp v
+  unary_smaller op a is = omega (arith, under (held_form.Unary op a) is)
+
+  pub field_smaller : (a : Bor SourceExp) (x : Bor Text) → e.form ≡ held_form.Field a x → biggest (a.now ∷ []) < size-Exp v
+  field_smaller a x is = omega (arith, under (held_form.Field a x) is)
+
+  pub assert_smaller : (a b : Bor SourceExp) → e.form ≡ held_form.Assert a b → biggest (a.now ∷ b.now ∷ []) < size-Exp v
+  assert_smaller a b is = omega (arith, under (held_form.Assert a b) is)
+
+  pub replace_smaller : (a : Bor SourceExp) (x : Bor Text) (b : Bor SourceExp) → e.form ≡ held_form.Replace a x b → biggest (a.now ∷ b.now ∷ []) < size-Exp v
+  replace_smaller a x b is = omega (arith, under (held_form.Replace a x b) is)
+
+  pub range_smaller : (a b : Bor SourceExp) (n : Option (Bor SourceExp)) (end : End) → e.form ≡ held_form.Range a n end b → biggest (a.now ∷ maybe_exp n ++ b.now ∷ []) < size-Exp v
+  range_smaller a b None end is = omega (arith, under (held_form.Range a None end b) is)
+  range_smaller a b (Some m) end is = omega (arith, under (held_form.Range a (Some m) end b) is)

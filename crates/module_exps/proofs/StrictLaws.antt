@@ -72,32 +72,17 @@ strict_went {D = D} o p mark ts s t b c plain all w q = by_same same (of_one (λ
 
 -- ---- so many parts
 
-built1_as : {A C : Type 0} {P Q : A → C → Type 0} {a : Result A Stop} {c : Result C Stop} → ((a : A) (c : C) → P a c → Q a c) → Built1 P a c → Built1 Q a c
-built1_as so (built1 is) = built1 (so _ _ is)
-built1_as so stops1 = stops1
-built1_as so no_memory1 = no_memory1
-
 built2_as : {A B C : Type 0} {P Q : A → B → C → Type 0} {a : Result A Stop} {b : Result B Stop} {c : Result C Stop} → ((a : A) (b : B) (c : C) → P a b c → Q a b c) → Built2 P a b c → Built2 Q a b c
 built2_as so (built2 is) = built2 (so _ _ _ is)
 built2_as so first_of_two = first_of_two
 built2_as so second_of_two = second_of_two
 built2_as so no_memory2 = no_memory2
 
-built3_as : {A B C D : Type 0} {P Q : A → B → C → D → Type 0} {a : Result A Stop} {b : Result B Stop} {c : Result C Stop} {d : Result D Stop} → ((a : A) (b : B) (c : C) (d : D) → P a b c d → Q a b c d) → Built3 P a b c d → Built3 Q a b c d
-built3_as so (built3 is) = built3 (so _ _ _ _ is)
-built3_as so first_of_three = first_of_three
-built3_as so second_of_three = second_of_three
-built3_as so third_of_three = third_of_three
-built3_as so no_memory3 = no_memory3
-
 abbrev one_part : SourceTerm → Many
 one_part x sc m = after (resolve x sc m) (λ a m. Ok (a ∷ [], m))
 
 abbrev two_parts : SourceTerm → SourceTerm → Many
 two_parts x y sc m = after (resolve x sc m) (λ a m. after (resolve y sc m) (λ b m. Ok (a ∷ b ∷ [], m)))
-
-abbrev three_parts : SourceTerm → SourceTerm → SourceTerm → Many
-three_parts x y z sc m = after (resolve x sc m) (λ a m. after (resolve y sc m) (λ b m. after (resolve z sc m) (λ c m. Ok (a ∷ b ∷ c ∷ [], m))))
 
 one_same : (x : SourceTerm) (sc : Scope) (m : List Text) → resolve_all (one x) sc m ≡ after (one_part x sc m) (λ ys m. Ok (terms ys, m))
 unfolding resolve_all after terms
@@ -109,36 +94,10 @@ two_same x y sc m =
     one_more terms term_and (λ y ys. refl) (resolve x sc m) (resolve_all (one y) sc) (one_part y sc) (one_same y sc)
     ∙ ap (λ r. after r (λ ys m. Ok (terms ys, m))) (λ i. after (resolve x sc m) (λ a m. after_assoc (resolve y sc m) (λ b m. Ok (b ∷ [], m)) (λ ys m. Ok (a ∷ ys, m)) i))
 
-three_same : (x y z : SourceTerm) (sc : Scope) (m : List Text) → resolve_all (three x y z) sc m ≡ after (three_parts x y z sc m) (λ ys m. Ok (terms ys, m))
-unfolding resolve_all after terms
-three_same x y z sc m =
-    one_more terms term_and (λ y ys. refl) (resolve x sc m) (resolve_all (two y z) sc) (two_parts y z sc) (two_same y z sc)
-    ∙ ap (λ r. after r (λ ys m. Ok (terms ys, m))) (λ i. after (resolve x sc m) (λ a m. inside a m i))
-  where
-    inside : (a : FlatTerm) (m : List Text) → after (two_parts y z sc m) (λ ys m. Ok (a ∷ ys, m)) ≡ after (resolve y sc m) (λ b m. after (resolve z sc m) (λ c m. Ok (a ∷ b ∷ c ∷ [], m)))
-    inside a m =
-        after_assoc (resolve y sc m) (λ b m. after (resolve z sc m) (λ c m. Ok (b ∷ c ∷ [], m))) (λ ys m. Ok (a ∷ ys, m))
-        ∙ (λ i. after (resolve y sc m) (λ b m. after_assoc (resolve z sc m) (λ c m. Ok (b ∷ c ∷ [], m)) (λ ys m. Ok (a ∷ ys, m)) i))
-
-pub none_went : (o : Operation Spelled Label) (p : Operation Ref BindId) (mark : Place) (s : Names) (b : Bor (List Flat)) (c : Result Flat Stop)
-    → Built1 (λ (es : Bor (List Flat)) x. term_of x ≡ Strict p mark (terms (map term_of es.now))) (Ok b) c → b.now ≡ [] → Plain o p → Went term_of (resolve (Strict o mark no_term)) s s c
-unfolding resolve_all after terms
-none_went o p mark s b c q is plain = strict_went {D = λ sc m. Ok ([], m)} o p mark no_term s s (Ok b) c plain (λ sc m. refl) (at_once (ap (map term_of) is)) q
-
-pub one_went : (o : Operation Spelled Label) (p : Operation Ref BindId) (mark : Place) (x : SourceTerm) (s t : Names) (r : Result Flat Stop) (b : Result (Bor (List Flat)) Stop) (c : Result Flat Stop)
-    → Built1 (λ (es : Bor (List Flat)) x. term_of x ≡ Strict p mark (terms (map term_of es.now))) b c → Built1 (λ e (es : Bor (List Flat)). es.now ≡ e ∷ []) r b
-    → Went term_of (resolve x) s t r → Plain o p → Went term_of (resolve (Strict o mark (term_and x no_term))) s t c
-one_went o p mark x s t r b c q l w plain = strict_went o p mark (one x) s t b c plain (one_same x) (of_one (λ a. a ∷ []) w (built1_as (λ a c is. ap (map term_of) is) l)) q
-
 pub two_went : (o : Operation Spelled Label) (p : Operation Ref BindId) (mark : Place) (x y : SourceTerm) (s t u : Names) (r1 r2 : Result Flat Stop) (b : Result (Bor (List Flat)) Stop) (c : Result Flat Stop)
     → Built1 (λ (es : Bor (List Flat)) x. term_of x ≡ Strict p mark (terms (map term_of es.now))) b c → Built2 (λ e f (es : Bor (List Flat)). es.now ≡ e ∷ f ∷ []) r1 r2 b
     → Went term_of (resolve x) s t r1 → Went term_of (resolve y) t u r2 → Plain o p → Went term_of (resolve (Strict o mark (term_and x (term_and y no_term)))) s u c
 two_went o p mark x y s t u r1 r2 b c q l w1 w2 plain = strict_went o p mark (two x y) s u b c plain (two_same x y) (of_two (λ a b. a ∷ b ∷ []) w1 w2 (built2_as (λ a b c is. ap (map term_of) is) l)) q
-
-pub three_went : (o : Operation Spelled Label) (p : Operation Ref BindId) (mark : Place) (x y z : SourceTerm) (s t u v : Names) (r1 r2 r3 : Result Flat Stop) (b : Result (Bor (List Flat)) Stop) (c : Result Flat Stop)
-    → Built1 (λ (es : Bor (List Flat)) x. term_of x ≡ Strict p mark (terms (map term_of es.now))) b c → Built3 (λ e f g (es : Bor (List Flat)). es.now ≡ e ∷ f ∷ g ∷ []) r1 r2 r3 b
-    → Went term_of (resolve x) s t r1 → Went term_of (resolve y) t u r2 → Went term_of (resolve z) u v r3 → Plain o p → Went term_of (resolve (Strict o mark (term_and x (term_and y (term_and z no_term))))) s v c
-three_went o p mark x y z s t u v r1 r2 r3 b c q l w1 w2 w3 plain = strict_went o p mark (three x y z) s v b c plain (three_same x y z) (of_three (λ a b c. a ∷ b ∷ c ∷ []) w1 w2 w3 (built3_as (λ a b c d is. ap (map term_of) is) l)) q
 
 pub binary_went : (op : Oper) (b : BinOp) (mark : Place) (x y : SourceTerm) (s t u : Names) (r1 r2 : Result Flat Stop) (l : Result (Bor (List Flat)) Stop) (c : Result Flat Stop)
     → Some b ≡ operation_in op → Built1 (λ (es : Bor (List Flat)) x. term_of x ≡ Strict (Binary b) mark (terms (map term_of es.now))) l c → Built2 (λ e f (es : Bor (List Flat)). es.now ≡ e ∷ f ∷ []) r1 r2 l

@@ -1,5 +1,5 @@
 -- Which turns a loop takes, and whole loops.
-use Rattle.std.proofs.Common.{◌≡◌, ℕ, List, [], ◌∷◌, length, refl, sym, ◌∙◌, ap, Result, Ok, Err}
+use Rattle.std.proofs.Common.{◌≡◌, ℕ, List, [], ◌∷◌, length, refl, sym, ◌∙◌, ap, subst, Result, Ok, Err}
 use Rattle.fut_scalar.specs.declared.place.BindId.{BindId}
 use Rattle.fut_scalar.specs.declared.place.Place.{Place}
 use Rattle.fut_ast.specs.Sorts.{Text}
@@ -27,13 +27,13 @@ use Rattle.module_nodes.specs.declared.rows.Turning.{Turning}
 use Rattle.module_nodes.specs.Built.{Built2, built2, first_of_two, second_of_two, no_memory2, Built4, built4, second_of_four, third_of_four, fourth_of_four, no_memory4}
 use Rattle.module_nodes.proofs.Steps.{Does, and_next, by_same, stopped}
 use Rattle.module_types.specs.declared.pats.Bound.{Bound as HeldBound}
-use Rattle.module_types.specs.Numbering.{Numbers, numbers, no_number, Comes, comes, comes_not}
-use Rattle.module_types.specs.Bindings.{Brings, brings, brings_not, bound_pattern_of, sizes_numbered}
+use Rattle.module_types.specs.Numbering.{Numbers, numbers, no_number, Comes, comes, comes_not, comes_stopped}
+use Rattle.module_types.specs.Bindings.{Brings, brings, bound_pattern_of, sizes_numbered}
 use Rattle.module_exps.specs.declared.heads.Head.{Head}
-use Rattle.module_exps.specs.Heads.{head_of, Behind, now_behind}
+use Rattle.module_exps.specs.Heads.{head_of, Behind, now_behind, not_behind, Brought_name, brought_name, not_brought_name, Brought_pattern, brought_pattern, no_bound, not_brought_pattern}
 use Rattle.module_exps.specs.Parts.{Headed, behind, counted_part, inside_pattern, over_part, sized_pattern, source_of, turns_part, while_part}
 use Rattle.module_exps.proofs.Above.{Rises, rises, above_all, enter_above, one_above, rises_behind, scoped}
-use Rattle.module_exps.proofs.RowLaws.{behind_above, row_third, sizes_anywhere}
+use Rattle.module_exps.proofs.RowLaws.{behind_above, entered_any, sizes_anywhere}
 
 -- ---- as many as a number
 
@@ -48,19 +48,22 @@ count_made x n h s s1 s2 s3 s4 b c e w (numbers is more same held) (went g sg) (
     place : behind (head_of h) (scope_of s) ≡ scope_of s3
     place = (λ i. behind (head_of h) (sym (sg ∙ same) i)) ∙ sym sb
 
-pub count_first : (x : Text) (n : SourceTerm) (h : Headed) (s s1 u : Names) (e : Stop) → Numbers x s s1 (Err e) → Entered (λ (t : Turning). turns_of t.form) (counted_part x n h (scope_of s) (made_of s)) u (Err e)
-count_first x n h s s1 u _ no_number = no_memory_entered
-
 pub count_second : (x : Text) (n : SourceTerm) (h : Headed) (s s1 s2 : Names) (b : BindId) (e : Stop) → Numbers x s s1 (Ok b) → Went term_of (resolve n) s1 s2 (Err e) → Entered (λ (t : Turning). turns_of t.form) (counted_part x n h (scope_of s) (made_of s)) s2 (Err e)
 unfolding counted_part after
 count_second x n h s s1 s2 b _ (numbers is more same held) (refused g) =
     not_entered (ap (λ r. after r (λ n more. Ok ((Counted (next (made_of s)) n, a_value x (next (made_of s)) ∷ behind h (scope_of s)), more))) ((λ i. resolve n (sym same i) (sym more i)) ∙ g))
 count_second x n h s s1 s2 b _ (numbers is more same held) no_memory = no_memory_entered
 
-pub count_fourth : {A R : Type 0} {view : R → A} (does : Numbered (A × Scope)) (x : Text) (s t u : Names) (b : BindId) (e : Stop) → Comes x (Ok b) s t (Err e) → Entered view does u (Err e)
-count_fourth does x s t u b _ comes_not = no_memory_entered
-
-pub ruleset count_rules = (count_made, count_first, count_second, row_third, count_fourth)
+pub counted_entered : (x : Text) (n : SourceTerm) (h : Head) (s s1 s2 t : Names) (b c : Result BindId Stop) (e : Result Flat Stop) (r : Result Turning Stop)
+    → Numbers x s s1 b → Went term_of (resolve n) s1 s2 e → Brought_name (head_of h) x b s2 t c → Built2 (λ (b : BindId) (e : Flat) (t : Turning). t ≡ record { form = flat_loop.For b e }) c e r
+    → Entered (λ (t : Turning). turns_of t.form) (counted_part x n (head_of h) (scope_of s) (made_of s)) t r
+counted_entered x n h s s1 s2 t _ _ _ _ p w (brought_name {u = u} {w = k} behind (comes {b = b} sc mc bc)) (built2 {b = e} is) =
+    subst (λ z. Entered (λ (t : Turning). turns_of t.form) (counted_part x n (head_of h) (scope_of s) (made_of s)) t (Ok z)) (sym is) (count_made x n h s s1 s2 u t b b e k p w behind (comes sc mc bc))
+counted_entered x n h s s1 s2 t _ _ e _ no_number w (brought_name behind comes_stopped) first_of_two = no_memory_entered
+counted_entered x n h s s1 s2 t b _ e _ p w (brought_name behind comes_not) first_of_two = no_memory_entered
+counted_entered x n h s s1 s2 t b _ e _ p w not_brought_name first_of_two = no_memory_entered
+counted_entered x n h s s1 s2 t _ _ _ _ p w (brought_name behind (comes {b = b} sc mc bc)) second_of_two = entered_any (count_second x n (head_of h) s s1 s2 b _ p w)
+counted_entered x n h s s1 s2 t b c e _ p w k no_memory2 = no_memory_entered
 
 -- ---- one for each element
 
@@ -88,10 +91,15 @@ array_second p e h s s1 s2 b _ (went gp sp) (refused g) = not_entered (
     ∙ ap (λ r. after r (λ e m. Ok ((Over (pattern_of b.pat) e, enter (entries_of b.names.now) (behind h (scope_of s))), m))) ((λ i. resolve e (sym sp i) (made_of s1)) ∙ g))
 array_second p e h s s1 s2 b _ (went gp sp) no_memory = no_memory_entered
 
-pub array_fourth : {A R : Type 0} {view : R → A} (does : Numbered (A × Scope)) (es : List HeldEntry) (s t u : Names) (e : Stop) → Brings es s t (Err e) → Entered view does u (Err e)
-array_fourth does es s t u _ brings_not = no_memory_entered
-
-pub ruleset array_rules = (array_made, array_first, array_second, row_third, array_fourth)
+pub over_entered : (p : SourcePattern) (e : SourceTerm) (h : Head) (s s1 s2 t : Names) (b c : Result HeldBound Stop) (a : Result Flat Stop) (r : Result Turning Stop)
+    → Went bound_pattern_of (inside_pattern p (head_of h)) s s1 b → Went term_of (resolve e) s1 s2 a → Brought_pattern (head_of h) b s2 t c → Built2 (λ (b : HeldBound) (e : Flat) (t : Turning). t ≡ record { form = flat_loop.ForIn b.pat e }) c a r
+    → Entered (λ (t : Turning). turns_of t.form) (over_part p e (head_of h) (scope_of s) (made_of s)) t r
+over_entered p e h s s1 s2 t _ _ _ _ q w (brought_pattern {p = b} {u = u} {w = k} {v = l} behind bs) (built2 {b = a} is) =
+    subst (λ z. Entered (λ (t : Turning). turns_of t.form) (over_part p e (head_of h) (scope_of s) (made_of s)) t (Ok z)) (sym is) (array_made p e h s s1 s2 u t b a k l q w behind bs)
+over_entered p e h s s1 s2 t _ _ a _ q w no_bound first_of_two = entered_any (array_first p e (head_of h) s s1 _ q)
+over_entered p e h s s1 s2 t b _ a _ q w not_brought_pattern first_of_two = no_memory_entered
+over_entered p e h s s1 s2 t _ _ _ _ q w (brought_pattern {p = b} behind bs) second_of_two = entered_any (array_second p e (head_of h) s s1 s2 b _ q w)
+over_entered p e h s s1 s2 t b c a _ q w k no_memory2 = no_memory_entered
 
 -- ---- while a condition holds
 
@@ -107,7 +115,14 @@ unfolding while_part after
 test_second c h s s1 s2 _ w (now_behind sb mb) (refused g) = not_entered (ap (λ r. after r (λ c m. Ok ((While c, behind h (scope_of s)), m))) ((λ i. resolve c (sym sb i) (sym mb i)) ∙ g))
 test_second c h s s1 s2 _ w (now_behind sb mb) no_memory = no_memory_entered
 
-pub ruleset test_rules = (test_made, test_second, row_third)
+pub repeated_entered : (c : SourceTerm) (h : Head) (s s1 s2 : Names) (b : Result (Unit {0}) Stop) (e : Result Flat Stop) (r : Result Turning Stop)
+    → Behind (head_of h) s s1 b → Went term_of (resolve c) s1 s2 e → Built2 (λ (u : Unit {0}) (e : Flat) (t : Turning). t ≡ record { form = flat_loop.While e }) b e r
+    → Entered (λ (t : Turning). turns_of t.form) (while_part c (head_of h) (scope_of s) (made_of s)) s2 r
+repeated_entered c h s s1 s2 _ _ _ p w (built2 {a = u} {b = e} is) =
+    subst (λ z. Entered (λ (t : Turning). turns_of t.form) (while_part c (head_of h) (scope_of s) (made_of s)) s2 (Ok z)) (sym is) (test_made c h s s1 s2 e u p w)
+repeated_entered c h s s1 s2 _ e _ not_behind w first_of_two = no_memory_entered
+repeated_entered c h s s1 s2 _ _ _ p w (second_of_two {a = u}) = test_second c (head_of h) s s1 s2 _ u p w
+repeated_entered c h s s1 s2 b e _ p w no_memory2 = no_memory_entered
 
 -- ---- loops
 

@@ -45,7 +45,6 @@ pub fn is_left_first(op: Oper) -> bool
 }
 
 /// What a composition is made of.
-#[tactic(auto, using(crate::proofs::ComposedLaws::gathering_rules))]
 pub fn functions<'a>(
     left: Result<BindId, Stop<'a>>,
     left_function: Result<Exp<'a>, Stop<'a>>,

@@ -1,10 +1,10 @@
 // The walk over expressions.
 ghost use Rattle.std.specs.Prelude.{◌≡◌, map};
-ghost use Rattle.fut_flat.specs.Erased.{parameters, term_of};
-ghost use Rattle.fut_flat.specs.Sources.{declared, placed, source_pattern};
+ghost use Rattle.fut_flat.specs.Erased.{term_of};
+ghost use Rattle.fut_flat.specs.Sources.{declared, placed};
 ghost use Rattle.fut_flat.proofs.ErasedForms.{row_of, turns_of};
 ghost use Rattle.fut_tree.specs.Names.{maybe};
-ghost use Rattle.fut_tree.specs.Pats.{heads_of};
+ghost use Rattle.module_nodes.specs.Built.{Built0};
 ghost use Rattle.module_nodes.specs.declared.rows.Turning.{Turning};
 ghost use Rattle.module_scopes.specs.Answers.{Entered, Went};
 ghost use Rattle.module_scopes.specs.Resolve.{resolve};
@@ -12,22 +12,28 @@ ghost use Rattle.module_scopes.specs.Table.{made_of, scope_of};
 ghost use Rattle.module_scopes.specs.Walks.{each};
 ghost use Rattle.module_exps.specs.Groups.{group_of};
 ghost use Rattle.module_exps.specs.declared.groups.Group.TheVariants as group;
-ghost use Rattle.module_exps.specs.Heads.{head_of, valued_of};
-ghost use Rattle.module_exps.specs.Parts.{counted_part, each_row, exp_part, headed_value, over_part, row_part, source_of, turns_part, while_part};
+ghost use Rattle.module_exps.specs.Heads.{head_of};
+ghost use Rattle.module_exps.specs.Operations.{Operates};
+ghost use Rattle.module_exps.specs.Parts.{each_row, exp_part, row_part, source_of, turns_part};
 
+use crate::bindings::{counted, let_row, over, repeated};
 use crate::composing::{argument_name, functions, is_left_first, left_name, right_name};
 use crate::groups::{Group, taken_by};
-use crate::heads::{Head, Valued, bring_head, element_pattern, sized_pattern};
-use crate::leaves::{is_behind, negation, operation, used};
-use crate::lists::{index_parts, record_parts, update_exps};
+use crate::heads::{
+    Head, bring_head, brought_head, brought_heads, brought_name, brought_pattern, element_pattern,
+    sized_pattern,
+};
+use crate::leaves::{is_behind, operator, used};
+use crate::lists::put;
+use crate::operations::{Operation, gathered, operation_of};
 use bumpalo::Bump;
 use bumpalo::collections::into_bump_slice;
 use fut_flat as flat;
 use fut_flat::Act;
-use fut_tree::{Bind, Exp, Form, Held, LoopForm, Pat, TypeExp};
+use fut_tree::{Bind, Exp, Form, Held, LoopForm, TypeExp};
 use module_nodes::{exps as nodes, rows, typed};
 use module_scopes::{Names, Stop};
-use module_types::{bring, in_scope, numbered, numbered_heads, resolved_parameters, resolved_type};
+use module_types::{in_scope, numbered, resolved_parameters, resolved_type};
 
 /// An expression with its names resolved.
 #[cycle(exps)]
@@ -40,23 +46,26 @@ pub fn walked<'a>(
     ensures { Went term_of (resolve (source_of exp.now)) names.old names.new result }
 {
     match taken_by(exp) {
+        Group::Applying => walked_applying(exp, bump, names),
         Group::Choosing => walked_choosing(exp, bump, names),
+        Group::Binding => walked_binding(exp, bump, names),
+        Group::Joining => walked_joining(exp, bump, names),
         Group::Looping => walked_looping(exp, bump, names),
-        Group::Fixed => walked_fixed(exp, bump, names),
-        Group::Listed => walked_listed(exp, bump, names),
-        Group::Gathered => walked_gathered(exp, bump, names),
+        Group::Typed => walked_typed(exp, bump, names),
+        Group::Gathering => walked_operation(exp, gathered(exp, bump), bump, names),
+        Group::Operating => walked_operation(exp, operation_of(exp, bump), bump, names),
     }
 }
 
-/// Names, and what chooses, or binds names, for a part.
+/// Names, and what is applied.
 #[cycle(exps)]
-#[tactic(auto, using(crate::proofs::ExpLaws::form_rules))]
-fn walked_choosing<'a>(
+#[tactic(auto, using(crate::proofs::Grouping::group_held))]
+fn walked_applying<'a>(
     exp: &'a Exp<'a>,
     bump: &'a Bump,
     names: &mut Names<'a>,
 ) -> Result<flat::Exp<'a>, Stop<'a>>
-    requires { group_of exp.now ≡ group.Choosing }
+    requires { group_of exp.now ≡ group.Applying }
     ensures { Went term_of (resolve (source_of exp.now)) names.old names.new result }
 {
     match exp.form {
@@ -77,6 +86,22 @@ fn walked_choosing<'a>(
                 walked(argument, bump, names),
             )
         }
+        _ => unreachable!(),
+    }
+}
+
+/// Choices.
+#[cycle(exps)]
+#[tactic(auto, using(crate::proofs::Grouping::group_held))]
+fn walked_choosing<'a>(
+    exp: &'a Exp<'a>,
+    bump: &'a Bump,
+    names: &mut Names<'a>,
+) -> Result<flat::Exp<'a>, Stop<'a>>
+    requires { group_of exp.now ≡ group.Choosing }
+    ensures { Went term_of (resolve (source_of exp.now)) names.old names.new result }
+{
+    match exp.form {
         Form::If(test, yes, no) => {
             nodes::choice(
                 bump,
@@ -86,15 +111,30 @@ fn walked_choosing<'a>(
                 walked(no, bump, names),
             )
         }
+        _ => unreachable!(),
+    }
+}
+
+/// What binds names for a part.
+#[cycle(exps)]
+#[tactic(auto, using(crate::proofs::Grouping::group_held))]
+fn walked_binding<'a>(
+    exp: &'a Exp<'a>,
+    bump: &'a Bump,
+    names: &mut Names<'a>,
+) -> Result<flat::Exp<'a>, Stop<'a>>
+    requires { group_of exp.now ≡ group.Binding }
+    ensures { Went term_of (resolve (source_of exp.now)) names.old names.new result }
+{
+    let height = names.height();
+    match exp.form {
         Form::Lambda(params, ty, body) => {
-            let height = names.height();
             let params = resolved_parameters(params, bump, names);
             let body = walked_body(body, ty, bump, names);
             names.leave(height);
             nodes::lambda(bump, exp.place, params, body)
         }
         Form::Lets(binds, body) => {
-            let height = names.height();
             let lets = walked_rows(binds, bump, names);
             let body = walked(body, bump, names);
             names.leave(height);
@@ -104,26 +144,22 @@ fn walked_choosing<'a>(
     }
 }
 
-/// Loops and operators.
+/// Operators between two operands.
 #[cycle(exps)]
-#[tactic(auto, using(crate::proofs::ExpLaws::loop_rules))]
-fn walked_looping<'a>(
+#[tactic(auto, using(crate::proofs::Grouping::group_held))]
+fn walked_joining<'a>(
     exp: &'a Exp<'a>,
     bump: &'a Bump,
     names: &mut Names<'a>,
 ) -> Result<flat::Exp<'a>, Stop<'a>>
-    requires { group_of exp.now ≡ group.Looping }
+    requires { group_of exp.now ≡ group.Joining }
     ensures { Went term_of (resolve (source_of exp.now)) names.old names.new result }
 {
     match exp.form {
-        Form::Binary(op, left, right) => match operation(op) {
+        Form::Binary(op, left, right) => match operator(op) {
             Some(op) => {
-                nodes::strict(
-                    exp.place,
-                    exp.mark,
-                    Act::Binary(op),
-                    nodes::two(bump, walked(left, bump, names), walked(right, bump, names)),
-                )
+                let parts = nodes::two(bump, walked(left, bump, names), walked(right, bump, names));
+                nodes::strict(exp.place, exp.mark, Act::Binary(op), parts)
             }
             None => {
                 let height = names.height();
@@ -138,6 +174,22 @@ fn walked_looping<'a>(
                 rows::composed(bump, exp.mark, is_left_first(op), parts)
             }
         },
+        _ => unreachable!(),
+    }
+}
+
+/// Loops.
+#[cycle(exps)]
+#[tactic(auto, using(crate::proofs::Grouping::group_held))]
+fn walked_looping<'a>(
+    exp: &'a Exp<'a>,
+    bump: &'a Bump,
+    names: &mut Names<'a>,
+) -> Result<flat::Exp<'a>, Stop<'a>>
+    requires { group_of exp.now ≡ group.Looping }
+    ensures { Went term_of (resolve (source_of exp.now)) names.old names.new result }
+{
+    match exp.form {
         Form::Loop(sizes, pat, first, turns, body) => {
             match sized_pattern(sizes, pat, bump, names) {
                 Ok(head) => {
@@ -159,34 +211,18 @@ fn walked_looping<'a>(
     }
 }
 
-/// Operations on no part, on one, or on two.
+/// Expressions with a written type.
 #[cycle(exps)]
-#[tactic(auto, using(crate::proofs::ExpLaws::strict_rules))]
-fn walked_fixed<'a>(
+#[tactic(auto, using(crate::proofs::Grouping::group_held))]
+fn walked_typed<'a>(
     exp: &'a Exp<'a>,
     bump: &'a Bump,
     names: &mut Names<'a>,
 ) -> Result<flat::Exp<'a>, Stop<'a>>
-    requires { group_of exp.now ≡ group.Fixed }
+    requires { group_of exp.now ≡ group.Typed }
     ensures { Went term_of (resolve (source_of exp.now)) names.old names.new result }
 {
     match exp.form {
-        Form::Int { value, ty } => nodes::strict(
-            exp.place,
-            exp.mark,
-            Act::Int { value, ty },
-            Ok(&[]),
-        ),
-        Form::Bool(value) => nodes::strict(exp.place, exp.mark, Act::Truth(value), Ok(&[])),
-        Form::Unit => nodes::strict(exp.place, exp.mark, Act::Tuple, Ok(&[])),
-        Form::Unary(op, part) => {
-            let parts = nodes::one(bump, walked(part, bump, names));
-            nodes::strict(exp.place, exp.mark, negation(op), parts)
-        }
-        Form::Field(part, name) => {
-            let parts = nodes::one(bump, walked(part, bump, names));
-            nodes::strict(exp.place, exp.mark, Act::Project(name), parts)
-        }
         Form::Ascribe(part, ty) => {
             typed::ascribed(
                 bump,
@@ -209,125 +245,29 @@ fn walked_fixed<'a>(
     }
 }
 
-/// Operations on two parts, on three, or on a list.
+/// An operation on parts that are evaluated one after another.
 #[cycle(exps)]
-#[tactic(auto, using(crate::proofs::ExpLaws::strict_rules))]
-fn walked_listed<'a>(
+#[tactic(auto)]
+fn walked_operation<'a>(
     exp: &'a Exp<'a>,
+    of: Result<Operation<'a>, Stop<'a>>,
     bump: &'a Bump,
     names: &mut Names<'a>,
 ) -> Result<flat::Exp<'a>, Stop<'a>>
-    requires { group_of exp.now ≡ group.Listed }
+    requires { Built0 (Operates exp.now) of }
     ensures { Went term_of (resolve (source_of exp.now)) names.old names.new result }
 {
-    match exp.form {
-        Form::Assert(test, value) => {
-            let parts = nodes::two(bump, walked(test, bump, names), walked(value, bump, names));
-            nodes::strict(exp.place, exp.mark, Act::Assert, parts)
+    match of {
+        Ok(of) => {
+            let parts = walked_parts(of.parts, bump, names);
+            nodes::strict(exp.place, exp.mark, of.act, parts)
         }
-        Form::Replace(part, name, value) => {
-            let parts = nodes::two(bump, walked(part, bump, names), walked(value, bump, names));
-            nodes::strict(exp.place, exp.mark, Act::Replace(name), parts)
-        }
-        Form::Range {
-            from,
-            next: None,
-            end,
-            to,
-        } => {
-            let parts = nodes::two(bump, walked(from, bump, names), walked(to, bump, names));
-            let act = Act::Range {
-                stepped: false,
-                end,
-            };
-            nodes::strict(exp.place, exp.mark, act, parts)
-        }
-        Form::Range {
-            from,
-            next: Some(next),
-            end,
-            to,
-        } => {
-            let parts = nodes::three(
-                bump,
-                walked(from, bump, names),
-                walked(next, bump, names),
-                walked(to, bump, names),
-            );
-            let act = Act::Range { stepped: true, end };
-            nodes::strict(exp.place, exp.mark, act, parts)
-        }
-        Form::Tuple(parts) => {
-            nodes::strict(
-                exp.place,
-                exp.mark,
-                Act::Tuple,
-                walked_parts(parts, bump, names),
-            )
-        }
-        Form::Array(parts) => {
-            nodes::strict(
-                exp.place,
-                exp.mark,
-                Act::Array,
-                walked_parts(parts, bump, names),
-            )
-        }
-        _ => unreachable!(),
-    }
-}
-
-/// Operations whose parts stand in lists of other things.
-#[cycle(exps)]
-#[tactic(auto, using(crate::proofs::ExpLaws::list_form_rules))]
-fn walked_gathered<'a>(
-    exp: &'a Exp<'a>,
-    bump: &'a Bump,
-    names: &mut Names<'a>,
-) -> Result<flat::Exp<'a>, Stop<'a>>
-    requires { group_of exp.now ≡ group.Gathered }
-    ensures { Went term_of (resolve (source_of exp.now)) names.old names.new result }
-{
-    match exp.form {
-        Form::Record(fields) => match record_parts(fields, bump) {
-            Ok(record) => {
-                nodes::strict(
-                    exp.place,
-                    exp.mark,
-                    Act::Record(record.names),
-                    walked_parts(record.exps, bump, names),
-                )
-            }
-            Err(stop) => Err(stop),
-        },
-        Form::Index(array, ixs) => match index_parts(array, ixs, bump) {
-            Ok(index) => {
-                nodes::strict(
-                    exp.place,
-                    exp.mark,
-                    Act::Index(index.kinds),
-                    walked_parts(index.exps, bump, names),
-                )
-            }
-            Err(stop) => Err(stop),
-        },
-        Form::Update(array, at, value) => match update_exps(array, at, value, bump) {
-            Ok(exps) => {
-                nodes::strict(
-                    exp.place,
-                    exp.mark,
-                    Act::Update,
-                    walked_parts(exps, bump, names),
-                )
-            }
-            Err(stop) => Err(stop),
-        },
-        _ => unreachable!(),
+        Err(stop) => Err(stop),
     }
 }
 
 #[cycle(exps)]
-#[tactic(auto, using(crate::proofs::ExpLaws::part_rules))]
+#[tactic(auto, using(crate::proofs::ExpLaws::start_rules))]
 fn walked_parts<'a>(
     parts: &'a [Held<'a, Exp<'a>>],
     bump: &'a Bump,
@@ -337,18 +277,14 @@ fn walked_parts<'a>(
 {
     let mut made = Vec::new(bump);
     for part in parts {
-        let next = walked(part.at, bump, names)?;
-        match made.push(next) {
-            Ok(()) => (),
-            Err(_) => return Err(Stop::Memory),
-        }
+        put(walked(part.at, bump, names), &mut made)?;
     }
     Ok(into_bump_slice(made))
 }
 
 /// A function's body, with the declared type of its result.
 #[cycle(exps)]
-#[tactic(auto, using(crate::proofs::ExpLaws::body_rules))]
+#[tactic(auto)]
 fn walked_body<'a>(
     body: &'a Exp<'a>,
     ty: Option<&'a TypeExp<'a>>,
@@ -374,7 +310,7 @@ fn walked_body<'a>(
 
 /// A row of lets, each of which sees those before it. What they bind is in scope behind them.
 #[cycle(exps)]
-#[tactic(auto, using(crate::proofs::RowLaws::row_list_rules))]
+#[tactic(auto, using(crate::proofs::ExpLaws::start_rules))]
 fn walked_rows<'a>(
     binds: &'a [Bind<'a>],
     bump: &'a Bump,
@@ -384,17 +320,14 @@ fn walked_rows<'a>(
 {
     let mut made = Vec::new(bump);
     for bind in binds {
-        let next = walked_row(bind, bump, names)?;
-        match made.push(next) {
-            Ok(()) => (),
-            Err(_) => return Err(Stop::Memory),
-        }
+        put(walked_row(bind, bump, names), &mut made)?;
     }
     Ok(into_bump_slice(made))
 }
 
+/// One let. Its value sees its size and type parameters, and what it binds is in scope behind it.
 #[cycle(exps)]
-#[tactic(auto, using(crate::proofs::RowLaws::row_rules))]
+#[tactic(auto)]
 fn walked_row<'a>(
     bind: &'a Bind<'a>,
     bump: &'a Bump,
@@ -402,37 +335,13 @@ fn walked_row<'a>(
 ) -> Result<flat::Let<'a>, Stop<'a>>
     ensures { Entered row_of (row_part bind.now (scope_of names.old) (made_of names.old)) names.new result }
 {
-    let head = sized_pattern(bind.sizes, bind.pat, bump, names)?;
-    let valued = walked_value(bind, bump, names)?;
-    bring_head(&head, names)?;
-    Ok(flat::Let {
-        sizes: head.sizes.binds,
-        heads: valued.heads,
-        is_function: bind.is_function,
-        pat: head.pat.pat,
-        value: valued.value,
-    })
-}
-
-/// The value of a let, which sees its size and type parameters.
-#[cycle(exps)]
-#[tactic(auto, using(crate::proofs::RowLaws::value_rules))]
-fn walked_value<'a>(
-    bind: &'a Bind<'a>,
-    bump: &'a Bump,
-    names: &mut Names<'a>,
-) -> Result<Valued<'a>, Stop<'a>>
-    ensures { Went valued_of (headed_value (heads_of bind.now.heads.now) (source_of bind.now.value.now)) names.old names.new result }
-{
+    let head = sized_pattern(bind.sizes, bind.pat, bump, names);
     let height = names.height();
-    let heads = numbered_heads(bind.heads, bump, names)?;
-    bring(heads.names, names)?;
-    let value = walked(bind.value, bump, names)?;
+    let heads = brought_heads(bind.heads, bump, names);
+    let value = walked(bind.value, bump, names);
     names.leave(height);
-    Ok(Valued {
-        heads: heads.heads,
-        value,
-    })
+    let head = brought_head(head, names);
+    let_row(bind.is_function, head, heads, value)
 }
 
 // ---- loops
@@ -449,65 +358,19 @@ fn walked_turns<'a>(
     ensures { Entered (λ (t : Turning). turns_of t.form) (turns_part turns.now (head_of head.now) (scope_of names.old) (made_of names.old)) names.new result }
 {
     match turns {
-        LoopForm::For(name, count) => walked_count(count, name, head, bump, names),
-        LoopForm::ForIn(pat, array) => walked_array(array, pat, head, bump, names),
-        LoopForm::While(test) => walked_test(test, head, bump, names),
+        LoopForm::For(name, count) => {
+            let bind = numbered(*name, names);
+            let count = walked(*count, bump, names);
+            counted(brought_name(*name, bind, head, names), count)
+        }
+        LoopForm::ForIn(pat, array) => {
+            let pat = element_pattern(*pat, head, bump, names);
+            let array = walked(*array, bump, names);
+            over(brought_pattern(pat, head, names), array)
+        }
+        LoopForm::While(test) => {
+            let brought = bring_head(head, names);
+            repeated(brought, walked(*test, bump, names))
+        }
     }
-}
-
-#[cycle(exps)]
-#[tactic(auto, using(crate::proofs::TurnLaws::count_rules))]
-fn walked_count<'a>(
-    count: &'a Exp<'a>,
-    name: &'a str,
-    head: &Head<'a>,
-    bump: &'a Bump,
-    names: &mut Names<'a>,
-) -> Result<rows::Turning<'a>, Stop<'a>>
-    ensures { Entered (λ (t : Turning). turns_of t.form) (counted_part name.now (source_of count.now) (head_of head.now) (scope_of names.old) (made_of names.old)) names.new result }
-{
-    let bind = numbered(name, names)?;
-    let count = walked(count, bump, names)?;
-    bring_head(head, names)?;
-    let bind = in_scope(name, Ok(bind), names)?;
-    Ok(rows::Turning {
-        form: flat::LoopForm::For(bind, count),
-    })
-}
-
-#[cycle(exps)]
-#[tactic(auto, using(crate::proofs::TurnLaws::array_rules))]
-fn walked_array<'a>(
-    array: &'a Exp<'a>,
-    pat: &'a Pat<'a>,
-    head: &Head<'a>,
-    bump: &'a Bump,
-    names: &mut Names<'a>,
-) -> Result<rows::Turning<'a>, Stop<'a>>
-    ensures { Entered (λ (t : Turning). turns_of t.form) (over_part (source_pattern pat.now) (source_of array.now) (head_of head.now) (scope_of names.old) (made_of names.old)) names.new result }
-{
-    let pat = element_pattern(pat, head, bump, names)?;
-    let array = walked(array, bump, names)?;
-    bring_head(head, names)?;
-    bring(pat.names, names)?;
-    Ok(rows::Turning {
-        form: flat::LoopForm::ForIn(pat.pat, array),
-    })
-}
-
-#[cycle(exps)]
-#[tactic(auto, using(crate::proofs::TurnLaws::test_rules))]
-fn walked_test<'a>(
-    test: &'a Exp<'a>,
-    head: &Head<'a>,
-    bump: &'a Bump,
-    names: &mut Names<'a>,
-) -> Result<rows::Turning<'a>, Stop<'a>>
-    ensures { Entered (λ (t : Turning). turns_of t.form) (while_part (source_of test.now) (head_of head.now) (scope_of names.old) (made_of names.old)) names.new result }
-{
-    bring_head(head, names)?;
-    let test = walked(test, bump, names)?;
-    Ok(rows::Turning {
-        form: flat::LoopForm::While(test),
-    })
 }

@@ -4,14 +4,18 @@ ghost use Rattle.fut_flat.specs.Sources.{source_pattern};
 ghost use Rattle.fut_tree.specs.Names.{names as texts_of};
 ghost use Rattle.module_scopes.specs.Answers.{Went};
 ghost use Rattle.module_types.specs.Bindings.{bound_pattern_of};
-ghost use Rattle.module_exps.specs.Heads.{Behind, head_of};
+ghost use Rattle.fut_tree.specs.Pats.{heads_of};
+ghost use Rattle.module_exps.specs.Heads.{Behind, Brought_head, Brought_heads, Brought_name, Brought_pattern, head_of};
 ghost use Rattle.module_exps.specs.Parts.{inside_pattern, sized_pattern};
 
 use bumpalo::Bump;
 use fut_flat as flat;
-use fut_tree::Pat;
+use fut_scalar::BindId;
+use fut_tree::{Head as SourceHead, Pat};
 use module_scopes::{Names, Stop};
-use module_types::{Bound, Sizes, bring, numbered_sizes, resolved_pattern};
+use module_types::{
+    Bound, Sizes, bring, in_scope, numbered_heads, numbered_sizes, resolved_pattern,
+};
 
 /// Size names, and a pattern that sees them.
 #[derive(Clone, Copy)]
@@ -20,15 +24,7 @@ pub struct Head<'a> {
     pub pat: Bound<'a>,
 }
 
-/// Size and type parameters, and the value that sees them.
-#[derive(Clone, Copy)]
-pub struct Valued<'a> {
-    pub heads: &'a [flat::Head],
-    pub value: flat::Exp<'a>,
-}
-
 /// Size names and a pattern, numbered and resolved. They are not in scope behind it.
-#[tactic(auto, using(crate::proofs::HeadLaws::head_rules))]
 pub fn sized_pattern<'a>(
     sizes: &'a [&'a str],
     pat: &'a Pat<'a>,
@@ -55,7 +51,6 @@ pub fn bring_head<'a>(head: &Head<'a>, names: &mut Names<'a>) -> Result<(), Stop
 }
 
 /// The pattern of a loop over an array, which sees what the loop's own pattern binds.
-#[tactic(auto, using(crate::proofs::HeadLaws::element_rules))]
 pub fn element_pattern<'a>(
     pat: &'a Pat<'a>,
     head: &Head<'a>,
@@ -69,4 +64,58 @@ pub fn element_pattern<'a>(
     let pat = resolved_pattern(pat, bump, names)?;
     names.leave(height);
     Ok(pat)
+}
+
+// ---- behind what a walk gave
+
+/// Brings the size names and the names of a pattern in scope, if they are there.
+pub fn brought_head<'a>(
+    head: Result<Head<'a>, Stop<'a>>,
+    names: &mut Names<'a>,
+) -> Result<Head<'a>, Stop<'a>>
+    ensures { Brought_head head.entry names.old names.new result }
+{
+    let head = head?;
+    bring_head(&head, names)?;
+    Ok(head)
+}
+
+/// Brings a loop's own names in scope, and then a name that was numbered.
+pub fn brought_name<'a>(
+    name: &'a str,
+    bind: Result<BindId, Stop<'a>>,
+    head: &Head<'a>,
+    names: &mut Names<'a>,
+) -> Result<BindId, Stop<'a>>
+    ensures { Brought_name (head_of head.now) name.now bind.entry names.old names.new result }
+{
+    bring_head(head, names)?;
+    in_scope(name, bind, names)
+}
+
+/// Brings a loop's own names in scope, and then those of a pattern.
+pub fn brought_pattern<'a>(
+    pat: Result<Bound<'a>, Stop<'a>>,
+    head: &Head<'a>,
+    names: &mut Names<'a>,
+) -> Result<Bound<'a>, Stop<'a>>
+    ensures { Brought_pattern (head_of head.now) pat.entry names.old names.new result }
+{
+    let pat = pat?;
+    bring_head(head, names)?;
+    bring(pat.names, names)?;
+    Ok(pat)
+}
+
+/// Numbers size and type parameters, and brings them in scope.
+pub fn brought_heads<'a>(
+    heads: &'a [SourceHead<'a>],
+    bump: &'a Bump,
+    names: &mut Names<'a>,
+) -> Result<&'a [flat::Head], Stop<'a>>
+    ensures { Brought_heads (heads_of heads.now) names.old names.new result }
+{
+    let heads = numbered_heads(heads, bump, names)?;
+    bring(heads.names, names)?;
+    Ok(heads.heads)
 }

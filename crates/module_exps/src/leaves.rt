@@ -35,7 +35,7 @@ pub fn used<'a>(
 }
 
 /// The operation of an operator between two operands, and nothing for a composition of functions.
-pub fn operation(op: Oper) -> Option<BinOp>
+pub fn operator(op: Oper) -> Option<BinOp>
     ensures { result ≡ operation_in op }
 {
     match op {

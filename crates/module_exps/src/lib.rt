@@ -7,12 +7,14 @@ ghost use Rattle.fut_flat.specs.Sources.{source_term};
 ghost use Rattle.module_scopes.specs.Answers.{Went};
 ghost use Rattle.module_scopes.specs.Resolve.{resolve};
 
+mod bindings;
 mod composing;
 mod exps;
 mod groups;
 mod heads;
 mod leaves;
 mod lists;
+mod operations;
 
 use bumpalo::Bump;
 use fut_flat as flat;

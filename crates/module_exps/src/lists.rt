@@ -3,8 +3,9 @@ ghost use Rattle.std.specs.Prelude.{◌≡◌, ◌++◌, [], ◌∷◌, IfErr, I
 ghost use Rattle.fut_flat.specs.Erased.{texts};
 ghost use Rattle.fut_tree.specs.Names.{all};
 ghost use Rattle.fut_tree.specs.declared.exp.ExpField.{ExpField};
+ghost use Rattle.module_nodes.specs.Built.{Built0};
 ghost use Rattle.module_scopes.specs.declared.refusal.Stop.TheVariants as stop;
-ghost use Rattle.module_exps.specs.Lists.{all_exps, exps_of, maybe_exp, part_of};
+ghost use Rattle.module_exps.specs.Lists.{Put, all_exps, exps_of, maybe_exp, part_of};
 
 use bumpalo::Bump;
 use bumpalo::collections::into_bump_slice;
@@ -12,7 +13,75 @@ use fut_flat::Part;
 use fut_tree::{Exp, ExpField, Held, Ix};
 use module_scopes::Stop;
 
-fn field_names<'a>(fields: &'a [ExpField<'a>], bump: &'a Bump) -> Result<&'a [&'a str], Stop<'a>>
+/// Puts what a walk gave behind what is made.
+pub fn put<'a, T: Copy>(
+    next: Result<T, Stop<'a>>,
+    made: &mut Vec<T, &'a Bump>,
+) -> Result<(), Stop<'a>>
+    ensures { Put next.entry made.old.items made.new.items result }
+{
+    match next {
+        Ok(next) => match made.push(next) {
+            Ok(()) => Ok(()),
+            Err(_) => Err(Stop::Memory),
+        },
+        Err(stop) => Err(stop),
+    }
+}
+
+fn held_exps<'a>(
+    exps: &[Held<'a, Exp<'a>>],
+    bump: &'a Bump,
+) -> Result<&'a [Held<'a, Exp<'a>>], Stop<'a>>
+    ensures { Built0 (λ es. es.now ≡ exps.now) result }
+{
+    match bump.try_alloc_slice_copy(exps) {
+        Ok(exps) => Ok(exps),
+        Err(_) => Err(Stop::Memory),
+    }
+}
+
+/// One expression.
+pub fn one_exp<'a>(exp: &'a Exp<'a>, bump: &'a Bump) -> Result<&'a [Held<'a, Exp<'a>>], Stop<'a>>
+    ensures { Built0 (λ es. all es.now ≡ exp.now ∷ []) result }
+{
+    held_exps(&[Held { at: exp }], bump)
+}
+
+/// Two expressions.
+pub fn two_exps<'a>(
+    first: &'a Exp<'a>,
+    second: &'a Exp<'a>,
+    bump: &'a Bump,
+) -> Result<&'a [Held<'a, Exp<'a>>], Stop<'a>>
+    ensures { Built0 (λ es. all es.now ≡ first.now ∷ second.now ∷ []) result }
+{
+    held_exps(&[Held { at: first }, Held { at: second }], bump)
+}
+
+/// The first element of a range, the second where it is written, and the end.
+pub fn range_exps<'a>(
+    from: &'a Exp<'a>,
+    next: Option<&'a Exp<'a>>,
+    to: &'a Exp<'a>,
+    bump: &'a Bump,
+) -> Result<&'a [Held<'a, Exp<'a>>], Stop<'a>>
+    ensures { Built0 (λ es. all es.now ≡ from.now ∷ maybe_exp next.entry ++ to.now ∷ []) result }
+{
+    match next {
+        None => two_exps(from, to, bump),
+        Some(next) => held_exps(
+            &[Held { at: from }, Held { at: next }, Held { at: to }],
+            bump,
+        ),
+    }
+}
+
+/// The names of a record's fields.
+pub fn field_names<'a>(
+    fields: &'a [ExpField<'a>],
+    bump: &'a Bump,
+) -> Result<&'a [&'a str], Stop<'a>>
     ensures names { IfOk result (λ ns. ns.now ≡ map (λ (f : ExpField). f.name) fields.now) }
     ensures memory { IfErr result (λ e. e ≡ stop.Memory) }
 {
@@ -26,7 +95,8 @@ fn field_names<'a>(fields: &'a [ExpField<'a>], bump: &'a Bump) -> Result<&'a [&'
     Ok(into_bump_slice(made))
 }
 
-fn field_exps<'a>(
+/// The expressions of a record's fields.
+pub fn field_exps<'a>(
     fields: &'a [ExpField<'a>],
     bump: &'a Bump,
 ) -> Result<&'a [Held<'a, Exp<'a>>], Stop<'a>>
@@ -41,24 +111,6 @@ fn field_exps<'a>(
         }
     }
     Ok(into_bump_slice(made))
-}
-
-/// A record's names, and the expressions of its fields.
-#[derive(Clone, Copy)]
-pub struct Record<'a> {
-    pub names: &'a [&'a str],
-    pub exps: &'a [Held<'a, Exp<'a>>],
-}
-
-/// The names and the expressions of a record.
-pub fn record_parts<'a>(fields: &'a [ExpField<'a>], bump: &'a Bump) -> Result<Record<'a>, Stop<'a>>
-    ensures names { IfOk result (λ r. r.names.now ≡ map (λ (f : ExpField). f.name) fields.now) }
-    ensures exps { IfOk result (λ r. all r.exps.now ≡ map (λ (f : ExpField). f.exp.now) fields.now) }
-    ensures memory { IfErr result (λ e. e ≡ stop.Memory) }
-{
-    let names = field_names(fields, bump)?;
-    let exps = field_exps(fields, bump)?;
-    Ok(Record { names, exps })
 }
 
 fn push_exp<'a>(
@@ -91,7 +143,8 @@ fn push_ix<'a>(ix: &Ix<'a>, made: &mut Vec<Held<'a, Exp<'a>>, &'a Bump>) -> Resu
     }
 }
 
-fn index_exps<'a>(
+/// The array, and what is evaluated for each part of its index.
+pub fn index_exps<'a>(
     array: &'a Exp<'a>,
     ixs: &'a [Ix<'a>],
     bump: &'a Bump,
@@ -123,7 +176,8 @@ fn part_of<'a>(ix: &Ix<'a>) -> Part
     }
 }
 
-fn index_kinds<'a>(ixs: &'a [Ix<'a>], bump: &'a Bump) -> Result<&'a [Part], Stop<'a>>
+/// What each part of an index asks for.
+pub fn index_kinds<'a>(ixs: &'a [Ix<'a>], bump: &'a Bump) -> Result<&'a [Part], Stop<'a>>
     ensures kinds { IfOk result (λ ks. ks.now ≡ map part_of ixs.now) }
     ensures memory { IfErr result (λ e. e ≡ stop.Memory) }
 {
@@ -135,28 +189,6 @@ fn index_kinds<'a>(ixs: &'a [Ix<'a>], bump: &'a Bump) -> Result<&'a [Part], Stop
         }
     }
     Ok(into_bump_slice(made))
-}
-
-/// What each part of an index asks for, and the array with all that is evaluated for them.
-#[derive(Clone, Copy)]
-pub struct Index<'a> {
-    pub kinds: &'a [Part],
-    pub exps: &'a [Held<'a, Exp<'a>>],
-}
-
-/// The parts of an index.
-pub fn index_parts<'a>(
-    array: &'a Exp<'a>,
-    ixs: &'a [Ix<'a>],
-    bump: &'a Bump,
-) -> Result<Index<'a>, Stop<'a>>
-    ensures kinds { IfOk result (λ i. i.kinds.now ≡ map part_of ixs.now) }
-    ensures exps { IfOk result (λ i. all i.exps.now ≡ array.now ∷ all_exps ixs.now) }
-    ensures memory { IfErr result (λ e. e ≡ stop.Memory) }
-{
-    let kinds = index_kinds(ixs, bump)?;
-    let exps = index_exps(array, ixs, bump)?;
-    Ok(Index { kinds, exps })
 }
 
 /// The array, the indices and the new element of an update.

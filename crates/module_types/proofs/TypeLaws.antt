@@ -206,7 +206,9 @@ type_argument_stops at y s t e no_memory = no_memory
 
 pub ruleset argument_rules = (size_argument, size_argument_stops, type_argument, type_argument_stops)
 
-pub ruleset type_rules = (type_held, use_went, array_went, unique_went, arrow_went, unit_went, tuple_went, record_went, named_went)
+pub ruleset type_rules = (type_held, use_went, array_went, unique_went, arrow_went, unit_went, tuple_went, record_went)
+
+pub ruleset named_rules = (type_held, named_went)
 
 -- ---- lists
 

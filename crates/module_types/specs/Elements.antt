@@ -1,5 +1,5 @@
 -- The parts of lists in types and patterns.
-use Rattle.std.specs.Prelude.{List, Result, Ok, Err}
+use Rattle.std.specs.Prelude.{Bool, true, false, List, Some, None, Result, Ok, Err}
 use Rattle.fut_ast.specs.Sorts.{Text, SourceType, SourcePat}
 use Rattle.fut_scalar.specs.declared.place.Place.{Place}
 use Rattle.fut_tree.specs.declared.held.Held.{Held}
@@ -10,7 +10,8 @@ use Rattle.fut_tree.specs.declared.ty.TypeArg.TheVariants as held_arg
 use Rattle.fut_tree.specs.declared.ty.SizeExp.{SizeExp}
 use Rattle.fut_tree.specs.Types.{maybe_size_of}
 use Rattle.fut_flat.specs.Erased.{FlatType, FlatPattern, Argument, a_size, a_type}
-use Rattle.fut_flat.specs.Sources.{source_size, source_type, source_pattern}
+use Rattle.fut_flat.specs.Sources.{WrittenType, source_size, source_type, source_pattern}
+use Rattle.fut_flat.specs.Terms.{Type_use, Array_type, Unique_type, Arrow_type, Tuple_type, Record_type}
 use Rattle.module_scopes.specs.Scopes.{Scope}
 use Rattle.module_scopes.specs.Resolve.{Numbered, Naming, after, resolve_size, resolve_type, name_pattern}
 use Rattle.module_scopes.specs.Names.{Refusal}
@@ -30,3 +31,13 @@ pattern_part h sc s = name_pattern (source_pattern h.at.now) sc s
 
 unfoldable pub field_pattern : PatField → Scope → Naming → Result ((Text × FlatPattern) × Naming) Refusal
 field_pattern f sc s = after (name_pattern (source_pattern f.pat.now) sc s) (λ p s. Ok ((f.name.now, p), s))
+
+-- a function's type whose parameter has a name
+abbrev pub names_parameter : WrittenType → Bool
+names_parameter (Type_use p given) = false
+names_parameter (Array_type s t) = false
+names_parameter (Unique_type t) = false
+names_parameter (Arrow_type None t u) = false
+names_parameter (Arrow_type (Some x) t u) = true
+names_parameter (Tuple_type ts) = false
+names_parameter (Record_type fs ts) = false

@@ -1,5 +1,5 @@
 // Written types.
-ghost use Rattle.std.specs.Prelude.{◌≡◌, map};
+ghost use Rattle.std.specs.Prelude.{◌≡◌, map, true};
 ghost use Rattle.fut_flat.specs.Erased.{size_of, type_of};
 ghost use Rattle.fut_flat.specs.Sources.{source_size, source_type};
 ghost use Rattle.fut_flat.proofs.ErasedPatterns.{argument_of, type_field};
@@ -11,7 +11,7 @@ ghost use Rattle.module_scopes.specs.Scopes.{type_of as type_found};
 ghost use Rattle.module_scopes.specs.Table.{bound_of, scope_of};
 ghost use Rattle.module_scopes.specs.Resolve.{resolve_size, resolve_type};
 ghost use Rattle.module_scopes.specs.Walks.{each};
-ghost use Rattle.module_types.specs.Elements.{argument_part, type_field_part, type_part};
+ghost use Rattle.module_types.specs.Elements.{argument_part, names_parameter, type_field_part, type_part};
 
 use crate::numbers::{in_scope, numbered};
 use bumpalo::Bump;
@@ -96,6 +96,30 @@ pub fn resolved_type<'a>(
             let from = resolved_type(from, bump, names);
             nodes::arrow(bump, ty.place, from, resolved_type(to, bump, names))
         }
+        TypeForm::Named(_, _, _) => resolved_named(ty, bump, names),
+        TypeForm::Unit => nodes::tuple(bump, ty.place, Ok(&[])),
+        TypeForm::Tuple(parts) => {
+            nodes::tuple(bump, ty.place, resolved_types(parts, bump, names))
+        }
+        TypeForm::Record(fields) => {
+            nodes::record(bump, ty.place, resolved_fields(fields, bump, names))
+        }
+    }
+}
+
+/// A function's type whose parameter has a name, which its result sees.
+#[cycle(types)]
+#[tactic(auto, using(crate::proofs::TypeLaws::named_rules))]
+fn resolved_named<'a>(
+    ty: &'a TypeExp<'a>,
+    bump: &'a Bump,
+    names: &mut Names<'a>,
+) -> Result<&'a flat::TypeExp<'a>, Stop<'a>>
+    requires { names_parameter (source_type ty.now) ≡ true }
+    ensures went { Went (λ t. type_of t.now) (resolve_type (source_type ty.now)) names.old names.new result }
+    ensures bound { bound_of names.new ≡ bound_of names.old }
+{
+    match ty.form {
         TypeForm::Named(name, from, to) => {
             let bind = numbered(name, names);
             let from = resolved_type(from, bump, names);
@@ -105,13 +129,7 @@ pub fn resolved_type<'a>(
             names.leave(height);
             nodes::named_arrow(bump, ty.place, bind, from, to)
         }
-        TypeForm::Unit => nodes::tuple(bump, ty.place, Ok(&[])),
-        TypeForm::Tuple(parts) => {
-            nodes::tuple(bump, ty.place, resolved_types(parts, bump, names))
-        }
-        TypeForm::Record(fields) => {
-            nodes::record(bump, ty.place, resolved_fields(fields, bump, names))
-        }
+        _ => unreachable!(),
     }
 }
 
