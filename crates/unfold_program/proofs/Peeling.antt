@@ -18,18 +18,14 @@ use Rattle.unfold.specs.Unfolding.{Unfolds, u_strict, u_more, u_none, o_declared
 use Rattle.unfold_parts.proofs.Refusing.{refused_as}
 use Rattle.unfold_parts.specs.Refused.{no_memory}
 use Rattle.unfold_parts.specs.declared.refusal.Refusal.{Refusal}
-use Rattle.unfold_parts.specs.declared.refusal.Refusal.TheVariants.{Memory}
 use Rattle.unfold_parts.specs.declared.steps.Unfolding.{Unfolding}
 use Rattle.unfold_program.specs.declared.peel.Peeled.{Peeled}
 use Rattle.unfold_program.specs.declared.walked.Context.{Context}
 use Rattle.unfold_program.specs.declared.walked.Walked.{Walked}
 use Rattle.unfold_program.specs.Answers.{is_declared, Peels, bare, declared, Peeled_to, peeled_to, not_peeled, Unfolded, unfolded, refused, defined, told}
 
-pub peel_bare : (lo : ℕ) (e : Bor Exp) → Peeled_to lo (term_of e.now) (Ok (record { exp = e; at = lo }))
-peel_bare lo e = peeled_to bare
-
-pub peel_err : (lo : ℕ) (e : FlatTerm) (r : Refusal) → r ≡ Memory → Peeled_to lo e (Err r)
-peel_err lo e r m = subst (λ z. Peeled_to lo e (Err z)) (sym m) not_peeled
+pub peel_bare : (lo inside : ℕ) (e : Bor Exp) → Peeled_to lo (term_of e.now) (Ok (record { exp = e; at = lo; inside = inside }))
+peel_bare lo inside e = peeled_to bare
 
 pub peel_declared : (e : Exp) (a : Act) (mark : Place) (es : Bor (List Exp)) (d : Exp) (lo inside : ℕ) (r : Result Peeled Refusal) → e.form ≡ form.Strict a mark es → is_declared a ≡ true → length es.now ≡ 1 → inside ≡ lo + 1 → Peeled_to inside (term_of (get_or es.now 0 d)) r → Peeled_to lo (term_of e) r
 unfolding terms
@@ -86,5 +82,3 @@ unpeeled c sc lo e old new _ not_peeled = refused no_memory
 pub peeled_unfolded : (c : Context) (sc : Scope) (lo : ℕ) (e : FlatTerm) (p : Peeled) (old new : Unfolding) (r : Result Walked Refusal) → Peeled_to lo e (Ok p) → Unfolded c sc p.at (term_of p.exp.now) old new r → Unfolded c sc lo e old new r
 peeled_unfolded c sc lo e p old new (Ok r) (peeled_to q) h = peels_unfolded q h
 peeled_unfolded c sc lo e p old new (Err x) (peeled_to q) (refused h) = refused (refused_as (peels_stuck c q) h)
-
-pub ruleset peeling = (peel_bare, peel_err)

@@ -1,6 +1,5 @@
 -- Programs: their definitions one after the other, and then the entry; or that there is no way on in one of them.
-use Rattle.std.proofs.Common.{◌≡◌, ℕ, zero, suc, ◌+◌, ◌<◌, ◌≤◌, ◌++◌, List, [], ◌∷◌, map, length, get_or, drop, Bool, true, false, None, Some, Ok, Err, refl, sym, ap, ◌∙◌, subst, arith, append_assoc, append-nil}
-use mathlib.Core.List.{map-append}
+use Rattle.std.proofs.Common.{◌≡◌, ℕ, zero, suc, ◌+◌, ◌<◌, ◌≤◌, ◌++◌, List, [], ◌∷◌, map, length, get_or, drop, replicate, Bool, true, false, None, Some, Ok, Err, refl, sym, ap, ◌∙◌, subst, arith, append_assoc, append-nil}
 use Rattle.std.specs.Prelude.{Result, Option}
 use Rattle.std.specs.Borrow.{Bor}
 use Rattle.fut_scalar.specs.declared.place.BindId.{BindId}
@@ -23,14 +22,12 @@ use Rattle.reach.specs.Reach.{Reached, reached, is_set, named_term}
 use Rattle.unfold.specs.Held.{known_of}
 use Rattle.unfold.specs.Knowns.{Known, Tuple_known, Knowns, knowns, listed, no_name, Scalar_known, Scope, Tops}
 use Rattle.unfold.specs.Programs.{Applies_all, a_none, a_more, Definitions_unfold, d_none, d_reached, d_other}
-use Rattle.unfold.specs.Shapes.{All_laid, Laid, Shapes, no_shape, Tuple_shape, laid_more, laid_none, laid_scalar, laid_tuple}
+use Rattle.unfold.specs.Shapes.{All_laid, Laid, Scalar_shape, Shapes, Tuple_shape, laid_more, laid_none, laid_scalar, laid_tuple}
 use Rattle.unfold.specs.Stuck.{Definitions_stuck, Program_stuck, Stuck, Stuck_runs, in_definitions, in_entry, no_entry, no_result, stuck_definition, stuck_next, stuck_on, stuck_other, stuck_run}
 use Rattle.unfold.specs.Unfolding.{Bindings, Unfolds, names}
-use Rattle.unfold.specs.declared.known.Field.{Field}
-use Rattle.unfold.specs.declared.known.Function.{Function}
 use Rattle.unfold.specs.declared.known.Known.{Known as Held_known}
 use Rattle.unfold.specs.declared.known.KnownForm.TheVariants as form
-use Rattle.unfold.proofs.Mirror.{known_function, known_primitive, known_record, known_scalar, known_tuple}
+use Rattle.unfold.proofs.Mirror.{known_tuple}
 use Rattle.unfold_parts.specs.Answers.{Blocked, blocked, not_blocked}
 use Rattle.unfold_parts.specs.Held.{maybe_known}
 use Rattle.unfold_parts.specs.Layouts.{Laid_to, laid_to, not_laid, Renewed, renewed, not_renewed, shape_of}
@@ -41,6 +38,8 @@ use Rattle.unfold_parts.specs.declared.fresh.Fresh.{Fresh}
 use Rattle.unfold_parts.specs.declared.refusal.Refusal.{Refusal}
 use Rattle.unfold_parts.specs.declared.refusal.Refusal.TheVariants.{Lost, Memory}
 use Rattle.unfold_parts.specs.declared.steps.Unfolding.{Unfolding}
+use Rattle.unfold_parts.proofs.Forms.{form_no_tuple}
+use Rattle.unfold_parts.proofs.Lacking.{No_tuple}
 use Rattle.unfold_parts.proofs.Refusing.{refused_as, only_memory}
 use Rattle.unfold_parts.proofs.Shapeless.{laid_shape, no_data}
 use Rattle.unfold_program.specs.declared.program.Given.{Given}
@@ -48,30 +47,18 @@ use Rattle.unfold_program.specs.declared.program.Made.{Made}
 use Rattle.unfold_program.specs.declared.walked.Context.{Context}
 use Rattle.unfold_program.specs.declared.walked.Walked.{Walked}
 use Rattle.unfold_program.specs.Answers.{Applied, applied, not_applied, Unfolded, unfolded, refused, defined, told}
-use Rattle.unfold_program.specs.Whole.{scalars, Are_scalars, Given_to, given_to, not_given, Defined_to, passed_over, defined_to, not_defined, Definitions_to, definitions_to, no_definitions, All_applied, all_applied, not_all_applied, Entry_stuck, not_known, stuck_there, Entry_to, entry_to, not_entered, Finished, finished, not_finished, Unfolds_to, unfolds_to, no_program}
+use Rattle.unfold_program.specs.Whole.{scalars, Are_scalars, Given_to, given_to, not_given, Defined_to, passed_over, defined_to, not_defined, Definitions_to, definitions_to, no_definitions, All_applied, all_applied, not_all_applied, Entry_stuck, not_known, stuck_there, no_data_there, Entry_to, entry_to, not_entered, Finished, finished, not_finished, Unfolds_to, unfolds_to, no_program}
 use Rattle.unfold_program.proofs.Growing.{grown, not_grown, moved, stuck_at}
 
 -- ---- parameters
 
--- one scalar more, behind others
-scalar_behind : (n : ℕ) (ss : List Known) (u : Atom) (us : List Atom) → All_laid (scalars n) (knowns ss) us [] → All_laid (scalars (suc n)) (knowns (ss ++ Scalar_known u ∷ [])) (us ++ u ∷ []) []
-scalar_behind zero [] u _ laid_none = laid_more laid_scalar laid_none
-scalar_behind zero (s ∷ ss) u us l = elim l [ ]
-scalar_behind (suc n) [] u us l = elim l [ ]
-scalar_behind (suc n) (_ ∷ ss) u _ (laid_more (laid_scalar {u = w}) l) = laid_more laid_scalar (scalar_behind n ss u _ l)
+-- the same scalar so many times
+all_scalars : (n : ℕ) (k : Held_known) (u : Atom) → known_of k ≡ Scalar_known u → All_laid (scalars n) (knowns (map known_of (replicate n k))) (replicate n u) []
+all_scalars zero k u e = laid_none
+all_scalars (suc n) k u e = laid_more (subst (λ z. Laid Scalar_shape z (u ∷ replicate n u) (replicate n u)) (sym e) laid_scalar) (all_scalars n k u e)
 
-pub scalars_more : (ss ss' : List Held_known) (n : ℕ) (k : Held_known) (u : Atom) → Are_scalars n (map known_of ss) → known_of k ≡ Scalar_known u → ss' ≡ ss ++ k ∷ [] → Are_scalars (n + 1) (map known_of ss')
-scalars_more ss ss' n k u h e q =
-    record {
-      atoms = h.atoms ++ u ∷ [];
-      laid = let next : suc n ≡ n + 1 = omega arith in subst (λ z. All_laid (scalars z) (knowns (map known_of ss')) (h.atoms ++ u ∷ []) []) next (subst (λ z. All_laid (scalars (suc n)) (knowns z) (h.atoms ++ u ∷ []) []) (sym (ap (map known_of) q ∙ map-append known_of ss (k ∷ []) ∙ ap (λ z. map known_of ss ++ z ∷ []) e)) (scalar_behind n (map known_of ss) u h.atoms h.laid));
-    }
-
-pub no_scalars : (ss : List Held_known) → ss ≡ [] → Are_scalars 0 (map known_of ss)
-no_scalars ss e = record { atoms = []; laid = subst (λ z. All_laid no_shape (knowns (map known_of z)) [] []) (sym e) laid_none }
-
-pub scalars_done : (ss : List Held_known) (n : ℕ) (all : Bor (List Held_known)) → Are_scalars n (map known_of ss) → all.now ≡ ss → Are_scalars n (map known_of all.now)
-scalars_done ss n all h e = subst (λ z. Are_scalars n (map known_of z)) (sym e) h
+pub scalars_are : (ss : List Held_known) (n : ℕ) (k : Held_known) (u : Atom) → known_of k ≡ Scalar_known u → ss ≡ replicate n k → Are_scalars n (map known_of ss)
+scalars_are ss n k u e q = record { atoms = replicate n u; laid = subst (λ z. All_laid (scalars n) (knowns (map known_of z)) (replicate n u) []) (sym q) (all_scalars n k u e) }
 
 parts_laid : {hs : Shapes} {ss : Knowns} {us : List Atom} → Laid (Tuple_shape hs) (Tuple_known ss) us [] → All_laid hs ss us []
 parts_laid (laid_tuple h) = h
@@ -96,29 +83,14 @@ module _ (count : ℕ) (like : Held_known) (row : Bor (List Held_known)) (are : 
   given_unnamed n next m m' _ (not_renewed (lost lacks)) = absurd (lacks (Tuple_shape (scalars count)) are.atoms (subst (λ z. Laid (Tuple_shape (scalars count)) z are.atoms []) (sym (known_tuple like row is)) (laid_tuple are.laid)))
 
   -- and are a tuple again
-  module _ (m m' : ℕ) (f : Fresh) (e : Renewed (known_of like) m m' (Ok f)) where
-    no_other : (t : Known) → known_of f.known ≡ t → ((hs : Shapes) (us : List Atom) → Laid (Tuple_shape hs) t us [] → ⊥) → ⊥
-    no_other t q lacks = none e
-      where
-        none : Renewed (known_of like) m m' (Ok f) → ⊥
-        none (renewed up l) = lacks (scalars count) (names f.names.now) (subst (λ z. Laid (Tuple_shape (scalars count)) z (names f.names.now) []) q (laid_like f l))
-
-    pub given_scalar : (u : Atom) → f.known.form ≡ form.Scalar u → ⊥
-    given_scalar u is' = no_other _ (known_scalar f.known u is') (λ hs us l. elim l [ ])
-
-    pub given_record : (fs : Bor (List Field)) → f.known.form ≡ form.Record fs → ⊥
-    given_record fs is' = no_other _ (known_record f.known fs is') (λ hs us l. elim l [ ])
-
-    pub given_function : (g : Bor Function) → f.known.form ≡ form.Function g → ⊥
-    given_function g is' = no_other _ (known_function f.known g is') (λ hs us l. elim l [ ])
-
-    pub given_primitive : (p : Primitive) (at : Place) (ss : Bor (List Held_known)) → f.known.form ≡ form.Primitive p at ss → ⊥
-    given_primitive p at ss is' = no_other _ (known_primitive f.known p at ss is') (λ hs us l. elim l [ ])
+  pub given_tuple : (m m' : ℕ) (f : Fresh) → Renewed (known_of like) m m' (Ok f) → ((ss : Bor (List Held_known)) → f.known.form ≡ form.Tuple ss → ⊥) → ⊥
+  given_tuple m m' f (renewed up l) lacks = none (known_of f.known) (laid_like f l) (form_no_tuple f.known lacks)
+    where
+      none : (t : Known) → Laid (Tuple_shape (scalars count)) t (names f.names.now) [] → No_tuple t → ⊥
+      none _ (laid_tuple l) lacks = lacks _ refl
 
 pub given_err : (count n next : ℕ) (r : Refusal) → r ≡ Memory → Given_to count n next (Err r)
 given_err count n next r m = subst (λ z. Given_to count n next (Err z)) (sym m) not_given
-
-pub ruleset giving = (given_err, given_unnamed)
 
 -- ---- one definition
 
@@ -225,13 +197,17 @@ module _ (c : Context) (ss : List Held_known) (old : Unfolding) where
     pub all_err : (new : Unfolding) (d : Held_known) (r : Refusal) → i < length ss → Applied_from c ss f old now made i → Applied c (known_of made) (known_of (get_or ss i d)) now new (Err r) → All_applied c (map known_of ss) f old new (Err r)
     all_err new d r lt (applied_from bs g k kw) (not_applied x) = not_all_applied (refused_as (λ w. kw (subst (λ z. Stuck_runs (told c) (defined c) (map known_of z) (known_of made)) (sym (one_more ss i d lt)) (stuck_run w))) x)
 
-module _ (c : Context) (entry : ℕ) (ss : List Known) (old new : Unfolding) where
-  pub entry_ok : (f : Held_known) (o : Option Held_known) (r : Result Held_known Refusal) → maybe_known o ≡ look (defined c) entry → o ≡ Some f → All_applied c ss (known_of f) old new r → Entry_to c entry ss old new r
-  entry_ok f o (Ok r) e is a = entry_to (sym e ∙ ap maybe_known is) a
-  entry_ok f o (Err x) e is (not_all_applied h) = not_entered (refused_as (stuck_there (sym e ∙ ap maybe_known is)) h)
+-- the entry
+module _ (c : Context) (entry : ℕ) (g : Given) (types : List ScalarType) (old : Unfolding) (o : Option Held_known) (e : maybe_known o ≡ look (defined c) entry) where
+  pub entry_none : o ≡ None → Entry_to c entry g types old (Err Lost)
+  entry_none is = not_entered (lost (not_known (sym e ∙ ap maybe_known is)))
 
-  pub entry_err : (o : Option Held_known) → maybe_known o ≡ look (defined c) entry → o ≡ None → Entry_to c entry ss old new (Err Lost)
-  entry_err o e is = not_entered (lost (not_known (sym e ∙ ap maybe_known is)))
+  pub entry_stuck : (f : Held_known) (new : Unfolding) (r : Refusal) → o ≡ Some f → All_applied c (map known_of g.arguments.now) (known_of f) old new (Err r) → Entry_to c entry g types old (Err r)
+  entry_stuck f new r is (not_all_applied x) = not_entered (refused_as (stuck_there (sym e ∙ ap maybe_known is)) x)
+
+  pub entry_end : (f k : Held_known) (mid : Unfolding) (r : Result Program Refusal) → o ≡ Some f → All_applied c (map known_of g.arguments.now) (known_of f) old mid (Ok k) → Finished g.names.now types (known_of k) mid r → Entry_to c entry g types old r
+  entry_end f k mid (Ok p) is a h = entry_to mid (sym e ∙ ap maybe_known is) a h
+  entry_end f k mid (Err r) is (all_applied cs gc a) (not_finished x) = not_entered (refused_as (no_data_there (sym e ∙ ap maybe_known is) a) x)
 
 -- ---- the whole
 
@@ -244,8 +220,6 @@ finish_unlaid params types s old r (not_laid x) = not_finished (refused_as (no_d
 pub finish_err : (params : List ℕ) (types : List ScalarType) (s : Known) (old : Unfolding) (mark : ℕ) (us : List Atom) (before after : Bindings) (r : Refusal) → Blocked mark us before after (Err r) → Finished params types s old (Err r)
 finish_err params types s old mark us before after _ not_blocked = not_finished no_memory
 
-pub ruleset finishing = (finish_unlaid, finish_err)
-
 listed_knowns : (ss : List Known) → listed (knowns ss) ≡ ss
 listed_knowns [] = refl
 listed_knowns (s ∷ ss) = ap (λ z. s ∷ z) (listed_knowns ss)
@@ -253,32 +227,36 @@ listed_knowns (s ∷ ss) = ap (λ z. s ∷ z) (listed_knowns ss)
 application_of : (types : List IntType) (made : Made) (ss : List Held_known) (f : Known) (n m : ℕ) (cs : Bindings) (s : Known) → made.context.types.now ≡ types → Applies_all (told made.context) (defined made.context) (map known_of ss) f n cs s m → Applies_all (integer_at types) (defined made.context) (listed (knowns (map known_of ss))) f n cs s m
 application_of types made ss f n m cs s ts a = subst (λ z. Applies_all (integer_at z) (defined made.context) (listed (knowns (map known_of ss))) f n cs s m) ts (subst (λ z. Applies_all (told made.context) (defined made.context) z f n cs s m) (sym (listed_knowns (map known_of ss))) a)
 
-pub whole_ok : (types : List IntType) (ds : List FlatTop) (entry : ℕ) (sorts : List ScalarType) (m0 m1 m2 m3 : Unfolding) (g : Given) (made : Made) (r : Held_known) (answer : Result Program Refusal) → m0.next ≡ 0 → steps_of m0 ≡ [] → Given_to (length sorts) m0.next m1.next (Ok g) → steps_of m1 ≡ steps_of m0 → Definitions_to types entry ds m1 m2 (Ok made) → Entry_to made.context entry (map known_of g.arguments.now) m2 m3 (Ok r) → Finished g.names.now sorts (known_of r) m3 answer → Unfolds_to (integer_at types) ds entry sorts answer
-whole_ok types ds entry sorts m0 m1 m2 m3 g made r _ zero_first none (given_to up laid) same (definitions_to bs gb ts du) (entry_to {f = f} is (all_applied cs gc a)) (finished {p = p} {us} ps ss l body below) =
-    unfolds_to (shape_of (known_of r)) (record {
-      arguments = knowns (map known_of g.arguments.now);
-      parameters = subst (λ z. All_laid (scalars (length sorts)) (knowns (map known_of g.arguments.now)) (names z) []) (sym ps) laid;
-      first = m1.next;
-      rising = subst (λ z. Rattle.fut_blocks.specs.Numbered.Upward z p.params.now m1.next) zero_first (subst (λ z. Rattle.fut_blocks.specs.Numbered.Upward m0.next z m1.next) (sym ps) up);
-      defined = bs;
-      tops = defined made.context;
-      behind = m2.next;
-      definitions = du;
-      function = f;
-      entry_known = is;
-      applied = cs;
-      result = known_of r;
-      end = m3.next;
-      application = application_of types made g.arguments.now f m2.next m3.next cs (known_of r) ts a;
-      results = us;
-      laid = l;
-      body = body ∙ ap (λ z. Rattle.fut_blocks.specs.Plain.lets z us) (gc ∙ ap (λ z. z ++ cs) (gb ∙ ap (λ z. z ++ bs) (same ∙ none)));
-      below = omega (arith, below);
-    }) ss
-whole_ok types ds entry sorts m0 m1 m2 m3 g made r _ zero_first none (given_to up laid) same (definitions_to bs gb ts du) (entry_to {f = f} is (all_applied cs gc a)) (not_finished x) =
-    no_program (refused_as (λ lacks. no_result du is laid (application_of types made g.arguments.now f m2.next m3.next cs (known_of r) ts a) lacks) x)
-
 module _ (types : List IntType) (ds : List FlatTop) (entry : ℕ) (sorts : List ScalarType) where
+  pub whole : (m0 m1 m2 : Unfolding) (g : Given) (made : Made) (answer : Result Program Refusal) → m0.next ≡ 0 → steps_of m0 ≡ [] → Given_to (length sorts) m0.next m1.next (Ok g) → steps_of m1 ≡ steps_of m0 → Definitions_to types entry ds m1 m2 (Ok made) → Entry_to made.context entry g sorts m2 answer → Unfolds_to (integer_at types) ds entry sorts answer
+  whole m0 m1 m2 g made _ zero_first none (given_to up laid) same (definitions_to bs gb ts du) (entry_to {r = r} {f = f} m3 is (all_applied cs gc a) (finished {p = p} {us} ps ss l body below)) =
+      unfolds_to (shape_of (known_of r)) (record {
+        arguments = knowns (map known_of g.arguments.now);
+        parameters = subst (λ z. All_laid (scalars (length sorts)) (knowns (map known_of g.arguments.now)) (names z) []) (sym ps) laid;
+        first = m1.next;
+        rising = subst (λ z. Rattle.fut_blocks.specs.Numbered.Upward z p.params.now m1.next) zero_first (subst (λ z. Rattle.fut_blocks.specs.Numbered.Upward m0.next z m1.next) (sym ps) up);
+        defined = bs;
+        tops = defined made.context;
+        behind = m2.next;
+        definitions = du;
+        function = f;
+        entry_known = is;
+        applied = cs;
+        result = known_of r;
+        end = m3.next;
+        application = application_of types made g.arguments.now f m2.next m3.next cs (known_of r) ts a;
+        results = us;
+        laid = l;
+        body = body ∙ ap (λ z. Rattle.fut_blocks.specs.Plain.lets z us) (gc ∙ ap (λ z. z ++ cs) (gb ∙ ap (λ z. z ++ bs) (same ∙ none)));
+        below = omega (arith, below);
+      }) ss
+  whole m0 m1 m2 g made _ zero_first none (given_to up laid) same (definitions_to bs gb ts du) (not_entered x) = no_program (refused_as here x)
+    where
+      here : Entry_stuck made.context entry (map known_of g.arguments.now) m2.next → Program_stuck (integer_at types) ds entry (scalars (length sorts))
+      here (not_known is) = no_entry du is
+      here (stuck_there {f = f} is w) = in_entry du is laid (subst (λ z. Stuck_runs (integer_at z) (defined made.context) (listed (knowns (map known_of g.arguments.now))) f) ts (subst (λ z. Stuck_runs (told made.context) (defined made.context) z f) (sym (listed_knowns (map known_of g.arguments.now))) w))
+      here (no_data_there {n' = n'} {bs = cs} {f = f} {s = s} is a lacks) = no_result du is laid (application_of types made g.arguments.now f m2.next n' cs s ts a) lacks
+
   pub whole_err : (r : Refusal) → r ≡ Memory → Unfolds_to (integer_at types) ds entry sorts (Err r)
   whole_err r m = no_program (only_memory m)
 
@@ -287,12 +265,3 @@ module _ (types : List IntType) (ds : List FlatTop) (entry : ℕ) (sorts : List 
 
   pub whole_undefined : (old new : Unfolding) (r : Refusal) → Definitions_to types entry ds old new (Err r) → Unfolds_to (integer_at types) ds entry sorts (Err r)
   whole_undefined old new r (no_definitions x) = no_program (refused_as in_definitions x)
-
-  pub whole_stuck : (n n' : ℕ) (m1 m2 m3 : Unfolding) (g : Given) (made : Made) (r : Refusal) → Given_to (length sorts) n n' (Ok g) → Definitions_to types entry ds m1 m2 (Ok made) → Entry_to made.context entry (map known_of g.arguments.now) m2 m3 (Err r) → Unfolds_to (integer_at types) ds entry sorts (Err r)
-  whole_stuck n n' m1 m2 m3 g made r (given_to up laid) (definitions_to bs gb ts du) (not_entered x) = no_program (refused_as here x)
-    where
-      here : Entry_stuck made.context entry (map known_of g.arguments.now) → Program_stuck (integer_at types) ds entry (scalars (length sorts))
-      here (not_known is) = no_entry du is
-      here (stuck_there {f = f} is w) = in_entry du is laid (subst (λ z. Stuck_runs (integer_at z) (defined made.context) (listed (knowns (map known_of g.arguments.now))) f) ts (subst (λ z. Stuck_runs (told made.context) (defined made.context) z f) (sym (listed_knowns (map known_of g.arguments.now))) w))
-
-  pub ruleset wholes = (whole_err, whole_ungiven, whole_undefined)

@@ -1,6 +1,7 @@
 -- Parts and rows of lets, one after the other.
-use Rattle.std.proofs.Common.{◌≡◌, ℕ, ◌+◌, ◌<◌, ◌≤◌, ◌++◌, List, [], ◌∷◌, map, length, get_or, drop, Ok, Err, refl, sym, ap, ◌∙◌, subst, arith, append_assoc, append-nil}
+use Rattle.std.proofs.Common.{◌≡◌, ℕ, ◌+◌, ◌<◌, ◌≤◌, ◌++◌, List, [], ◌∷◌, map, length, get_or, drop, set, take, Ok, Err, refl, sym, ap, ◌∙◌, subst, arith, append_assoc, append-nil}
 use mathlib.Core.List.{map-append}
+use Rattle.std.proofs.lemmas.List.{take_all, take_more_set}
 use Rattle.std.specs.Prelude.{Result}
 use Rattle.std.specs.Borrow.{Bor}
 use Rattle.fut_flat.specs.declared.exp.Exp.{Exp}
@@ -19,9 +20,8 @@ use Rattle.unfold.specs.declared.known.Known.{Known as Held_known}
 use Rattle.unfold.specs.declared.known.Scope.{Scope as Held_scope}
 use Rattle.unfold_parts.specs.Answers.{Bound_to, bound_to, not_bound}
 use Rattle.unfold_parts.specs.States.{steps_of}
-use Rattle.unfold_parts.proofs.Refusing.{refused_as, only_memory}
+use Rattle.unfold_parts.proofs.Refusing.{refused_as}
 use Rattle.unfold_parts.specs.declared.refusal.Refusal.{Refusal}
-use Rattle.unfold_parts.specs.declared.refusal.Refusal.TheVariants.{Memory}
 use Rattle.unfold_parts.specs.declared.steps.Unfolding.{Unfolding}
 use Rattle.unfold_program.specs.declared.walked.Context.{Context}
 use Rattle.unfold_program.specs.declared.walked.Row.{Row as Held_row}
@@ -61,10 +61,12 @@ module _ (c : Context) (sc : Scope) (lo : ℕ) (es : List Exp) (old : Unfolding)
   unfolding terms
   parts_err now new done at i d r lt (parts_lead bs g f k h) (refused x) = all_refused (refused_as (λ w. k (subst (λ z. Stuck_all (told c) (defined c) sc at (terms (map term_of z))) (sym (one_more es i d lt)) (stuck_here w))) x)
 
-  pub parts_memory : (new : Unfolding) (r : Refusal) → r ≡ Memory → All_unfolded c sc lo (terms (map term_of es)) old new (Err r)
-  parts_memory new r m = all_refused (only_memory m)
+  -- a slice that holds what is known of the parts so far
+  pub slots_more : (now new : Unfolding) (slots : List Held_known) (at i j : ℕ) (d : Exp) (r : Walked) → i < length es → j ≡ i → length slots ≡ length es → Parts_lead c sc lo es old now (take i slots) at i → Unfolded c sc at (term_of (get_or es i d)) now new (Ok r) → Parts_lead c sc lo es old new (take (i + 1) (set slots j r.known)) r.at (i + 1)
+  slots_more now new slots at i j d r lt same len h u = parts_more now new (take i slots) (take (i + 1) (set slots j r.known)) at i d r lt h u (ap (λ z. take (i + 1) (set slots z r.known)) same ∙ take_more_set slots i r.known (omega (arith, lt, len)))
 
-pub ruleset parts = (parts_start, parts_more, parts_done, parts_err, parts_memory)
+  pub slots_done : (now : Unfolding) (slots : List Held_known) (at i : ℕ) (all : Bor (List Held_known)) → length es ≤ i → length slots ≡ length es → Parts_lead c sc lo es old now (take i slots) at i → all.now ≡ slots → All_unfolded c sc lo (terms (map term_of es)) old now (Ok (record { knowns = all; at = at }))
+  slots_done now slots at i all le len h e = parts_done now (take i slots) at i all le h (e ∙ sym (take_all i slots (omega (arith, le, len))))
 
 -- ---- lets
 
@@ -96,16 +98,11 @@ module _ (c : Context) (row : Held_row) (l : LetTree) (old new : Unfolding) wher
   unfolding lets
   one_stuck f body = subst (λ (z : Row). Stuck (told c) (defined c) (scope_of row.scope.now) row.at (Let z.0 z.1 body)) (sym (row_is l)) (f body)
 
-  pub let_value_err : (first value : ℕ) (mid : Unfolding) (r : Refusal) → first ≡ row.at + 1 → value ≡ first + pattern_numbers (pattern_of l.pat) → Unfolded c (scope_of row.scope.now) value (term_of l.value) old mid (Err r) → Row_unfolded c row (row_of l ∷ []) old new (Err r)
-  let_value_err first value mid r q q' (refused x) = row_refused (refused_as (λ w. one_stuck (λ body. stuck_value (stuck_at c (omega (arith, q, q')) w))) x)
+  pub let_value_err : (first value : ℕ) (r : Refusal) → first ≡ row.at + 1 → value ≡ first + pattern_numbers (pattern_of l.pat) → Unfolded c (scope_of row.scope.now) value (term_of l.value) old new (Err r) → Row_unfolded c row (row_of l ∷ []) old new (Err r)
+  let_value_err first value r q q' (refused x) = row_refused (refused_as (λ w. one_stuck (λ body. stuck_value (stuck_at c (omega (arith, q, q')) w))) x)
 
-  pub let_err : (first value : ℕ) (mid : Unfolding) (v : Walked) (r : Refusal) → first ≡ row.at + 1 → value ≡ first + pattern_numbers (pattern_of l.pat) → Unfolded c (scope_of row.scope.now) value (term_of l.value) old mid (Ok v) → Bound_to (pattern_of l.pat) (known_of v.known) (scope_of row.scope.now) (Err r) → Row_unfolded c row (row_of l ∷ []) old new (Err r)
-  let_err first value mid v r q q' (unfolded bs g u h) (not_bound x) = row_refused (refused_as (λ lacks. one_stuck (λ body. no_pattern_of (moved c (omega (arith, q, q')) u) lacks)) x)
-
-pub row_memory : (c : Context) (row : Held_row) (ls : List Row) (old new : Unfolding) (r : Refusal) → r ≡ Memory → Row_unfolded c row ls old new (Err r)
-row_memory c row ls old new r m = row_refused (only_memory m)
-
-pub ruleset one_lets = (let_ok, let_value_err, let_err, row_memory)
+  pub let_err : (first value : ℕ) (v : Walked) (r : Refusal) → first ≡ row.at + 1 → value ≡ first + pattern_numbers (pattern_of l.pat) → Unfolded c (scope_of row.scope.now) value (term_of l.value) old new (Ok v) → Bound_to (pattern_of l.pat) (known_of v.known) (scope_of row.scope.now) (Err r) → Row_unfolded c row (row_of l ∷ []) old new (Err r)
+  let_err first value v r q q' (unfolded bs g u h) (not_bound x) = row_refused (refused_as (λ lacks. one_stuck (λ body. no_pattern_of (moved c (omega (arith, q, q')) u) lacks)) x)
 
 -- how far a row has come, whatever stands behind it
 pub data Row_leads (c : Context) (row : Held_row) (ls : List LetTree) (old now : Unfolding) (at : Held_row) (i : ℕ) : Type 0 where
@@ -129,7 +126,16 @@ module _ (c : Context) (row : Held_row) (ls : List LetTree) (old : Unfolding) wh
   unfolding lets
   row_err now new at i d r lt (row_leads bs g f) (row_refused x) = row_refused (refused_as (λ w body. (f body).stuck (subst (λ z. Stuck (told c) (defined c) (scope_of at.scope.now) at.at (lets (map row_of z) body)) (sym (one_more ls i d lt)) (w (lets (map row_of (drop (i + 1) ls)) body)))) x)
 
-pub ruleset rows = (row_start, row_more, row_done, row_err)
+  -- the next let
+  module _ (now new : Unfolding) (at : Held_row) (i : ℕ) (d : LetTree) (inside value : ℕ) (lt : i < length ls) (before : Row_leads c row ls old now at i) (q : inside ≡ at.at + 1) (q' : value ≡ inside + pattern_numbers (pattern_of (get_or ls i d).pat)) where
+    pub row_next : (r : Walked) (inner : Bor Held_scope) → Unfolded c (scope_of at.scope.now) value (term_of (get_or ls i d).value) now new (Ok r) → Bound_to (pattern_of (get_or ls i d).pat) (known_of r.known) (scope_of at.scope.now) (Ok inner) → Row_leads c row ls old new (record { scope = inner; at = r.at }) (i + 1)
+    row_next r inner u b = row_more now new at (record { scope = inner; at = r.at }) i d lt before (let_ok c at (get_or ls i d) now new inside value r inner q q' u b)
+
+    pub row_value_err : (r : Refusal) → Unfolded c (scope_of at.scope.now) value (term_of (get_or ls i d).value) now new (Err r) → Row_unfolded c row (map row_of ls) old new (Err r)
+    row_value_err r u = row_err now new at i d r lt before (let_value_err c at (get_or ls i d) now new inside value r q q' u)
+
+    pub row_bind_err : (v : Walked) (r : Refusal) → Unfolded c (scope_of at.scope.now) value (term_of (get_or ls i d).value) now new (Ok v) → Bound_to (pattern_of (get_or ls i d).pat) (known_of v.known) (scope_of at.scope.now) (Err r) → Row_unfolded c row (map row_of ls) old new (Err r)
+    row_bind_err v r u b = row_err now new at i d r lt before (let_err c at (get_or ls i d) now new inside value v r q q' u b)
 
 -- how far rows behind each other have come
 pub data Lets_lead (c : Context) (sc : Scope) (lo : ℕ) (e : FlatTerm) (old now : Unfolding) (row : Held_row) (rest : Exp) : Type 0 where
@@ -150,5 +156,3 @@ module _ (c : Context) (lo : ℕ) (old : Unfolding) where
 
     pub lets_err : (now new : Unfolding) (row : Held_row) (rest : Exp) (ls : Bor (List LetTree)) (b : Bor Exp) (r : Refusal) → Lets_lead c sc lo e old now row rest → rest.form ≡ form.Lets ls b → Row_unfolded c row (map row_of ls.now) now new (Err r) → Unfolded c sc lo e old new (Err r)
     lets_err now new row rest ls b r (lets_lead bs g a) is (row_refused x) = refused (refused_as (λ w. a.stuck (subst (Stuck (told c) (defined c) (scope_of row.scope.now) row.at) (sym (term_lets rest ls b is)) (w (term_of b.now)))) x)
-
-pub ruleset whole_rows = (lets_start, lets_more, lets_done, lets_err)

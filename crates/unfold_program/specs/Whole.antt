@@ -60,20 +60,21 @@ pub data All_applied (c : Context) (ss : List Known) (f : Known) (old new : Unfo
   all_applied : {r : Held_known} (bs : Bindings) → steps_of new ≡ steps_of old ++ bs → Applies_all (told c) (defined c) ss f old.next bs (known_of r) new.next → All_applied c ss f old new (Ok r)
   not_all_applied : {r : Refusal} → Refused (Stuck_runs (told c) (defined c) ss f) r → All_applied c ss f old new (Err r)
 
--- why an entry gives nothing: it was not defined, or there is no way on in it
-pub data Entry_stuck (c : Context) (entry : ℕ) (ss : List Known) : Type 0 where
-  not_known : look (defined c) entry ≡ None → Entry_stuck c entry ss
-  stuck_there : {f : Known} → look (defined c) entry ≡ Some f → Stuck_runs (told c) (defined c) ss f → Entry_stuck c entry ss
-
--- the entry, if it was defined, applied to arguments
-pub data Entry_to (c : Context) (entry : ℕ) (ss : List Known) (old new : Unfolding) : Result Held_known Refusal → Type 0 where
-  entry_to : {r : Held_known} {f : Known} → look (defined c) entry ≡ Some f → All_applied c ss f old new (Ok r) → Entry_to c entry ss old new (Ok r)
-  not_entered : {r : Refusal} → Refused (Entry_stuck c entry ss) r → Entry_to c entry ss old new (Err r)
-
 -- all steps so far as a program, whose result this is
 pub data Finished (params : List ℕ) (types : List ScalarType) (s : Known) (before : Unfolding) : Result Program Refusal → Type 0 where
   finished : {p : Program} {us : List Atom} → p.params.now ≡ params → p.types.now ≡ types → Laid (shape_of s) s us [] → body_of p.body ≡ lets (steps_of before) us → p.names ≡ before.next → Finished params types s before (Ok p)
   not_finished : {r : Refusal} → Refused (No_data s) r → Finished params types s before (Err r)
+
+-- why an entry gives nothing: it was not defined, or there is no way on in it, or what it gives from these names on is no data
+pub data Entry_stuck (c : Context) (entry : ℕ) (ss : List Known) (n : ℕ) : Type 0 where
+  not_known : look (defined c) entry ≡ None → Entry_stuck c entry ss n
+  stuck_there : {f : Known} → look (defined c) entry ≡ Some f → Stuck_runs (told c) (defined c) ss f → Entry_stuck c entry ss n
+  no_data_there : {n' : ℕ} {bs : Bindings} {f s : Known} → look (defined c) entry ≡ Some f → Applies_all (told c) (defined c) ss f n bs s n' → No_data s → Entry_stuck c entry ss n
+
+-- the entry, if it was defined, applied to its arguments, and all steps as a program
+pub data Entry_to (c : Context) (entry : ℕ) (g : Given) (types : List ScalarType) (old : Unfolding) : Result Program Refusal → Type 0 where
+  entry_to : {p : Program} {r : Held_known} {f : Known} (mid : Unfolding) → look (defined c) entry ≡ Some f → All_applied c (map known_of g.arguments.now) f old mid (Ok r) → Finished g.names.now types (known_of r) mid (Ok p) → Entry_to c entry g types old (Ok p)
+  not_entered : {r : Refusal} → Refused (Entry_stuck c entry (map known_of g.arguments.now) old.next) r → Entry_to c entry g types old (Err r)
 
 -- The public answer, for an entry with scalars of these types: the program that it unfolds to, whose result has some shape. It
 -- is lost only where unfolding the program is stuck.

@@ -6,6 +6,7 @@
 
 mod enter;
 mod function;
+mod give;
 mod peel;
 mod program;
 mod walk;

@@ -1,5 +1,5 @@
 // Terms without the declared types around them.
-ghost use Rattle.std.specs.Prelude.{◌≡◌};
+ghost use Rattle.std.specs.Prelude.{◌≡◌, ◌+◌, IfOk};
 ghost use Rattle.fut_flat.specs.Erased.{term_of};
 ghost use Rattle.unfold_program.specs.Answers.{Peeled_to, is_declared};
 
@@ -7,11 +7,12 @@ use fut_flat::{Act, Exp, Form};
 use fut_numbers::after;
 use unfold_parts::Refusal;
 
-/// An expression and the number of its node.
+/// An expression, the number of its node, and the next one, which a node inside may have.
 #[derive(Clone, Copy)]
 pub struct Peeled<'a> {
     pub exp: &'a Exp<'a>,
     pub at: u32,
+    pub inside: u32,
 }
 
 fn is_declared(act: &Act<'_>) -> bool
@@ -24,28 +25,32 @@ fn is_declared(act: &Act<'_>) -> bool
 }
 
 /// What an expression is without declared types and empty rows of `let`s around it.
-#[tactic(auto, using(crate::proofs::Peeling::peeling))]
+#[tactic(auto, using(crate::proofs::Peeling::peel_bare))]
 pub fn stripped<'a>(at: u32, exp: &'a Exp<'a>) -> Result<Peeled<'a>, Refusal>
-    ensures { Peeled_to at (term_of exp.now) result }
+    ensures peeled { Peeled_to at (term_of exp.now) result }
+    ensures inside { IfOk result (λ r. r.inside ≡ r.at + 1) }
 {
+    let inside = match after(at, 1) {
+        Ok(inside) => inside,
+        Err(_) => return Err(Refusal::Memory),
+    };
     match exp.form {
         Form::Strict { act, parts, .. } => {
             if !is_declared(&act) {
-                Ok(Peeled { exp, at })
+                Ok(Peeled { exp, at, inside })
             } else if parts.len() == 1 {
-                let inside = after(at, 1)?;
                 stripped(inside, &parts[0])
             } else {
-                Ok(Peeled { exp, at })
+                Ok(Peeled { exp, at, inside })
             }
         }
         Form::Lets(row, body) => {
             if row.len() == 0 {
                 stripped(at, body)
             } else {
-                Ok(Peeled { exp, at })
+                Ok(Peeled { exp, at, inside })
             }
         }
-        _ => Ok(Peeled { exp, at }),
+        _ => Ok(Peeled { exp, at, inside }),
     }
 }

@@ -1,12 +1,10 @@
 // The public call: the definitions that the entry reaches, and then the entry, applied to its parameters.
-ghost use Rattle.std.specs.Prelude.{◌≡◌, ◌≤◌, [], IfErr, IfOk, length, map};
+ghost use Rattle.std.specs.Prelude.{◌≡◌, [], IfErr, IfOk, length, map};
 ghost use Rattle.fut_flat.specs.Erased.{term_of};
 ghost use Rattle.fut_meaning.specs.Flats.{flat_tops, named_terms};
 ghost use Rattle.reach.specs.Reach.{Reached, named_term};
 ghost use Rattle.unfold.specs.Held.{known_of, scope_of};
 ghost use Rattle.unfold.specs.Knowns.{no_name};
-ghost use Rattle.unfold.specs.Programs.{Program_unfolds};
-ghost use Rattle.unfold.specs.Shapes.{Shape};
 ghost use Rattle.unfold_parts.specs.States.{steps_of};
 ghost use Rattle.unfold_parts.specs.Tables.{Kept, integer_at};
 ghost use Rattle.unfold_parts.specs.declared.refusal.Refusal.TheVariants as refusal;
@@ -46,7 +44,6 @@ struct Given<'a> {
 ///
 /// - `Lost`: unfolding is stuck, as no typed program is at an entry that takes such arguments and gives data.
 /// - `Memory`: no memory or no name is left, or the program has more nodes or is deeper than a measured one.
-#[tactic(auto, using(crate::proofs::Programs::wholes))]
 pub fn unfold<'a>(
     bump: &'a Bump,
     integer_types: &'a [IntType],
@@ -61,17 +58,42 @@ pub fn unfold<'a>(
         next: 0,
         steps: Vec::new(bump),
     };
-    let given = parameters(types.len(), &mut state)?;
+    unfold_from(integer_types, flat, entry, types, &mut state)
+}
+
+// The same, from no steps and no names on.
+fn unfold_from<'a>(
+    integer_types: &'a [IntType],
+    flat: &Flat<'a>,
+    entry: BindId,
+    types: &'a [ScalarType],
+    state: &mut Unfolding<'a>,
+) -> Result<Program<'a>, Refusal>
+    requires steps { steps_of state.old ≡ [] }
+    requires names { state.old.next ≡ 0 }
+    ensures { Unfolds_to (integer_at integer_types.now) (flat_tops 0 (named_terms flat.now)) entry.0 types.now result }
+{
+    let given = match parameters(types.len(), state) {
+        Ok(given) => given,
+        Err(refusal) => return Err(refusal),
+    };
     let count = above(flat.definitions);
-    let flags = reached(bump, flat.definitions, count, entry)?;
-    let nothing = nothing_known(bump)?;
+    let flags = match reached(state.bump, flat.definitions, count, entry) {
+        Ok(flags) => flags,
+        Err(_) => return Err(Refusal::Memory),
+    };
+    let nothing = match nothing_known(state.bump) {
+        Ok(nothing) => nothing,
+        Err(refusal) => return Err(refusal),
+    };
     let context = Context {
-        tops: Tops::new(bump, nothing),
+        tops: Tops::new(state.bump, nothing),
         types: integer_types,
     };
-    let made = unfold_definitions(context, entry, flags, nothing, flat.definitions, &mut state)?;
-    let result = unfold_entry(&made.context, entry, given.arguments, &mut state)?;
-    finish(given.names, types, result, &mut state)
+    match unfold_definitions(context, entry, flags, nothing, flat.definitions, state) {
+        Ok(made) => unfold_entry(&made.context, entry, given, types, state),
+        Err(refusal) => Err(refusal),
+    }
 }
 
 #[tactic(auto, using(unfold::proofs::Mirror::scope_empty))]
@@ -79,8 +101,13 @@ fn nothing_known<'a>(bump: &'a Bump) -> Result<&'a Scope<'a>, Refusal>
     ensures ok { IfOk result (λ nothing. scope_of nothing.now ≡ no_name) }
     ensures err { IfErr result (λ r. r ≡ refusal.Memory) }
 {
-    let cells: &'a [Scope<'a>] = bump.try_alloc_slice_copy(&[Scope::Empty])?;
-    Ok(&cells[0])
+    match bump.try_alloc_slice_copy(&[Scope::Empty]) {
+        Ok(cells) => {
+            let cells: &'a [Scope<'a>] = cells;
+            Ok(&cells[0])
+        }
+        Err(_) => Err(Refusal::Memory),
+    }
 }
 
 // So many scalars, whichever.
@@ -88,34 +115,36 @@ fn scalars<'a>(bump: &'a Bump, count: usize) -> Result<&'a [Known<'a>], Refusal>
     ensures ok { IfOk result (λ row. Are_scalars count (map known_of row.now)) }
     ensures err { IfErr result (λ r. r ≡ refusal.Memory) }
 {
-    let mut row = Vec::new(bump);
-    for _ in 0..count {
-        row.push(Known {
-            form: KnownForm::Scalar(Atom::Constant(Scalar::Bool(true))),
-        })?;
+    let truth = Known {
+        form: KnownForm::Scalar(Atom::Constant(Scalar::Bool(true))),
+    };
+    match vec![in bump; truth; count] {
+        Ok(row) => Ok(into_bump_slice(row)),
+        Err(_) => Err(Refusal::Memory),
     }
-    Ok(into_bump_slice(row))
 }
 
 // New names for so many scalars.
-#[tactic(auto, using(crate::proofs::Programs::giving))]
 fn parameters<'a>(count: usize, state: &mut Unfolding<'a>) -> Result<Given<'a>, Refusal>
     ensures given { Given_to count state.old.next state.new.next result }
     ensures steps { steps_of state.new ≡ steps_of state.old }
 {
-    let row = scalars(state.bump, count)?;
-    let made = state.fresh(Known {
+    let row = match scalars(state.bump, count) {
+        Ok(row) => row,
+        Err(refusal) => return Err(refusal),
+    };
+    let made = match state.fresh(Known {
         form: KnownForm::Tuple(row),
-    })?;
+    }) {
+        Ok(made) => made,
+        Err(refusal) => return Err(refusal),
+    };
     match made.known.form {
         KnownForm::Tuple(arguments) => Ok(Given {
             names: made.names,
             arguments,
         }),
-        KnownForm::Scalar(_) => unreachable!(),
-        KnownForm::Record(_) => unreachable!(),
-        KnownForm::Function(_) => unreachable!(),
-        KnownForm::Primitive(_, _, _) => unreachable!(),
+        _ => unreachable!(),
     }
 }
 
@@ -168,26 +197,33 @@ fn unfold_definitions<'a>(
     let mut made = Made { context, at: 0 };
     let mut at = 0;
     for definition in definitions {
-        made = unfold_definition(made, flags[at], nothing, definition, state)?;
+        made = match unfold_definition(made, flags[at], nothing, definition, state) {
+            Ok(made) => made,
+            Err(refusal) => return Err(refusal),
+        };
         at += 1;
     }
     Ok(made)
 }
 
-// The entry, applied to its arguments.
-#[tactic(auto, using(crate::proofs::Programs::entry_err, crate::proofs::Programs::entry_ok))]
+// The entry, applied to its arguments, and the steps so far as a program.
 fn unfold_entry<'a>(
     context: &Context<'a>,
     entry: BindId,
-    arguments: &'a [Known<'a>],
+    given: Given<'a>,
+    types: &'a [ScalarType],
     state: &mut Unfolding<'a>,
-) -> Result<Known<'a>, Refusal>
+) -> Result<Program<'a>, Refusal>
     requires kept { Kept context.now.tops }
-    ensures { Entry_to context.now entry.0 (map known_of arguments.now) state.old state.new result }
+    ensures { Entry_to context.now entry.0 given.entry types.now state.old result }
 {
-    match context.tops.of(entry) {
-        Some(function) => apply_all(context, function, arguments, state),
-        None => Err(Refusal::Lost),
+    let function = match context.tops.of(entry) {
+        Some(function) => function,
+        None => return Err(Refusal::Lost),
+    };
+    match apply_all(context, function, given.arguments, state) {
+        Ok(known) => finish(given.names, types, known, state),
+        Err(refusal) => Err(refusal),
     }
 }
 
@@ -203,13 +239,15 @@ fn apply_all<'a>(
 {
     let mut made = function;
     for argument in arguments {
-        made = apply(context, 0, made, *argument, state)?;
+        made = match apply(context, 0, made, *argument, state) {
+            Ok(made) => made,
+            Err(refusal) => return Err(refusal),
+        };
     }
     Ok(made)
 }
 
 // The steps as the body of a program, whose results are the components of what is known of its result.
-#[tactic(auto, using(crate::proofs::Programs::finishing))]
 fn finish<'a>(
     params: &'a [u32],
     types: &'a [ScalarType],
@@ -218,12 +256,17 @@ fn finish<'a>(
 ) -> Result<Program<'a>, Refusal>
     ensures { Finished params.now types.now (known_of known.entry) state.old result }
 {
-    let results = lay(state.bump, known, known)?;
-    let body = state.block(0, results)?;
-    Ok(Program {
-        params,
-        types,
-        body: *body,
-        names: state.next,
-    })
+    let results = match lay(state.bump, known, known) {
+        Ok(results) => results,
+        Err(refusal) => return Err(refusal),
+    };
+    match state.block(0, results) {
+        Ok(body) => Ok(Program {
+            params,
+            types,
+            body: *body,
+            names: state.next,
+        }),
+        Err(refusal) => Err(refusal),
+    }
 }

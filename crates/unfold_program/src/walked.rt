@@ -28,10 +28,16 @@ pub struct Parts<'a> {
     pub at: u32,
 }
 
-/// A term as a block of its own.
+/// The atom of a scalar, and the number of the node behind its term.
+#[derive(Clone, Copy)]
+pub struct WalkedScalar {
+    pub atom: Atom,
+    pub at: u32,
+}
+
+/// A term as a block of its own, and the number of the node behind it.
 #[derive(Clone, Copy)]
 pub struct Branch<'a> {
-    pub known: Known<'a>,
     pub block: &'a Block<'a>,
     pub at: u32,
 }
@@ -48,5 +54,14 @@ pub struct Row<'a> {
 pub struct Entered<'a> {
     pub first: &'a [Atom],
     pub params: &'a [u32],
+    pub scope: &'a Scope<'a>,
+}
+
+/// What a counted loop begins with: as any loop, and with a name for the number of the turn.
+#[derive(Clone, Copy)]
+pub struct Turn<'a> {
+    pub first: &'a [Atom],
+    pub params: &'a [u32],
+    pub index: u32,
     pub scope: &'a Scope<'a>,
 }

@@ -1,10 +1,7 @@
-use Rattle.std.proofs.Common.{refl}
+use Rattle.std.proofs.Common.{refl, ◌∙◌}
 use Rattle.unfold.proofs.Mirror.{known_scalar}
-use Rattle.unfold_program.proofs.Programs.{no_scalars, scalars_more}
+use Rattle.unfold_program.proofs.Programs.{scalars_are}
 use Rattle.unfold_program.proofs.program.scalars.Goals as goal
 
-pub loop-init : goal.loop-init
-loop-init c = no_scalars _ c.new-row.ensures.items
-
-pub loop-preserved : goal.loop-preserved
-loop-preserved c = scalars_more _ _ _ _ _ c.loop.invariant (known_scalar _ _ refl) c.in_ok-push.ensures.items
+pub returns-in-Ok-clause-ok : goal.returns-in-Ok-clause-ok
+returns-in-Ok-clause-ok c = scalars_are _ _ _ _ (known_scalar _ _ refl) (c.into_bump_slice.ensures ∙ c.in-Ok.ensures.items_if_clones_equal (λ y h. h))

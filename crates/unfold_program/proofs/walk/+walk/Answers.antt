@@ -1,40 +1,162 @@
 use Rattle.std.proofs.Common.{refl, arith}
-use Rattle.std.proofs.lemmas.Result.{err_from_is_err_and}
+use Rattle.std.proofs.lemmas.List.{length-set}
 use Rattle.std.proofs.lemmas.Slice.{between_to_end}
 use Rattle.unfold.proofs.Mirror.{known_scalar}
-use Rattle.unfold_program.proofs.Growing.{if_made, for_made, while_made}
-use Rattle.unfold_program.proofs.Arms.{strict_ok, strict_err, block_ok, if_ok}
-use Rattle.unfold_program.proofs.Looping.{counted_ok, counted_body_err, tested_ok, tested_test_err, tested_body_err}
-use Rattle.unfold_program.proofs.Rows.{parts_start, parts_more, parts_done, parts_err, row_start, row_more, row_done, row_err, lets_start, lets_more, lets_done, lets_err}
-use Rattle.unfold_program.proofs.Running.{function_last, function_waiting}
+use Rattle.unfold_parts.specs.Refused.{no_memory}
+use Rattle.unfold_program.specs.Answers.{refused, all_refused, not_counted, row_refused}
+use Rattle.unfold_program.proofs.Arms.{form_use, form_strict, form_lambda, form_apply, form_if, form_loop, strict_parts_err, strict_end, apply_function_err, apply_argument_err, apply_end, scalar_end, scalar_stuck, closes, block_mark, block_stuck, if_end, if_test_err, if_then_err, if_then_unlaid, if_else_err}
+use Rattle.unfold_program.proofs.Looping.{counted_unentered, counted_count_err, counted_body_err, counted_end, tested_unentered, tested_test_err, tested_body_err, tested_end, loop_first_err, loop_counted, loop_tested, loop_over}
+use Rattle.unfold_program.proofs.Peeling.{unpeeled, peeled_unfolded}
+use Rattle.unfold_program.proofs.Rows.{parts_start, parts_err, slots_more, slots_done, row_start, row_next, row_value_err, row_bind_err, row_done, lets_start, lets_more, lets_done, lets_err}
+use Rattle.unfold_program.proofs.Running.{apply_of_other, apply_of_primitive, apply_unargued, apply_waits, apply_runs, apply_stuck}
 use Rattle.unfold_program.proofs.walk.+walk.Goals as goal
 
-pub walk_parts-loop-exp-init : goal.walk_parts-loop-exp-init
-walk_parts-loop-exp-init t c = parts_start _ _ _ _ _ _ c.new-knowns.ensures.items
+pub walk-returns-then-level-ge-MOST_DEPTH : goal.walk-returns-then-level-ge-MOST_DEPTH
+walk-returns-then-level-ge-MOST_DEPTH t c = refused no_memory
 
-pub walk_parts-returns : goal.walk_parts-returns
-walk_parts-returns t c = parts_done _ _ _ _ _ _ _ _ _ _ (omega (arith, c.loop-exp-test.false)) c.loop-exp.invariant c.into_bump_slice.ensures
+pub walk-returns-in-Err : goal.walk-returns-in-Err
+walk-returns-in-Err t c = unpeeled _ _ _ _ _ _ _ c.in-Err.ensures.peeled
+
+pub walk-returns-in-Use : goal.walk-returns-in-Use
+walk-returns-in-Use t c = peeled_unfolded _ _ _ _ _ _ _ _ c.in-Ok.ensures.peeled (form_use _ _ _ _ _ _ _ _ c.in-Use.is c.used.ensures)
+
+pub walk-returns-in-Lambda : goal.walk-returns-in-Lambda
+walk-returns-in-Lambda t c = peeled_unfolded _ _ _ _ _ _ _ _ c.in-Ok.ensures.peeled (form_lambda _ _ _ _ _ _ _ _ _ c.in-Lambda.is c.in-Ok.ensures.inside c.walk_lambda.ensures)
+
+pub walk-returns-in-Strict : goal.walk-returns-in-Strict
+walk-returns-in-Strict t c = peeled_unfolded _ _ _ _ _ _ _ _ c.in-Ok.ensures.peeled (form_strict _ _ _ _ _ _ _ _ _ _ c.in-Strict.is c.walk_strict.ensures)
+
+pub walk-returns-in-Apply : goal.walk-returns-in-Apply
+walk-returns-in-Apply t c = peeled_unfolded _ _ _ _ _ _ _ _ c.in-Ok.ensures.peeled (form_apply _ _ _ _ _ _ _ _ _ c.in-Apply.is (c.walk_apply.ensures _ c.in-Ok.ensures.inside))
+
+pub walk-returns-in-Lets : goal.walk-returns-in-Lets
+walk-returns-in-Lets t c = peeled_unfolded _ _ _ _ _ _ _ _ c.in-Ok.ensures.peeled c.walk_lets.ensures
+
+pub walk-returns-in-If : goal.walk-returns-in-If
+walk-returns-in-If t c = peeled_unfolded _ _ _ _ _ _ _ _ c.in-Ok.ensures.peeled (form_if _ _ _ _ _ _ _ _ _ _ c.in-If.is (c.walk_if.ensures _ c.in-Ok.ensures.inside))
+
+pub walk-returns-in-Loop : goal.walk-returns-in-Loop
+walk-returns-in-Loop t c = peeled_unfolded _ _ _ _ _ _ _ _ c.in-Ok.ensures.peeled (form_loop _ _ _ _ _ _ _ _ c.in-Loop.is (c.walk_loop.ensures _ c.in-Ok.ensures.inside))
+
+pub walk_strict-returns-in-Err : goal.walk_strict-returns-in-Err
+walk_strict-returns-in-Err t c = refused no_memory
+
+pub walk_strict-returns-in-Err-walk_parts : goal.walk_strict-returns-in-Err-walk_parts
+walk_strict-returns-in-Err-walk_parts t c = strict_parts_err _ _ _ _ _ _ _ _ _ _ _ c.own_numbers_of.ensures c.in-Ok.ensures c.in-Err-walk_parts.ensures
+
+pub walk_strict-returns : goal.walk_strict-returns
+walk_strict-returns t c = strict_end _ _ _ _ _ _ _ _ _ _ _ _ _ _ c.own_numbers_of.ensures c.in-Ok.ensures c.in-Ok-walk_parts.ensures c.literal_type_at-ty.ensures c.operated.ensures
+
+pub walk_parts-returns-in-Err : goal.walk_parts-returns-in-Err
+walk_parts-returns-in-Err t c = all_refused no_memory
+
+pub walk_parts-loop-exp-init : goal.walk_parts-loop-exp-init
+walk_parts-loop-exp-init t c = (parts_start _ _ _ _ _ _ refl, c.in-Ok.ensures.len, refl)
 
 pub walk_parts-loop-exp-preserved : goal.walk_parts-loop-exp-preserved
-walk_parts-loop-exp-preserved t c = parts_more _ _ _ _ _ _ _ _ _ _ _ _ _ c.loop-exp-test.true c.loop-exp.invariant c.in_ok-r.ensures c.in_ok-push.ensures.items
+walk_parts-loop-exp-preserved t c = (slots_more _ _ _ _ _ _ _ _ _ _ _ _ _ c.loop-exp-test.true c.loop-exp.invariant.2 c.loop-exp.invariant.1 c.loop-exp.invariant.0 c.in-Ok-walk.ensures, simp length-set c.loop-exp.invariant.1, omega (arith, c.loop-exp.invariant.2))
 
-pub walk_block-returns : goal.walk_block-returns
-walk_block-returns t c = block_ok _ _ _ _ _ _ _ _ _ _ _ _ _ c.mark-mark.ensures c.in_ok-r.ensures c.unwrap_or.ensures c.in_ok-results.ensures c.in_ok-block.ensures.block c.in_ok-block.ensures.next
+pub walk_parts-bounds-knowns-count : goal.walk_parts-bounds-knowns-count
+walk_parts-bounds-knowns-count t c = omega (arith, c.loop-exp-test.true, c.loop-exp.invariant.1, c.loop-exp.invariant.2)
+
+pub walk_parts-returns-in-Err-walk : goal.walk_parts-returns-in-Err-walk
+walk_parts-returns-in-Err-walk t c = parts_err _ _ _ _ _ _ _ _ _ _ _ _ c.loop-exp-test.true c.loop-exp.invariant.0 c.in-Err-walk.ensures
+
+pub walk_parts-returns : goal.walk_parts-returns
+walk_parts-returns t c = slots_done _ _ _ _ _ _ _ _ _ _ (omega (arith, c.loop-exp-test.false)) c.loop-exp.invariant.1 c.loop-exp.invariant.0 refl
+
+pub walk_apply-returns-in-Err : goal.walk_apply-returns-in-Err
+walk_apply-returns-in-Err t c = λ lo q. apply_function_err _ _ lo _ _ _ _ _ _ q c.in-Err.ensures
+
+pub walk_apply-returns-in-Err-walk : goal.walk_apply-returns-in-Err-walk
+walk_apply-returns-in-Err-walk t c = λ lo q. apply_argument_err _ _ lo _ _ _ _ _ _ _ _ q c.in-Ok.ensures c.in-Err-walk.ensures
+
+pub walk_apply-returns : goal.walk_apply-returns
+walk_apply-returns t c = λ lo q. apply_end _ _ lo _ _ _ _ _ _ _ _ _ _ _ q c.in-Ok.ensures c.in-Ok-walk.ensures c.apply.ensures c.walked_to.ensures
+
+pub walk_scalar-returns-in-Ok : goal.walk_scalar-returns-in-Ok
+walk_scalar-returns-in-Ok t c = scalar_end _ _ _ _ _ _ _ _ c.in-Ok.ensures c.scalar_of.ensures
+
+pub walk_scalar-returns-in-Err : goal.walk_scalar-returns-in-Err
+walk_scalar-returns-in-Err t c = scalar_stuck _ _ _ _ _ _ _ c.in-Err.ensures
+
+pub walk_if-returns-in-Err : goal.walk_if-returns-in-Err
+walk_if-returns-in-Err t c = λ lo q. if_test_err _ _ lo _ _ _ _ _ _ _ q c.in-Err.ensures
+
+pub walk_if-returns-in-Err-walk : goal.walk_if-returns-in-Err-walk
+walk_if-returns-in-Err-walk t c = λ lo q. if_then_err _ _ lo _ _ _ _ _ _ _ q c.in-Ok.ensures _ _ c.in-Err-walk.ensures
+
+pub walk_if-close-requires : goal.walk_if-close-requires
+walk_if-close-requires t c = record { mark = block_mark _ _ _ _ _ _ _ _ c.mark-mark.ensures c.in-Ok-walk.ensures }
+
+pub walk_if-returns-in-Err-close : goal.walk_if-returns-in-Err-close
+walk_if-returns-in-Err-close t c = λ lo q. if_then_unlaid _ _ lo _ _ _ _ _ _ _ q c.in-Ok.ensures _ _ _ _ _ c.in-Ok-walk.ensures c.in-Err-close.ensures
+
+pub walk_if-returns-in-Err-walk_block : goal.walk_if-returns-in-Err-walk_block
+walk_if-returns-in-Err-walk_block t c = λ lo q. if_else_err _ _ lo _ _ _ _ _ _ _ q c.in-Ok.ensures _ _ _ _ _ _ _ c.in-Ok-walk.ensures c.in-Ok-close.ensures c.in-Err-walk_block.ensures
 
 pub walk_if-returns : goal.walk_if-returns
-walk_if-returns t c = if_ok _ _ _ _ _ _ _ _ _ _ _ c.fresh.new.self _ _ _ _ _ _ _ _ c.in_ok-first.ensures c.in_ok-c.ensures c.in_ok-truth.ensures c.in_ok-a.ensures c.in_ok-b.ensures c.in_ok-made.ensures.fresh c.in_ok-made.ensures.steps c.in_ok-push.ensures.steps c.in_ok-push.ensures.next (if_made _ _ _ _)
+walk_if-returns t c = λ lo q. if_end _ _ lo _ _ _ _ _ _ _ q c.in-Ok.ensures _ _ _ _ _ _ _ _ _ c.mark-mark.ensures c.in-Ok-walk.ensures c.in-Ok-close.ensures c.in-Ok-walk_block.ensures c.give.ensures
+
+pub walk_block-close-requires : goal.walk_block-close-requires
+walk_block-close-requires t c = record { mark = block_mark _ _ _ _ _ _ _ _ c.mark-mark.ensures c.in-Ok.ensures }
+
+pub walk_block-returns-in-Ok : goal.walk_block-returns-in-Ok
+walk_block-returns-in-Ok t c = closes _ _ _ _ _ _ _ _ _ _ _ c.mark-mark.ensures c.in-Ok.ensures c.close.ensures
+
+pub walk_block-returns-in-Err : goal.walk_block-returns-in-Err
+walk_block-returns-in-Err t c = block_stuck _ _ _ _ _ _ _ _ c.in-Err.ensures
+
+pub walk_loop-returns-in-Err : goal.walk_loop-returns-in-Err
+walk_loop-returns-in-Err t c = λ lo q. refused no_memory
+
+pub walk_loop-returns-in-Err-walk : goal.walk_loop-returns-in-Err-walk
+walk_loop-returns-in-Err-walk t c = λ lo q. loop_first_err _ _ _ lo _ _ _ _ _ _ q c.in-Ok.ensures c.in-Err-walk.ensures
+
+pub walk_loop-returns-in-For : goal.walk_loop-returns-in-For
+walk_loop-returns-in-For t c = λ lo q. loop_counted _ _ _ lo _ _ _ _ _ _ _ _ _ c.in-For.is q c.in-Ok.ensures c.in-Ok-walk.ensures c.walk_for.ensures
+
+pub walk_loop-returns-in-While : goal.walk_loop-returns-in-While
+walk_loop-returns-in-While t c = λ lo q. loop_tested _ _ _ lo _ _ _ _ _ _ _ _ c.in-While.is q c.in-Ok.ensures c.in-Ok-walk.ensures c.walk_while.ensures
+
+pub walk_loop-returns-in-ForIn : goal.walk_loop-returns-in-ForIn
+walk_loop-returns-in-ForIn t c = λ lo q. loop_over _ _ _ lo _ _ _ _ _ _ _ _ c.in-ForIn.is q c.in-Ok.ensures c.in-Ok-walk.ensures
+
+pub walk_for-returns-in-Err : goal.walk_for-returns-in-Err
+walk_for-returns-in-Err t c = not_counted no_memory
+
+pub walk_for-returns-in-Err-walk_scalar : goal.walk_for-returns-in-Err-walk_scalar
+walk_for-returns-in-Err-walk_scalar t c = counted_count_err _ _ _ _ _ _ _ _ _ _ c.in-Ok.ensures _ c.in-Err-walk_scalar.ensures
+
+pub walk_for-returns-in-Err-enter_turn : goal.walk_for-returns-in-Err-enter_turn
+walk_for-returns-in-Err-enter_turn t c = counted_unentered _ _ _ _ _ _ _ _ _ _ _ c.in-Err-enter_turn.ensures
+
+pub walk_for-returns-in-Err-walk_block : goal.walk_for-returns-in-Err-walk_block
+walk_for-returns-in-Err-walk_block t c = counted_body_err _ _ _ _ _ _ _ _ _ _ c.in-Ok.ensures _ _ _ _ _ c.in-Ok-walk_scalar.ensures c.in-Ok-enter_turn.ensures c.in-Err-walk_block.ensures
 
 pub walk_for-returns : goal.walk_for-returns
-walk_for-returns t c = counted_ok _ _ _ _ _ _ _ _ _ _ _ _ _ _ _ c.enter.new.state _ _ c.fresh.new.self _ _ _ _ c.in_ok-inside.inside c.in_ok-counting.ensures c.in_ok-n.ensures c.in_ok-turns.ensures c.in_ok-entered.ensures.enter c.in_ok-entered.ensures.steps c.in_ok-turn.ensures.name c.in_ok-turn.ensures.steps (known_scalar _ _ refl) c.in_ok-inside.ensures.ok c.in_ok-body.ensures c.in_ok-made.ensures.fresh c.in_ok-made.ensures.steps c.in_ok-push.ensures.steps c.in_ok-push.ensures.next (for_made _ _ _ _ _ _)
+walk_for-returns t c = counted_end _ _ _ _ _ _ _ _ _ _ _ _ _ _ _ _ c.in-Ok.ensures c.in-Ok-walk_scalar.ensures c.in-Ok-enter_turn.ensures c.in-Ok-walk_block.ensures c.give.ensures
+
+pub walk_while-returns-in-Err : goal.walk_while-returns-in-Err
+walk_while-returns-in-Err t c = tested_unentered _ _ _ _ _ _ _ _ _ _ c.in-Err.ensures
+
+pub walk_while-returns-in-Err-walk_block : goal.walk_while-returns-in-Err-walk_block
+walk_while-returns-in-Err-walk_block t c = tested_test_err _ _ _ _ _ _ _ _ _ _ _ _ _ (known_scalar _ _ refl) c.in-Ok.ensures c.in-Err-walk_block.ensures
+
+pub walk_while-returns-in-Err-walk_block-2 : goal.walk_while-returns-in-Err-walk_block-2
+walk_while-returns-in-Err-walk_block-2 t c = tested_body_err _ _ _ _ _ _ _ _ _ _ _ _ _ _ c.in-Ok.ensures c.in-Ok-walk_block.ensures c.in-Err-walk_block-2.ensures
 
 pub walk_while-returns : goal.walk_while-returns
-walk_while-returns t c = tested_ok _ _ _ _ _ _ _ _ _ _ _ _ _ _ _ _ _ c.fresh.new.self _ (known_scalar _ _ refl) c.in_ok-entered.ensures.enter c.in_ok-entered.ensures.steps c.in_ok-c.ensures c.in_ok-body.ensures c.in_ok-made.ensures.fresh c.in_ok-made.ensures.steps c.in_ok-push.ensures.steps c.in_ok-push.ensures.next (while_made _ _ _ _ _ _)
+walk_while-returns t c = tested_end _ _ _ _ _ _ _ _ _ _ _ _ _ _ _ _ (known_scalar _ _ refl) c.in-Ok.ensures c.in-Ok-walk_block.ensures c.in-Ok-walk_block-2.ensures c.give.ensures
 
 pub walk_lets-loop-rest-init : goal.walk_lets-loop-rest-init
 walk_lets-loop-rest-init t c = lets_start _ _ _ _ _
 
 pub walk_lets-loop-rest-preserved : goal.walk_lets-loop-rest-preserved
-walk_lets-loop-rest-preserved t c = lets_more _ _ _ _ _ _ _ _ _ _ _ _ c.loop-rest.invariant c.in-Lets.is c.in_ok-row.ensures
+walk_lets-loop-rest-preserved t c = lets_more _ _ _ _ _ _ _ _ _ _ _ _ c.loop-rest.invariant c.in-Lets.is c.in-Ok.ensures
+
+pub walk_lets-returns-in-Err : goal.walk_lets-returns-in-Err
+walk_lets-returns-in-Err t c = lets_err _ _ _ _ _ _ _ _ _ _ _ _ c.loop-rest.invariant c.in-Lets.is c.in-Err.ensures
 
 pub walk_lets-returns : goal.walk_lets-returns
 walk_lets-returns t c = lets_done _ _ _ _ _ _ _ _ _ _ c.loop-rest.invariant c.walk.ensures
@@ -42,52 +164,38 @@ walk_lets-returns t c = lets_done _ _ _ _ _ _ _ _ _ _ c.loop-rest.invariant c.wa
 pub walk_row-loop-one-init : goal.walk_row-loop-one-init
 walk_row-loop-one-init t c = row_start _ _ _ _
 
+pub walk_row-returns-in-Err : goal.walk_row-returns-in-Err
+walk_row-returns-in-Err t c = row_refused no_memory
+
+pub walk_row-returns-in-Err-after_pattern : goal.walk_row-returns-in-Err-after_pattern
+walk_row-returns-in-Err-after_pattern t c = row_refused no_memory
+
 pub walk_row-loop-one-preserved : goal.walk_row-loop-one-preserved
-walk_row-loop-one-preserved t c = row_more _ _ _ _ _ _ _ _ _ _ c.loop-one-test.true c.loop-one.invariant c.in_ok-at.ensures
+walk_row-loop-one-preserved t c = row_next _ _ _ _ _ _ _ _ _ _ _ c.loop-one-test.true c.loop-one.invariant c.in-Ok.ensures c.in-Ok-after_pattern.ensures _ _ c.in-Ok-walk.ensures c.in-Ok-bind.ensures
+
+pub walk_row-returns-in-Err-walk : goal.walk_row-returns-in-Err-walk
+walk_row-returns-in-Err-walk t c = row_value_err _ _ _ _ _ _ _ _ _ _ _ c.loop-one-test.true c.loop-one.invariant c.in-Ok.ensures c.in-Ok-after_pattern.ensures _ c.in-Err-walk.ensures
+
+pub walk_row-returns-in-Err-bind : goal.walk_row-returns-in-Err-bind
+walk_row-returns-in-Err-bind t c = row_bind_err _ _ _ _ _ _ _ _ _ _ _ c.loop-one-test.true c.loop-one.invariant c.in-Ok.ensures c.in-Ok-after_pattern.ensures _ _ c.in-Ok-walk.ensures c.in-Err-bind.ensures
 
 pub walk_row-returns : goal.walk_row-returns
 walk_row-returns t c = row_done _ _ _ _ _ _ _ (omega (arith, c.loop-one-test.false)) c.loop-one.invariant
 
-pub apply_function-returns-in_ok-r : goal.apply_function-returns-in_ok-r
-apply_function-returns-in_ok-r t c = function_last _ _ _ _ _ _ c.in_ok-inner.ensures _ _ c.if-params-eq1.true c.in_ok-r.ensures
+pub apply-returns-in-Primitive : goal.apply-returns-in-Primitive
+apply-returns-in-Primitive t c = apply_of_primitive _ _ _ _ _ _ _ _ _ c.in-Primitive.is c.apply_primitive.ensures
 
-pub apply_function-returns-else-params-eq1 : goal.apply_function-returns-else-params-eq1
-apply_function-returns-else-params-eq1 t c = function_waiting _ _ _ _ _ _ c.in_ok-inner.ensures _ _ c.if-params-eq0.false c.if-params-eq1.false (between_to_end c.args.lambda.now.parameters.now 1 _ (omega arith)) c.function_known.ensures.ok c.function_known.ensures.err
+pub apply-returns-in_default : goal.apply-returns-in_default
+apply-returns-in_default t c = apply_of_other _ _ _ _ _ c.in_default.not-Function c.in_default.not-Primitive
 
-pub walk_strict-returns : goal.walk_strict-returns
-walk_strict-returns t c = strict_ok _ _ _ _ _ _ _ _ _ _ _ _ _ _ c.own_numbers_of.ensures c.in_ok-first.ensures c.in_ok-made.ensures c.literal_type_at-ty.ensures c.in_ok-known.ensures
+pub apply-returns-in-Err : goal.apply-returns-in-Err
+apply-returns-in-Err t c = apply_unargued _ _ _ _ _ c.in-Function.is _ _ c.in-Err.ensures
 
-pub walk_strict-returns-in_err-known : goal.walk_strict-returns-in_err-known
-walk_strict-returns-in_err-known t c =
-    let p = err_from_is_err_and c.from_residual-in_err-known.result c.from_residual-in_err-known.ensures.1 in
-    rw (p.1, p.2) (strict_err _ _ _ _ _ _ _ _ _ _ _ _ _ _ c.own_numbers_of.ensures c.in_ok-first.ensures c.in_ok-made.ensures c.literal_type_at-ty.ensures c.in_err-known.ensures)
+pub apply-returns-then-params-gt1 : goal.apply-returns-then-params-gt1
+apply-returns-then-params-gt1 t c = apply_waits _ _ _ _ _ c.in-Function.is _ _ _ c.in-Ok.ensures c.if-params-gt1.true (between_to_end c.in-Function.lambda.now.parameters.now 1 _ (omega arith)) c.function_known.ensures.ok c.function_known.ensures.err
 
-pub walk_parts-returns-in_err-r : goal.walk_parts-returns-in_err-r
-walk_parts-returns-in_err-r t c =
-    let p = err_from_is_err_and c.from_residual.result c.from_residual.ensures.1 in
-    rw (p.1, p.2) (parts_err _ _ _ _ _ _ _ _ _ _ _ _ c.loop-exp-test.true c.loop-exp.invariant c.in_err-r.ensures)
+pub apply-returns-in-Ok-walk : goal.apply-returns-in-Ok-walk
+apply-returns-in-Ok-walk t c = apply_runs _ _ _ _ _ c.in-Function.is _ _ _ c.in-Ok.ensures c.if-params-gt1.false c.in-Ok-walk.ensures
 
-pub walk_for-returns-in_err-body : goal.walk_for-returns-in_err-body
-walk_for-returns-in_err-body t c =
-    let p = err_from_is_err_and c.from_residual-in_err-body.result c.from_residual-in_err-body.ensures.1 in
-    rw (p.1, p.2) (counted_body_err _ _ _ _ _ _ _ _ _ _ c.in_ok-counting.ensures c.enter.new.state _ _ _ _ _ _ _ c.in_ok-inside.inside _ c.in_ok-n.ensures c.in_ok-turns.ensures c.in_ok-entered.ensures.enter (known_scalar _ _ refl) c.in_ok-inside.ensures.ok c.in_err-body.ensures)
-
-pub walk_while-returns-in_err-c : goal.walk_while-returns-in_err-c
-walk_while-returns-in_err-c t c =
-    let p = err_from_is_err_and c.from_residual-in_err-c.result c.from_residual-in_err-c.ensures.1 in
-    rw (p.1, p.2) (tested_test_err _ _ _ _ _ _ _ _ _ (known_scalar _ _ refl) _ _ _ _ c.in_ok-entered.ensures.enter c.in_err-c.ensures)
-
-pub walk_while-returns-in_err-body : goal.walk_while-returns-in_err-body
-walk_while-returns-in_err-body t c =
-    let p = err_from_is_err_and c.from_residual-in_err-body.result c.from_residual-in_err-body.ensures.1 in
-    rw (p.1, p.2) (tested_body_err _ _ _ _ _ _ _ _ _ (known_scalar _ _ refl) _ _ _ _ _ _ c.in_ok-entered.ensures.enter c.in_ok-c.ensures c.in_err-body.ensures)
-
-pub walk_lets-returns-in_err-row : goal.walk_lets-returns-in_err-row
-walk_lets-returns-in_err-row t c =
-    let p = err_from_is_err_and c.from_residual.result c.from_residual.ensures.1 in
-    rw (p.1, p.2) (lets_err _ _ _ _ _ _ _ _ _ _ _ _ c.loop-rest.invariant c.in-Lets.is c.in_err-row.ensures)
-
-pub walk_row-returns-in_err-at : goal.walk_row-returns-in_err-at
-walk_row-returns-in_err-at t c =
-    let p = err_from_is_err_and c.from_residual.result c.from_residual.ensures.1 in
-    rw (p.1, p.2) (row_err _ _ _ _ _ _ _ _ _ _ c.loop-one-test.true c.loop-one.invariant c.in_err-at.ensures)
+pub apply-returns-in-Err-walk : goal.apply-returns-in-Err-walk
+apply-returns-in-Err-walk t c = apply_stuck _ _ _ _ _ c.in-Function.is _ _ _ c.in-Ok.ensures c.if-params-gt1.false c.in-Err-walk.ensures
