@@ -1,10 +1,49 @@
 // What a reader of texts answers, as one line.
-use fut_scalar::Place;
+use crate::texts::suffix_text;
+use fut_scalar::{IntType, Place};
 use std::alloc::Global;
 use std::fmt::Write;
 use std::str;
 
-/// The line of an answer as it is made. Once memory runs out it is spent.
+/// What stands before a part of a form. A form is shown by one call for each of its parts.
+#[derive(Clone, Copy)]
+pub enum Before {
+    Nothing,
+    Blank,
+    Colon,
+    Equals,
+    Arrow,
+    /// The end of another part.
+    End,
+    Less,
+    In,
+    For,
+    While,
+    Slice,
+    Include,
+}
+
+impl Before {
+    fn text(self) -> &'static str {
+        match self {
+            Before::Nothing => "",
+            Before::Blank => " ",
+            Before::Colon => " : ",
+            Before::Equals => " = ",
+            Before::Arrow => " -> ",
+            Before::End => ") ",
+            Before::Less => " < ",
+            Before::In => " in ",
+            Before::For => " (for ",
+            Before::While => " (while ",
+            Before::Slice => " (slice ",
+            Before::Include => " (include ",
+        }
+    }
+}
+
+/// The line of an answer as it is made. Once memory runs out it is spent. No clause says what came: the rows compare it
+/// with answers that were worked out by hand.
 #[derive(Drop)]
 pub struct Shown {
     pub text: String,
@@ -40,10 +79,20 @@ impl Shown {
         self.push(name);
     }
 
-    /// A blank and the name of a part, which stands behind it.
+    pub fn before(&mut self, before: Before) {
+        self.push(before.text());
+    }
+
+    /// The word that a form begins with.
+    pub fn open(&mut self, before: Before, word: &str) {
+        self.before(before);
+        self.push(word);
+    }
+
+    /// The name of a part behind a blank. What it is and its end follow.
     pub fn field(&mut self, name: &str) {
-        self.named(" (", name);
-        self.blank();
+        self.push(" (");
+        self.push(name);
     }
 
     pub fn blank(&mut self) {
@@ -59,6 +108,12 @@ impl Shown {
         if write!(self.text, "{value}").is_err() {
             self.is_spent = true;
         }
+    }
+
+    /// An integer and its suffix.
+    pub fn integer(&mut self, value: u64, suffix: Option<IntType>) {
+        self.number(value);
+        self.push(suffix_text(suffix));
     }
 
     pub fn character(&mut self, value: char) {
@@ -90,9 +145,18 @@ impl Shown {
         self.push("{");
         self.place(place);
         if mark != place {
-            self.push(" ");
+            self.blank();
             self.place(mark);
         }
         self.push("}");
+    }
+
+    /// The end of a form by the word that it begins with: what a parenthesis opens and does not close is closed.
+    pub fn end(&mut self, word: &str) {
+        match word.as_bytes() {
+            [b'(', .., b')'] => {}
+            [b'(', ..] => self.close(),
+            _ => {}
+        }
     }
 }

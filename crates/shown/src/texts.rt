@@ -2,7 +2,7 @@
 use fut_ast::{End, Oper};
 use fut_scalar::{BinOp, IntType, ScalarType};
 
-/// The suffix of an integer, or nothing.
+/// The suffix of an integer, or nothing. Rows compare it with what is written, so no clause says it.
 pub fn suffix_text(suffix: Option<IntType>) -> &'static str {
     match suffix {
         None => "",

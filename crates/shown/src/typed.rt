@@ -19,13 +19,34 @@ const MOST_PIECES: u32 = 10_000;
 /// What is still to be shown.
 #[derive(Clone, Copy)]
 enum Piece {
-    Text(&'static str),
-    /// The name of a field, between a parenthesis and a blank.
-    Label(u32),
     /// A part of the type of a definition.
     Part(u32),
     /// The type of a node of the graph.
     Node(u32),
+    /// The parts of a tuple, a record or a function from a place on, and the end.
+    Row(Made, u32),
+    /// The end of a field.
+    Close,
+}
+
+/// A type that is made by a head of parts: of parts of the template, or of nodes of the graph.
+#[derive(Clone, Copy)]
+struct Made {
+    head: Head,
+    first: u32,
+    count: u32,
+    is_template: bool,
+}
+
+impl Made {
+    fn piece(&self, step: u32) -> Piece {
+        let number = self.first.saturating_add(step);
+        if self.is_template {
+            Piece::Part(number)
+        } else {
+            Piece::Node(number)
+        }
+    }
 }
 
 /// What is shown of a definition's type.
@@ -56,10 +77,13 @@ impl Pieces {
 
     /// The place of a part among those that each use chooses anew.
     fn place_of(&mut self, part: u32) -> usize {
-        if let Some(place) = self.chosen.as_slice().iter().position(|one| *one == part) {
-            return place;
+        let chosen = self.chosen.as_slice();
+        for place in 0..chosen.len() {
+            if chosen[place] == part {
+                return place;
+            }
         }
-        let place = self.chosen.len();
+        let place = chosen.len();
         if self.chosen.push(part).is_err() {
             self.is_spent = true;
         }
@@ -100,63 +124,48 @@ fn show_label(inference: &Inference<'_>, label: u32, shown: &mut Shown) {
     shown.blank();
 }
 
-/// A type that is made by a head of a row: of parts of the template, or of nodes of the graph.
-#[derive(Clone, Copy)]
-struct Made {
-    head: Head,
-    first: u32,
-    count: u32,
-    is_template: bool,
-}
-
-impl Made {
-    fn piece(&self, step: u32) -> Piece {
-        let number = self.first.saturating_add(step);
-        if self.is_template {
-            Piece::Part(number)
+/// The next part of a tuple, a record or a function, and behind the last one the end.
+fn show_row(
+    inference: &Inference<'_>,
+    made: &Made,
+    step: u32,
+    pieces: &mut Pieces,
+    shown: &mut Shown,
+) {
+    if step >= made.count {
+        shown.close();
+    } else {
+        pieces.push(Piece::Row(*made, step.saturating_add(1)));
+        if let Head::Record(number) = made.head {
+            show_label(inference, label_of(inference, number, step), shown);
+            pieces.push(Piece::Close);
         } else {
-            Piece::Node(number)
+            shown.blank();
         }
+        pieces.push(made.piece(step));
     }
 }
 
-/// A part of a tuple, a record or a function, behind a blank.
-fn push_part(inference: &Inference<'_>, made: &Made, step: u32, pieces: &mut Pieces) {
-    let before = match made.head {
-        Head::Record(number) => {
-            pieces.push(Piece::Text(")"));
-            Piece::Label(label_of(inference, number, step))
-        }
-        _ => Piece::Text(" "),
-    };
-    pieces.push(made.piece(step));
-    pieces.push(before);
-}
-
-fn push_row(inference: &Inference<'_>, made: &Made, word: &'static str, pieces: &mut Pieces) {
-    pieces.push(Piece::Text(")"));
-    for step in 0..made.count {
-        let behind = step.saturating_add(1);
-        push_part(inference, made, made.count.saturating_sub(behind), pieces);
+/// The word of a head.
+fn word_of(head: Head) -> &'static str {
+    match head {
+        Head::Scalar(ty) => scalar_text(ty),
+        Head::Rigid(_, _) => "'",
+        Head::Abstract(_, _) => "abstract",
+        Head::Array => "[]",
+        Head::Tuple => "(tuple",
+        Head::Fun => "(->",
+        Head::Record(_) => "(record",
     }
-    pieces.push(Piece::Text(word));
 }
 
-fn show_made(inference: &Inference<'_>, made: &Made, pieces: &mut Pieces, shown: &mut Shown) {
+fn show_made(made: &Made, pieces: &mut Pieces, shown: &mut Shown) {
+    shown.push(word_of(made.head));
     match made.head {
-        Head::Scalar(ty) => shown.push(scalar_text(ty)),
-        Head::Rigid(number, _) => {
-            shown.push("'");
-            shown.number(u64::from(number));
-        }
-        Head::Abstract(_, _) => shown.push("abstract"),
-        Head::Array => {
-            shown.push("[]");
-            pieces.push(made.piece(0));
-        }
-        Head::Tuple => push_row(inference, made, "(tuple", pieces),
-        Head::Fun => push_row(inference, made, "(->", pieces),
-        Head::Record(_) => push_row(inference, made, "(record", pieces),
+        Head::Scalar(_) | Head::Abstract(_, _) => {}
+        Head::Rigid(number, _) => shown.number(u64::from(number)),
+        Head::Array => pieces.push(made.piece(0)),
+        Head::Tuple | Head::Fun | Head::Record(_) => pieces.push(Piece::Row(*made, 0)),
     }
 }
 
@@ -176,7 +185,7 @@ fn show_part(inference: &Inference<'_>, number: u32, pieces: &mut Pieces, shown:
                 count,
                 is_template: true,
             };
-            show_made(inference, &made, pieces, shown)
+            show_made(&made, pieces, shown)
         }
     }
 }
@@ -196,7 +205,7 @@ fn show_node(inference: &Inference<'_>, number: u32, pieces: &mut Pieces, shown:
                 count,
                 is_template: false,
             };
-            show_made(inference, &made, pieces, shown)
+            show_made(&made, pieces, shown)
         }
     }
 }
@@ -206,10 +215,10 @@ fn show_pieces(inference: &Inference<'_>, pieces: &mut Pieces, shown: &mut Shown
     for _ in 0..MOST_PIECES {
         match pieces.left.pop() {
             None => return,
-            Some(Piece::Text(text)) => shown.push(text),
-            Some(Piece::Label(label)) => show_label(inference, label, shown),
             Some(Piece::Part(number)) => show_part(inference, number, pieces, shown),
             Some(Piece::Node(number)) => show_node(inference, number, pieces, shown),
+            Some(Piece::Row(made, step)) => show_row(inference, &made, step, pieces, shown),
+            Some(Piece::Close) => shown.close(),
         }
     }
     shown.push(" ..");
@@ -231,14 +240,25 @@ fn show_definition(
         _ => shown.push("?"),
     }
     show_pieces(inference, &mut pieces, shown);
-    shown.push(")");
+    shown.close();
     if pieces.is_spent {
         shown.is_spent = true;
     }
 }
 
-/// Where a number of a program stands.
-fn show_place(alloc: Global, flat: &Flat<'_>, number: u32, shown: &mut Shown) {
+/// Why a program has no typing, and where that shows.
+fn show_refusal(alloc: Global, flat: &Flat<'_>, refusal: InferErr, shown: &mut Shown) {
+    match refusal {
+        InferErr::NoType(number) => show_at(alloc, flat, "! no type ", number, shown),
+        InferErr::FunctionPlace(number) => show_at(alloc, flat, "! function place ", number, shown),
+        InferErr::Ambiguous(number) => show_at(alloc, flat, "! ambiguous ", number, shown),
+        InferErr::Memory => shown.push("! memory"),
+    }
+}
+
+/// Where a number of a program stands, behind a text.
+fn show_at(alloc: Global, flat: &Flat<'_>, before: &str, number: u32, shown: &mut Shown) {
+    shown.push(before);
     match places(alloc, flat) {
         Ok(places) => match places.as_slice().get(number as usize) {
             Some(at) => shown.place(*at),
@@ -246,18 +266,6 @@ fn show_place(alloc: Global, flat: &Flat<'_>, number: u32, shown: &mut Shown) {
         },
         Err(_) => shown.push("memory"),
     }
-}
-
-/// Why a program has no typing, and where that shows.
-fn show_refusal(alloc: Global, flat: &Flat<'_>, refusal: InferErr, shown: &mut Shown) {
-    let (kind, number) = match refusal {
-        InferErr::NoType(number) => ("! no type ", number),
-        InferErr::FunctionPlace(number) => ("! function place ", number),
-        InferErr::Ambiguous(number) => ("! ambiguous ", number),
-        InferErr::Memory => return shown.push("! memory"),
-    };
-    shown.push(kind);
-    show_place(alloc, flat, number, shown)
 }
 
 /// The types of the definitions of all files but the prelude.
@@ -271,6 +279,7 @@ fn show_definitions(alloc: Global, flat: &Flat<'_>, inference: &Inference<'_>, s
 }
 
 /// Shows the types of the definitions of all files but the prelude, or why the program has none and where that shows.
+/// What is shown is compared with rows of data, so no clause says it.
 pub fn show_types<'a>(alloc: Global, flat: &Flat<'a>, shown: &mut Shown) {
     let mut inference = new_inference(alloc);
     match infer(alloc, flat, &mut inference) {

@@ -1,7 +1,7 @@
 // What operations are called, each with a blank behind it where parts follow.
 use crate::flat::types::show_type;
-use crate::line::Shown;
-use crate::texts::{bin_text, end_text, suffix_text};
+use crate::line::{Before, Shown};
+use crate::texts::{bin_text, end_text};
 use fut_flat::{Act, Part};
 
 fn show_parts(parts: &[Part], shown: &mut Shown) {
@@ -10,28 +10,33 @@ fn show_parts(parts: &[Part], shown: &mut Shown) {
     }
 }
 
+/// A part of an index. Of a slice it says which bounds are written.
 fn part_text(part: Part) -> &'static str {
     match part {
         Part::At => " at",
         Part::Backwards => " ::-1",
-        Part::Slice { from, to } => slice_text(from, to),
-    }
-}
-
-/// Which bounds of a slice are written.
-fn slice_text(from: bool, to: bool) -> &'static str {
-    match (from, to) {
-        (true, true) => " from:to",
-        (true, false) => " from:",
-        (false, true) => " :to",
-        (false, false) => " :",
+        Part::Slice {
+            from: true,
+            to: true,
+        } => " from:to",
+        Part::Slice {
+            from: true,
+            to: false,
+        } => " from:",
+        Part::Slice {
+            from: false,
+            to: true,
+        } => " :to",
+        Part::Slice {
+            from: false,
+            to: false,
+        } => " :",
     }
 }
 
 fn show_names(fields: &[&str], shown: &mut Shown) {
     for field in fields {
-        shown.blank();
-        shown.push(field);
+        shown.named(" ", field);
     }
 }
 
@@ -63,14 +68,16 @@ fn word_of(act: &Act<'_>) -> &'static str {
 pub fn show_act<'a>(act: &Act<'a>, names: &[&str], shown: &mut Shown) {
     shown.push(word_of(act));
     match act {
-        Act::Int { value, ty } => {
-            shown.number(*value);
-            shown.push(suffix_text(*ty));
-        }
+        Act::Int { value, ty } => shown.integer(*value, *ty),
         Act::Record(fields) => show_names(*fields, shown),
         Act::Index(parts) => show_parts(*parts, shown),
         Act::Project(field) | Act::Replace(field) => shown.push(*field),
-        Act::Ascribe(ty) | Act::Coerce(ty) | Act::Declared(ty) => show_type(*ty, names, shown),
+        Act::Ascribe(ty) | Act::Coerce(ty) | Act::Declared(ty) => show_type(
+            *ty,
+            Before::Nothing,
+            names,
+            shown,
+        ),
         _ => {}
     }
 }

@@ -2,7 +2,7 @@
 use crate::flat::expressions::show_exp;
 use crate::flat::patterns::show_heads;
 use crate::flat::refs::show_bind;
-use crate::line::Shown;
+use crate::line::{Before, Shown};
 use fut_flat::{Definition, Flat};
 
 fn show_definition<'a>(definition: &Definition<'a>, names: &[&str], shown: &mut Shown) {
@@ -13,12 +13,12 @@ fn show_definition<'a>(definition: &Definition<'a>, names: &[&str], shown: &mut 
     });
     show_bind(definition.bind, names, shown);
     show_heads(definition.heads, names, shown);
-    shown.push(" = ");
-    show_exp(definition.value, names, shown);
+    show_exp(definition.value, Before::Equals, names, shown);
     shown.close();
 }
 
-/// The definitions of all files but the prelude, each behind a blank.
+/// The definitions of all files but the prelude, each behind a blank. What is shown is compared with rows of data, so no
+/// clause says it.
 pub fn show_flat(flat: &Flat<'_>, shown: &mut Shown) {
     for definition in flat.definitions {
         if definition.file > 0 {

@@ -2,14 +2,15 @@
 use crate::line::Shown;
 use crate::texts::{int_text, scalar_text};
 use fut_flat::{Primitive, Ref};
-use fut_scalar::{BindId, ScalarType};
+use fut_scalar::BindId;
 
-/// A number, behind the text that it stands for.
+/// A number, behind the name that it stands for.
 pub fn show_bind(bind: BindId, names: &[&str], shown: &mut Shown) {
-    match names.get(bind.0 as usize) {
-        Some(text) => shown.push(text.trim_start()),
-        None => shown.push("?"),
-    }
+    let name = match names.get(bind.0 as usize) {
+        Some(name) => name.trim_start(),
+        None => "?",
+    };
+    shown.push(name);
     shown.push("#");
     shown.number(u64::from(bind.0));
 }
@@ -77,15 +78,14 @@ fn view_text(prim: Primitive) -> &'static str {
     }
 }
 
-fn show_conversion(to: ScalarType, from: ScalarType, shown: &mut Shown) {
-    shown.named(scalar_text(to), ".");
-    shown.push(scalar_text(from));
-}
-
+/// A use of a name.
 pub fn show_ref(of: &Ref, names: &[&str], shown: &mut Shown) {
     match *of {
         Ref::Bound(bind) => show_bind(bind, names, shown),
-        Ref::Prim(Primitive::Convert { to, from }) => show_conversion(to, from, shown),
+        Ref::Prim(Primitive::Convert { to, from }) => {
+            shown.named(scalar_text(to), ".");
+            shown.push(scalar_text(from));
+        }
         Ref::Prim(prim) => show_primitive(prim, shown),
         Ref::Scalar(ty) => shown.push(scalar_text(ty)),
     }

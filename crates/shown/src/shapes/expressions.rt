@@ -1,9 +1,9 @@
 // Expressions as text: a form is its word or sign and its parts, in parentheses; `(f x)` is an application.
-use crate::line::Shown;
+use crate::line::{Before, Shown};
 use crate::shapes::names::{show_name, show_path};
 use crate::shapes::patterns::{show_heads, show_pat, show_pats, show_sizes};
 use crate::shapes::types::{show_maybe_type, show_type};
-use crate::texts::{end_text, oper_text, suffix_text};
+use crate::texts::{end_text, oper_text};
 use fut_tree::{Bind, Exp, ExpField, Form, Held, Ix, LoopForm};
 
 /// The word that an expression begins with.
@@ -19,144 +19,127 @@ fn word_of(form: &Form<'_>) -> &'static str {
         Form::Apply(_, _) | Form::Binary(_, _, _) | Form::Unary(_, _) | Form::Range { .. } => "(",
         Form::Lambda(_, _, _) => "(fn",
         Form::Lets(_, _) => "(let ",
-        Form::If(_, _, _) => "(if ",
+        Form::If(_, _, _) => "(if",
         Form::Loop(_, _, _, _, _) => "(loop ",
-        Form::Index(_, _) => "(index ",
-        Form::Field(_, _) => "(field ",
-        Form::Update(_, _, _) => "(update ",
-        Form::Replace(_, _, _) => "(replace ",
-        Form::Ascribe(_, _) => "(: ",
-        Form::Coerce(_, _) => "(:> ",
-        Form::Assert(_, _) => "(assert ",
+        Form::Index(_, _) => "(index",
+        Form::Field(_, _) => "(field",
+        Form::Update(_, _, _) => "(update",
+        Form::Replace(_, _, _) => "(replace",
+        Form::Ascribe(_, _) => "(:",
+        Form::Coerce(_, _) => "(:>",
+        Form::Assert(_, _) => "(assert",
     }
 }
 
+/// The sign behind it, of an operator or a range.
+fn sign_of(form: &Form<'_>) -> &'static str {
+    match form {
+        Form::Binary(oper, _, _) | Form::Unary(oper, _) => oper_text(*oper),
+        Form::Range { end, .. } => end_text(*end),
+        _ => "",
+    }
+}
+
+/// An expression behind a text.
 #[cycle(expressions)]
-pub fn show_exp<'a>(exp: &'a Exp<'a>, shown: &mut Shown) {
-    shown.push(word_of(&exp.form));
+pub fn show_exp<'a>(exp: &'a Exp<'a>, before: Before, shown: &mut Shown) {
+    let word = word_of(&exp.form);
+    shown.open(before, word);
+    shown.push(sign_of(&exp.form));
     match exp.form {
         Form::Path(names) => show_path(names, shown),
-        Form::Int { value, ty } => {
-            shown.number(value);
-            shown.push(suffix_text(ty));
-        }
+        Form::Int { value, ty } => shown.integer(value, ty),
         Form::Bool(_) | Form::Unit => {}
-        _ => {
-            show_row(exp, shown);
-            shown.close();
-        }
-    }
-    shown.stands(exp.place, exp.mark);
-}
-
-/// The parts of a form that holds a row of them.
-#[cycle(expressions)]
-fn show_row<'a>(exp: &'a Exp<'a>, shown: &mut Shown) {
-    match exp.form {
         Form::Tuple(parts) => show_exps(parts, shown),
         Form::Record(fields) => show_fields(fields, shown),
         Form::Array(parts) => show_exps(parts, shown),
-        Form::Lambda(pats, ty, body) => {
-            show_pats(pats, shown);
-            show_maybe_type(ty, shown);
-            shown.push(" -> ");
-            show_exp(body, shown);
-        }
-        Form::Lets(binds, body) => {
-            show_binds(binds, shown);
-            show_exp(body, shown);
-        }
-        Form::Index(array, parts) => {
-            show_exp(array, shown);
-            show_index(parts, shown);
-        }
-        Form::Update(array, indices, value) => {
-            show_exp(array, shown);
-            shown.push(" (at");
-            show_exps(indices, shown);
-            shown.push(") ");
-            show_exp(value, shown);
-        }
         _ => show_operation(exp, shown),
     }
+    shown.end(word);
+    shown.stands(exp.place, exp.mark);
 }
 
-/// The parts of an application, an operator, an assertion, and of a type behind an expression.
+/// The parts of an application, an operator, an assertion, a condition, and of what stands before a type.
 #[cycle(expressions)]
 fn show_operation<'a>(exp: &'a Exp<'a>, shown: &mut Shown) {
     match exp.form {
-        Form::Apply(left, right) | Form::Assert(left, right) => {
-            show_exp(left, shown);
-            shown.blank();
-            show_exp(right, shown);
+        Form::Apply(left, right) => {
+            show_exp(left, Before::Nothing, shown);
+            show_exp(right, Before::Blank, shown);
         }
-        Form::Binary(oper, left, right) => {
-            shown.push(oper_text(oper));
-            shown.blank();
-            show_exp(left, shown);
-            shown.blank();
-            show_exp(right, shown);
+        Form::Binary(_, left, right) | Form::Assert(left, right) => {
+            show_exp(left, Before::Blank, shown);
+            show_exp(right, Before::Blank, shown);
         }
-        Form::Unary(oper, inner) => {
-            shown.push(oper_text(oper));
-            shown.blank();
-            show_exp(inner, shown);
+        Form::Unary(_, inner) => show_exp(inner, Before::Blank, shown),
+        Form::If(test, yes, no) => {
+            show_exp(test, Before::Blank, shown);
+            show_exp(yes, Before::Blank, shown);
+            show_exp(no, Before::Blank, shown);
         }
         Form::Ascribe(inner, ty) | Form::Coerce(inner, ty) => {
-            show_exp(inner, shown);
-            shown.blank();
-            show_type(ty, shown);
+            show_exp(inner, Before::Blank, shown);
+            show_type(ty, Before::Blank, shown);
+        }
+        _ => show_access(exp, shown),
+    }
+}
+
+/// The parts of an index, of a field, and of an array or a record with another part.
+#[cycle(expressions)]
+fn show_access<'a>(exp: &'a Exp<'a>, shown: &mut Shown) {
+    match exp.form {
+        Form::Index(array, parts) => {
+            show_exp(array, Before::Blank, shown);
+            show_index(parts, shown);
+        }
+        Form::Update(array, indices, value) => {
+            show_exp(array, Before::Blank, shown);
+            shown.push(" (at");
+            show_exps(indices, shown);
+            show_exp(value, Before::End, shown);
         }
         Form::Field(inner, name) => {
-            show_exp(inner, shown);
+            show_exp(inner, Before::Blank, shown);
             shown.blank();
             show_name(name, shown);
+        }
+        Form::Replace(inner, name, value) => {
+            show_exp(inner, Before::Blank, shown);
+            shown.blank();
+            show_name(name, shown);
+            show_exp(value, Before::Blank, shown);
         }
         _ => show_longer(exp, shown),
     }
 }
 
-/// The parts of a condition, a loop, a record with another field, and a range.
+/// The parts of a function, a row of `let`s, a loop and a range.
 #[cycle(expressions)]
 fn show_longer<'a>(exp: &'a Exp<'a>, shown: &mut Shown) {
     match exp.form {
-        Form::If(test, yes, no) => {
-            show_exp(test, shown);
-            shown.blank();
-            show_exp(yes, shown);
-            shown.blank();
-            show_exp(no, shown);
+        Form::Lambda(pats, ty, body) => {
+            show_pats(pats, shown);
+            show_maybe_type(ty, Before::Colon, shown);
+            show_exp(body, Before::Arrow, shown);
+        }
+        Form::Lets(binds, body) => {
+            show_binds(binds, shown);
+            show_exp(body, Before::Nothing, shown);
         }
         Form::Loop(sizes, pat, first, over, body) => {
             show_sizes(sizes, shown);
-            show_pat(pat, shown);
-            shown.push(" = ");
-            show_exp(first, shown);
+            show_pat(pat, Before::Nothing, shown);
+            show_exp(first, Before::Equals, shown);
             show_loop(over, shown);
-            show_exp(body, shown);
+            show_exp(body, Before::End, shown);
         }
-        Form::Replace(inner, name, value) => {
-            show_exp(inner, shown);
-            shown.blank();
-            show_name(name, shown);
-            shown.blank();
-            show_exp(value, shown);
-        }
-        Form::Range {
-            from,
-            next,
-            end,
-            to,
-        } => {
-            shown.push(end_text(end));
-            shown.blank();
-            show_exp(from, shown);
-            shown.blank();
+        Form::Range { from, next, to, .. } => {
+            show_exp(from, Before::Blank, shown);
             if let Some(next) = next {
-                show_exp(next, shown);
-                shown.blank();
+                show_exp(next, Before::Blank, shown);
             }
-            show_exp(to, shown);
+            show_exp(to, Before::Blank, shown);
         }
         _ => {}
     }
@@ -166,8 +149,7 @@ fn show_longer<'a>(exp: &'a Exp<'a>, shown: &mut Shown) {
 #[cycle(expressions)]
 fn show_exps<'a>(exps: &'a [Held<'a, Exp<'a>>], shown: &mut Shown) {
     for exp in exps {
-        shown.blank();
-        show_exp(exp.at, shown);
+        show_exp(exp.at, Before::Blank, shown);
     }
 }
 
@@ -176,7 +158,7 @@ fn show_exps<'a>(exps: &'a [Held<'a, Exp<'a>>], shown: &mut Shown) {
 fn show_fields<'a>(fields: &'a [ExpField<'a>], shown: &mut Shown) {
     for field in fields {
         shown.field(field.name);
-        show_exp(field.exp, shown);
+        show_exp(field.exp, Before::Blank, shown);
         shown.close();
     }
 }
@@ -186,8 +168,8 @@ fn show_fields<'a>(fields: &'a [ExpField<'a>], shown: &mut Shown) {
 fn show_binds<'a>(binds: &'a [Bind<'a>], shown: &mut Shown) {
     for bind in binds {
         show_left(bind, shown);
-        show_exp(bind.value, shown);
-        shown.push(") ");
+        show_exp(bind.value, Before::Equals, shown);
+        shown.before(Before::End);
     }
 }
 
@@ -195,54 +177,44 @@ fn show_binds<'a>(binds: &'a [Bind<'a>], shown: &mut Shown) {
 fn show_left(bind: &Bind<'_>, shown: &mut Shown) {
     shown.push(if bind.is_function { "(function " } else { "(" });
     show_sizes(bind.sizes, shown);
-    show_pat(bind.pat, shown);
+    show_pat(bind.pat, Before::Nothing, shown);
     show_heads(bind.heads, shown);
-    shown.push(" = ");
 }
 
+/// What a loop goes over, up to its closing parenthesis.
 #[cycle(expressions)]
 fn show_loop<'a>(over: &'a LoopForm<'a>, shown: &mut Shown) {
     match over {
         LoopForm::For(name, count) => {
             shown.named(" (for ", *name);
-            shown.push(" < ");
-            show_exp(*count, shown);
+            show_exp(*count, Before::Less, shown);
         }
         LoopForm::ForIn(pat, items) => {
-            shown.push(" (for ");
-            show_pat(*pat, shown);
-            shown.push(" in ");
-            show_exp(*items, shown);
+            show_pat(*pat, Before::For, shown);
+            show_exp(*items, Before::In, shown);
         }
-        LoopForm::While(test) => {
-            shown.push(" (while ");
-            show_exp(*test, shown);
-        }
+        LoopForm::While(test) => show_exp(*test, Before::While, shown),
     }
-    shown.push(") ");
 }
 
 /// Parts of an index, each behind a blank.
 #[cycle(expressions)]
 fn show_index<'a>(parts: &'a [Ix<'a>], shown: &mut Shown) {
     for part in parts {
-        shown.blank();
         match part {
-            Ix::At(exp) => show_exp(*exp, shown),
+            Ix::At(exp) => show_exp(*exp, Before::Blank, shown),
             Ix::Slice(from, to) => {
-                shown.push("(slice ");
                 match from {
-                    Some(exp) => show_exp(*exp, shown),
-                    None => shown.push("_"),
+                    Some(exp) => show_exp(*exp, Before::Slice, shown),
+                    None => shown.push(" (slice _"),
                 }
-                shown.blank();
                 match to {
-                    Some(exp) => show_exp(*exp, shown),
-                    None => shown.push("_"),
+                    Some(exp) => show_exp(*exp, Before::Blank, shown),
+                    None => shown.push(" _"),
                 }
                 shown.close();
             }
-            Ix::Backwards => shown.push("::-1"),
+            Ix::Backwards => shown.push(" ::-1"),
         }
     }
 }

@@ -4,16 +4,17 @@ use crate::line::Shown;
 /// The position that a new name is made of: five digits in base 64, the lowest first, as characters from `!` on.
 fn position_of(digits: &[u8]) -> u64 {
     let mut position = 0u64;
-    for digit in digits.iter().rev() {
-        position = position
-            .wrapping_mul(64)
-            .wrapping_add(u64::from(*digit).wrapping_sub(33));
+    let mut weight = 1u64;
+    for digit in digits {
+        let value = u64::from(*digit).wrapping_sub(33);
+        position = position.wrapping_add(value.wrapping_mul(weight));
+        weight = weight.wrapping_mul(64);
     }
     position
 }
 
-/// A name. The new names of sugar begin with a blank: of blanks alone they are shown as `$0`, `$1` and so on by their
-/// number, else as `$at7` by their position.
+/// A name. The new names of sugar begin with a blank: of blanks alone they are shown as `$0`, `$1` and so
+/// on by their number, else as `$at7` by their position.
 pub fn show_name(name: &str, shown: &mut Shown) {
     match name.as_bytes() {
         [b' ', b' ', others @ ..] => {

@@ -1,5 +1,5 @@
 // Patterns and the heads of definitions as text.
-use crate::line::Shown;
+use crate::line::{Before, Shown};
 use crate::shapes::names::show_name;
 use crate::shapes::types::show_type;
 use fut_tree::{Head, HeadForm, Held, Pat, PatField, PatForm};
@@ -39,24 +39,22 @@ fn word_of(form: &PatForm<'_>) -> &'static str {
     }
 }
 
+/// A pattern behind a text.
 #[cycle(patterns)]
-pub fn show_pat<'a>(pat: &'a Pat<'a>, shown: &mut Shown) {
-    shown.push(word_of(&pat.form));
+pub fn show_pat<'a>(pat: &'a Pat<'a>, before: Before, shown: &mut Shown) {
+    let word = word_of(&pat.form);
+    shown.open(before, word);
     match pat.form {
         PatForm::Var(name) => show_name(name, shown),
         PatForm::Wild | PatForm::Unit => {}
-        PatForm::Tuple(parts) => {
-            show_pats(parts, shown);
-            shown.close();
-        }
+        PatForm::Tuple(parts) => show_pats(parts, shown),
         PatForm::Record(fields) => show_fields(fields, shown),
         PatForm::Ascribe(inner, ty) => {
-            show_pat(inner, shown);
-            shown.blank();
-            show_type(ty, shown);
-            shown.close();
+            show_pat(inner, Before::Nothing, shown);
+            show_type(ty, Before::Blank, shown);
         }
     }
+    shown.end(word);
     shown.stands(pat.place, pat.place);
 }
 
@@ -64,18 +62,16 @@ pub fn show_pat<'a>(pat: &'a Pat<'a>, shown: &mut Shown) {
 #[cycle(patterns)]
 pub fn show_pats<'a>(pats: &'a [Held<'a, Pat<'a>>], shown: &mut Shown) {
     for pat in pats {
-        shown.blank();
-        show_pat(pat.at, shown);
+        show_pat(pat.at, Before::Blank, shown);
     }
 }
 
-/// Fields, each behind a blank, up to the closing parenthesis.
+/// Fields, each behind a blank.
 #[cycle(patterns)]
 fn show_fields<'a>(fields: &'a [PatField<'a>], shown: &mut Shown) {
     for field in fields {
         shown.field(field.name);
-        show_pat(field.pat, shown);
+        show_pat(field.pat, Before::Blank, shown);
         shown.close();
     }
-    shown.close();
 }
