@@ -1,14 +1,10 @@
-// Primitives, and the arguments that they have.
-ghost use Rattle.std.specs.Prelude.{◌≡◌, IfOk, IfErr, map};
-ghost use Rattle.fut_meaning.specs.Knowns.{known_primitive, with_known};
+// Primitives, and the parameters that they have.
+ghost use Rattle.std.specs.Prelude.{◌≡◌};
+ghost use Rattle.fut_meaning.specs.Knowns.{known_primitive};
 ghost use Rattle.fut_meaning.specs.Operations.{parameters_of};
-ghost use Rattle.measure.specs.Held.{known_of, knowns};
-ghost use Rattle.measure.specs.declared.stop.Stop.TheVariants as stop;
+ghost use Rattle.measure.specs.Held.{known_of};
 
 use crate::known::{Known, KnownForm};
-use crate::stop::Stop;
-use bumpalo::Bump;
-use bumpalo::collections::into_bump_slice;
 use fut_flat::Primitive;
 
 /// What the use of a primitive is.
@@ -68,25 +64,4 @@ pub fn parameters_of(primitive: Primitive) -> &'static [u32]
         | Primitive::Highest(_)
         | Primitive::NumBits(_) => &[0],
     }
-}
-
-/// The arguments with one more behind them.
-pub fn with_known<'a>(
-    bump: &'a Bump,
-    given: &'a [Known<'a>],
-    known: Known<'a>,
-) -> Result<&'a [Known<'a>], Stop>
-    ensures ok { IfOk result (λ all. knowns (map known_of all.now) ≡ with_known (knowns (map known_of given.now)) (known_of known.entry)) }
-    ensures err { IfErr result (λ e. e ≡ stop.Memory) }
-{
-    let mut all = Vec::new(bump);
-    match all.extend_from_slice(given) {
-        Ok(()) => (),
-        Err(_) => return Err(Stop::Memory),
-    }
-    match all.push(known) {
-        Ok(()) => (),
-        Err(_) => return Err(Stop::Memory),
-    }
-    Ok(into_bump_slice(all))
 }

@@ -6,12 +6,12 @@ use Rattle.measure.proofs.Rows.{greater, parts_more, parts_fail, parts_memory, p
 use Rattle.measure.proofs.Leads.{leads_start, rows_start, rows_more, all_start, given_start, function_start}
 use Rattle.measure.proofs.Running.{run_other, run_of_function, run_of_primitive, run_none, run_pattern, run_last, run_waits, primitive_waits, primitive_stopped, primitive_ran, given_more, given_fail, given_many, given_few, given_done, function_more, function_fail, function_data, function_other}
 use Rattle.measure.proofs.Peeling.{peeled_walk}
-use Rattle.measure.proofs.Mirror.{known_data, known_function, known_primitive}
+use Rattle.measure.proofs.Mirror.{known_data, known_primitive}
 use Rattle.measure.proofs.Endings.{walk_memory, turned_memory, ran_memory, loop_as}
 use Rattle.measure.proofs.walk.+walk.Goals as goal
 
 pub run-returns-in-Function : goal.run-returns-in-Function
-run-returns-in-Function t c = record { walk = run_of_function _ _ _ _ _ _ _ _ _ c.in-Function.is c.run_function.ensures.walk; few = c.run_function.ensures.few; flat = c.run_function.ensures.flat }
+run-returns-in-Function t c = record { walk = run_of_function _ _ _ _ _ _ _ c.in-Function.is c.run_function.ensures.walk; few = c.run_function.ensures.few; flat = c.run_function.ensures.flat }
 
 pub run-returns-in-Primitive : goal.run-returns-in-Primitive
 run-returns-in-Primitive t c = record { walk = run_of_primitive _ _ _ _ _ _ _ _ c.in-Primitive.is c.run_primitive.ensures.walk; few = c.run_primitive.ensures.few; flat = c.run_primitive.ensures.flat }
@@ -28,8 +28,11 @@ run_function-returns-in-Err t c = record { walk = run_pattern _ _ _ _ _ _ _ _ _ 
 pub run_function-returns-then-params-eq1 : goal.run_function-returns-then-params-eq1
 run_function-returns-then-params-eq1 t c = record { walk = run_last _ _ _ _ _ _ _ _ _ _ c.if-params-eq1.true c.in-Ok.ensures c.walk.ensures.walk; few = c.walk.ensures.few; flat = c.walk.ensures.flat }
 
-pub run_function-returns-else-params-eq1 : goal.run_function-returns-else-params-eq1
-run_function-returns-else-params-eq1 t c = record { walk = run_waits _ _ _ _ _ _ _ _ _ _ _ c.if-params-eq0.false c.if-params-eq1.false c.in-Ok.ensures (between_to_end c.args.params.now 1 _ (omega arith)) (known_function _ _ _ _ refl); few = omega (arith, c.requires.spent); flat = omega (arith, c.requires.level) }
+pub run_function-returns-in-Ok-captured : goal.run_function-returns-in-Ok-captured
+run_function-returns-in-Ok-captured t c = record { walk = run_waits _ _ _ _ _ _ _ _ _ _ _ c.if-params-eq0.false c.if-params-eq1.false c.in-Ok.ensures (between_to_end c.args.params.now 1 _ (omega arith)) c.in-Ok-captured.ensures.ok; few = omega (arith, c.requires.spent); flat = omega (arith, c.requires.level) }
+
+pub run_function-returns-in-Err-captured : goal.run_function-returns-in-Err-captured
+run_function-returns-in-Err-captured t c = record { walk = ran_memory _ c.in-Err-captured.ensures.err; few = tt; flat = tt }
 
 pub run_given-returns : goal.run_given-returns
 run_given-returns t c = record { walk = given_done _ _ _ _ _ _ _ _ (omega (arith, c.if-at-parameters-2.false)) (omega (arith, c.loop-known-test.false)) c.loop-known.invariant.0; few = c.loop-known.invariant.2; flat = c.loop-known.invariant.3 }
@@ -118,8 +121,11 @@ walk_form-returns-in-Some t c = record { walk = form_use _ _ _ _ _ _ _ _ c.in-Us
 pub walk_form-returns-in-None : goal.walk_form-returns-in-None
 walk_form-returns-in-None t c = record { walk = form_unknown _ _ _ _ _ _ _ c.in-Use.is c.in-None.ensures; few = tt; flat = tt }
 
-pub walk_form-returns-in-Lambda : goal.walk_form-returns-in-Lambda
-walk_form-returns-in-Lambda t c = record { walk = form_lambda _ _ _ _ _ _ _ _ c.in-Lambda.is (known_function _ _ _ _ refl); few = omega (arith, c.requires.spent); flat = omega (arith, c.requires.level) }
+pub walk_form-returns-in-Ok : goal.walk_form-returns-in-Ok
+walk_form-returns-in-Ok t c = record { walk = form_lambda _ _ _ _ _ _ _ _ c.in-Lambda.is c.in-Ok.ensures.ok; few = omega (arith, c.requires.spent); flat = omega (arith, c.requires.level) }
+
+pub walk_form-returns-in-Err : goal.walk_form-returns-in-Err
+walk_form-returns-in-Err t c = record { walk = walk_memory _ c.in-Err.ensures.err; few = tt; flat = tt }
 
 pub walk_if-returns-in-Err : goal.walk_if-returns-in-Err
 walk_if-returns-in-Err t c = record { walk = if_test _ _ _ _ _ _ _ _ c.in-Err.ensures.walk; few = tt; flat = tt }
