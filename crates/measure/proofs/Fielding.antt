@@ -1,109 +1,138 @@
 -- The fields of records, one after the other.
-use Rattle.std.proofs.Common.{◌≡◌, ℕ, ◌+◌, ◌<◌, ◌≤◌, ◌++◌, List, [], ◌∷◌, map, length, get_or, drop, Option, Some, None, Bool, true, false, cond, refl, sym, ap, ◌∙◌, arith, append-nil, append_assoc}
-use mathlib.Core.List.{map-append}
+use Rattle.std.proofs.Common.{◌≡◌, ℕ, zero, suc, ◌+◌, ◌<◌, ◌≤◌, List, [], ◌∷◌, map, length, get_or, set, drop, Option, Some, None, Bool, true, false, cond, refl, sym, ap, ◌∙◌, arith}
 use Rattle.std.specs.Borrow.{Bor}
 use Rattle.std.specs.Str.{bytes_eq}
 use Rattle.fut_ast.specs.Sorts.{Text}
-use Rattle.fut_meaning.specs.Knowns.{Known, Data, Known_record, is_data, and_known, known_field, fields_data, known_record, known_fields, known_field_of, known_replaced}
+use Rattle.fut_meaning.specs.Knowns.{Known, Data, Known_record, is_data, all_data, and_known, known_no_field, known_field, fields_data, known_record, known_fields, known_field_of, known_replaced}
 use Rattle.fut_flat.specs.Erased.{texts}
-use Rattle.measure.specs.Fields.{put, zipped}
+use Rattle.measure.specs.Fields.{put_named}
 use Rattle.measure.specs.declared.known.Known.{Known as Held_known}
-use Rattle.measure.specs.Held.{known_of, knowns, field_of, fields_known}
-use Rattle.measure.specs.declared.known.Field.{Field}
-use Rattle.measure.proofs.Mirror.{field_is}
+use Rattle.measure.specs.Held.{known_of, knowns, named}
+use Rattle.measure.proofs.Parts.{pick}
 use Rattle.reach.proofs.Lists.{one_more, drop_end}
 
-module _ (name : Text) (fs : List Field) where
-  pub field_step : (i : ℕ) (f : Field) → i < length fs → known_field_of name (fields_known (map field_of (drop i fs))) ≡ cond (bytes_eq (get_or fs i f).name.now name) (Some (known_of (get_or fs i f).known)) (known_field_of name (fields_known (map field_of (drop (i + 1) fs))))
-  unfolding fields_known
-  field_step i f lt = ap (λ z. known_field_of name (fields_known (map field_of z))) (one_more fs i f lt) ∙ ap (λ z. cond (bytes_eq z.0 name) (Some z.1) (known_field_of name (fields_known (map field_of (drop (i + 1) fs))))) (field_is (get_or fs i f))
+-- ---- the name of a part
 
-  pub field_done : (n : ℕ) → length fs ≤ n → known_field_of name (fields_known (map field_of (drop n fs))) ≡ None
-  unfolding fields_known
-  field_done n le = ap (λ z. known_field_of name (fields_known (map field_of z))) (drop_end n fs le)
+pub name_at : (fs : List (Bor Text)) (i : ℕ) (f : Bor Text) → i < length fs → (get_or fs i f).now ≡ get_or (texts fs) i []
+name_at [] i f lt = absurd (omega (arith, lt))
+name_at (f ∷ fs) zero g lt = refl
+name_at (f ∷ fs) (suc i) g lt = name_at fs i g (omega (arith, lt))
 
-  pub field_here : (i : ℕ) (f : Field) (o : Option Known) → i < length fs → o ≡ known_field_of name (fields_known (map field_of (drop i fs))) → bytes_eq (get_or fs i f).name.now name ≡ true → Some (known_of (get_or fs i f).known) ≡ o
-  field_here i f o lt e h = sym (e ∙ field_step i f lt ∙ ap (λ z. cond z (Some (known_of (get_or fs i f).known)) (known_field_of name (fields_known (map field_of (drop (i + 1) fs))))) h)
+pub no_name_at : (fs : List (Bor Text)) (i : ℕ) → length fs ≤ i → [] ≡ get_or (texts fs) i []
+no_name_at [] i le = refl
+no_name_at (f ∷ fs) zero le = absurd (omega (arith, le))
+no_name_at (f ∷ fs) (suc i) le = no_name_at fs i (omega (arith, le))
 
-  pub field_on : (i : ℕ) (f : Field) (o : Option Known) → i < length fs → o ≡ known_field_of name (fields_known (map field_of (drop i fs))) → bytes_eq (get_or fs i f).name.now name ≡ false → o ≡ known_field_of name (fields_known (map field_of (drop (i + 1) fs)))
-  field_on i f o lt e h = e ∙ field_step i f lt ∙ ap (λ z. cond z (Some (known_of (get_or fs i f).known)) (known_field_of name (fields_known (map field_of (drop (i + 1) fs))))) h
+pub ruleset naming = (name_at, no_name_at)
 
--- ---- whether all are data
+-- ---- one more field
 
-module _ (fs : List Field) where
-  fields_step : (i : ℕ) (f : Field) → i < length fs → fields_data (fields_known (map field_of (drop i fs))) ≡ cond (is_data (known_of (get_or fs i f).known)) (fields_data (fields_known (map field_of (drop (i + 1) fs)))) false
-  unfolding fields_known
-  fields_step i f lt = ap (λ z. fields_data (fields_known (map field_of z))) (one_more fs i f lt) ∙ ap (λ z. cond (is_data z.1) (fields_data (fields_known (map field_of (drop (i + 1) fs)))) false) (field_is (get_or fs i f))
+first_named : (fs : List Text) (i : ℕ) (s : Known) (ss : List Known) → named (drop i fs) (s ∷ ss) ≡ known_field (get_or fs i []) s (named (drop (suc i) fs) ss)
+unfolding named
+first_named [] zero s ss = refl
+first_named [] (suc i) s ss = refl
+first_named (f ∷ fs) zero s ss = refl
+first_named (f ∷ fs) (suc i) s ss = first_named fs i s ss
 
-  pub fields_done : (n : ℕ) → length fs ≤ n → fields_data (fields_known (map field_of (drop n fs))) ≡ true
-  unfolding fields_known
-  fields_done n le = ap (λ z. fields_data (fields_known (map field_of z))) (drop_end n fs le)
+no_fields : (fs : List Text) → named fs [] ≡ known_no_field
+unfolding named
+no_fields [] = refl
+no_fields (f ∷ fs) = refl
 
-  module _ (i : ℕ) (f : Field) (b : Bool) (lt : i < length fs) (e : b ≡ fields_data (fields_known (map field_of (drop i fs)))) where
-    pub fields_on : is_data (known_of (get_or fs i f).known) ≡ true → b ≡ fields_data (fields_known (map field_of (drop (i + 1) fs)))
-    fields_on h = e ∙ fields_step i f lt ∙ ap (λ z. cond z (fields_data (fields_known (map field_of (drop (i + 1) fs)))) false) h
+module _ (name : Text) (fs : List Text) (ss : List Held_known) where
+  abbrev Fields_from : ℕ → Option Known
+  Fields_from i = known_field_of name (named (drop i fs) (map known_of (drop i ss)))
 
-    pub fields_here : is_data (known_of (get_or fs i f).known) ≡ false → false ≡ b
-    fields_here h = sym (e ∙ fields_step i f lt ∙ ap (λ z. cond z (fields_data (fields_known (map field_of (drop (i + 1) fs)))) false) h)
+  field_step : (i : ℕ) (d : Held_known) → i < length ss → Fields_from i ≡ cond (bytes_eq (get_or fs i []) name) (Some (known_of (get_or ss i d))) (Fields_from (i + 1))
+  field_step i d lt = let e : suc i ≡ i + 1 = omega arith in ap (λ z. known_field_of name (named (drop i fs) (map known_of z))) (one_more ss i d lt) ∙ ap (known_field_of name) (first_named fs i (known_of (get_or ss i d)) (map known_of (drop (i + 1) ss))) ∙ ap (λ z. cond (bytes_eq (get_or fs i []) name) (Some (known_of (get_or ss i d))) (known_field_of name (named (drop z fs) (map known_of (drop (i + 1) ss))))) e
 
-  pub record_data : (s : Held_known) → true ≡ fields_data (fields_known (map field_of fs)) → known_of s ≡ Data → known_of s ≡ known_record (fields_known (map field_of fs))
-  record_data s e d = d ∙ ap (λ z. cond z Data (Known_record (fields_known (map field_of fs)))) e
+  pub field_done : (n : ℕ) → length ss ≤ n → known_field_of name (named (drop n fs) (map known_of (drop n ss))) ≡ None
+  field_done n le = ap (λ z. known_field_of name (named (drop n fs) (map known_of z))) (drop_end n ss le) ∙ ap (known_field_of name) (no_fields (drop n fs))
 
-  pub record_holds : (s : Held_known) → false ≡ fields_data (fields_known (map field_of fs)) → known_of s ≡ Known_record (fields_known (map field_of fs)) → known_of s ≡ known_record (fields_known (map field_of fs))
-  record_holds s e d = d ∙ ap (λ z. cond z Data (Known_record (fields_known (map field_of fs)))) e
+  module _ (i : ℕ) (o : Option Known) (lt : i < length ss) (e : o ≡ known_field_of name (named (drop i fs) (map known_of (drop i ss)))) where
+    pub field_here : (d : Held_known) → bytes_eq (get_or fs i []) name ≡ true → Some (known_of (get_or ss i d)) ≡ o
+    field_here d h = sym (e ∙ field_step i d lt ∙ ap (λ z. cond z (Some (known_of (get_or ss i d))) (Fields_from (i + 1))) h)
 
--- ---- fields that are pushed one after the other
-
-pub data Pushed (items : List Field) (rest whole : List (Text × Known)) : Type 0 where
-  pushed : map field_of items ++ rest ≡ whole → Pushed items rest whole
-
-pub pushed_start : (whole : List (Text × Known)) → Pushed [] whole whole
-pushed_start whole = pushed refl
-
-pushed_more : (items items' : List Field) (f : Field) (x : Text × Known) (rest whole : List (Text × Known)) → Pushed items (x ∷ rest) whole → items' ≡ items ++ f ∷ [] → field_of f ≡ x → Pushed items' rest whole
-pushed_more items items' f x rest whole (pushed p) q e = pushed (ap (λ z. map field_of z ++ rest) q ∙ ap (λ z. z ++ rest) (map-append field_of items (f ∷ [])) ∙ append_assoc (map field_of items) (field_of f ∷ []) rest ∙ ap (λ z. map field_of items ++ (z ∷ rest)) e ∙ p)
-
-pushed_all : (items : List Field) (whole : List (Text × Known)) → Pushed items [] whole → map field_of items ≡ whole
-pushed_all items whole (pushed p) = sym (append-nil (map field_of items)) ∙ p
+    pub field_on : bytes_eq (get_or fs i []) name ≡ false → o ≡ known_field_of name (named (drop (i + 1) fs) (map known_of (drop (i + 1) ss)))
+    field_on h = let d = pick ss i lt in e ∙ field_step i d lt ∙ ap (λ z. cond z (Some (known_of (get_or ss i d))) (Fields_from (i + 1))) h
 
 -- ---- a record that is made
 
-module _ (names : List (Bor Text)) (ss : List Held_known) where
-  pub zip_more : (items items' : List Field) (i at : ℕ) (n : Bor Text) (s : Held_known) (f : Field) → i < length names → at < length ss → Pushed items (zipped (drop i names) (drop at ss)) (zipped names ss) → items' ≡ items ++ f ∷ [] → f.name.now ≡ (get_or names i n).now → f.known ≡ get_or ss at s → Pushed items' (zipped (drop (i + 1) names) (drop (at + 1) ss)) (zipped names ss)
-  zip_more items items' i at n s f lt lt' p q e e' = pushed_more items items' f ((get_or names i n).now, known_of (get_or ss at s)) _ _ (step p) q (field_is f ∙ ap (λ z. (z, known_of f.known)) e ∙ ap (λ z. ((get_or names i n).now, known_of z)) e')
-    where
-      step : Pushed items (zipped (drop i names) (drop at ss)) (zipped names ss) → Pushed items (((get_or names i n).now, known_of (get_or ss at s)) ∷ zipped (drop (i + 1) names) (drop (at + 1) ss)) (zipped names ss)
-      step (pushed p) = pushed (ap (λ z. map field_of items ++ z) (sym (ap (λ z. zipped z (drop at ss)) (one_more names i n lt) ∙ ap (λ z. zipped (get_or names i n ∷ drop (i + 1) names) z) (one_more ss at s lt'))) ∙ p)
+fields_are : (fs : List Text) (ss : List Held_known) → all_data (knowns (map known_of ss)) ≡ fields_data (named fs (map known_of ss))
+unfolding named knowns
+fields_are [] [] = refl
+fields_are [] (s ∷ ss) = ap (λ z. cond (is_data (known_of s)) z false) (fields_are [] ss)
+fields_are (f ∷ fs) [] = refl
+fields_are (f ∷ fs) (s ∷ ss) = ap (λ z. cond (is_data (known_of s)) z false) (fields_are fs ss)
 
-  pub zip_done : (items : List Field) (i at : ℕ) → length names ≤ i → Pushed items (zipped (drop i names) (drop at ss)) (zipped names ss) → map field_of items ≡ zipped names ss
-  zip_done items i at le (pushed p) = pushed_all items _ (pushed (ap (λ z. map field_of items ++ zipped z (drop at ss)) (sym (drop_end i names le)) ∙ p))
+module _ (fs : List Text) (ss : List Held_known) (s : Held_known) where
+  pub record_data : true ≡ all_data (knowns (map known_of ss)) → known_of s ≡ Data → known_of s ≡ known_record (named fs (map known_of ss))
+  record_data e d = d ∙ ap (λ z. cond z Data (Known_record (named fs (map known_of ss)))) (e ∙ fields_are fs ss)
 
-fields_zip : (names : List (Bor Text)) (ss : List Held_known) → length names ≡ length ss → known_fields (texts names) (knowns (map known_of ss)) ≡ Some (fields_known (zipped names ss))
-unfolding knowns fields_known
-fields_zip [] [] e = refl
-fields_zip [] (s ∷ ss) e = absurd (omega (arith, e))
-fields_zip (f ∷ fs) [] e = absurd (omega (arith, e))
-fields_zip (f ∷ fs) (s ∷ ss) e = ap (and_known f.now (known_of s)) (fields_zip fs ss (omega (arith, e)))
+  pub record_holds : false ≡ all_data (knowns (map known_of ss)) → known_of s ≡ Known_record (named fs (map known_of ss)) → known_of s ≡ known_record (named fs (map known_of ss))
+  record_holds e d = d ∙ ap (λ z. cond z Data (Known_record (named fs (map known_of ss)))) (e ∙ fields_are fs ss)
 
-pub fields_made : (names : List (Bor Text)) (ss : List Held_known) (fs : List Field) → length names ≡ length ss → map field_of fs ≡ zipped names ss → known_fields (texts names) (knowns (map known_of ss)) ≡ Some (fields_known (map field_of fs))
-fields_made names ss fs e q = fields_zip names ss e ∙ sym (ap (λ z. Some (fields_known z)) q)
+pub fields_made : (fs : List (Bor Text)) (ss : List Held_known) → length fs ≡ length ss → known_fields (texts fs) (knowns (map known_of ss)) ≡ Some (named (texts fs) (map known_of ss))
+unfolding named knowns
+fields_made [] [] e = refl
+fields_made [] (s ∷ ss) e = absurd (omega (arith, e))
+fields_made (f ∷ fs) [] e = absurd (omega (arith, e))
+fields_made (f ∷ fs) (s ∷ ss) e = ap (and_known f.now (known_of s)) (fields_made fs ss (omega (arith, e)))
 
--- ---- a field that is replaced
+-- ---- a part that is replaced
 
-module _ (name : Text) (s : Known) where
-  pub put_here : (f g : Field) → g.name.now ≡ f.name.now → known_of g.known ≡ s → bytes_eq f.name.now name ≡ true → field_of g ≡ put name s (field_of f)
-  put_here f g e q h = field_is g ∙ ap (λ z. (z, known_of g.known)) e ∙ ap (λ z. (f.name.now, z)) q ∙ sym (ap (put name s) (field_is f) ∙ ap (λ z. (f.name.now, cond z s (known_of f.known))) h)
+of_either : (b : Bool) (t s : Held_known) → known_of (cond b t s) ≡ cond b (known_of t) (known_of s)
+of_either true t s = refl
+of_either false t s = refl
 
-  pub put_other : (f : Field) → bytes_eq f.name.now name ≡ false → field_of f ≡ put name s (field_of f)
-  put_other f h = field_is f ∙ sym (ap (put name s) (field_is f) ∙ ap (λ z. (f.name.now, cond z s (known_of f.known))) h)
+pub put_known : (name : Text) (t : Held_known) (fs : List Text) (ss : List Held_known) → named fs (map known_of (put_named name t fs ss)) ≡ known_replaced name (known_of t) (named fs (map known_of ss))
+unfolding named
+put_known name t [] [] = refl
+put_known name t [] (s ∷ ss) = ap (λ z. known_field [] z (named [] (map known_of (put_named name t [] ss)))) (of_either (bytes_eq [] name) t s) ∙ ap (known_field [] (cond (bytes_eq [] name) (known_of t) (known_of s))) (put_known name t [] ss)
+put_known name t (f ∷ fs) [] = refl
+put_known name t (f ∷ fs) (s ∷ ss) = ap (λ z. known_field f z (named fs (map known_of (put_named name t fs ss)))) (of_either (bytes_eq f name) t s) ∙ ap (known_field f (cond (bytes_eq f name) (known_of t) (known_of s))) (put_known name t fs ss)
 
-  pub put_more : (fs items items' : List Field) (i : ℕ) (d g : Field) → i < length fs → Pushed items (map (put name s) (map field_of (drop i fs))) (map (put name s) (map field_of fs)) → items' ≡ items ++ g ∷ [] → field_of g ≡ put name s (field_of (get_or fs i d)) → Pushed items' (map (put name s) (map field_of (drop (i + 1) fs))) (map (put name s) (map field_of fs))
-  put_more fs items items' i d g lt (pushed p) q e = pushed_more items items' g (put name s (field_of (get_or fs i d))) _ _ (pushed (ap (λ z. map field_of items ++ map (put name s) (map field_of z)) (sym (one_more fs i d lt)) ∙ p)) q e
+-- the parts as they are up to one, and from there on as they are to be
+module _ {T : Type 0} (name : Text) (t : T) where
+  abbrev pub put_from : ℕ → List Text → List T → List T
+  put_from zero fs us = put_named name t fs us
+  put_from (suc i) fs [] = []
+  put_from (suc i) [] (u ∷ us) = u ∷ put_from i [] us
+  put_from (suc i) (f ∷ fs) (u ∷ us) = u ∷ put_from i fs us
 
-  all_put : (fs : List (Text × Known)) → known_replaced name s (fields_known fs) ≡ fields_known (map (put name s) fs)
-  unfolding fields_known
-  all_put [] = refl
-  all_put (f ∷ fs) = ap (known_field f.0 (cond (bytes_eq f.0 name) s f.1)) (all_put fs)
+  pub put_start : (fs : List Text) (us vs : List T) → us ≡ vs → put_from 0 fs us ≡ put_named name t fs vs
+  put_start fs us vs e = ap (put_named name t fs) e
 
-  pub put_done : (fs items : List Field) (i : ℕ) → length fs ≤ i → Pushed items (map (put name s) (map field_of (drop i fs))) (map (put name s) (map field_of fs)) → fields_known (map field_of items) ≡ known_replaced name s (fields_known (map field_of fs))
-  put_done fs items i le (pushed p) = ap fields_known (pushed_all items _ (pushed (ap (λ z. map field_of items ++ map (put name s) (map field_of z)) (sym (drop_end i fs le)) ∙ p))) ∙ sym (all_put (map field_of fs))
+  put_at : (i : ℕ) (fs : List Text) (us : List T) → i < length us → bytes_eq (get_or fs i []) name ≡ true → put_from i fs us ≡ put_from (suc i) fs (set us i t)
+  put_at i fs [] lt h = absurd (omega (arith, lt))
+  put_at zero [] (u ∷ us) lt h = ap (λ z. cond z t u ∷ put_named name t [] us) h
+  put_at zero (f ∷ fs) (u ∷ us) lt h = ap (λ z. cond z t u ∷ put_named name t fs us) h
+  put_at (suc i) [] (u ∷ us) lt h = ap (λ z. u ∷ z) (put_at i [] us (omega (arith, lt)) h)
+  put_at (suc i) (f ∷ fs) (u ∷ us) lt h = ap (λ z. u ∷ z) (put_at i fs us (omega (arith, lt)) h)
+
+  kept_at : (i : ℕ) (fs : List Text) (us : List T) → i < length us → bytes_eq (get_or fs i []) name ≡ false → put_from i fs us ≡ put_from (suc i) fs us
+  kept_at i fs [] lt h = absurd (omega (arith, lt))
+  kept_at zero [] (u ∷ us) lt h = ap (λ z. cond z t u ∷ put_named name t [] us) h
+  kept_at zero (f ∷ fs) (u ∷ us) lt h = ap (λ z. cond z t u ∷ put_named name t fs us) h
+  kept_at (suc i) [] (u ∷ us) lt h = ap (λ z. u ∷ z) (kept_at i [] us (omega (arith, lt)) h)
+  kept_at (suc i) (f ∷ fs) (u ∷ us) lt h = ap (λ z. u ∷ z) (kept_at i fs us (omega (arith, lt)) h)
+
+  module _ (fs : List Text) (us whole : List T) (i : ℕ) (e : put_from i fs us ≡ whole) where
+    pub put_here : i < length us → bytes_eq (get_or fs i []) name ≡ true → put_from (i + 1) fs (set us i t) ≡ whole
+    put_here lt h = let q : i + 1 ≡ suc i = omega arith in ap (λ z. put_from z fs (set us i t)) q ∙ sym (put_at i fs us lt h) ∙ e
+
+    pub put_on : i < length us → bytes_eq (get_or fs i []) name ≡ false → put_from (i + 1) fs us ≡ whole
+    put_on lt h = let q : i + 1 ≡ suc i = omega arith in ap (λ z. put_from z fs us) q ∙ sym (kept_at i fs us lt h) ∙ e
+
+    pub put_done : length us ≤ i → us ≡ whole
+    put_done le = sym (all_kept i fs us le) ∙ e
+      where
+        all_kept : (i : ℕ) (fs : List Text) (us : List T) → length us ≤ i → put_from i fs us ≡ us
+        all_kept zero [] [] le = refl
+        all_kept zero (f ∷ fs) [] le = refl
+        all_kept zero fs (u ∷ us) le = absurd (omega (arith, le))
+        all_kept (suc i) fs [] le = refl
+        all_kept (suc i) [] (u ∷ us) le = ap (λ z. u ∷ z) (all_kept i [] us (omega (arith, le)))
+        all_kept (suc i) (f ∷ fs) (u ∷ us) le = ap (λ z. u ∷ z) (all_kept i fs us (omega (arith, le)))
+
+pub ruleset putting = (put_start, put_here, put_on, put_done)

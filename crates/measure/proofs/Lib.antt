@@ -9,6 +9,7 @@ pub mod Peeling
 pub mod Walks
 pub mod Leads
 pub mod Forms
+pub mod Endings
 pub mod Rows
 pub mod Running
 pub mod Tabling

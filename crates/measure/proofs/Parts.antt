@@ -6,7 +6,7 @@ use Rattle.fut_flat.specs.Erased.{texts}
 use Rattle.std.proofs.lemmas.List.{length-map}
 use Rattle.measure.specs.declared.stop.Stop.{Stop}
 use Rattle.std.proofs.Common.{◌≡◌, ℕ, suc, ◌+◌, ◌<◌, ◌≤◌, List, [], ◌∷◌, map, length, get_or, drop, Option, Some, None, Bool, true, false, cond, refl, sym, ap, ◌∙◌, subst, arith, Ok, Err}
-use Rattle.fut_meaning.specs.Knowns.{Known, Data, Known_tuple, Known_record, Known_function, Known_primitive, Knowns, is_data, all_data, data_of, known_tuple, known_fields, and_known, known_part, known_part_from, known_record, known_replaced, replaced_in, known_result, with_known, known_none, known_and, Known_fields, some_record}
+use Rattle.fut_meaning.specs.Knowns.{Known, Data, Known_tuple, Known_record, Known_function, Known_primitive, Knowns, is_data, all_data, data_of, known_tuple, known_fields, and_known, known_part, known_part_from, known_record, known_replaced, replaced_in, known_result, with_known, known_none, known_and, count, Known_fields, some_record}
 use Rattle.std.specs.Prelude.{decimal}
 use Rattle.std.specs.Str.{bytes_eq}
 use Rattle.std.proofs.Common.{◌++◌}
@@ -21,6 +21,8 @@ use Rattle.measure.specs.declared.stop.Stop.TheVariants.{Lost, Memory}
 use Rattle.measure.specs.Answers.{one_or_data, Known_to, known_is, not_known, no_memory_to_know}
 use Rattle.measure.specs.Held.{known_of, knowns}
 use Rattle.measure.specs.declared.known.Known.{Known as Held_known}
+use Rattle.measure.specs.declared.known.KnownForm.TheVariants as held
+use Rattle.measure.proofs.Mirror.{by_form}
 use Rattle.reach.proofs.Lists.{one_more, drop_end}
 
 pub data_is : (s : Held_known) (k : Known) → known_of s ≡ k → is_data (known_of s) ≡ is_data k
@@ -85,6 +87,13 @@ unequal_fields (f ∷ fs) (s ∷ ss) h = ap (and_known f (known_of s)) (unequal_
 pub unequal_record : (names : List (Bor Text)) (ss : List Held_known) → (length names ≡ length ss → ⊥) → some_record (known_fields (texts names) (Parts_of ss)) ≡ None
 unequal_record names ss h = ap some_record (unequal_fields (texts names) ss (λ e. h (sym (length-map names (λ (x : Bor Text). x.now)) ∙ e)))
 
+-- ---- how many they are
+
+pub count_knowns : (ss : List Held_known) → count (knowns (map known_of ss)) ≡ length ss
+unfolding knowns
+count_knowns [] = refl
+count_knowns (s ∷ ss) = ap suc (count_knowns ss)
+
 -- ---- one more argument
 
 pub one_behind : (ss : List Held_known) (s : Held_known) → knowns (map known_of (ss ++ s ∷ [])) ≡ with_known (knowns (map known_of ss)) (known_of s)
@@ -105,7 +114,7 @@ part_done k name ss n le = ap (λ z. known_part_from k name (knowns (map known_o
 pub part_here : (k : ℕ) (name : Text) (ss : List Held_known) (i : ℕ) (s : Held_known) (o : Option Known) → i < length ss → o ≡ known_part_from k name (knowns (map known_of (drop i ss))) → bytes_eq (decimal k) name ≡ true → Known_to o (Ok (get_or ss i s))
 part_here k name ss i s o lt e h = known_is (e ∙ part_step k name ss i s lt ∙ ap (λ z. cond z (Some (known_of (get_or ss i s))) (known_part_from (k + 1) name (knowns (map known_of (drop (i + 1) ss))))) h)
 
-pick : (ss : List Held_known) (i : ℕ) → i < length ss → Held_known
+pub pick : (ss : List Held_known) (i : ℕ) → i < length ss → Held_known
 pick [] i lt = absurd (omega (arith, lt))
 pick (s ∷ ss) i lt = s
 
@@ -281,8 +290,13 @@ module _ (f : Text) (u k : Known) where
   pub replaced_field : (s : Held_known) (fs gs : Known_fields) → u ≡ Known_record fs → gs ≡ known_replaced f k fs → known_of s ≡ known_record gs → Known_to (replaced_in f u k) (Ok s)
   replaced_field s fs gs q e r = known_is (ap (λ z. replaced_in f z k) q ∙ sym (ap (λ z. Some (known_record z)) e) ∙ ap Some (sym r))
 
-  pub replaced_other : (w : Known) → u ≡ w → replaced_in f w k ≡ None → Known_to (replaced_in f u k) (Err Lost)
-  replaced_other w q e = not_known (ap (λ z. replaced_in f z k) q ∙ e)
+pub replaced_neither : (f : Text) (s : Held_known) (k : Known) → (s.form ≡ held.Data → ⊥) → ((fs : Bor (List (Bor Text))) (ss : Bor (List Held_known)) → s.form ≡ held.Record fs ss → ⊥) → Known_to (replaced_in f (known_of s) k) (Err Lost)
+replaced_neither f s k d r = by_form s (λ u. Known_to (replaced_in f u k) (Err Lost)) (λ is. absurd (d is)) (λ ss is. not_known refl) (λ fs ss is. absurd (r fs ss is)) (λ c is. not_known refl) (λ p ss is. not_known refl)
+
+-- ---- a part of what has parts
+
+pub part_neither : (f : Text) (s : Held_known) → (s.form ≡ held.Data → ⊥) → ((ss : Bor (List Held_known)) → s.form ≡ held.Tuple ss → ⊥) → ((fs : Bor (List (Bor Text))) (ss : Bor (List Held_known)) → s.form ≡ held.Record fs ss → ⊥) → Known_to (known_part f (known_of s)) (Err Lost)
+part_neither f s d t r = by_form s (λ u. Known_to (known_part f u) (Err Lost)) (λ is. absurd (d is)) (λ ss is. absurd (t ss is)) (λ fs ss is. absurd (r fs ss is)) (λ c is. not_known refl) (λ p ss is. not_known refl)
 
 pub no_memory_for : (o : Option Known) (r : Stop) → r ≡ Memory → Known_to o (Err r)
 no_memory_for o r e = subst (λ z. Known_to o (Err z)) (sym e) no_memory_to_know

@@ -1,8 +1,7 @@
 -- Known functions applied to arguments.
-use Rattle.std.proofs.Common.{◌≡◌, ℕ, zero, suc, ◌+◌, ◌-◌, ◌≤◌, ◌<◌, max, List, [], ◌∷◌, map, length, get_or, drop, true, false, Ok, Err, refl, sym, ap, ◌∙◌, subst, arith, lt-ltb, le-ltb}
+use Rattle.std.proofs.Common.{◌≡◌, ℕ, zero, suc, ◌+◌, ◌-◌, ◌≤◌, ◌<◌, ◌++◌, max, List, [], ◌∷◌, map, length, get_or, drop, true, false, Ok, Err, refl, sym, ap, ◌∙◌, subst, arith, lt-ltb, le-ltb}
 use Rattle.std.specs.Prelude.{Result, nat_lt}
 use Rattle.std.specs.Borrow.{Bor}
-use Rattle.fut_flat.specs.declared.exp.Exp.{Exp}
 use Rattle.fut_flat.specs.declared.pat.Pat.{Pat}
 use Rattle.fut_flat.specs.declared.prim.Primitive.{Primitive}
 use Rattle.fut_flat.specs.Erased.{FlatTerm, pattern_of, patterns, term_of}
@@ -13,6 +12,7 @@ use Rattle.fut_meaning.specs.Comes.{is_function, Inside_run, in_run_body, in_pri
 use Rattle.measure.specs.Held.{known_of, knowns, scope_of}
 use Rattle.measure.specs.declared.known.Known.{Known as Held_known}
 use Rattle.measure.specs.declared.known.KnownForm.TheVariants as form
+use Rattle.measure.specs.declared.known.Closure.{Closure}
 use Rattle.measure.specs.declared.known.Scope.{Scope as Held_scope}
 use Rattle.measure.specs.declared.stop.Stop.{Stop}
 use Rattle.measure.specs.declared.stop.Stop.TheVariants.{Lost, Memory}
@@ -20,6 +20,7 @@ use Rattle.measure.specs.declared.walked.Walked.{Walked}
 use Rattle.measure.specs.declared.walked.Count.{Count}
 use Rattle.measure.specs.Answers.{Bound_to, bound_is, not_bound, no_memory_to_bind, Ended, ended_at, is_stuck, no_memory_left, Walked_to, walked, stopped, Ran_to, ran, run_stopped, Given_to, given, given_stopped, Function_to, function_ran, function_stopped}
 use Rattle.measure.proofs.Mirror.{by_form, known_function, known_primitive}
+use Rattle.measure.proofs.Parts.{count_knowns, one_behind}
 use Rattle.measure.proofs.Walks.{within}
 use Rattle.measure.proofs.Leads.{Function_leads, function_start, function_on, Given_leads, given_start, given_on}
 use Rattle.reach.proofs.Lists.{one_more, drop_end}
@@ -31,11 +32,11 @@ module _ (tops : Scope) (level spent : ℕ) (h : Held_known) (s : Known) where
   is_none : {k : Known} → is_function k ≡ false → Ran_to tops level spent k s (Err Lost)
   is_none n = run_stopped (is_stuck (no_function n))
 
-  pub run_other : ((ps : Bor (List Pat)) (e : Bor Exp) (sc : Bor Held_scope) → h.form ≡ form.Function ps e sc → ⊥) → ((p : Primitive) (ss : Bor (List Held_known)) → h.form ≡ form.Primitive p ss → ⊥) → Ran_to tops level spent (known_of h) s (Err Lost)
-  run_other f p = by_form h (λ k. Ran_to tops level spent k s (Err Lost)) (λ is. is_none refl) (λ ss is. is_none refl) (λ fs is. is_none refl) (λ ps e sc is. absurd (f ps e sc is)) (λ q ss is. absurd (p q ss is))
+  pub run_other : ((c : Bor Closure) → h.form ≡ form.Function c → ⊥) → ((p : Primitive) (ss : Bor (List Held_known)) → h.form ≡ form.Primitive p ss → ⊥) → Ran_to tops level spent (known_of h) s (Err Lost)
+  run_other f p = by_form h (λ k. Ran_to tops level spent k s (Err Lost)) (λ is. is_none refl) (λ ss is. is_none refl) (λ fs ss is. is_none refl) (λ c is. absurd (f c is)) (λ q ss is. absurd (p q ss is))
 
-  pub run_of_function : (ps : Bor (List Pat)) (e : Bor Exp) (sc : Bor Held_scope) (r : Result Walked Stop) → h.form ≡ form.Function ps e sc → Ran_to tops level spent (Known_function (patterns (map pattern_of ps.now)) (term_of e.now) (scope_of sc.now)) s r → Ran_to tops level spent (known_of h) s r
-  run_of_function ps e sc r is x = subst (λ z. Ran_to tops level spent z s r) (sym (known_function h ps e sc is)) x
+  pub run_of_function : (c : Bor Closure) (r : Result Walked Stop) → h.form ≡ form.Function c → Ran_to tops level spent (Known_function (patterns (map pattern_of c.now.params.now)) (term_of c.now.body.now) (scope_of c.now.scope.now)) s r → Ran_to tops level spent (known_of h) s r
+  run_of_function c r is x = subst (λ z. Ran_to tops level spent z s r) (sym (known_function h c is)) x
 
   pub run_of_primitive : (p : Primitive) (ss : Bor (List Held_known)) (r : Result Walked Stop) → h.form ≡ form.Primitive p ss → Ran_to tops level spent (Known_primitive p (knowns (map known_of ss.now))) s r → Ran_to tops level spent (known_of h) s r
   run_of_primitive p ss r is x = subst (λ z. Ran_to tops level spent z s r) (sym (known_primitive h p ss is)) x
@@ -74,30 +75,28 @@ module _ (tops : Scope) (level spent : ℕ) (body : FlatTerm) (sc : Scope) (s : 
 
 -- ---- primitives
 
-pub count_knowns : (ss : List Held_known) → count (knowns (map known_of ss)) ≡ length ss
-unfolding knowns
-count_knowns [] = refl
-count_knowns (s ∷ ss) = ap suc (count_knowns ss)
-
-module _ (tops : Scope) (level spent : ℕ) (p : Primitive) (ss all : List Held_known) (s : Known) where
-  pub primitive_memory : Ran_to tops level spent (Known_primitive p (knowns (map known_of ss))) s (Err Memory)
+module _ (tops : Scope) (level spent : ℕ) (p : Primitive) (ss all : List Held_known) (x : Held_known) where
+  pub primitive_memory : Ran_to tops level spent (Known_primitive p (knowns (map known_of ss))) (known_of x) (Err Memory)
   primitive_memory = run_stopped no_memory_left
 
-  module _ (ks : List ℕ) (is : ks ≡ parameters_of p) (more : knowns (map known_of all) ≡ with_known (knowns (map known_of ss)) s) where
+  module _ (ks : List ℕ) (is : ks ≡ parameters_of p) (behind : all ≡ ss ++ x ∷ []) where
+    more : knowns (map known_of all) ≡ with_known (knowns (map known_of ss)) (known_of x)
+    more = ap (λ z. knowns (map known_of z)) behind ∙ one_behind ss x
+
     too_short : length ss + 1 < length ks → nat_lt (suc (count (knowns (map known_of ss)))) (arity p) ≡ true
     too_short lt = lt-ltb _ _ (omega (arith, lt, count_knowns ss, ap length is))
 
     long : length ks ≤ length ss + 1 → nat_lt (suc (count (knowns (map known_of ss)))) (arity p) ≡ false
     long le = le-ltb _ _ (omega (arith, le, count_knowns ss, ap length is))
 
-    pub primitive_waits : (k : Held_known) → length ss + 1 < length ks → known_of k ≡ Known_primitive p (knowns (map known_of all)) → Ran_to tops level spent (Known_primitive p (knowns (map known_of ss))) s (Ok (record { known = k; nodes = 0; depth = 0 }))
-    primitive_waits k lt q = ran (subst (λ z. Runs tops (Known_primitive p (knowns (map known_of ss))) s z 0 0) (sym (q ∙ ap (Known_primitive p) more)) (r_primitive_waits (too_short lt)))
+    pub primitive_waits : (k : Held_known) → length ss + 1 < length ks → known_of k ≡ Known_primitive p (knowns (map known_of all)) → Ran_to tops level spent (Known_primitive p (knowns (map known_of ss))) (known_of x) (Ok (record { known = k; nodes = 0; depth = 0 }))
+    primitive_waits k lt q = ran (subst (λ z. Runs tops (Known_primitive p (knowns (map known_of ss))) (known_of x) z 0 0) (sym (q ∙ ap (Known_primitive p) more)) (r_primitive_waits (too_short lt)))
 
-    pub primitive_stopped : (r : Stop) → length ks ≤ length ss + 1 → Given_to tops level spent ks (knowns (map known_of all)) (Err r) → Ran_to tops level spent (Known_primitive p (knowns (map known_of ss))) s (Err r)
-    primitive_stopped r le (given_stopped h) = run_stopped (within 0 (subst (λ z. Ended tops (Inside_given tops z (with_known (knowns (map known_of ss)) s)) (Stuck_given tops z (with_known (knowns (map known_of ss)) s)) level spent r) is (subst (λ z. Ended tops (Inside_given tops ks z) (Stuck_given tops ks z) level spent r) more h)) (λ n sc t i. subst (λ z. Inside_run tops (Known_primitive p (knowns (map known_of ss))) s z sc t) (omega arith) (in_primitive (long le) i)) (λ x. no_given (long le) x) (omega arith))
+    pub primitive_stopped : (r : Stop) → length ks ≤ length ss + 1 → Given_to tops level spent ks (knowns (map known_of all)) (Err r) → Ran_to tops level spent (Known_primitive p (knowns (map known_of ss))) (known_of x) (Err r)
+    primitive_stopped r le (given_stopped h) = run_stopped (within 0 (subst (λ z. Ended tops (Inside_given tops z (with_known (knowns (map known_of ss)) (known_of x))) (Stuck_given tops z (with_known (knowns (map known_of ss)) (known_of x))) level spent r) is (subst (λ z. Ended tops (Inside_given tops ks z) (Stuck_given tops ks z) level spent r) more h)) (λ n sc t i. subst (λ z. Inside_run tops (Known_primitive p (knowns (map known_of ss))) (known_of x) z sc t) (omega arith) (in_primitive (long le) i)) (λ x. no_given (long le) x) (omega arith))
 
-    pub primitive_ran : (r : Count) (k : Held_known) → length ks ≤ length ss + 1 → Given_to tops level spent ks (knowns (map known_of all)) (Ok r) → known_of k ≡ Data → Ran_to tops level spent (Known_primitive p (knowns (map known_of ss))) s (Ok (record { known = k; nodes = r.nodes; depth = r.depth }))
-    primitive_ran r k le (given v) q = ran (subst (λ z. Runs tops (Known_primitive p (knowns (map known_of ss))) s z r.nodes r.depth) (sym q) (r_primitive (long le) (subst (λ z. Given_visits tops z (with_known (knowns (map known_of ss)) s) r.nodes r.depth) is (subst (λ z. Given_visits tops ks z r.nodes r.depth) more v))))
+    pub primitive_ran : (r : Count) (k : Held_known) → length ks ≤ length ss + 1 → Given_to tops level spent ks (knowns (map known_of all)) (Ok r) → known_of k ≡ Data → Ran_to tops level spent (Known_primitive p (knowns (map known_of ss))) (known_of x) (Ok (record { known = k; nodes = r.nodes; depth = r.depth }))
+    primitive_ran r k le (given v) q = ran (subst (λ z. Runs tops (Known_primitive p (knowns (map known_of ss))) (known_of x) z r.nodes r.depth) (sym q) (r_primitive (long le) (subst (λ z. Given_visits tops z (with_known (knowns (map known_of ss)) (known_of x)) r.nodes r.depth) is (subst (λ z. Given_visits tops ks z r.nodes r.depth) more v))))
 
 -- ---- the arguments of a primitive
 
@@ -168,4 +167,4 @@ pub ruleset givens = (given_start, given_more, given_fail, given_many, given_few
 
 pub ruleset functions = (function_start, function_more, function_fail, function_data, function_other)
 
-pub ruleset bodies = (run_none, run_pattern, run_last, run_waits, known_function)
+pub ruleset bodies = (run_none, run_pattern, run_last, run_waits)

@@ -1,18 +1,11 @@
 -- Fields by name.
 use Rattle.std.specs.Prelude.{List, [], ◌∷◌, cond}
-use Rattle.std.specs.Borrow.{Bor}
 use Rattle.std.specs.Str.{bytes_eq}
 use Rattle.fut_ast.specs.Sorts.{Text}
-use Rattle.fut_meaning.specs.Knowns.{Known}
-use Rattle.measure.specs.declared.known.Known.{Known as Held_known}
-use Rattle.measure.specs.Held.{known_of}
 
--- names with what is known
-abbrev pub zipped : List (Bor Text) → List Held_known → List (Text × Known)
-zipped [] ss = []
-zipped (f ∷ fs) [] = []
-zipped (f ∷ fs) (s ∷ ss) = (f.now, known_of s) ∷ zipped fs ss
-
--- a field with another value if it has this name
-abbrev pub put : Text → Known → Text × Known → Text × Known
-put name s f = (f.0, cond (bytes_eq f.0 name) s f.1)
+-- the parts with another one for each of this name; a part without a name has the empty one
+abbrev pub put_named : {T : Type 0} → Text → T → List Text → List T → List T
+put_named name t [] [] = []
+put_named name t [] (u ∷ us) = cond (bytes_eq [] name) t u ∷ put_named name t [] us
+put_named name t (f ∷ fs) [] = []
+put_named name t (f ∷ fs) (u ∷ us) = cond (bytes_eq f name) t u ∷ put_named name t fs us

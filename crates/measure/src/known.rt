@@ -1,7 +1,7 @@
 // What is known of values before a program runs.
-ghost use Rattle.std.specs.Prelude.{◌≡◌};
-ghost use Rattle.fut_meaning.specs.Knowns.{is_data};
-ghost use Rattle.measure.specs.Held.{known_of};
+ghost use Rattle.std.specs.Prelude.{◌≡◌, map};
+ghost use Rattle.fut_meaning.specs.Knowns.{all_data, is_data};
+ghost use Rattle.measure.specs.Held.{known_of, knowns};
 
 use fut_flat::{Exp, Pat, Primitive};
 use fut_scalar::BindId;
@@ -19,19 +19,20 @@ pub enum KnownForm<'a> {
     Data,
     /// A tuple that holds a function.
     Tuple(&'a [Known<'a>]),
-    /// A record that holds a function, its fields as they are written.
-    Record(&'a [Field<'a>]),
-    /// Parameters, body, and the names that the function captured.
-    Function(&'a [Pat<'a>], &'a Exp<'a>, &'a Scope<'a>),
+    /// A record that holds a function: its names as they are written, and what is known of each part.
+    Record(&'a [&'a str], &'a [Known<'a>]),
+    Function(&'a Closure<'a>),
     /// A primitive and the arguments that it has.
     Primitive(Primitive, &'a [Known<'a>]),
 }
 
+/// A function: parameters, body, and the names that it captured.
 #[cycle(known)]
 #[derive(Clone, Copy)]
-pub struct Field<'a> {
-    pub name: &'a str,
-    pub known: Known<'a>,
+pub struct Closure<'a> {
+    pub params: &'a [Pat<'a>],
+    pub body: &'a Exp<'a>,
+    pub scope: &'a Scope<'a>,
 }
 
 /// Local names with what is known of them, the newest first.
@@ -48,9 +49,19 @@ pub fn is_data(known: Known<'_>) -> bool
 {
     match known.form {
         KnownForm::Data => true,
-        KnownForm::Tuple(_) => false,
-        KnownForm::Record(_) => false,
-        KnownForm::Function(_, _, _) => false,
-        KnownForm::Primitive(_, _) => false,
+        _ => false,
     }
+}
+
+/// Whether each of several values is data.
+pub fn all_data(parts: &[Known<'_>]) -> bool
+    ensures { result ≡ all_data (knowns (map known_of parts.now)) }
+{
+    for known in parts {
+        if is_data(*known) {
+            continue;
+        }
+        return false;
+    }
+    true
 }

@@ -5,6 +5,7 @@
 #![tactic(auto)]
 
 mod known;
+mod lists;
 mod operations;
 mod patterns;
 mod peel;

@@ -2,28 +2,17 @@
 ghost use Rattle.std.specs.Prelude.{◌≡◌, map};
 ghost use Rattle.fut_flat.specs.Erased.{operation_of, texts};
 ghost use Rattle.fut_flat.specs.Terms.{Assert, Project, Replace};
-ghost use Rattle.fut_meaning.specs.Knowns.{all_data, data_of, is_data, known_fields, known_part, known_part_from, known_result, known_tuple, replaced_in, some_record};
+ghost use Rattle.fut_meaning.specs.Knowns.{data_of, known_fields, known_part, known_part_from, known_result, known_tuple, replaced_in, some_record};
 ghost use Rattle.measure.specs.Held.{known_of, knowns, maybe_known};
 ghost use Rattle.measure.specs.Answers.{Known_to, one_or_data};
 
-use crate::known::{Known, KnownForm, is_data};
-use crate::records::{field_known, fields_of, known_record, with_field};
+use crate::known::{Known, KnownForm, all_data, is_data};
+use crate::lists::put_named;
+use crate::records::{field_known, known_record};
 use crate::stop::Stop;
 use bumpalo::Bump;
 use fut_flat::Act;
 use itoa::Buffer;
-
-fn all_data(parts: &[Known<'_>]) -> bool
-    ensures { result ≡ all_data (knowns (map known_of parts.now)) }
-{
-    for known in parts {
-        if is_data(*known) {
-            continue;
-        }
-        return false;
-    }
-    true
-}
 
 // Of data a function makes data.
 fn data_of<'a>(parts: &[Known<'a>]) -> Result<Known<'a>, Stop>
@@ -52,17 +41,14 @@ fn tuple_of<'a>(parts: &'a [Known<'a>]) -> Known<'a>
     }
 }
 
-fn record_of<'a>(bump: &'a Bump, names: &[&'a str], parts: &[Known<'a>]) -> Result<Known<'a>, Stop>
+fn record_of<'a>(names: &'a [&'a str], parts: &'a [Known<'a>]) -> Result<Known<'a>, Stop>
     ensures { Known_to (some_record (known_fields (texts names.now) (knowns (map known_of parts.now)))) result }
 {
-    if names.len() != parts.len() {
-        return Err(Stop::Lost);
+    if names.len() == parts.len() {
+        Ok(known_record(names, parts))
+    } else {
+        Err(Stop::Lost)
     }
-    let fields = match fields_of(bump, names, parts) {
-        Ok(fields) => fields,
-        Err(stop) => return Err(stop),
-    };
-    Ok(known_record(fields))
 }
 
 // A record with another value of a field.
@@ -82,16 +68,11 @@ fn replaced<'a>(
                 Err(Stop::Lost)
             }
         }
-        KnownForm::Record(fields) => {
-            let made = match with_field(bump, fields, name, known) {
-                Ok(made) => made,
-                Err(stop) => return Err(stop),
-            };
-            Ok(known_record(made))
-        }
-        KnownForm::Tuple(_) => Err(Stop::Lost),
-        KnownForm::Function(_, _, _) => Err(Stop::Lost),
-        KnownForm::Primitive(_, _) => Err(Stop::Lost),
+        KnownForm::Record(names, parts) => match put_named(bump, names, parts, name, known) {
+            Ok(made) => Ok(known_record(names, made)),
+            Err(stop) => Err(stop),
+        },
+        _ => Err(Stop::Lost),
     }
 }
 
@@ -110,18 +91,18 @@ fn position_of<'a>(parts: &'a [Known<'a>], name: &str) -> Result<Known<'a>, Stop
     Err(Stop::Lost)
 }
 
-fn part_of<'a>(known: Known<'a>, name: &str) -> Result<Known<'a>, Stop>
+/// The part of this name.
+pub fn part_of<'a>(known: Known<'a>, name: &str) -> Result<Known<'a>, Stop>
     ensures { Known_to (known_part name.now (known_of known.entry)) result }
 {
     match known.form {
         KnownForm::Data => Ok(known),
         KnownForm::Tuple(knowns) => position_of(knowns, name),
-        KnownForm::Record(fields) => match field_known(fields, name) {
+        KnownForm::Record(names, parts) => match field_known(names, parts, name) {
             Some(part) => Ok(part),
             None => Err(Stop::Lost),
         },
-        KnownForm::Function(_, _, _) => Err(Stop::Lost),
-        KnownForm::Primitive(_, _) => Err(Stop::Lost),
+        _ => Err(Stop::Lost),
     }
 }
 
@@ -129,7 +110,8 @@ fn projected<'a>(name: &str, parts: &'a [Known<'a>]) -> Result<Known<'a>, Stop>
     ensures { Known_to (known_result (Project name.now) (knowns (map known_of parts.now))) result }
 {
     if parts.len() == 1 {
-        part_of(parts[0], name)
+        let part = &parts[0];
+        part_of(*part, name)
     } else {
         data_of(parts)
     }
@@ -139,7 +121,9 @@ fn with_replaced<'a>(bump: &'a Bump, name: &str, parts: &'a [Known<'a>]) -> Resu
     ensures { Known_to (known_result (Replace name.now) (knowns (map known_of parts.now))) result }
 {
     if parts.len() == 2 {
-        replaced(bump, name, parts[0], parts[1])
+        let whole = &parts[0];
+        let part = &parts[1];
+        replaced(bump, name, *whole, *part)
     } else {
         data_of(parts)
     }
@@ -155,7 +139,7 @@ pub fn result_of<'a>(
 {
     match *act {
         Act::Tuple => Ok(tuple_of(parts)),
-        Act::Record(names) => record_of(bump, names, parts),
+        Act::Record(names) => record_of(names, parts),
         Act::Project(name) => projected(name, parts),
         Act::Replace(name) => with_replaced(bump, name, parts),
         Act::Ascribe(_) => same_of(parts),
@@ -171,8 +155,10 @@ fn asserted<'a>(parts: &'a [Known<'a>]) -> Result<Known<'a>, Stop>
     ensures { Known_to (known_result Assert (knowns (map known_of parts.now))) result }
 {
     if parts.len() == 2 {
-        if is_data(parts[0]) {
-            Ok(parts[1])
+        let test = &parts[0];
+        if is_data(*test) {
+            let value = &parts[1];
+            Ok(*value)
         } else {
             data_of(parts)
         }
@@ -186,7 +172,8 @@ fn same_of<'a>(parts: &'a [Known<'a>]) -> Result<Known<'a>, Stop>
     ensures { Known_to (one_or_data (knowns (map known_of parts.now))) result }
 {
     if parts.len() == 1 {
-        Ok(parts[0])
+        let part = &parts[0];
+        Ok(*part)
     } else {
         data_of(parts)
     }

@@ -1,21 +1,21 @@
 // The names of patterns.
-ghost use Rattle.std.specs.Prelude.{◌≡◌, IfOk, IfErr, map};
+ghost use Rattle.std.specs.Prelude.{◌≡◌, IfOk, IfErr, length, map, true};
 ghost use Rattle.fut_flat.specs.Erased.{pattern_of, patterns};
-ghost use Rattle.measure.specs.Patterns.{field_names, field_patterns};
+ghost use Rattle.fut_flat.specs.Terms.{Record_pattern, Tuple_pattern};
+ghost use Rattle.measure.specs.Patterns.{field_names, field_patterns, has_fields, has_parts, part_at};
 ghost use Rattle.measure.specs.declared.stop.Stop.TheVariants as stop;
-ghost use Rattle.fut_meaning.specs.Knowns.{all_data_bound, all_known_bound, data_bound, fields_bound, known_bound};
-ghost use Rattle.measure.specs.Held.{field_of, fields_known, known_of, knowns, scope_of};
+ghost use Rattle.fut_meaning.specs.Knowns.{data_bound, known_bound};
+ghost use Rattle.measure.specs.Held.{known_of, scope_of};
 ghost use Rattle.measure.specs.Answers.{Bound_to};
 
-use crate::known::{Field, Known, KnownForm, Scope};
-use crate::records::field_known;
+use crate::known::{Known, KnownForm, Scope};
+use crate::operations::part_of;
 use crate::scope::bound;
 use crate::stop::Stop;
 use bumpalo::Bump;
 use fut_flat::{Pat, PatField, PatForm};
 
 /// The names with those of a pattern of data.
-#[cycle(data)]
 pub fn bind_data<'a>(
     bump: &'a Bump,
     pat: &Pat<'_>,
@@ -24,58 +24,57 @@ pub fn bind_data<'a>(
     ensures ok { IfOk result (λ inner. scope_of inner.now ≡ data_bound (pattern_of pat.now) (scope_of scope.now)) }
     ensures err { IfErr result (λ e. e ≡ stop.Memory) }
 {
-    match pat.form {
-        PatForm::Bound(number) => bound(
-            bump,
-            number,
-            Known {
-                form: KnownForm::Data,
-            },
-            scope,
-        ),
-        PatForm::Wild => Ok(scope),
-        PatForm::Tuple(parts) => bind_all_data(bump, parts, scope),
-        PatForm::Record(fields) => bind_data_fields(bump, fields, scope),
-        PatForm::Typed(inner, _) => bind_data(bump, inner, scope),
+    bind(
+        bump,
+        pat,
+        Known {
+            form: KnownForm::Data,
+        },
+        scope,
+    )
+}
+
+// Whether a value is a tuple of so many parts, or data.
+fn has_parts(known: Known<'_>, count: usize) -> bool
+    ensures { result ≡ has_parts count (known_of known.entry) }
+{
+    match known.form {
+        KnownForm::Data => true,
+        KnownForm::Tuple(parts) => parts.len() == count,
+        _ => false,
     }
 }
 
-#[cycle(data)]
-fn bind_all_data<'a>(
-    bump: &'a Bump,
-    parts: &[Pat<'_>],
-    scope: &'a Scope<'a>,
-) -> Result<&'a Scope<'a>, Stop>
-    ensures ok { IfOk result (λ inner. scope_of inner.now ≡ all_data_bound (patterns (map pattern_of parts.now)) (scope_of scope.now)) }
-    ensures err { IfErr result (λ e. e ≡ stop.Memory) }
+// Whether a value is a record, or data.
+fn has_fields(known: Known<'_>) -> bool
+    ensures { result ≡ has_fields (known_of known.entry) }
 {
-    let mut names = Names { scope };
-    for part in parts {
-        names = match bind_data(bump, part, names.scope) {
-            Ok(scope) => Names { scope },
-            Err(stop) => return Err(stop),
-        };
+    match known.form {
+        KnownForm::Data => true,
+        KnownForm::Record(_, _) => true,
+        _ => false,
     }
-    Ok(names.scope)
 }
 
-#[cycle(data)]
-fn bind_data_fields<'a>(
-    bump: &'a Bump,
-    fields: &[PatField<'_>],
-    scope: &'a Scope<'a>,
-) -> Result<&'a Scope<'a>, Stop>
-    ensures ok { IfOk result (λ inner. scope_of inner.now ≡ all_data_bound (field_patterns fields.now) (scope_of scope.now)) }
-    ensures err { IfErr result (λ e. e ≡ stop.Memory) }
+// A part of a tuple, or of data.
+fn part_at<'a>(known: Known<'a>, at: usize) -> Known<'a>
+    ensures { known_of result ≡ part_at at (known_of known.entry) }
 {
-    let mut names = Names { scope };
-    for field in fields {
-        names = match bind_data(bump, &field.pat, names.scope) {
-            Ok(scope) => Names { scope },
-            Err(stop) => return Err(stop),
-        };
+    match known.form {
+        KnownForm::Tuple(parts) => {
+            if at < parts.len() {
+                let part = &parts[at];
+                *part
+            } else {
+                Known {
+                    form: KnownForm::Data,
+                }
+            }
+        }
+        _ => Known {
+            form: KnownForm::Data,
+        },
     }
-    Ok(names.scope)
 }
 
 /// The names so far.
@@ -97,16 +96,20 @@ pub fn bind<'a>(
     match pat.form {
         PatForm::Bound(number) => bound(bump, number, known, scope),
         PatForm::Wild => Ok(scope),
-        PatForm::Tuple(parts) => match known.form {
-            KnownForm::Data => bind_all_data(bump, parts, scope),
-            KnownForm::Tuple(given) => bind_all(bump, parts, given, scope),
-            _ => Err(Stop::Lost),
-        },
-        PatForm::Record(fields) => match known.form {
-            KnownForm::Data => bind_data_fields(bump, fields, scope),
-            KnownForm::Record(known_fields) => bind_fields(bump, fields, known_fields, scope),
-            _ => Err(Stop::Lost),
-        },
+        PatForm::Tuple(parts) => {
+            if has_parts(known, parts.len()) {
+                bind_all(bump, parts, known, scope)
+            } else {
+                Err(Stop::Lost)
+            }
+        }
+        PatForm::Record(fields) => {
+            if has_fields(known) {
+                bind_fields(bump, fields, known, scope)
+            } else {
+                Err(Stop::Lost)
+            }
+        }
         PatForm::Typed(inner, _) => bind(bump, inner, known, scope),
     }
 }
@@ -115,18 +118,16 @@ pub fn bind<'a>(
 fn bind_all<'a>(
     bump: &'a Bump,
     parts: &[Pat<'_>],
-    given: &'a [Known<'a>],
+    known: Known<'a>,
     scope: &'a Scope<'a>,
 ) -> Result<&'a Scope<'a>, Stop>
-    ensures { Bound_to (all_known_bound (patterns (map pattern_of parts.now)) (knowns (map known_of given.now)) (scope_of scope.now)) result }
+    requires parts { has_parts (length parts.now) (known_of known) ≡ true }
+    ensures { Bound_to (known_bound (Tuple_pattern (patterns (map pattern_of parts.now))) (known_of known.entry) (scope_of scope.now)) result }
 {
-    if parts.len() != given.len() {
-        return Err(Stop::Lost);
-    }
     let mut names = Names { scope };
     let mut at = 0;
     for part in parts {
-        names = match bind(bump, part, given[at], names.scope) {
+        names = match bind(bump, part, part_at(known, at), names.scope) {
             Ok(scope) => Names { scope },
             Err(stop) => return Err(stop),
         };
@@ -139,18 +140,19 @@ fn bind_all<'a>(
 fn bind_fields<'a>(
     bump: &'a Bump,
     fields: &[PatField<'_>],
-    known_fields: &'a [Field<'a>],
+    known: Known<'a>,
     scope: &'a Scope<'a>,
 ) -> Result<&'a Scope<'a>, Stop>
-    ensures { Bound_to (fields_bound (field_names fields.now) (field_patterns fields.now) (fields_known (map field_of known_fields.now)) (scope_of scope.now)) result }
+    requires fields { has_fields (known_of known) ≡ true }
+    ensures { Bound_to (known_bound (Record_pattern (field_names fields.now) (field_patterns fields.now)) (known_of known.entry) (scope_of scope.now)) result }
 {
     let mut names = Names { scope };
     for field in fields {
-        let known = match field_known(known_fields, field.name) {
-            Some(known) => known,
-            None => return Err(Stop::Lost),
+        let part = match part_of(known, field.name) {
+            Ok(part) => part,
+            Err(stop) => return Err(stop),
         };
-        names = match bind(bump, &field.pat, known, names.scope) {
+        names = match bind(bump, &field.pat, part, names.scope) {
             Ok(scope) => Names { scope },
             Err(stop) => return Err(stop),
         };

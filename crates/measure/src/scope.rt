@@ -1,12 +1,14 @@
 // Local names.
-ghost use Rattle.std.specs.Prelude.{◌≡◌, IfOk, IfErr};
-ghost use Rattle.fut_meaning.specs.Knowns.{empty, find, known_as};
+ghost use Rattle.std.specs.Prelude.{◌≡◌, IfOk, IfErr, map};
+ghost use Rattle.fut_flat.specs.Erased.{pattern_of, patterns, term_of};
+ghost use Rattle.fut_meaning.specs.Knowns.{Known_function, empty, find, known_as};
 ghost use Rattle.measure.specs.Held.{known_of, scope_of, maybe_known};
 ghost use Rattle.measure.specs.declared.stop.Stop.TheVariants as stop;
 
-use crate::known::{Known, Scope};
+use crate::known::{Closure, Known, KnownForm, Scope};
 use crate::stop::Stop;
 use bumpalo::Bump;
+use fut_flat::{Exp, Pat};
 use fut_scalar::BindId;
 
 /// What is known of a local name.
@@ -25,22 +27,17 @@ pub fn find<'a>(scope: &'a Scope<'a>, number: BindId) -> Option<Known<'a>>
 }
 
 /// No names.
-#[tactic(auto, using(crate::proofs::Mirror::scope_empty))]
 pub fn no_scope<'a>(bump: &'a Bump) -> Result<&'a Scope<'a>, Stop>
     ensures ok { IfOk result (λ scope. scope_of scope.now ≡ empty) }
     ensures err { IfErr result (λ e. e ≡ stop.Memory) }
 {
-    match bump.try_alloc_slice_copy(&[Scope::Empty]) {
-        Ok(cells) => {
-            let cells: &'a [Scope<'a>] = cells;
-            Ok(&cells[0])
-        }
+    match bump.try_alloc(Scope::Empty) {
+        Ok(scope) => Ok(scope),
         Err(_) => Err(Stop::Memory),
     }
 }
 
 /// The names with one more.
-#[tactic(auto, using(crate::proofs::Mirror::mirrors))]
 pub fn bound<'a>(
     bump: &'a Bump,
     bind: BindId,
@@ -50,11 +47,30 @@ pub fn bound<'a>(
     ensures ok { IfOk result (λ inner. scope_of inner.now ≡ known_as bind (known_of known.entry) (scope_of scope.now)) }
     ensures err { IfErr result (λ e. e ≡ stop.Memory) }
 {
-    match bump.try_alloc_slice_copy(&[Scope::Bind(bind, known, scope)]) {
-        Ok(cells) => {
-            let cells: &'a [Scope<'a>] = cells;
-            Ok(&cells[0])
-        }
+    match bump.try_alloc(Scope::Bind(bind, known, scope)) {
+        Ok(inner) => Ok(inner),
+        Err(_) => Err(Stop::Memory),
+    }
+}
+
+/// A function with the names that it captures.
+pub fn captured<'a>(
+    bump: &'a Bump,
+    params: &'a [Pat<'a>],
+    body: &'a Exp<'a>,
+    scope: &'a Scope<'a>,
+) -> Result<Known<'a>, Stop>
+    ensures ok { IfOk result (λ known. known_of known ≡ Known_function (patterns (map pattern_of params.now)) (term_of body.now) (scope_of scope.now)) }
+    ensures err { IfErr result (λ e. e ≡ stop.Memory) }
+{
+    match bump.try_alloc(Closure {
+        params,
+        body,
+        scope,
+    }) {
+        Ok(closure) => Ok(Known {
+            form: KnownForm::Function(closure),
+        }),
         Err(_) => Err(Stop::Memory),
     }
 }

@@ -11,11 +11,12 @@ ghost use Rattle.measure.specs.Plain.{Plain};
 ghost use Rattle.measure.specs.Tables.{Kept};
 
 use crate::known::{Known, KnownForm, Scope, is_data};
+use crate::lists::with_last;
 use crate::operations::result_of;
 use crate::patterns::{bind, bind_data};
 use crate::peel::peeled;
-use crate::primitives::{parameters_of, with_known};
-use crate::scope::bound;
+use crate::primitives::parameters_of;
+use crate::scope::{bound, captured};
 use crate::stop::Stop;
 use crate::tops::{Tops, known_use};
 use crate::walked::{Count, MOST_DEPTH, MOST_NESTED, MOST_NODES, Parts, Row, Turn, Used, Walked};
@@ -48,7 +49,7 @@ pub fn walk<'a>(
 
 // A visit within the limits.
 #[cycle(walk)]
-#[tactic(auto, using(crate::proofs::Forms::forms, crate::proofs::Mirror::known_function))]
+#[tactic(auto, using(crate::proofs::Forms::forms))]
 fn walk_form<'a>(
     tops: &Tops<'_, 'a>,
     used: Used,
@@ -73,13 +74,14 @@ fn walk_form<'a>(
             None => Err(Stop::Lost),
         },
         Form::Strict { act, mark, parts } => { walk_strict(tops, used, scope, &act, mark, parts) }
-        Form::Lambda(params, body) => Ok(Walked {
-            known: Known {
-                form: KnownForm::Function(params, body, scope),
-            },
-            nodes: 1,
-            depth: 1,
-        }),
+        Form::Lambda(params, body) => match captured(tops.bump, params, body, scope) {
+            Ok(known) => Ok(Walked {
+                known,
+                nodes: 1,
+                depth: 1,
+            }),
+            Err(stop) => Err(stop),
+        },
         Form::Apply(function, argument) => { walk_apply(tops, used, scope, function, argument) }
         Form::Lets(_, _) => walk_lets(tops, used, scope, exp),
         Form::If(test, yes, no) => walk_if(tops, used, scope, test, yes, no),
@@ -588,9 +590,14 @@ fn run<'a>(
     ensures flat { IfOk result (λ r. used.level + r.depth ≤ 1000) }
 {
     match function.form {
-        KnownForm::Function(params, body, scope) => {
-            run_function(tops, used, params, body, scope, argument)
-        }
+        KnownForm::Function(closure) => run_function(
+            tops,
+            used,
+            closure.params,
+            closure.body,
+            closure.scope,
+            argument,
+        ),
         KnownForm::Primitive(primitive, given) => {
             run_primitive(tops, used, primitive, given, argument)
         }
@@ -625,13 +632,14 @@ fn run_function<'a>(
     if params.len() == 1 {
         walk(tops, used, inner, body)
     } else {
-        Ok(Walked {
-            known: Known {
-                form: KnownForm::Function(&params[1..], body, inner),
-            },
-            nodes: 0,
-            depth: 0,
-        })
+        match captured(tops.bump, &params[1..], body, inner) {
+            Ok(known) => Ok(Walked {
+                known,
+                nodes: 0,
+                depth: 0,
+            }),
+            Err(stop) => Err(stop),
+        }
     }
 }
 
@@ -651,7 +659,7 @@ fn run_primitive<'a>(
     ensures few { IfOk result (λ r. used.spent + r.nodes ≤ 1048576) }
     ensures flat { IfOk result (λ r. used.level + r.depth ≤ 1000) }
 {
-    let all = match with_known(tops.bump, given, argument) {
+    let all = match with_last(tops.bump, given, argument) {
         Ok(all) => all,
         Err(stop) => return Err(stop),
     };

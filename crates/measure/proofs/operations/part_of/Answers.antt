@@ -1,8 +1,8 @@
 use Rattle.std.proofs.Common.{Some, sym, ap, ◌∙◌}
 use Rattle.fut_meaning.specs.Knowns.{known_part}
 use Rattle.measure.specs.Answers.{known_is, not_known}
-use Rattle.measure.proofs.Mirror.{known_data, known_tuple, known_record, known_function, known_primitive}
-use Rattle.measure.proofs.Parts.{known_as_wanted}
+use Rattle.measure.proofs.Mirror.{known_data, known_tuple, known_record}
+use Rattle.measure.proofs.Parts.{known_as_wanted, part_neither}
 use Rattle.measure.proofs.operations.part_of.Goals as goal
 
 pub returns-in-Data : goal.returns-in-Data
@@ -12,13 +12,10 @@ pub returns-in-Tuple : goal.returns-in-Tuple
 returns-in-Tuple c = known_as_wanted (ap (known_part c.args.name.now) (known_tuple _ _ c.in-Tuple.is)) c.position_of.ensures
 
 pub returns-in-Some : goal.returns-in-Some
-returns-in-Some c = known_is (ap (known_part c.args.name.now) (known_record _ _ c.in-Record.is) ∙ sym c.in-Some.ensures)
+returns-in-Some c = known_is (ap (known_part c.args.name.now) (known_record _ _ _ c.in-Record.is) ∙ sym c.in-Some.ensures)
 
 pub returns-in-None : goal.returns-in-None
-returns-in-None c = not_known (ap (known_part c.args.name.now) (known_record _ _ c.in-Record.is) ∙ sym c.in-None.ensures)
+returns-in-None c = not_known (ap (known_part c.args.name.now) (known_record _ _ _ c.in-Record.is) ∙ sym c.in-None.ensures)
 
-pub returns-in-Function : goal.returns-in-Function
-returns-in-Function c = not_known (ap (known_part c.args.name.now) (known_function _ _ _ _ c.in-Function.is))
-
-pub returns-in-Primitive : goal.returns-in-Primitive
-returns-in-Primitive c = not_known (ap (known_part c.args.name.now) (known_primitive _ _ _ c.in-Primitive.is))
+pub returns-in_default : goal.returns-in_default
+returns-in_default c = part_neither _ _ c.in_default.not-Data c.in_default.not-Tuple c.in_default.not-Record

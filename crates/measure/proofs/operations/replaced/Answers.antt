@@ -1,6 +1,9 @@
-use Rattle.std.proofs.Common.{refl, sym, ◌∙◌}
-use Rattle.measure.proofs.Mirror.{known_data, known_tuple, known_record, known_function, known_primitive}
-use Rattle.measure.proofs.Parts.{replaced_data, replaced_by_function, replaced_field, replaced_other, no_memory_for}
+use Rattle.std.proofs.Common.{map, refl, sym, ap, ◌∙◌}
+use Rattle.fut_flat.specs.Erased.{texts}
+use Rattle.measure.specs.Held.{known_of, named}
+use Rattle.measure.proofs.Mirror.{known_data, known_record}
+use Rattle.measure.proofs.Fielding.{put_known}
+use Rattle.measure.proofs.Parts.{replaced_data, replaced_by_function, replaced_field, replaced_neither, no_memory_for}
 use Rattle.measure.proofs.operations.replaced.Goals as goal
 
 pub returns-then-is_data : goal.returns-then-is_data
@@ -13,13 +16,7 @@ pub returns-in-Err : goal.returns-in-Err
 returns-in-Err c = no_memory_for _ _ c.in-Err.ensures.err
 
 pub returns-in-Ok : goal.returns-in-Ok
-returns-in-Ok c = replaced_field _ _ _ _ _ _ (known_record _ _ c.in-Record.is) c.in-Ok.ensures.ok c.known_record.ensures
+returns-in-Ok c = replaced_field _ _ _ _ _ _ (known_record _ _ _ c.in-Record.is) (ap (λ z. named (texts c.in-Record.names.now) (map known_of z)) c.in-Ok.ensures.ok ∙ put_known c.args.name.now c.args.known (texts c.in-Record.names.now) c.in-Record.parts.now) c.known_record.ensures
 
-pub returns-in-Tuple : goal.returns-in-Tuple
-returns-in-Tuple c = replaced_other _ _ _ _ (known_tuple _ _ c.in-Tuple.is) refl
-
-pub returns-in-Function : goal.returns-in-Function
-returns-in-Function c = replaced_other _ _ _ _ (known_function _ _ _ _ c.in-Function.is) refl
-
-pub returns-in-Primitive : goal.returns-in-Primitive
-returns-in-Primitive c = replaced_other _ _ _ _ (known_primitive _ _ _ c.in-Primitive.is) refl
+pub returns-in_default : goal.returns-in_default
+returns-in_default c = replaced_neither _ _ _ c.in_default.not-Data c.in_default.not-Record

@@ -1,7 +1,8 @@
 use Rattle.std.proofs.Common.{◌≡◌, map, drop}
+use Rattle.fut_flat.specs.Erased.{texts}
 use Rattle.fut_meaning.specs.Knowns.{known_field_of}
-use Rattle.measure.specs.Held.{field_of, fields_known}
+use Rattle.measure.specs.Held.{known_of, named}
 use Rattle.measure.proofs.records.field_known.Given as goal
 
-abbrev pub invariant-loop-field : goal.invariant-loop-field
-invariant-loop-field l = known_field_of l.name (fields_known (map field_of l.fields)) ≡ known_field_of l.name (fields_known (map field_of (drop l.field-index l.fields)))
+abbrev pub invariant-loop-known : goal.invariant-loop-known
+invariant-loop-known l = (l.at ≡ l.known-index) × (known_field_of l.name (named (texts l.names) (map known_of l.parts)) ≡ known_field_of l.name (named (drop l.known-index (texts l.names)) (map known_of (drop l.known-index l.parts))))

@@ -1,20 +1,224 @@
-use Rattle.std.proofs.Common.{◌∙◌, refl, arith}
+use Rattle.std.proofs.Common.{[], ◌∙◌, sym, refl, arith}
 use Rattle.std.proofs.lemmas.Slice.{between_to_end}
-use Rattle.measure.proofs.Mirror.{known_function}
-use Rattle.measure.proofs.Forms.{form_lambda}
-use Rattle.measure.proofs.Rows.{greater, parts_more, parts_done, rows_ended, rows_done, not_row, lets_last, lets_ok}
-use Rattle.measure.proofs.Leads.{rows_start, rows_more}
-use Rattle.measure.proofs.Running.{run_waits, given_done}
+use Rattle.measure.proofs.Walks.{apply_function, apply_argument, apply_run, apply_ok, if_test, if_yes, if_no, if_ok, loop_first, loop_turns, loop_body, loop_ok, strict_parts, strict_lost, strict_ok}
+use Rattle.measure.proofs.Forms.{too_deep, too_many, form_use, form_unknown, form_lambda, form_strict, form_apply, form_if, form_loop, data_ok, data_function, data_stopped, plain_visit, plain_row, counted_stopped, counted_ok, over_stopped, over_ok, while_stopped, while_ok}
+use Rattle.measure.proofs.Rows.{greater, parts_more, parts_fail, parts_memory, parts_done, let_value, let_ok, let_pattern, rows_ended, rows_done, not_row, lets_more, lets_row, lets_last, lets_ok}
+use Rattle.measure.proofs.Leads.{leads_start, rows_start, rows_more, all_start, given_start, function_start}
+use Rattle.measure.proofs.Running.{run_other, run_of_function, run_of_primitive, run_none, run_pattern, run_last, run_waits, primitive_waits, primitive_stopped, primitive_ran, given_more, given_fail, given_many, given_few, given_done, function_more, function_fail, function_data, function_other}
+use Rattle.measure.proofs.Peeling.{peeled_walk}
+use Rattle.measure.proofs.Mirror.{known_data, known_primitive}
+use Rattle.measure.proofs.Endings.{walk_memory, turned_memory, ran_memory, loop_as}
 use Rattle.measure.proofs.walk.+walk.Goals as goal
 
-pub run_function-returns-else-params-eq1-clause-walk : goal.run_function-returns-else-params-eq1-clause-walk
-run_function-returns-else-params-eq1-clause-walk t c = run_waits _ _ _ _ _ _ _ _ _ _ _ c.if-params-eq0.false c.if-params-eq1.false c.in-Ok.ensures (between_to_end c.args.params.now 1 _ (omega arith)) (known_function _ _ _ _ refl)
+pub run-returns-in-Function : goal.run-returns-in-Function
+run-returns-in-Function t c = record { walk = run_of_function _ _ _ _ _ _ _ c.in-Function.is c.run_function.ensures.walk; few = c.run_function.ensures.few; flat = c.run_function.ensures.flat }
 
-pub run_given-returns-clause-walk : goal.run_given-returns-clause-walk
-run_given-returns-clause-walk t c = given_done _ _ _ _ _ _ _ _ (omega (arith, c.if-at-parameters-2.false)) (omega (arith, c.loop-known-test.false)) c.loop-known.invariant.0
+pub run-returns-in-Primitive : goal.run-returns-in-Primitive
+run-returns-in-Primitive t c = record { walk = run_of_primitive _ _ _ _ _ _ _ _ c.in-Primitive.is c.run_primitive.ensures.walk; few = c.run_primitive.ensures.few; flat = c.run_primitive.ensures.flat }
 
-pub walk_form-returns-in-Lambda-clause-walk : goal.walk_form-returns-in-Lambda-clause-walk
-walk_form-returns-in-Lambda-clause-walk t c = form_lambda _ _ _ _ _ _ _ _ c.in-Lambda.is (known_function _ _ _ _ refl)
+pub run-returns-in_default : goal.run-returns-in_default
+run-returns-in_default t c = record { walk = run_other _ _ _ _ _ c.in_default.not-Function c.in_default.not-Primitive; few = tt; flat = tt }
+
+pub run_function-returns-then-params-eq0 : goal.run_function-returns-then-params-eq0
+run_function-returns-then-params-eq0 t c = record { walk = run_none _ _ _ _ _ _ _ c.if-params-eq0.true; few = tt; flat = tt }
+
+pub run_function-returns-in-Err : goal.run_function-returns-in-Err
+run_function-returns-in-Err t c = record { walk = run_pattern _ _ _ _ _ _ _ _ _ c.if-params-eq0.false c.in-Err.ensures; few = tt; flat = tt }
+
+pub run_function-returns-then-params-eq1 : goal.run_function-returns-then-params-eq1
+run_function-returns-then-params-eq1 t c = record { walk = run_last _ _ _ _ _ _ _ _ _ _ c.if-params-eq1.true c.in-Ok.ensures c.walk.ensures.walk; few = c.walk.ensures.few; flat = c.walk.ensures.flat }
+
+pub run_function-returns-in-Ok-captured : goal.run_function-returns-in-Ok-captured
+run_function-returns-in-Ok-captured t c = record { walk = run_waits _ _ _ _ _ _ _ _ _ _ _ c.if-params-eq0.false c.if-params-eq1.false c.in-Ok.ensures (between_to_end c.args.params.now 1 _ (omega arith)) c.in-Ok-captured.ensures.ok; few = omega (arith, c.requires.spent); flat = omega (arith, c.requires.level) }
+
+pub run_function-returns-in-Err-captured : goal.run_function-returns-in-Err-captured
+run_function-returns-in-Err-captured t c = record { walk = ran_memory _ c.in-Err-captured.ensures.err; few = tt; flat = tt }
+
+pub run_given-returns : goal.run_given-returns
+run_given-returns t c = record { walk = given_done _ _ _ _ _ _ _ _ (omega (arith, c.if-at-parameters-2.false)) (omega (arith, c.loop-known-test.false)) c.loop-known.invariant.0; few = c.loop-known.invariant.2; flat = c.loop-known.invariant.3 }
+
+pub run_given-returns-in-Err : goal.run_given-returns-in-Err
+run_given-returns-in-Err t c = record { walk = given_fail _ _ _ _ _ _ _ _ _ _ _ (omega (arith, c.if-at-parameters.false)) c.loop-known-test.true c.loop-known.invariant.0 c.in-Err.ensures.walk; few = tt; flat = tt }
+
+pub run_given-returns-then-at-parameters : goal.run_given-returns-then-at-parameters
+run_given-returns-then-at-parameters t c = record { walk = given_many _ _ _ _ _ _ _ _ (omega (arith, c.if-at-parameters.true)) c.loop-known-test.true c.loop-known.invariant.0; few = tt; flat = tt }
+
+pub run_given-returns-then-at-parameters-2 : goal.run_given-returns-then-at-parameters-2
+run_given-returns-then-at-parameters-2 t c = record { walk = given_few _ _ _ _ _ _ 0 _ _ c.if-at-parameters-2.true (omega (arith, c.loop-known-test.false)) c.loop-known.invariant.0; few = tt; flat = tt }
+
+pub run_primitive-returns-in-Err : goal.run_primitive-returns-in-Err
+run_primitive-returns-in-Err t c = record { walk = ran_memory _ c.in-Err.ensures.err; few = tt; flat = tt }
+
+pub run_primitive-returns-then-given-parameters : goal.run_primitive-returns-then-given-parameters
+run_primitive-returns-then-given-parameters t c = record { walk = primitive_waits _ _ _ _ _ _ _ _ c.parameters_of-parameters.ensures c.in-Ok.ensures.ok _ (omega (arith, c.if-given-parameters.true)) (known_primitive _ _ _ refl); few = omega (arith, c.requires.spent); flat = omega (arith, c.requires.level) }
+
+pub run_primitive-returns-then-used-ge-MOST_NESTED : goal.run_primitive-returns-then-used-ge-MOST_NESTED
+run_primitive-returns-then-used-ge-MOST_NESTED t c = record { walk = ran_memory _ refl; few = tt; flat = tt }
+
+pub run_primitive-returns-in-Err-run_given : goal.run_primitive-returns-in-Err-run_given
+run_primitive-returns-in-Err-run_given t c = record { walk = primitive_stopped _ _ _ _ _ _ _ _ c.parameters_of-parameters.ensures c.in-Ok.ensures.ok _ (omega (arith, c.if-given-parameters.false)) c.in-Err-run_given.ensures.walk; few = tt; flat = tt }
+
+pub run_primitive-returns : goal.run_primitive-returns
+run_primitive-returns t c = record { walk = primitive_ran _ _ _ _ _ _ _ _ c.parameters_of-parameters.ensures c.in-Ok.ensures.ok _ _ (omega (arith, c.if-given-parameters.false)) c.in-Ok-run_given.ensures.walk (known_data _ refl); few = c.in-Ok-run_given.ensures.few; flat = c.in-Ok-run_given.ensures.flat }
+
+pub run_with_data-returns-in-Err : goal.run_with_data-returns-in-Err
+run_with_data-returns-in-Err t c = record { walk = function_fail _ _ _ _ _ _ _ _ _ c.loop-left-test.true c.loop-left.invariant.0 (known_data _ refl) c.in-Err.ensures.walk; few = tt; flat = tt }
+
+pub run_with_data-returns-then-is_data : goal.run_with_data-returns-then-is_data
+run_with_data-returns-then-is_data t c = record { walk = function_data _ _ _ _ _ _ _ c.loop-left-test.false c.loop-left.invariant.0 (sym c.if-is_data.true ∙ c.is_data.ensures); few = c.loop-left.invariant.1; flat = c.loop-left.invariant.2 }
+
+pub run_with_data-returns-else-is_data : goal.run_with_data-returns-else-is_data
+run_with_data-returns-else-is_data t c = record { walk = function_other _ _ _ _ _ _ _ c.loop-left-test.false c.loop-left.invariant.0 (sym c.if-is_data.false ∙ c.is_data.ensures); few = tt; flat = tt }
+
+pub walk-returns-then-used-ge-MOST_DEPTH : goal.walk-returns-then-used-ge-MOST_DEPTH
+walk-returns-then-used-ge-MOST_DEPTH t c = record { walk = too_deep _ _ _ _ _ (omega (arith, c.if-used-ge-MOST_DEPTH.true)); few = tt; flat = tt }
+
+pub walk-returns-then-used-ge-MOST_NODES : goal.walk-returns-then-used-ge-MOST_NODES
+walk-returns-then-used-ge-MOST_NODES t c = record { walk = too_many _ _ _ _ _ (omega (arith, c.if-used-ge-MOST_NODES.true)); few = tt; flat = tt }
+
+pub walk-returns : goal.walk-returns
+walk-returns t c = record { walk = peeled_walk c.peeled.ensures.peels c.walk_form.ensures.walk; few = c.walk_form.ensures.few; flat = c.walk_form.ensures.flat }
+
+pub walk_apply-returns-in-Err : goal.walk_apply-returns-in-Err
+walk_apply-returns-in-Err t c = record { walk = apply_function _ _ _ _ _ _ _ c.in-Err.ensures.walk; few = tt; flat = tt }
+
+pub walk_apply-returns-in-Err-walk : goal.walk_apply-returns-in-Err-walk
+walk_apply-returns-in-Err-walk t c = record { walk = apply_argument _ _ _ _ _ _ _ _ c.in-Ok.ensures.walk c.in-Err-walk.ensures.walk; few = tt; flat = tt }
+
+pub walk_apply-returns-in-Err-run : goal.walk_apply-returns-in-Err-run
+walk_apply-returns-in-Err-run t c = record { walk = apply_run _ _ _ _ _ _ _ _ _ c.in-Ok.ensures.walk c.in-Ok-walk.ensures.walk c.in-Err-run.ensures.walk; few = tt; flat = tt }
+
+pub walk_apply-returns : goal.walk_apply-returns
+walk_apply-returns t c = rw c.max-2.ensures (rw c.max.ensures (record { walk = apply_ok _ _ _ _ _ _ _ _ _ c.in-Ok.ensures.walk c.in-Ok-walk.ensures.walk c.in-Ok-run.ensures.walk; few = omega (arith, c.in-Ok-run.ensures.few); flat = omega (arith, c.in-Ok.ensures.flat, c.in-Ok-walk.ensures.flat, c.in-Ok-run.ensures.flat) }))
+
+pub walk_data-returns-in-Err : goal.walk_data-returns-in-Err
+walk_data-returns-in-Err t c = record { walk = data_stopped _ _ _ _ _ _ c.in-Err.ensures.walk; few = tt; flat = tt }
+
+pub walk_data-returns-then-is_data : goal.walk_data-returns-then-is_data
+walk_data-returns-then-is_data t c = record { walk = data_ok _ _ _ _ _ _ c.in-Ok.ensures.walk (sym c.if-is_data.true ∙ c.is_data.ensures); few = c.in-Ok.ensures.few; flat = c.in-Ok.ensures.flat }
+
+pub walk_data-returns-else-is_data : goal.walk_data-returns-else-is_data
+walk_data-returns-else-is_data t c = record { walk = data_function _ _ _ _ _ _ c.in-Ok.ensures.walk (sym c.if-is_data.false ∙ c.is_data.ensures); few = tt; flat = tt }
+
+pub walk_form-returns-in-Apply : goal.walk_form-returns-in-Apply
+walk_form-returns-in-Apply t c = record { walk = form_apply _ _ _ _ _ _ _ _ c.in-Apply.is c.walk_apply.ensures.walk; few = c.walk_apply.ensures.few; flat = c.walk_apply.ensures.flat }
+
+pub walk_form-returns-in-If : goal.walk_form-returns-in-If
+walk_form-returns-in-If t c = record { walk = form_if _ _ _ _ _ _ _ _ _ c.in-If.is c.walk_if.ensures.walk; few = c.walk_if.ensures.few; flat = c.walk_if.ensures.flat }
+
+pub walk_form-returns-in-Loop : goal.walk_form-returns-in-Loop
+walk_form-returns-in-Loop t c = record { walk = form_loop _ _ _ _ _ _ _ c.in-Loop.is c.walk_loop.ensures.walk; few = c.walk_loop.ensures.few; flat = c.walk_loop.ensures.flat }
+
+pub walk_form-returns-in-Strict : goal.walk_form-returns-in-Strict
+walk_form-returns-in-Strict t c = record { walk = form_strict _ _ _ _ _ _ _ _ _ c.in-Strict.is c.walk_strict.ensures.walk; few = c.walk_strict.ensures.few; flat = c.walk_strict.ensures.flat }
+
+pub walk_form-returns-in-Lets : goal.walk_form-returns-in-Lets
+walk_form-returns-in-Lets t c = record { walk = c.walk_lets.ensures.walk; few = c.walk_lets.ensures.few; flat = c.walk_lets.ensures.flat }
+
+pub walk_form-returns-in-Some : goal.walk_form-returns-in-Some
+walk_form-returns-in-Some t c = record { walk = form_use _ _ _ _ _ _ _ _ c.in-Use.is c.in-Some.ensures; few = omega (arith, c.requires.spent); flat = omega (arith, c.requires.level) }
+
+pub walk_form-returns-in-None : goal.walk_form-returns-in-None
+walk_form-returns-in-None t c = record { walk = form_unknown _ _ _ _ _ _ _ c.in-Use.is c.in-None.ensures; few = tt; flat = tt }
+
+pub walk_form-returns-in-Ok : goal.walk_form-returns-in-Ok
+walk_form-returns-in-Ok t c = record { walk = form_lambda _ _ _ _ _ _ _ _ c.in-Lambda.is c.in-Ok.ensures.ok; few = omega (arith, c.requires.spent); flat = omega (arith, c.requires.level) }
+
+pub walk_form-returns-in-Err : goal.walk_form-returns-in-Err
+walk_form-returns-in-Err t c = record { walk = walk_memory _ c.in-Err.ensures.err; few = tt; flat = tt }
+
+pub walk_if-returns-in-Err : goal.walk_if-returns-in-Err
+walk_if-returns-in-Err t c = record { walk = if_test _ _ _ _ _ _ _ _ c.in-Err.ensures.walk; few = tt; flat = tt }
+
+pub walk_if-returns-in-Err-walk_data : goal.walk_if-returns-in-Err-walk_data
+walk_if-returns-in-Err-walk_data t c = record { walk = if_yes _ _ _ _ _ _ _ _ _ c.in-Ok.ensures.walk c.in-Err-walk_data.ensures.walk; few = tt; flat = tt }
+
+pub walk_if-returns-in-Err-walk_data-2 : goal.walk_if-returns-in-Err-walk_data-2
+walk_if-returns-in-Err-walk_data-2 t c = record { walk = if_no _ _ _ _ _ _ _ _ _ _ c.in-Ok.ensures.walk c.in-Ok-walk_data.ensures.walk c.in-Err-walk_data-2.ensures.walk; few = tt; flat = tt }
+
+pub walk_if-returns : goal.walk_if-returns
+walk_if-returns t c = rw c.max-2.ensures (rw c.max.ensures (record { walk = if_ok _ _ _ _ _ _ _ _ _ _ _ (known_data _ refl) c.in-Ok.ensures.walk c.in-Ok-walk_data.ensures.walk c.in-Ok-walk_data-2.ensures.walk; few = omega (arith, c.in-Ok-walk_data-2.ensures.few); flat = omega (arith, c.in-Ok.ensures.flat, c.in-Ok-walk_data.ensures.flat, c.in-Ok-walk_data-2.ensures.flat) }))
+
+pub walk_let-returns-in-Err : goal.walk_let-returns-in-Err
+walk_let-returns-in-Err t c = record { walk = let_value _ _ _ _ _ _ _ _ c.in-Err.ensures.walk; few = tt; flat = tt }
+
+pub walk_let-returns-in-Err-bind : goal.walk_let-returns-in-Err-bind
+walk_let-returns-in-Err-bind t c = record { walk = let_pattern _ _ _ _ _ _ _ _ _ c.in-Ok.ensures.walk c.in-Err-bind.ensures; few = tt; flat = tt }
+
+pub walk_let-returns : goal.walk_let-returns
+walk_let-returns t c = rw c.max.ensures (record { walk = let_ok _ _ _ _ _ _ _ _ _ c.in-Ok.ensures.walk c.in-Ok-bind.ensures; few = omega (arith, c.in-Ok.ensures.few); flat = omega (arith, c.in-Ok.ensures.flat, c.requires.depth) })
+
+pub walk_lets-returns-in-Err : goal.walk_lets-returns-in-Err
+walk_lets-returns-in-Err t c = record { walk = lets_row _ _ _ _ _ c.loop-rest.row _ _ _ _ c.requires.row c.loop-rest.invariant.0 c.in-Lets.is c.in-Err.ensures.walk; few = tt; flat = tt }
+
+pub walk_loop-returns-in-Err : goal.walk_loop-returns-in-Err
+walk_loop-returns-in-Err t c = record { walk = loop_as _ _ (loop_first _ _ _ _ _ _ _ _ _ _ _ c.in-Err.ensures.walk); few = tt; flat = tt }
+
+pub walk_loop-returns-in-Err-bind_data : goal.walk_loop-returns-in-Err-bind_data
+walk_loop-returns-in-Err-bind_data t c = record { walk = walk_memory _ c.in-Err-bind_data.ensures.err; few = tt; flat = tt }
+
+pub walk_loop-returns-in-Err-walk_turns : goal.walk_loop-returns-in-Err-walk_turns
+walk_loop-returns-in-Err-walk_turns t c = record { walk = loop_as _ _ (loop_turns _ _ _ _ _ _ _ _ _ _ _ _ c.in-Ok-bind_data.ensures.ok _ c.in-Ok.ensures.walk c.in-Err-walk_turns.ensures.walk); few = tt; flat = tt }
+
+pub walk_loop-returns-in-Err-walk_data : goal.walk_loop-returns-in-Err-walk_data
+walk_loop-returns-in-Err-walk_data t c = record { walk = loop_as _ _ (loop_body _ _ _ _ _ _ _ _ _ _ _ _ c.in-Ok-bind_data.ensures.ok _ _ c.in-Ok.ensures.walk c.in-Ok-walk_turns.ensures.walk c.in-Err-walk_data.ensures.walk); few = tt; flat = tt }
+
+pub walk_loop-returns : goal.walk_loop-returns
+walk_loop-returns t c = rw c.max-2.ensures (rw c.max.ensures (record { walk = loop_as _ _ (loop_ok _ _ _ _ _ _ _ _ _ _ _ _ c.in-Ok-bind_data.ensures.ok _ _ _ (known_data _ refl) c.in-Ok.ensures.walk c.in-Ok-walk_turns.ensures.walk c.in-Ok-walk_data.ensures.walk); few = omega (arith, c.in-Ok-walk_data.ensures.few); flat = omega (arith, c.in-Ok.ensures.flat, c.in-Ok-walk_turns.ensures.flat, c.in-Ok-walk_data.ensures.flat) }))
+
+pub walk_parts-returns-in-Err : goal.walk_parts-returns-in-Err
+walk_parts-returns-in-Err t c = record { walk = parts_fail _ _ _ _ _ _ _ _ _ _ _ c.loop-exp-test.true c.loop-exp.invariant.0 c.in-Err.ensures.walk; few = tt; flat = tt }
+
+pub walk_parts-returns-in-Err-push : goal.walk_parts-returns-in-Err-push
+walk_parts-returns-in-Err-push t c = record { walk = parts_memory _ _ _ 0 0 [] _ _; few = tt; flat = tt }
+
+pub walk_parts-returns : goal.walk_parts-returns
+walk_parts-returns t c = record { walk = parts_done _ _ _ _ _ _ _ _ _ _ (omega (arith, c.loop-exp-test.false)) c.loop-exp.invariant.0 c.into_bump_slice.ensures; few = c.loop-exp.invariant.1; flat = c.loop-exp.invariant.2 }
+
+pub walk_row-returns : goal.walk_row-returns
+walk_row-returns t c = record { walk = rows_done _ _ _ _ _ _ _ _ _ (omega (arith, c.loop-one-test.false)) c.loop-one.invariant.0; few = c.loop-one.invariant.1; flat = c.loop-one.invariant.2 }
+
+pub walk_row-returns-in-Err : goal.walk_row-returns-in-Err
+walk_row-returns-in-Err t c = record { walk = rows_ended _ _ _ _ _ _ _ _ _ _ _ c.loop-one-test.true c.loop-one.invariant.0 c.in-Err.ensures.walk; few = tt; flat = tt }
+
+pub walk_strict-returns-in-Err : goal.walk_strict-returns-in-Err
+walk_strict-returns-in-Err t c = record { walk = strict_parts _ _ _ _ _ _ _ c.requires.visit _ c.in-Err.ensures.walk; few = tt; flat = tt }
+
+pub walk_strict-returns-in-Err-result_of : goal.walk_strict-returns-in-Err-result_of
+walk_strict-returns-in-Err-result_of t c = record { walk = strict_lost _ _ _ _ _ _ _ c.requires.visit _ _ c.in-Ok.ensures.walk c.in-Err-result_of.ensures; few = tt; flat = tt }
+
+pub walk_strict-returns : goal.walk_strict-returns
+walk_strict-returns t c = record { walk = strict_ok _ _ _ _ _ _ _ c.requires.visit _ _ c.in-Ok.ensures.walk c.in-Ok-result_of.ensures; few = omega (arith, c.in-Ok.ensures.few); flat = omega (arith, c.in-Ok.ensures.flat) }
+
+pub walk_turns-returns-in-Err : goal.walk_turns-returns-in-Err
+walk_turns-returns-in-Err t c = record { walk = counted_stopped _ _ _ _ _ _ _ _ c.in-For.is _ c.in-Err.ensures.walk; few = tt; flat = tt }
+
+pub walk_turns-returns-in-Err-bound : goal.walk_turns-returns-in-Err-bound
+walk_turns-returns-in-Err-bound t c = record { walk = turned_memory _ c.in-Err-bound.ensures.err; few = tt; flat = tt }
+
+pub walk_turns-returns-in-Ok-bound : goal.walk_turns-returns-in-Ok-bound
+walk_turns-returns-in-Ok-bound t c = record { walk = counted_ok _ _ _ _ _ _ _ _ c.in-For.is _ _ _ c.in-Ok.ensures.walk c.in-Ok-bound.ensures.ok (known_data _ refl); few = c.in-Ok.ensures.few; flat = c.in-Ok.ensures.flat }
+
+pub walk_turns-returns-in-Err-walk_data : goal.walk_turns-returns-in-Err-walk_data
+walk_turns-returns-in-Err-walk_data t c = record { walk = over_stopped _ _ _ _ _ _ _ _ c.in-ForIn.is _ c.in-Err-walk_data.ensures.walk; few = tt; flat = tt }
+
+pub walk_turns-returns-in-Err-bind_data : goal.walk_turns-returns-in-Err-bind_data
+walk_turns-returns-in-Err-bind_data t c = record { walk = turned_memory _ c.in-Err-bind_data.ensures.err; few = tt; flat = tt }
+
+pub walk_turns-returns-in-Ok-bind_data : goal.walk_turns-returns-in-Ok-bind_data
+walk_turns-returns-in-Ok-bind_data t c = record { walk = over_ok _ _ _ _ _ _ _ _ c.in-ForIn.is _ _ c.in-Ok-walk_data.ensures.walk c.in-Ok-bind_data.ensures.ok; few = c.in-Ok-walk_data.ensures.few; flat = c.in-Ok-walk_data.ensures.flat }
+
+pub walk_turns-returns-in-Err-walk_data-2 : goal.walk_turns-returns-in-Err-walk_data-2
+walk_turns-returns-in-Err-walk_data-2 t c = record { walk = while_stopped _ _ _ _ _ _ _ c.in-While.is _ c.in-Err-walk_data-2.ensures.walk; few = tt; flat = tt }
+
+pub walk_turns-returns-in-Ok-walk_data-2 : goal.walk_turns-returns-in-Ok-walk_data-2
+walk_turns-returns-in-Ok-walk_data-2 t c = record { walk = while_ok _ _ _ _ _ _ _ c.in-While.is _ _ c.in-Ok-walk_data-2.ensures.walk refl; few = c.in-Ok-walk_data-2.ensures.few; flat = c.in-Ok-walk_data-2.ensures.flat }
+
+pub walk_form-walk_strict-requires : goal.walk_form-walk_strict-requires
+walk_form-walk_strict-requires t c = (omega arith, (c.requires.kept, (c.requires.level, (c.requires.spent, plain_visit _ _ _ _ c.requires.plain c.in-Strict.is))))
+
+pub walk_form-walk_lets-requires : goal.walk_form-walk_lets-requires
+walk_form-walk_lets-requires t c = (omega arith, (c.requires.kept, (c.requires.level, (c.requires.spent, plain_row _ _ _ c.requires.plain c.in-Lets.is))))
 
 pub walk_lets-returns-in-Err-walk : goal.walk_lets-returns-in-Err-walk
 walk_lets-returns-in-Err-walk t c = record { walk = lets_last _ _ _ _ _ c.loop-rest.row _ _ c.requires.row (not_row _ c.in_default.not-Lets) c.loop-rest.invariant.0 c.in-Err-walk.ensures.walk; few = tt; flat = tt }
@@ -32,14 +236,26 @@ walk_parts-loop-exp-preserved t c = rw (c.max-depth.ensures ∙ greater c.loop-e
 pub walk_row-loop-one-init : goal.walk_row-loop-one-init
 walk_row-loop-one-init t c = (rows_start _ _ _ _ _ _ refl refl refl, c.requires.spent, c.requires.depth)
 
-pub walk_row-returns-in-Err-clause-walk : goal.walk_row-returns-in-Err-clause-walk
-walk_row-returns-in-Err-clause-walk t c = rows_ended _ _ _ _ _ _ _ _ _ _ _ c.loop-one-test.true c.loop-one.invariant.0 c.in-Err.ensures.walk
-
 pub walk_row-loop-one-preserved : goal.walk_row-loop-one-preserved
 walk_row-loop-one-preserved t c = (rows_more _ _ _ _ _ _ _ _ _ _ _ c.loop-one-test.true c.loop-one.invariant.0 c.in-Ok.ensures.walk, c.in-Ok.ensures.few, c.in-Ok.ensures.flat)
 
-pub walk_row-returns-clause-walk : goal.walk_row-returns-clause-walk
-walk_row-returns-clause-walk t c = rows_done _ _ _ _ _ _ _ _ _ (omega (arith, c.loop-one-test.false)) c.loop-one.invariant.0
+pub run_given-loop-known-init : goal.run_given-loop-known-init
+run_given-loop-known-init t c = (given_start, refl, omega (arith, c.requires.spent), omega (arith, c.requires.level))
 
-pub walk_parts-returns-clause-walk : goal.walk_parts-returns-clause-walk
-walk_parts-returns-clause-walk t c = parts_done _ _ _ _ _ _ _ _ _ _ (omega (arith, c.loop-exp-test.false)) c.loop-exp.invariant.0 c.into_bump_slice.ensures
+pub run_given-loop-known-preserved : goal.run_given-loop-known-preserved
+run_given-loop-known-preserved t c = rw c.max.ensures (given_more _ _ _ _ _ _ _ _ _ _ _ (omega (arith, c.if-at-parameters.false)) c.loop-known-test.true c.loop-known.invariant.0 c.in-Ok.ensures.walk, omega (arith, c.loop-known.invariant.1), omega (arith, c.in-Ok.ensures.few), omega (arith, c.in-Ok.ensures.flat, c.loop-known.invariant.3))
+
+pub run_with_data-loop-left-init : goal.run_with_data-loop-left-init
+run_with_data-loop-left-init t c = (function_start, omega (arith, c.requires.spent), omega (arith, c.requires.level))
+
+pub run_with_data-loop-left-preserved : goal.run_with_data-loop-left-preserved
+run_with_data-loop-left-preserved t c = rw c.max.ensures (function_more _ _ _ _ _ _ _ _ _ c.loop-left-test.true c.loop-left.invariant.0 (known_data _ refl) c.in-Ok.ensures.walk, omega (arith, c.in-Ok.ensures.few), omega (arith, c.in-Ok.ensures.flat, c.loop-left.invariant.2))
+
+pub walk_lets-loop-rest-init : goal.walk_lets-loop-rest-init
+walk_lets-loop-rest-init t c = (leads_start, omega (arith, c.requires.spent), omega (arith, c.requires.level))
+
+pub walk_lets-loop-rest-preserved : goal.walk_lets-loop-rest-preserved
+walk_lets-loop-rest-preserved t c = (lets_more _ _ 0 0 _ c.loop-rest.row _ _ _ _ _ _ c.loop-rest.invariant.0 c.in-Lets.is c.in-Ok.ensures.walk, c.in-Ok.ensures.few, c.in-Ok.ensures.flat)
+
+pub walk_parts-loop-exp-init : goal.walk_parts-loop-exp-init
+walk_parts-loop-exp-init t c = rw c.new-knowns.ensures.items (all_start, omega (arith, c.requires.spent), omega (arith, c.requires.level))

@@ -1,6 +1,6 @@
 use Rattle.std.proofs.Common.{sym, ◌∙◌, arith}
 use Rattle.measure.proofs.Parts.{all_here, all_on, all_done}
-use Rattle.measure.proofs.operations.all_data.Goals as goal
+use Rattle.measure.proofs.known.all_data.Goals as goal
 
 pub returns-in-loop-known : goal.returns-in-loop-known
 returns-in-loop-known c = all_here _ c.loop-known.known-index _ _ c.loop-known-test.true c.loop-known.invariant (sym c.is_data.ensures ∙ c.if-is_data.false)
