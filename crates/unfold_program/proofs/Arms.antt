@@ -1,5 +1,5 @@
 -- What a term unfolds to, from what its parts do, or that it is stuck where one of them is.
-use Rattle.std.proofs.Common.{◌≡◌, ℕ, ◌+◌, ◌++◌, ◌≤◌, List, [], ◌∷◌, map, length, Ok, Err, refl, sym, ap, ◌∙◌, subst, arith}
+use Rattle.std.proofs.Common.{◌≡◌, ℕ, ◌+◌, ◌++◌, ◌≤◌, List, [], map, length, Ok, Err, refl, sym, ap, ◌∙◌, subst, arith}
 use Rattle.std.proofs.lemmas.List.{length-append}
 use Rattle.std.specs.Prelude.{IfErr, IfOk, Result}
 use Rattle.std.specs.Borrow.{Bor}
@@ -15,7 +15,6 @@ use Rattle.fut_flat.specs.Erased.{FlatTerm, operation_of, pattern_of, patterns, 
 use Rattle.fut_flat.specs.Numbers.{all_pattern_numbers, numbers, own_numbers}
 use Rattle.fut_flat.specs.Terms.{Apply, If, Lambda, Strict}
 use Rattle.fut_flat.proofs.ErasedForms.{loop_of, term_use, term_strict, term_lambda, term_apply, term_if, term_loop}
-use Rattle.fut_blocks.specs.declared.block.Atom.{Atom}
 use Rattle.fut_blocks.specs.declared.block.Act.TheVariants as tree
 use Rattle.fut_blocks.specs.Plain.{action_of, body_of, lets}
 use Rattle.fut_blocks.proofs.Layers.{action_of-If}
@@ -23,7 +22,7 @@ use Rattle.fut_blocks.specs.Plain as act
 use Rattle.unfold.specs.Held.{known_of}
 use Rattle.unfold.specs.Knowns.{Function_known, Known, Scope}
 use Rattle.unfold.specs.Stuck.{No_operation, Not_laid, Stuck, Stuck_all, no_condition, no_operation, other_branch, stuck_application, stuck_argument, stuck_condition, stuck_else, stuck_function, stuck_parts, stuck_then, then_function}
-use Rattle.unfold.specs.Unfolding.{Bindings, step, Unfolds, Unfold_all, Operates, u_strict, u_lambda, u_apply, u_if}
+use Rattle.unfold.specs.Unfolding.{step, Unfolds, Unfold_all, Operates, u_strict, u_lambda, u_apply, u_if}
 use Rattle.unfold.specs.declared.known.Known.{Known as Held_known}
 use Rattle.unfold_parts.specs.Answers.{answered, used, blocked}
 use Rattle.unfold_parts.specs.Layouts.{shape_of}

@@ -21,7 +21,7 @@ use Rattle.unfold.specs.Held.{known_of, scope_of}
 use Rattle.unfold.specs.Knowns.{Known, Scalar_known, Scope, name_and}
 use Rattle.unfold.specs.Shapes.{Laid, Scalar_shape, laid_scalar}
 use Rattle.unfold.specs.Stuck.{Stuck, Turn_names, carried, first_function, no_count, no_test, no_turn, of_array, other_turn, stuck_body, stuck_count, stuck_first, stuck_test, stuck_turns, turn_counted, turn_tested}
-use Rattle.unfold.specs.Unfolding.{Bindings, Unfolds, named, step, u_counted, u_while}
+use Rattle.unfold.specs.Unfolding.{Unfolds, named, step, u_counted, u_while}
 use Rattle.unfold.specs.declared.known.Known.{Known as Held_known}
 use Rattle.unfold.specs.declared.known.Scope.{Scope as Held_scope}
 use Rattle.unfold_parts.specs.Answers.{Bound_to, bound_to, not_bound, Named_as, named_as, not_named}
@@ -41,7 +41,7 @@ use Rattle.unfold_program.specs.declared.walked.Turn.{Turn}
 use Rattle.unfold_program.specs.declared.walked.Walked.{Walked}
 use Rattle.unfold_program.specs.declared.walked.WalkedScalar.{WalkedScalar}
 use Rattle.unfold_program.specs.Answers.{Unfolded, unfolded, refused, Not_scalar, stuck_term, other_value, Scalar_unfolded, scalar_unfolded, no_scalar_unfolded, No_entry, no_components, other_form, Entered_to, entered_to, not_entered, Turned_to, turned_to, not_turned, Stepped_to, stepped_to, not_stepped, Looped, Loop_stuck, Counted_to, counted_to, not_counted, Tested_to, tested_to, not_tested, No_block, stuck_inside, other_shape, Blocked_to, blocked_to, not_blocked, defined, told}
-use Rattle.unfold_program.proofs.Growing.{grown, moved, stuck_at, known_as, ending, beginning}
+use Rattle.unfold_program.proofs.Growing.{grown, moved, stuck_at, known_as, beginning}
 
 -- ---- what a loop begins with
 

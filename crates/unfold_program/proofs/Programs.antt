@@ -1,13 +1,12 @@
 -- Programs: their definitions one after the other, and then the entry; or that there is no way on in one of them.
-use Rattle.std.proofs.Common.{◌≡◌, ℕ, zero, suc, ◌+◌, ◌<◌, ◌≤◌, ◌++◌, List, [], ◌∷◌, map, length, get_or, drop, replicate, Bool, true, false, None, Some, Ok, Err, refl, sym, ap, ◌∙◌, subst, arith, append_assoc, append-nil}
+use Rattle.std.proofs.Common.{◌≡◌, ℕ, zero, suc, ◌+◌, ◌<◌, ◌≤◌, ◌++◌, List, [], ◌∷◌, map, length, get_or, drop, replicate, ⊎_elim, Bool, true, false, None, Some, Ok, Err, refl, sym, ap, ◌∙◌, subst, arith, append_assoc, append-nil}
 use Rattle.std.specs.Prelude.{Result, Option}
 use Rattle.std.specs.Borrow.{Bor}
+use Rattle.std.specs.List.{AllClonesOf}
 use Rattle.fut_scalar.specs.declared.place.BindId.{BindId}
-use Rattle.fut_scalar.specs.declared.place.Place.{Place}
 use Rattle.fut_scalar.specs.declared.scalar.IntType.{IntType}
 use Rattle.fut_scalar.specs.declared.scalar.ScalarType.{ScalarType}
 use Rattle.fut_flat.specs.declared.program.Definition.{Definition}
-use Rattle.fut_flat.specs.declared.prim.Primitive.{Primitive}
 use Rattle.fut_flat.specs.Erased.{FlatTerm, term_of}
 use Rattle.fut_flat.specs.Numbers.{numbers}
 use Rattle.fut_meaning.specs.Flats.{FlatTop, flat_tops, is_flat_use}
@@ -57,8 +56,15 @@ all_scalars : (n : ℕ) (k : Held_known) (u : Atom) → known_of k ≡ Scalar_kn
 all_scalars zero k u e = laid_none
 all_scalars (suc n) k u e = laid_more (subst (λ z. Laid Scalar_shape z (u ∷ replicate n u) (replicate n u)) (sym e) laid_scalar) (all_scalars n k u e)
 
-pub scalars_are : (ss : List Held_known) (n : ℕ) (k : Held_known) (u : Atom) → known_of k ≡ Scalar_known u → ss ≡ replicate n k → Are_scalars n (map known_of ss)
-scalars_are ss n k u e q = record { atoms = replicate n u; laid = subst (λ z. All_laid (scalars n) (knowns (map known_of z)) (replicate n u) []) (sym q) (all_scalars n k u e) }
+all_same : (k : Held_known) (ss : List Held_known) → AllClonesOf (λ x y. y ≡ x) k ss → ss ≡ replicate (length ss) k
+all_same k [] every = refl
+all_same k (s ∷ ss) every =
+    let here : s ≡ k = ⊎_elim (λ e. e) (λ e. e) every.0 in
+    let rest = all_same k ss every.1 in
+    λ t. here t ∷ rest t
+
+pub scalars_are : (ss : List Held_known) (n : ℕ) (k : Held_known) (u : Atom) → known_of k ≡ Scalar_known u → AllClonesOf (λ x y. y ≡ x) k ss → length ss ≡ n → Are_scalars n (map known_of ss)
+scalars_are ss n k u e every q = record { atoms = replicate n u; laid = subst (λ z. All_laid (scalars n) (knowns (map known_of z)) (replicate n u) []) (sym (all_same k ss every ∙ ap (λ z. replicate z k) q)) (all_scalars n k u e) }
 
 parts_laid : {hs : Shapes} {ss : Knowns} {us : List Atom} → Laid (Tuple_shape hs) (Tuple_known ss) us [] → All_laid hs ss us []
 parts_laid (laid_tuple h) = h

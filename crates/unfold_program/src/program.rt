@@ -14,7 +14,6 @@ ghost use Rattle.unfold_program.specs.Whole.{All_applied, Are_scalars, Defined_t
 use crate::walk::{apply, walk};
 use crate::walked::Context;
 use bumpalo::Bump;
-use bumpalo::collections::into_bump_slice;
 use fut_blocks::{Atom, Program};
 use fut_flat::{Definition, Flat};
 use fut_numbers::{after, after_exp};
@@ -118,8 +117,8 @@ fn scalars<'a>(bump: &'a Bump, count: usize) -> Result<&'a [Known<'a>], Refusal>
     let truth = Known {
         form: KnownForm::Scalar(Atom::Constant(Scalar::Bool(true))),
     };
-    match vec![in bump; truth; count] {
-        Ok(row) => Ok(into_bump_slice(row)),
+    match bump.try_alloc_slice_fill_clone(count, truth) {
+        Ok(row) => Ok(row),
         Err(_) => Err(Refusal::Memory),
     }
 }

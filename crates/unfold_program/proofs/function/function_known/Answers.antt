@@ -1,4 +1,4 @@
-use Rattle.std.proofs.Common.{◌≡◌, map, ap, ◌∙◌, refl, slice_index_or}
+use Rattle.std.proofs.Common.{map, ap, ◌∙◌, refl, slice_index_or}
 use Rattle.fut_flat.specs.Erased.{pattern_of, patterns, term_of}
 use Rattle.unfold.specs.Held.{scope_of}
 use Rattle.unfold.specs.Knowns.{Function_known}

@@ -1,6 +1,6 @@
-use Rattle.std.proofs.Common.{◌∙◌, refl, sym}
+use Rattle.std.proofs.Common.{◌∙◌, sym}
 use Rattle.unfold_program.specs.Answers.{not_peeled}
-use Rattle.unfold_program.proofs.Peeling.{peel_bare, peel_declared, peel_lets}
+use Rattle.unfold_program.proofs.Peeling.{peel_declared, peel_lets}
 use Rattle.unfold_program.proofs.peel.+stripped.Goals as goal
 
 pub returns-in-Err-clause-peeled : goal.returns-in-Err-clause-peeled
