@@ -1,5 +1,5 @@
 -- Each form of expressions.
-use Rattle.std.proofs.Common.{◌≡◌, ℕ, ◌+◌, ◌<◌, ◌++◌, List, [], ◌∷◌, map, length, drop, get_or, Bool, cond, ◌&&◌, true, false, refl, Option, None, Some, sym, ◌∙◌, ap, subst, Result, Ok, Err}
+use Rattle.std.proofs.Common.{◌≡◌, ℕ, ◌+◌, ◌<◌, List, map, length, drop, get_or, Bool, cond, ◌&&◌, true, false, refl, None, Some, sym, ◌∙◌, subst, Result, Ok, Err}
 use Rattle.std.specs.Borrow.{Bor}
 use Rattle.fut_scalar.specs.declared.place.Place.{Place}
 use Rattle.fut_ast.specs.Sorts.{SourcePat, SourceExp, SourceType}
@@ -7,12 +7,11 @@ use Rattle.fut_tree.specs.declared.held.Held.{Held}
 use Rattle.fut_tree.specs.declared.exp.Exp.TheInside.{Inside}
 use Rattle.fut_tree.specs.declared.exp.Form.{Form}
 use Rattle.fut_tree.specs.declared.exp.Form.TheVariants as held_form
-use Rattle.fut_ast.specs.declared.node.End.{End}
 use Rattle.fut_tree.specs.Exps.{exp_of}
 use Rattle.fut_flat.specs.declared.exp.Exp.{Exp as Flat}
 use Rattle.fut_flat.specs.declared.pat.Pat.{Pat}
 use Rattle.fut_flat.specs.declared.ty.TypeExp.{TypeExp as FlatTy}
-use Rattle.fut_flat.specs.Terms.{Apply, Declared, If, Lambda, Let, Loop, Range, Strict, Use, term_and, no_term}
+use Rattle.fut_flat.specs.Terms.{Apply, Declared, If, Lambda, Let, Loop, Strict, Use, term_and, no_term}
 use Rattle.fut_ast.specs.Sorts.{Text}
 use Rattle.fut_flat.specs.Erased.{FlatTerm, patterns, pattern_of, term_of, type_of}
 use Rattle.fut_flat.specs.Sources as source
@@ -21,7 +20,7 @@ use Rattle.module_scopes.specs.declared.refusal.Stop.{Stop}
 use Rattle.module_scopes.specs.declared.table.Names.{Names}
 use Rattle.module_scopes.specs.Resolve.{Numbered, after, resolve, resolve_parameters, resolve_type, stands_behind}
 use Rattle.module_scopes.specs.Scopes.{Scope, value_of}
-use Rattle.module_scopes.specs.Answers.{Walked, Went, went, refused, no_memory, Entered}
+use Rattle.module_scopes.specs.Answers.{Went, no_memory, Entered}
 use Rattle.module_scopes.specs.Table.{scope_of, made_of, outside}
 use Rattle.module_scopes.specs.Walks.{Doing, each}
 use Rattle.module_scopes.proofs.Walking.{doing_start, doing_next, doing_stops}
@@ -31,7 +30,7 @@ use Rattle.module_types.specs.Bindings.{parameters_of}
 use Rattle.module_exps.specs.Lists.{Put, put, no_item, no_room}
 use Rattle.module_exps.specs.Order.{is_named, is_turned}
 use Rattle.module_exps.specs.Parts.{exp_part, source_of}
-use Rattle.module_exps.proofs.HeldExps.{exp_held, held_layer, place_held}
+use Rattle.module_exps.proofs.HeldExps.{exp_held, held_layer}
 use Rattle.module_exps.proofs.RowLaws.{rows_start}
 use Rattle.module_exps.proofs.StrictLaws.{declared_went}
 use Rattle.module_exps.proofs.Above.{parameters_rise, scoped}

@@ -1,7 +1,6 @@
 -- Operations on parts, by the forms that are one.
 use Rattle.std.proofs.Common.{◌≡◌, ℕ, ◌<◌, ◌++◌, List, [], ◌∷◌, map, Bool, Option, None, Some, is_some, refl, sym, ◌∙◌, ap, subst, Result, Ok, Err}
 use Rattle.std.specs.Borrow.{Bor}
-use Rattle.fut_scalar.specs.declared.place.BindId.{BindId}
 use Rattle.fut_scalar.specs.declared.place.Place.{Place}
 use Rattle.fut_scalar.specs.declared.scalar.IntType.{IntType}
 use Rattle.fut_ast.specs.Sorts.{Text, SourceExp}
@@ -19,7 +18,6 @@ use Rattle.fut_tree.specs.Exps.{exp_of}
 use Rattle.fut_tree.specs.declared.exp.Exp.TheDeep.{size-Exp}
 use Rattle.fut_flat.specs.declared.act.Act.{Act}
 use Rattle.fut_flat.specs.declared.exp.Exp.{Exp as Flat}
-use Rattle.fut_flat.specs.declared.prim.Ref.{Ref}
 use Rattle.fut_flat.specs.Terms.{Operation, Integer, Truth, Tuple_of, Record_of, Array_of, Index, Project, Update, Replace, Assert, Range, Strict, Terms}
 use Rattle.fut_flat.specs.Erased.{operation_of, term_of, terms}
 use Rattle.fut_flat.specs.Sources as source

@@ -25,7 +25,7 @@ use Rattle.module_scopes.specs.declared.refusal.Stop.{Stop}
 use Rattle.module_scopes.specs.declared.table.Names.{Names}
 use Rattle.module_scopes.specs.Scopes.{Scope, enter}
 use Rattle.module_scopes.specs.Resolve.{Bound, Numbered, after, and_size, next, with_text, number_sizes, number_heads, resolve, resolve_pattern}
-use Rattle.module_scopes.specs.Answers.{Walked, Went, went, refused, no_memory, Entered, entered, not_entered, no_memory_entered}
+use Rattle.module_scopes.specs.Answers.{Went, went, refused, no_memory, Entered, entered, not_entered, no_memory_entered}
 use Rattle.module_scopes.specs.Table.{scope_of, made_of, outside}
 use Rattle.module_scopes.proofs.Walking.{from_here, after_assoc}
 use Rattle.module_nodes.specs.Built.{Built2, Built3, built3, first_of_three, second_of_three, third_of_three, no_memory3}

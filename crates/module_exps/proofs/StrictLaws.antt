@@ -26,8 +26,8 @@ use Rattle.module_scopes.specs.Resolve.{after, resolve, resolve_all, resolve_typ
 use Rattle.module_scopes.specs.Answers.{Went}
 use Rattle.module_scopes.specs.Walks.{each}
 use Rattle.module_scopes.proofs.Walking.{after_assoc}
-use Rattle.module_nodes.specs.Built.{Built1, built1, stops1, no_memory1, Built2, built2, first_of_two, second_of_two, no_memory2, Built3, built3, first_of_three, second_of_three, third_of_three, no_memory3}
-use Rattle.module_nodes.proofs.Steps.{Does, at_once, by_same, of_one, of_two, of_three}
+use Rattle.module_nodes.specs.Built.{Built1, Built2, built2, first_of_two, second_of_two, no_memory2}
+use Rattle.module_nodes.proofs.Steps.{Does, by_same, of_one, of_two}
 use Rattle.module_types.proofs.TypeLists.{one_more}
 use Rattle.module_exps.specs.Plain.{Plain, plain_integer, plain_truth, plain_tuple, plain_record, plain_array, plain_binary, plain_negate, plain_complement, plain_index, plain_project, plain_update, plain_replace, plain_assert, plain_range}
 use Rattle.module_exps.specs.Lists.{operation_in}

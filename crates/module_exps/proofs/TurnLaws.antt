@@ -16,7 +16,6 @@ use Rattle.fut_flat.proofs.ErasedForms.{turns_of, turns_counted, turns_over, tur
 use Rattle.fut_flat.proofs.SourceForms as sources
 use Rattle.module_scopes.specs.declared.refusal.Stop.{Stop}
 use Rattle.module_scopes.specs.declared.table.Names.{Names}
-use Rattle.module_scopes.specs.declared.table.Entry.{Entry as HeldEntry}
 use Rattle.module_scopes.specs.Scopes.{Entry, Scope, a_value, enter}
 use Rattle.module_scopes.specs.Resolve.{Bound, Numbered, after, next, with_text, resolve, resolve_pattern, resolve_turns}
 use Rattle.module_scopes.specs.Answers.{Went, went, refused, no_memory, Entered, entered, not_entered, no_memory_entered}
