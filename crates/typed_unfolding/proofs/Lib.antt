@@ -1,0 +1,11 @@
+pub mod Worlds
+pub mod Fitting
+pub mod Recording
+pub mod Seeing
+pub mod Laying
+pub mod Equality
+pub mod Operating
+pub mod Applying
+pub mod Going
+pub mod Surely
+pub mod Programs
