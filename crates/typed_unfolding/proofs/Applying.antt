@@ -1,5 +1,5 @@
 -- Functions and primitives: each is known by its type.
-use Rattle.std.proofs.Common.{◌≡◌, true, false, ℕ, suc, ◌≤◌, ◌++◌, refl, sym, ◌∙◌, List, [], ◌∷◌, Some, None, length, nat_lt}
+use Rattle.std.proofs.Common.{◌≡◌, true, false, ℕ, ◌++◌, refl, sym, ◌∙◌, List, [], ◌∷◌, Some, None, length, nat_lt}
 use Rattle.fut_scalar.specs.declared.operator.BinOp.TheVariants as binary
 use Rattle.fut_scalar.specs.declared.operator.UnOp.TheVariants as unary
 use Rattle.fut_scalar.specs.declared.place.Place.{Place}
@@ -24,7 +24,7 @@ use Rattle.fut_blocks.specs.Plain.{Operate}
 use Rattle.fut_blocks.specs.Typed.{Act_typed}
 use Rattle.typed_meaning.specs.Meant.{Primitive_meant}
 use Rattle.unfold.specs.Knowns.{Known, Scalar_known, Primitive_known, Knowns, no_known, known_and, listed}
-use Rattle.unfold.specs.Unfolding.{Bindings, constant, constant_of, Primitive_operates, p_convert, p_min, p_max, p_abs, p_popc, Applies, a_primitive_waits, a_primitive}
+use Rattle.unfold.specs.Unfolding.{Bindings, constant, constant_of, Primitive_operates, p_convert, p_min, p_max, p_abs, p_popc, a_primitive_waits, a_primitive}
 use Rattle.typed_blocks.proofs.Fitting.{some_same}
 use Rattle.typed_unfolding.specs.Worlds.{World, Learns, Below, Comes}
 use Rattle.typed_unfolding.specs.Fits.{On_scalar, Runs_typed, Fits}

@@ -1,5 +1,5 @@
 -- The comparison of two values of one type, part by part, has typed steps and gives a truth value.
-use Rattle.std.proofs.Common.{◌≡◌, true, ℕ, suc, ◌≤◌, ◌<◌, ◌++◌, min, refl, sym, subst, arith, List, [], ◌∷◌}
+use Rattle.std.proofs.Common.{true, ℕ, suc, ◌≤◌, ◌<◌, ◌++◌, min, refl, sym, subst, arith, List, [], ◌∷◌}
 use native.Mathlib.Decide.{ℕ_discrete}
 use Rattle.std.proofs.lemmas.Slice.Eq.{bytes_eq-Decides}
 use Rattle.fut_scalar.specs.declared.operator.BinOp.TheVariants as binary
@@ -16,15 +16,15 @@ use Rattle.fut_typing.specs.Names.{Names, count}
 use Rattle.fut_blocks.specs.declared.block.Atom.{Atom}
 use Rattle.fut_blocks.specs.declared.block.Atom.TheVariants as atom
 use Rattle.fut_blocks.specs.declared.block.Operation.TheVariants as operation
-use Rattle.fut_blocks.specs.Plain.{Operate, Give}
+use Rattle.fut_blocks.specs.Plain.{Operate}
 use Rattle.fut_blocks.specs.Typed.{Sort, Is, Act_typed, Body_typed}
-use Rattle.unfold.specs.Knowns.{Known, Scalar_known, Tuple_known, Record_known, Function_known, Primitive_known, Knowns, no_known, known_and, Known_fields, no_known_field, known_field_and}
+use Rattle.unfold.specs.Knowns.{Known, Knowns, no_known, known_and, Known_fields, no_known_field, known_field_and}
 use Rattle.unfold.specs.Unfolding.{Bindings, step, both_hold, Equals, e_scalars, e_tuples, e_records, All_equal, e_none, e_more, Fields_equal, e_no_field, e_field}
 use Rattle.typed_meaning.specs.Fits.{widest, Are_keys}
 use Rattle.typed_blocks.specs.Fits.{On_tuple, On_record, Each_field, keys}
 use Rattle.typed_unfolding.specs.Worlds.{World, Learns, Below, Comes}
 use Rattle.typed_unfolding.specs.Fits.{On_scalar, Fits, All_fit, Keyed}
-use Rattle.typed_unfolding.proofs.Fitting.{fits_learn, all_fit_learn, keyed_learn}
+use Rattle.typed_unfolding.proofs.Fitting.{all_fit_learn, keyed_learn}
 use Rattle.typed_unfolding.proofs.Worlds.{is_kept, comes_none, comes_then, comes_one}
 
 -- the steps of a comparison are typed, and it gives a truth value

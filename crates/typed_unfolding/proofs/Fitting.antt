@@ -1,5 +1,5 @@
 -- What is known stays where more is known, and the part of a record is known by its label.
-use Rattle.std.proofs.Common.{◌≡◌, Bool, true, false, cond, ℕ, refl, sym, ◌∙◌, subst, List, [], ◌∷◌, Option, Some, None, if◌then◌else◌, ◌==◌, eq-eqb, nat_eq}
+use Rattle.std.proofs.Common.{◌≡◌, Bool, true, false, cond, ℕ, sym, ◌∙◌, subst, List, [], ◌∷◌, Option, Some, None, if◌then◌else◌, ◌==◌, eq-eqb, nat_eq}
 use native.Mathlib.Decide.{ℕ_discrete}
 use Rattle.fut_scalar.specs.declared.scalar.IntType.{IntType}
 use Rattle.fut_types.specs.declared.Head.TheVariants as head
@@ -8,7 +8,7 @@ use Rattle.fut_types.specs.Shapes.{place_from, part_at}
 use Rattle.fut_typing.specs.Names.{Names}
 use Rattle.fut_blocks.specs.Typed.{Sort}
 use Rattle.typed_meaning.proofs.Records.{there_place}
-use Rattle.unfold.specs.Knowns.{Known, Scalar_known, Tuple_known, Record_known, Function_known, Primitive_known, Knowns, no_known, known_and, Known_fields, no_known_field, known_field_and, Scope as Seen, no_name, name_and, find}
+use Rattle.unfold.specs.Knowns.{Known, Scalar_known, Tuple_known, Record_known, Function_known, Primitive_known, Knowns, no_known, known_and, Scope as Seen, no_name, name_and, find}
 use Rattle.typed_blocks.proofs.Fitting.{some_same, each_map}
 use Rattle.typed_unfolding.specs.Worlds.{World, Learns}
 use Rattle.typed_unfolding.specs.Fits.{On_scalar, Fits, All_fit, Keyed}

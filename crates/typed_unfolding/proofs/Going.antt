@@ -1,5 +1,5 @@
 -- The steps of a typed term are typed, and what is known of its value is known by its type: each form, from its parts.
-use Rattle.std.proofs.Common.{◌≡◌, ℕ, suc, ◌+◌, ◌≤◌, ◌++◌, refl, sym, ◌∙◌, subst, arith, List, [], ◌∷◌, Some, length}
+use Rattle.std.proofs.Common.{◌≡◌, ℕ, suc, ◌+◌, ◌++◌, refl, sym, ◌∙◌, subst, arith, List, [], ◌∷◌, Some}
 use Rattle.fut_scalar.specs.declared.place.BindId.{BindId}
 use Rattle.fut_scalar.specs.declared.place.Place.{Place}
 use Rattle.fut_scalar.specs.declared.scalar.IntType.{IntType}
@@ -29,11 +29,11 @@ use Rattle.unfold.specs.Unfolding.{Bindings, step, names, named, constant, Binds
 use Rattle.unfold.proofs.Components.{upward_grows}
 use Rattle.unfold.proofs.Simulation.{unfolds_grow}
 use Rattle.typed_blocks.proofs.Fitting.{some_same}
-use Rattle.typed_unfolding.specs.Worlds.{Types, World, Learns, Below, Keeps, Comes}
-use Rattle.typed_unfolding.specs.Fits.{On_scalar, Fits, Names_fit}
-use Rattle.typed_unfolding.proofs.Worlds.{learns_more, learns_types, below_more, is_kept, are_kept, are_length, keeps_new, new_found, below_new, keeps_more, Binds_types, binds_types, body_typed, comes_none, comes_then, comes_map, comes_step}
+use Rattle.typed_unfolding.specs.Worlds.{Types, World, Learns, Below, Comes}
+use Rattle.typed_unfolding.specs.Fits.{Fits, Names_fit}
+use Rattle.typed_unfolding.proofs.Worlds.{learns_more, learns_types, below_more, are_kept, are_length, keeps_new, new_found, below_new, Binds_types, binds_types, body_typed, comes_none, comes_then, comes_map, comes_step}
 use Rattle.typed_unfolding.proofs.Fitting.{fits_learn}
-use Rattle.typed_unfolding.proofs.Recording.{Each_fits, each_fits_learn}
+use Rattle.typed_unfolding.proofs.Recording.{Each_fits}
 use Rattle.typed_unfolding.proofs.Laying.{Row, data_row, laid_length}
 use Rattle.typed_unfolding.proofs.Operating.{Gives, is_sort, scalar_type, integer_data}
 use Rattle.typed_unfolding.proofs.Applying.{function_fits, primitive_fits, number_fits}

@@ -1,5 +1,5 @@
 -- A typed operation takes what is known of its parts to typed steps, and what is known of its result is known by its type.
-use Rattle.std.proofs.Common.{◌≡◌, Bool, ℕ, suc, ◌+◌, ◌*◌, ◌^◌, ◌%◌, ◌≤◌, ◌<◌, ◌++◌, min, refl, sym, ap, ◌∙◌, subst, arith, List, [], ◌∷◌, Option, Some, None, pos}
+use Rattle.std.proofs.Common.{◌≡◌, Bool, ℕ, suc, ◌≤◌, ◌<◌, min, refl, sym, ap, ◌∙◌, subst, arith, List, [], ◌∷◌, Option, Some, None, pos}
 use Rattle.fut_scalar.specs.declared.operator.BinOp.{BinOp}
 use Rattle.fut_scalar.specs.declared.operator.BinOp.TheVariants as op
 use Rattle.fut_scalar.specs.declared.operator.UnOp.TheVariants as unary
@@ -8,9 +8,8 @@ use Rattle.fut_scalar.specs.declared.place.Place.{Place}
 use Rattle.fut_scalar.specs.declared.scalar.IntType.{IntType}
 use Rattle.fut_scalar.specs.declared.scalar.Scalar.{Scalar}
 use Rattle.fut_scalar.specs.declared.scalar.Scalar.TheVariants as scalar
-use Rattle.fut_scalar.specs.declared.scalar.ScalarType.{ScalarType}
 use Rattle.fut_scalar.specs.declared.scalar.ScalarType.TheVariants as types
-use Rattle.fut_arithmetic.specs.Types.{type_of, IsDefined, result_type, IsDefinedOfOne, result_type_of_one}
+use Rattle.fut_arithmetic.specs.Types.{type_of, IsDefined, result_type, IsDefinedOfOne}
 use Rattle.fut_ast.specs.Sorts.{Text}
 use Rattle.fut_flat.specs.declared.prim.Ref.{Ref}
 use Rattle.fut_flat.specs.Erased.{FlatType}
@@ -21,7 +20,6 @@ use Rattle.fut_types.specs.Types.{Ty, Var, Made, Tys, none, more, Kinds, HasKind
 use Rattle.fut_typing.specs.Names.{Names, AreNames, IsRecord, count}
 use Rattle.fut_typing.specs.Primitives.{bool_ty}
 use Rattle.fut_typing.specs.Rules.{Operator, Rule}
-use Rattle.fut_meaning.specs.Operations.{named_values}
 use Rattle.fut_meaning.specs.Operators.{integer}
 use Rattle.fut_blocks.specs.declared.block.Atom.{Atom}
 use Rattle.fut_blocks.specs.declared.block.Atom.TheVariants as atom
@@ -35,7 +33,7 @@ use Rattle.typed_meaning.proofs.Operating.{Told}
 use Rattle.unfold.specs.Knowns.{Known, Scalar_known, Tuple_known, Record_known, Known_fields, knowns, fields, part, replaced}
 use Rattle.unfold.specs.Unfolding.{Bindings, step, literal_type, Operates, o_integer, o_truth, o_tuple, o_record, o_binary, o_equal, o_unequal, o_negate, o_complement, o_project, o_replace, o_ascribe, o_coerce, o_declared, o_assert}
 use Rattle.typed_blocks.proofs.Fitting.{some_same}
-use Rattle.typed_unfolding.specs.Worlds.{World, Learns, Below, Comes}
+use Rattle.typed_unfolding.specs.Worlds.{World, Below, Comes}
 use Rattle.typed_unfolding.specs.Fits.{On_scalar, Fits, All_fit}
 use Rattle.typed_unfolding.proofs.Worlds.{binds_types, learns_types, comes_none, comes_then, comes_map, comes_step, comes_one}
 use Rattle.typed_unfolding.proofs.Fitting.{fits_learn}

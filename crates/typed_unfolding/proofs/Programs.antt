@@ -1,5 +1,5 @@
 -- The blocks to which a typed program unfolds are well formed: its definitions are known at all types at which they may be used.
-use Rattle.std.proofs.Common.{◌≡◌, Bool, true, false, ◌||◌, cond, ℕ, ◌+◌, ◌≤◌, ◌<◌, ◌++◌, refl, sym, ap, ◌∙◌, subst, arith, List, [], ◌∷◌, map, Some, None, nat_eq, eq-eqb, ne_eqb, length}
+use Rattle.std.proofs.Common.{◌≡◌, Bool, true, false, ◌||◌, cond, ℕ, ◌+◌, ◌≤◌, ◌<◌, ◌++◌, refl, sym, ap, ◌∙◌, subst, arith, List, [], ◌∷◌, map, Some, None, nat_eq, eq-eqb, ne_eqb}
 use mathlib.Core.Logic.{inl, inr}
 use native.Mathlib.Decide.{ℕ_discrete}
 use Rattle.fut_scalar.specs.declared.place.BindId.{BindId}
@@ -7,7 +7,6 @@ use Rattle.fut_scalar.specs.declared.scalar.IntType.{IntType}
 use Rattle.fut_flat.specs.declared.prim.Ref.{Ref}
 use Rattle.fut_flat.specs.declared.prim.Ref.TheVariants as ref
 use Rattle.fut_flat.specs.declared.program.Definition.{Definition}
-use Rattle.fut_flat.specs.declared.program.Flat.{Flat}
 use Rattle.fut_flat.specs.Terms.{Use, Strict, Lambda, Apply, Let, If, Loop, Terms, no_term, term_and, Counted, Over, While}
 use Rattle.fut_flat.specs.Numbers.{numbers}
 use Rattle.fut_flat.specs.Erased.{FlatTerm, FlatTurns, parameters, term_of}
@@ -25,26 +24,24 @@ use Rattle.fut_typing.proofs.Local.{AllLocal, all_local_more, local_parameters}
 use Rattle.fut_typing.proofs.Exact.{behind_local}
 use Rattle.fut_meaning.specs.Programs.{names_of, all_names_of, names_of_turns, has_use, have_use, turns_have_use, is_reached}
 use Rattle.fut_meaning.specs.Flats.{is_flat_use, flat_tops, named_terms}
-use Rattle.fut_blocks.specs.declared.block.Atom.{Atom}
 use Rattle.fut_blocks.specs.declared.block.Program.{Program}
 use Rattle.fut_blocks.specs.Meaning.{look}
-use Rattle.fut_blocks.specs.Plain.{body_of}
 use Rattle.fut_blocks.specs.Programs.{Rising, WellFormed}
-use Rattle.fut_blocks.specs.Typed.{Sort, Are, Body_typed}
+use Rattle.fut_blocks.specs.Typed.{Sort, Body_typed}
 use Rattle.typed_meaning.specs.Fits.{widest}
 use Rattle.typed_meaning.specs.Meant.{No_sizes, Use_meant, Meant, All_meant, Turns_meant, Literal, Literals_told}
-use Rattle.typed_meaning.specs.Programs.{Is_typed, Definitions_meant, Definitions_told, None_has, One_each}
+use Rattle.typed_meaning.specs.Programs.{Definitions_meant, Definitions_told, None_has, One_each}
 use Rattle.typed_meaning.proofs.Literals.{literal_kept}
 use Rattle.typed_meaning.proofs.Programs.{or_left, or_right, both, tops_of, Reached}
 use Rattle.unfold.specs.Knowns.{Known, Knowns, no_known, known_and, no_name, Tops, listed, find}
 use Rattle.unfold.specs.Programs.{Definitions_unfold, d_none, d_reached, d_other, Applies_all, a_none, a_more, Program_unfolds}
-use Rattle.unfold.specs.Shapes.{Shape, Shapes, All_laid}
+use Rattle.unfold.specs.Shapes.{Shape, Shapes}
 use Rattle.unfold.specs.Unfolding.{Bindings, names, Unfolds}
 use Rattle.unfold.proofs.Rising.{names_rise}
 use Rattle.typed_blocks.specs.Shaped.{All_of_shapes}
 use Rattle.typed_blocks.specs.Sorts.{Sorts, All_sorts}
 use Rattle.typed_blocks.proofs.Fitting.{some_same, none_some}
-use Rattle.typed_unfolding.specs.Worlds.{Types, World, Keeps, Learns, Below, Steps_typed, Comes}
+use Rattle.typed_unfolding.specs.Worlds.{Types, World, Keeps, Learns, Below, Comes}
 use Rattle.typed_unfolding.specs.Fits.{Fits, All_fit, Names_fit}
 use Rattle.typed_unfolding.specs.Claims.{UnfoldedWellTyped}
 use Rattle.typed_unfolding.proofs.Worlds.{keeps_self, are_kept, binds_types, body_typed, steps_then, comes_none, comes_then, comes_with, comes_same}

@@ -1,5 +1,5 @@
 -- Types of names: those that are bound keep them, steps follow on steps, and which types steps give is told by where they begin.
-use Rattle.std.proofs.Common.{◌≡◌, Bool, true, false, cond, ℕ, suc, ◌+◌, ◌≤◌, ◌<◌, ◌++◌, refl, sym, ap, ◌∙◌, subst, arith, List, [], ◌∷◌, Option, Some, None, nat_eq, eq-eqb, ne_eqb, length}
+use Rattle.std.proofs.Common.{◌≡◌, cond, ℕ, suc, ◌≤◌, ◌<◌, ◌++◌, refl, sym, ap, ◌∙◌, subst, arith, List, [], ◌∷◌, Some, eq-eqb, ne_eqb, length}
 use native.Mathlib.Decide.{ℕ_discrete}
 use Rattle.fut_blocks.specs.declared.block.Atom.{Atom}
 use Rattle.fut_blocks.specs.declared.block.Atom.TheVariants as atom
