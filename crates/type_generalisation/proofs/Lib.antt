@@ -1,0 +1,4 @@
+pub mod Moving
+pub mod Terms
+pub mod Below
+pub mod Uses

@@ -1,0 +1,34 @@
+-- Generalisation of definitions with written type parameters. What is proved is one half of exactness: each instance of the
+-- principal type, with types chosen for the definition's parameters, is the type of a use.
+use Rattle.std.specs.Prelude.{◌≡◌, ℕ, ◌<◌, List, [], ◌∷◌, ◌++◌}
+use Rattle.fut_types.specs.declared.Kind.{Kind}
+use Rattle.fut_types.specs.Shapes.{Shapes}
+use Rattle.fut_types.specs.Types.{Ty, Sub, Kinds, HasKind}
+use Rattle.fut_typing.specs.Names.{Names}
+use Rattle.fut_typing.specs.Generalised.{Suits, Scheme, Reused}
+use Rattle.fut_typing.specs.Program.{Defined, program_numbers, Program_typed}
+use Rattle.fut_typing.specs.Answers.{Principal}
+use Rattle.fut_typing.specs.Exact.{scheme_behind, Fixed}
+use Rattle.type_generalisation.specs.Parameters.{Is_parameter, Declared_in, replaced}
+
+-- t is the definition's type in the principal typing, with types of their kinds for its variables and at the same time for
+-- the parameters of the definition; so read, all that is fixed has the types a
+pub record Chosen_instance (S : Shapes) (count : ℕ) (T : Kinds → Sub → Type 0) (p : Principal S count T) (places : Kind) (s : Scheme) (K : Kinds) (a : Sub) (t : Ty) : Type 0 where
+  pub by : Sub
+  pub kinds : (v : ℕ) → HasKind K (p.kinds v) (by v)
+  pub choice : Sub
+  pub suits : Suits places K choice s.parameters
+  pub fixed : (n : ℕ) → n < count → Fixed s n → replaced places s.parameters choice by (p.types n) ≡ a n
+  pub is : t ≡ replaced places s.parameters choice by (p.types s.first)
+
+-- no local definition in it or before it has one of the definition's parameters
+abbrev pub Apart : List Defined → Defined → Type 0
+Apart before d = (n : ℕ) → Is_parameter d.parameters n → Declared_in (d ∷ before) n → ⊥
+
+-- The principal typing leaves no record open, as that of each accepted program.
+abbrev pub InstancesAreUses : Type 0
+InstancesAreUses =
+    (N : Names) (places : Kind) (before after : List Defined) (d : Defined) → Apart before d
+    → (p : Principal N.shapes (program_numbers (before ++ d ∷ after)) (Program_typed N places (before ++ d ∷ after))) → p.opens ≡ []
+    → (K : Kinds) (a : Sub) (t : Ty) → Chosen_instance N.shapes (program_numbers (before ++ d ∷ after)) (Program_typed N places (before ++ d ∷ after)) p places (scheme_behind N places before d) K a t
+    → Reused places (scheme_behind N places before d) (scheme_behind N places before d).first K a t

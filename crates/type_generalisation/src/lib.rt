@@ -1,0 +1,7 @@
+//! How far generalisation is exact for definitions with written type parameters (`specs/Claims.antt`). What is put for their
+//! parameters, and which parameters a term declares, stands in `specs/Parameters.antt`.
+#![tactic(auto)]
+
+mod laws;
+
+pub use laws::instances_are_uses;
