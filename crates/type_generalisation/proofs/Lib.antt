@@ -2,3 +2,4 @@ pub mod Moving
 pub mod Terms
 pub mod Below
 pub mod Uses
+pub mod Renamed

@@ -108,7 +108,7 @@ module _ (places : Kind) (c : Sub) where
 
 module _ (N : Names) (places : Kind) where
   -- ---- where a definition stands
-  scope_local : (ds : List Defined) (lo : ℕ) (scope : Scope) → AllLocal (λ n. n < lo) scope → AllLocal (λ n. n < behind ds lo) (scope_behind N places ds lo scope)
+  pub scope_local : (ds : List Defined) (lo : ℕ) (scope : Scope) → AllLocal (λ n. n < lo) scope → AllLocal (λ n. n < behind ds lo) (scope_behind N places ds lo scope)
   scope_local [] lo scope all = all
   scope_local (d ∷ ds) lo scope all = scope_local ds (lo + (pattern_numbers d.name + numbers d.value)) (with_pattern (Reused places (definition_scheme N places d lo scope)) d.name lo scope) (behind_local N places d lo scope all)
 

@@ -1,6 +1,11 @@
--- Generalisation of definitions with written type parameters. What is proved is one half of exactness: each instance of the
--- principal type, with types chosen for the definition's parameters, is the type of a use.
-use Rattle.std.specs.Prelude.{◌≡◌, ℕ, ◌<◌, List, [], ◌∷◌, ◌++◌}
+-- Generalisation of definitions with written type parameters. The uses of a definition are exactly the instances of the type
+-- that another name for it has in a principal typing; and each instance of the definition's own principal type, with types
+-- chosen for its parameters, is the type of a use.
+use Rattle.std.specs.Prelude.{◌≡◌, ◌↔◌, ℕ, ◌<◌, List, [], ◌∷◌, ◌++◌}
+use Rattle.fut_scalar.specs.declared.place.BindId.{BindId}
+use Rattle.fut_scalar.specs.declared.place.Place.{Place}
+use Rattle.fut_flat.specs.declared.prim.Ref.TheVariants as ref
+use Rattle.fut_flat.specs.Terms.{Bound_pattern, Use}
 use Rattle.fut_types.specs.declared.Kind.{Kind}
 use Rattle.fut_types.specs.Shapes.{Shapes}
 use Rattle.fut_types.specs.Types.{Ty, Sub, Kinds, HasKind}
@@ -8,7 +13,7 @@ use Rattle.fut_typing.specs.Names.{Names}
 use Rattle.fut_typing.specs.Generalised.{Suits, Scheme, Reused}
 use Rattle.fut_typing.specs.Program.{Defined, program_numbers, Program_typed}
 use Rattle.fut_typing.specs.Answers.{Principal}
-use Rattle.fut_typing.specs.Exact.{scheme_behind, Fixed}
+use Rattle.fut_typing.specs.Exact.{scheme_behind, Fixed, Instance}
 use Rattle.type_generalisation.specs.Parameters.{Is_parameter, Declared_in, replaced}
 
 -- t is the definition's type in the principal typing, with types of their kinds for its variables and at the same time for
@@ -32,3 +37,16 @@ InstancesAreUses =
     → (p : Principal N.shapes (program_numbers (before ++ d ∷ after)) (Program_typed N places (before ++ d ∷ after))) → p.opens ≡ []
     → (K : Kinds) (a : Sub) (t : Ty) → Chosen_instance N.shapes (program_numbers (before ++ d ∷ after)) (Program_typed N places (before ++ d ∷ after)) p places (scheme_behind N places before d) K a t
     → Reused places (scheme_behind N places before d) (scheme_behind N places before d).first K a t
+
+-- another name x for what is called y: a definition without parameters whose value is a use of y
+abbrev pub renamed : BindId → BindId → Place → ℕ → Defined
+renamed x y at k = record { name = Bound_pattern x; parameters = []; value = Use (ref.Bound y) at k }
+
+-- whatever parameters the definition has
+abbrev pub UsesAreExact : Type 0
+UsesAreExact =
+    (N : Names) (places : Kind) (before after : List Defined) (d : Defined) (x y : BindId) (at : Place) (k : ℕ) → d.name ≡ Bound_pattern y
+    → (p : Principal N.shapes (program_numbers ((before ++ d ∷ []) ++ renamed x y at k ∷ after)) (Program_typed N places ((before ++ d ∷ []) ++ renamed x y at k ∷ after)))
+    → (K : Kinds) (a : Sub) → Program_typed N places ((before ++ d ∷ []) ++ renamed x y at k ∷ after) K a
+    → (t : Ty) → Reused places (scheme_behind N places before d) (scheme_behind N places before d).first K a t
+    ↔ Instance N.shapes (program_numbers ((before ++ d ∷ []) ++ renamed x y at k ∷ after)) (Program_typed N places ((before ++ d ∷ []) ++ renamed x y at k ∷ after)) p (scheme_behind N places (before ++ d ∷ []) (renamed x y at k)) K a t

@@ -1,7 +1,13 @@
 // The laws of definitions with written type parameters, each carried by a call.
-ghost use Rattle.type_generalisation.specs.Claims.{InstancesAreUses};
+ghost use Rattle.type_generalisation.specs.Claims.{InstancesAreUses, UsesAreExact};
 
 /// The law that a definition with written type parameters may be used at each instance of its principal type.
 pub fn instances_are_uses()
     ensures { InstancesAreUses }
+{}
+
+/// The law that the uses of a definition, whatever parameters it has, are exactly the instances of the principal type of
+/// another name for it.
+pub fn uses_are_exact()
+    ensures { UsesAreExact }
 {}
