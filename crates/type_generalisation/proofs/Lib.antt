@@ -3,3 +3,4 @@ pub mod Terms
 pub mod Below
 pub mod Uses
 pub mod Renamed
+pub mod Locals

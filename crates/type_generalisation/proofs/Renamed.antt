@@ -33,7 +33,7 @@ module _ (N : Names) (places : Kind) where
     abbrev s : Scheme
     s = definition_scheme N places (renamed x y at k) lo scope
 
-    used_renamed : Reused places s lo K a t → scope.uses y.0 K a t
+    pub used_renamed : Reused places s lo K a t → scope.uses y.0 K a t
     used_renamed u = let v = u.2.0 in all y.0 K v.other a t (λ n lt. v.outside n (inl lt)) (subst (scope.uses y.0 K v.other) (sym v.typed.1 ∙ sym u.2.1) v.typed.0.1)
 
     -- t for the numbers of the name
@@ -53,7 +53,7 @@ module _ (N : Names) (places : Kind) where
           | inr high ↦ elim (within_false (lo + 1) (1 + (k + k)) n both.1) as (λ z. other n ≡ a n) [ inl low ↦ absurd (omega arith) | inr over ↦ absurd (omega arith) ]
         ]
 
-    renamed_used : scope.uses y.0 K a t → Reused places s lo K a t
+    pub renamed_used : scope.uses y.0 K a t → Reused places s lo K a t
     renamed_used h = let first : other lo ≡ t = inside lo (omega arith) (omega arith) in let value : other (lo + 1) ≡ t = inside (lo + 1) (omega arith) (omega arith) in (
       λ n. Var n,
       tt,

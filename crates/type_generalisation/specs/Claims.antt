@@ -13,8 +13,9 @@ use Rattle.fut_typing.specs.Names.{Names}
 use Rattle.fut_typing.specs.Generalised.{Suits, Scheme, Reused}
 use Rattle.fut_typing.specs.Program.{Defined, program_numbers, Program_typed}
 use Rattle.fut_typing.specs.Answers.{Principal}
-use Rattle.fut_typing.specs.Exact.{scheme_behind, Fixed, Instance}
+use Rattle.fut_typing.specs.Exact.{Way, scheme_behind, local_behind, Fixed, Instance}
 use Rattle.type_generalisation.specs.Parameters.{Is_parameter, Declared_in, replaced}
+use Rattle.type_generalisation.specs.Ways.{Ends_at, and_body, Renamed_let}
 
 -- t is the definition's type in the principal typing, with types of their kinds for its variables and at the same time for
 -- the parameters of the definition; so read, all that is fixed has the types a
@@ -50,3 +51,11 @@ UsesAreExact =
     → (K : Kinds) (a : Sub) → Program_typed N places ((before ++ d ∷ []) ++ renamed x y at k ∷ after) K a
     → (t : Ty) → Reused places (scheme_behind N places before d) (scheme_behind N places before d).first K a t
     ↔ Instance N.shapes (program_numbers ((before ++ d ∷ []) ++ renamed x y at k ∷ after)) (Program_typed N places ((before ++ d ∷ []) ++ renamed x y at k ∷ after)) p (scheme_behind N places (before ++ d ∷ []) (renamed x y at k)) K a t
+
+-- and so of a local function
+abbrev pub LocalUsesAreExact : Type 0
+LocalUsesAreExact =
+    (N : Names) (places : Kind) (before after : List Defined) (d : Defined) (w : Way) → Ends_at Renamed_let d.value w
+    → (p : Principal N.shapes (program_numbers (before ++ d ∷ after)) (Program_typed N places (before ++ d ∷ after))) (K : Kinds) (a : Sub) → Program_typed N places (before ++ d ∷ after) K a
+    → (t : Ty) → Reused places (local_behind N places before d w) (local_behind N places before d w).first K a t
+    ↔ Instance N.shapes (program_numbers (before ++ d ∷ after)) (Program_typed N places (before ++ d ∷ after)) p (local_behind N places before d (and_body w)) K a t

@@ -1,13 +1,14 @@
 // The laws of definitions with written type parameters, each carried by a call.
-ghost use Rattle.type_generalisation.specs.Claims.{InstancesAreUses, UsesAreExact};
+ghost use Rattle.type_generalisation.specs.Claims.{InstancesAreUses, LocalUsesAreExact, UsesAreExact};
 
 /// The law that a definition with written type parameters may be used at each instance of its principal type.
 pub fn instances_are_uses()
     ensures { InstancesAreUses }
 {}
 
-/// The law that the uses of a definition, whatever parameters it has, are exactly the instances of the principal type of
-/// another name for it.
+/// The law that the uses of a function, which is a definition or a `let` in one, whatever parameters it has, are exactly the
+/// instances of the principal type of another name for it.
 pub fn uses_are_exact()
-    ensures { UsesAreExact }
+    ensures definition { UsesAreExact }
+    ensures local { LocalUsesAreExact }
 {}
