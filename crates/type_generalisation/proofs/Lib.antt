@@ -3,4 +3,9 @@ pub mod Terms
 pub mod Below
 pub mod Uses
 pub mod Renamed
+pub mod Same
+pub mod Lifted
+pub mod Pairs
+pub mod Joins
+pub mod Twice
 pub mod Locals

@@ -21,11 +21,11 @@ use Rattle.fut_typing.proofs.Follows.{In_parameters, Uses_follow}
 use Rattle.fut_typing.proofs.Instances.{parameter_limit}
 
 -- a number above those of all parameters in the types of numbers below hi
-abbrev limit_below : Sub → ℕ → ℕ
+abbrev pub limit_below : Sub → ℕ → ℕ
 limit_below a zero = 0
 limit_below a (suc n) = limit (a n) + limit_below a n
 
-below_limit : (a : Sub) (hi n : ℕ) → n < hi → limit (a n) ≤ limit_below a hi
+pub below_limit : (a : Sub) (hi n : ℕ) → n < hi → limit (a n) ≤ limit_below a hi
 below_limit a zero n lt = absurd (omega arith)
 below_limit a (suc hi) n lt = elim (ℕ_discrete n hi) as (λ d. limit (a n) ≤ limit_below a (suc hi)) [
   | yes e ↦ (let z : limit (a n) ≡ limit (a hi) = ap (λ m. limit (a m)) e in omega arith)
@@ -36,7 +36,7 @@ below_limit a (suc hi) n lt = elim (ℕ_discrete n hi) as (λ d. limit (a n) ≤
     apart n hi lt ne = omega arith
 
 -- above those of the types chosen for parameters
-abbrev chosen_limit : Sub → List (Parameter BindId) → ℕ
+abbrev pub chosen_limit : Sub → List (Parameter BindId) → ℕ
 chosen_limit c [] = 0
 chosen_limit c (Size_parameter b ∷ ps) = chosen_limit c ps
 chosen_limit c (Type_parameter b lifted ∷ ps) = limit (c b.0) + chosen_limit c ps
@@ -47,14 +47,14 @@ parameter_below (Size_parameter b ∷ ps) n i = parameter_below ps n i
 parameter_below (Type_parameter b lifted ∷ ps) n (inl e) = omega arith
 parameter_below (Type_parameter b lifted ∷ ps) n (inr i) = let z : n < parameter_limit ps = parameter_below ps n i in omega arith
 
-chosen_below : (c : Sub) (ps : List (Parameter BindId)) (n : ℕ) → In_parameters ps n → limit (c n) ≤ chosen_limit c ps
+pub chosen_below : (c : Sub) (ps : List (Parameter BindId)) (n : ℕ) → In_parameters ps n → limit (c n) ≤ chosen_limit c ps
 chosen_below c [] n i = absurd i
 chosen_below c (Size_parameter b ∷ ps) n i = chosen_below c ps n i
 chosen_below c (Type_parameter b lifted ∷ ps) n (inl e) = let z : limit (c n) ≡ limit (c b.0) = ap (λ m. limit (c m)) e in omega arith
 chosen_below c (Type_parameter b lifted ∷ ps) n (inr i) = let z : limit (c n) ≤ chosen_limit c ps = chosen_below c ps n i in omega arith
 
 -- a parameter's own type
-own_rigid : (places : Kind) (ps : List (Parameter BindId)) (n : ℕ) → In_parameters ps n → (k : Kind) × (own_types places ps n ≡ Made (head.Rigid n k) none)
+pub own_rigid : (places : Kind) (ps : List (Parameter BindId)) (n : ℕ) → In_parameters ps n → (k : Kind) × (own_types places ps n ≡ Made (head.Rigid n k) none)
 own_rigid places [] n i = absurd i
 own_rigid places (Size_parameter b ∷ ps) n i = own_rigid places ps n i
 own_rigid places (Type_parameter b lifted ∷ ps) n i = elim (ℕ_discrete n b.0) as (λ d. (k : Kind) × ((elim d as (λ d. Ty) [ yes e ↦ Made (head.Rigid n (parameter_kind places lifted)) none | no ne ↦ own_types places ps n ]) ≡ Made (head.Rigid n k) none)) [
@@ -67,7 +67,7 @@ own_rigid places (Type_parameter b lifted ∷ ps) n i = elim (ℕ_discrete n b.0
     rest ne (inr i) = i
 
 -- the kind that is asked of a parameter's type
-kind_for : Kind → List (Parameter BindId) → ℕ → Kind
+pub kind_for : Kind → List (Parameter BindId) → ℕ → Kind
 kind_for places [] n = kind.Any
 kind_for places (Size_parameter b ∷ ps) n = kind_for places ps n
 kind_for places (Type_parameter b true ∷ ps) n = kind_for places ps n
@@ -112,13 +112,13 @@ suits_read places K K' I suited c (Type_parameter b lifted ∷ ps) h = (read_kin
 
 -- ---- a reading of new parameters from a number on
 module _ (places : Kind) (ps : List (Parameter BindId)) (from : ℕ) (I : Reading) (c : Sub) where
-  new_types : Sub
+  unfoldable pub new_types : Sub
   new_types n = Made (head.Rigid (from + n) (kind_for places ps n)) none
 
-  own_for : ℕ → Kind → Ty
+  pub own_for : ℕ → Kind → Ty
   own_for n k = elim (nat_le from n) as (λ x. Ty) [ true ↦ elim (ℕ_discrete (level k) (level (kind_for places ps (n - from)))) as (λ d. Ty) [ yes e ↦ c (n - from) | no ne ↦ Made (head.Rigid n k) none ] | false ↦ I.own n k ]
 
-  raised : Reading
+  pub raised : Reading
   raised = record { variable = I.variable; own = own_for }
 
   own_low : (n : ℕ) (k : Kind) → n < from → own_for n k ≡ I.own n k
@@ -133,7 +133,7 @@ module _ (places : Kind) (ps : List (Parameter BindId)) (from : ℕ) (I : Readin
   own_here n = own_high (from + n) (kind_for places ps n) (omega arith) ∙ subst (λ m. (elim (ℕ_discrete (level (kind_for places ps n)) (level (kind_for places ps m))) as (λ d. Ty) [ yes e ↦ c m | no ne ↦ Made (head.Rigid (from + n) (kind_for places ps n)) none ]) ≡ c n) (let z : n ≡ from + n - from = omega arith in z)
       (elim (ℕ_discrete (level (kind_for places ps n)) (level (kind_for places ps n))) as (λ d. (elim d as (λ d. Ty) [ yes e ↦ c n | no ne ↦ Made (head.Rigid (from + n) (kind_for places ps n)) none ]) ≡ c n) [ yes e ↦ refl | no ne ↦ absurd (ne refl) ])
 
-  raised_suited : (K K' : Kinds) → Suited K K' I → Suits places K' c ps → Suited K K' raised
+  pub raised_suited : (K K' : Kinds) → Suited K K' I → Suits places K' c ps → Suited K K' raised
   unfolding raised
   raised_suited K K' suited suits = record {
     variables = suited.variables;
@@ -144,16 +144,16 @@ module _ (places : Kind) (ps : List (Parameter BindId)) (from : ℕ) (I : Readin
     ];
   }
 
-  raised_extends : (F : ℕ) → F ≤ from → Extends F I raised
+  pub raised_extends : (F : ℕ) → F ≤ from → Extends F I raised
   unfolding raised
   raised_extends F le = record { variable = λ v. refl; own = λ n k lt. own_low n k (omega arith) }
 
-  new_suit : (K : Kinds) → Suits places K new_types ps
+  pub new_suit : (K : Kinds) → Suits places K new_types ps
   unfolding new_types
   new_suit K = kinds_suit places K new_types ps ps (λ n i. i) (λ n. rigid_kind K (from + n) (kind_for places ps n))
 
   -- how the new types are read
-  new_read : (G : ℕ) (J : Reading) (n : ℕ) → from + n < G → Extends G raised J → read J (new_types n) ≡ c n
+  pub new_read : (G : ℕ) (J : Reading) (n : ℕ) → from + n < G → Extends G raised J → read J (new_types n) ≡ c n
   unfolding new_types raised read
   new_read G J n lt e = e.own (from + n) (kind_for places ps n) lt ∙ own_here n
 
@@ -166,7 +166,7 @@ module _ (places : Kind) (K K' : Kinds) (D : ℕ → Type 0) (F0 : ℕ) (low : (
     pub plain : (n : ℕ) (k : Kind) → D n → I.own n k ≡ Made (head.Rigid n k) none
     pub over : F0 ≤ F
 
-  good_more : (I J : Reading) (F G : ℕ) → Good I F → Suited K K' J → Extends F I J → F ≤ G → Good J G
+  pub good_more : (I J : Reading) (F G : ℕ) → Good I F → Suited K K' J → Extends F I J → F ≤ G → Good J G
   good_more I J F G g suited e le = let over : F0 ≤ F = g.over in record { suited = suited; plain = λ n k d. (let lt : n < F0 = low n d in e.own n k (omega arith) ∙ g.plain n k d); over = omega arith }
 
   -- the types c of parameters are read as c', by each reading that differs from G on alone

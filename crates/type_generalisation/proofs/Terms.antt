@@ -35,7 +35,7 @@ parameter_is (Size_parameter b ∷ ps) n i = parameter_is ps n i
 parameter_is (Type_parameter b lifted ∷ ps) n (inl e) = inl e
 parameter_is (Type_parameter b lifted ∷ ps) n (inr i) = inr (parameter_is ps n i)
 
-read_terms : (I : Reading) (a : Sub) (ts : Terms Ref BindId) (lo : ℕ) → term_types (image I a) ts lo ≡ read_all I (term_types a ts lo)
+pub read_terms : (I : Reading) (a : Sub) (ts : Terms Ref BindId) (lo : ℕ) → term_types (image I a) ts lo ≡ read_all I (term_types a ts lo)
 unfolding read
 read_terms I a no_term lo = refl
 read_terms I a (term_and t ts) lo = ap (more (read I (a lo))) (read_terms I a ts (lo + numbers t))

@@ -35,7 +35,7 @@ use Rattle.type_generalisation.proofs.Below.{definitions_below}
 
 -- ---- what is put for own types
 module _ (places : Kind) (c : Sub) where
-  chosen_kind : (K : Kinds) (ps : List (Parameter BindId)) → Suits places K c ps → (n : ℕ) (k : Kind) → HasKind K k (chosen places ps c n k)
+  pub chosen_kind : (K : Kinds) (ps : List (Parameter BindId)) → Suits places K c ps → (n : ℕ) (k : Kind) → HasKind K k (chosen places ps c n k)
   chosen_kind K [] s n k = rigid_kind K n k
   chosen_kind K (Size_parameter b ∷ ps) s n k = chosen_kind K ps s n k
   chosen_kind K (Type_parameter b lifted ∷ ps) s n k = elim (ℕ_discrete n b.0) as (λ d. HasKind K k (elim d as (λ d. Ty) [
@@ -50,7 +50,7 @@ module _ (places : Kind) (c : Sub) where
   ]
 
   -- of a parameter, and of others
-  chosen_for : (ps : List (Parameter BindId)) (n : ℕ) → In_parameters ps n → (k : Kind) × (own_types places ps n ≡ Made (head.Rigid n k) none) × (chosen places ps c n k ≡ c n)
+  pub chosen_for : (ps : List (Parameter BindId)) (n : ℕ) → In_parameters ps n → (k : Kind) × (own_types places ps n ≡ Made (head.Rigid n k) none) × (chosen places ps c n k ≡ c n)
   chosen_for [] n i = absurd i
   chosen_for (Size_parameter b ∷ ps) n i = chosen_for ps n i
   chosen_for (Type_parameter b lifted ∷ ps) n i = elim (ℕ_discrete n b.0) as (λ d. (k : Kind) × ((elim d as (λ d. Ty) [ yes e ↦ Made (head.Rigid n (parameter_kind places lifted)) none | no ne ↦ own_types places ps n ]) ≡ Made (head.Rigid n k) none)
@@ -66,7 +66,7 @@ module _ (places : Kind) (c : Sub) where
       rest ne (inl e) = absurd (ne e)
       rest ne (inr i) = i
 
-  chosen_other : (ps : List (Parameter BindId)) (n : ℕ) (k : Kind) → (In_parameters ps n → ⊥) → chosen places ps c n k ≡ Made (head.Rigid n k) none
+  pub chosen_other : (ps : List (Parameter BindId)) (n : ℕ) (k : Kind) → (In_parameters ps n → ⊥) → chosen places ps c n k ≡ Made (head.Rigid n k) none
   chosen_other [] n k out = refl
   chosen_other (Size_parameter b ∷ ps) n k out = chosen_other ps n k out
   chosen_other (Type_parameter b lifted ∷ ps) n k out = elim (ℕ_discrete n b.0) as (λ d. (elim d as (λ d. Ty) [

@@ -43,6 +43,11 @@ abbrev pub Declared_in : List Defined → ℕ → Type 0
 Declared_in [] n = ⊥
 Declared_in (d ∷ ds) n = Declares d.value n ⊎ Declared_in ds n
 
+-- one of these, or a local definition in one of them, has it
+abbrev pub Parameter_in : List Defined → ℕ → Type 0
+Parameter_in [] n = ⊥
+Parameter_in (d ∷ ds) n = Is_parameter d.parameters n ⊎ (Declares d.value n ⊎ Parameter_in ds n)
+
 -- c n for the own type of parameter n; another type of its own stays
 abbrev pub chosen : Kind → List (Parameter BindId) → Sub → ℕ → Kind → Ty
 chosen places [] c n k = Made (head.Rigid n k) none
