@@ -6,12 +6,12 @@ use Rattle.fut_flat.specs.declared.prim.Ref.{Ref}
 use Rattle.fut_flat.specs.Terms.{Parameter, Size_parameter, Type_parameter, Use, Strict, Lambda, Apply, Let, If, Loop, Terms, no_term, term_and, Counted, Over, While}
 use Rattle.fut_flat.specs.Erased.{FlatTerm, FlatTurns}
 use Rattle.fut_typing.specs.Program.{Defined}
-use Rattle.type_generalisation.specs.Parameters.{Is_parameter, Declares, Some_declare, Turns_declare, Declared_in}
+use Rattle.type_generalisation.specs.Parameters.{Is_parameter, Declares, Some_declare, Turns_declare, Declared_in, Parameter_in}
 
-abbrev Below : (ℕ → Type 0) → Type 0
+abbrev pub Below : (ℕ → Type 0) → Type 0
 Below P = (F : ℕ) × ((n : ℕ) → P n → n < F)
 
-either_below : (P Q : ℕ → Type 0) → Below P → Below Q → Below (λ n. P n ⊎ Q n)
+pub either_below : (P Q : ℕ → Type 0) → Below P → Below Q → Below (λ n. P n ⊎ Q n)
 either_below P Q x y = (x.0 + y.0, λ n. elim [ inl p ↦ let z : n < x.0 = x.1 n p in omega arith | inr q ↦ let z : n < y.0 = y.1 n q in omega arith ])
 
 parameters_below : (ps : List (Parameter BindId)) → Below (Is_parameter ps)
@@ -20,7 +20,7 @@ parameters_below (Size_parameter b ∷ ps) = parameters_below ps
 parameters_below (Type_parameter b lifted ∷ ps) = either_below (λ n. n ≡ b.0) (Is_parameter ps) (1 + b.0, λ n e. omega arith) (parameters_below ps)
 
 mutual
-  declared_below : (t : FlatTerm) → Below (Declares t)
+  pub declared_below : (t : FlatTerm) → Below (Declares t)
   declared_below (Use r at k) = (0, λ n i. absurd i)
   declared_below (Strict o mark ts) = all_below ts
   declared_below (Lambda ps e) = declared_below e
@@ -41,3 +41,7 @@ mutual
 pub definitions_below : (ds : List Defined) → Below (Declared_in ds)
 definitions_below [] = (0, λ n i. absurd i)
 definitions_below (d ∷ ds) = either_below (Declares d.value) (Declared_in ds) (declared_below d.value) (definitions_below ds)
+
+pub program_below : (ds : List Defined) → Below (Parameter_in ds)
+program_below [] = (0, λ n i. absurd i)
+program_below (d ∷ ds) = either_below (Is_parameter d.parameters) (λ n. Declares d.value n ⊎ Parameter_in ds n) (parameters_below d.parameters) (either_below (Declares d.value) (Parameter_in ds) (declared_below d.value) (program_below ds))

@@ -8,4 +8,7 @@ pub mod Lifted
 pub mod Pairs
 pub mod Joins
 pub mod Twice
+pub mod Exact
+pub mod Spelled
+pub mod Written
 pub mod Locals

@@ -83,9 +83,9 @@ module _ (places : Kind) (c : Sub) where
   own_chosen (Size_parameter b ∷ ps) n k h = own_chosen ps n k h
   own_chosen (Type_parameter b lifted ∷ ps) n k h = (elim (ℕ_discrete n b.0) as (λ d. (elim d as (λ d. Bool) [ yes e ↦ is_number (level k) (level (parameter_kind places lifted)) | no ne ↦ is_own places ps n k ]) ≡ true
       → ((n ≡ b.0) ⊎ In_parameters ps n) × ((elim d as (λ d. Ty) [ yes e ↦ elim (ℕ_discrete (level k) (level (parameter_kind places lifted))) as (λ d. Ty) [ yes e ↦ c n | no ne ↦ Made (head.Rigid n k) none ] | no ne ↦ chosen places ps c n k ]) ≡ c n)) [
-    | yes e ↦ λ h. (inl e, here (number_is (level k) (level (parameter_kind places lifted)) h))
-    | no ne ↦ λ h. let w = own_chosen ps n k h in (inr w.0, w.1)
-  ]) h
+        | yes e ↦ λ h. (inl e, here (number_is (level k) (level (parameter_kind places lifted)) h))
+        | no ne ↦ λ h. let w = own_chosen ps n k h in (inr w.0, w.1)
+      ]) h
     where
       here : level k ≡ level (parameter_kind places lifted) → (elim (ℕ_discrete (level k) (level (parameter_kind places lifted))) as (λ d. Ty) [ yes e ↦ c n | no ne ↦ Made (head.Rigid n k) none ]) ≡ c n
       here same = elim (ℕ_discrete (level k) (level (parameter_kind places lifted))) as (λ d. (elim d as (λ d. Ty) [ yes e ↦ c n | no ne ↦ Made (head.Rigid n k) none ]) ≡ c n) [ yes e ↦ refl | no ne ↦ absurd (ne same) ]
@@ -95,9 +95,9 @@ module _ (places : Kind) (c : Sub) where
   own_is (Size_parameter b ∷ ps) n i = own_is ps n i
   own_is (Type_parameter b lifted ∷ ps) n i = elim (ℕ_discrete n b.0) as (λ d. (k : Kind) × ((elim d as (λ d. Ty) [ yes e ↦ Made (head.Rigid n (parameter_kind places lifted)) none | no ne ↦ own_types places ps n ]) ≡ Made (head.Rigid n k) none)
       × ((elim d as (λ d. Bool) [ yes e ↦ is_number (level k) (level (parameter_kind places lifted)) | no ne ↦ is_own places ps n k ]) ≡ true)) [
-    | yes e ↦ (parameter_kind places lifted, refl, number_self (level (parameter_kind places lifted)))
-    | no ne ↦ own_is ps n (rest ne i)
-  ]
+        | yes e ↦ (parameter_kind places lifted, refl, number_self (level (parameter_kind places lifted)))
+        | no ne ↦ own_is ps n (rest ne i)
+      ]
     where
       rest : (n ≡ b.0 → ⊥) → ((n ≡ b.0) ⊎ In_parameters ps n) → In_parameters ps n
       rest ne (inl e) = absurd (ne e)
@@ -174,7 +174,7 @@ module _ (S : Shapes) (places : Kind) (ps : List (Parameter BindId)) (c : Sub) (
   abbrev pub back : Reading
   back = record { variable = λ n. Var n; own = own_back }
 
-  back_low : (n : ℕ) (k : Kind) → n < G → own_back n k ≡ chosen places ps c n k
+  pub back_low : (n : ℕ) (k : Kind) → n < G → own_back n k ≡ chosen places ps c n k
   back_low n k lt = elim (true_or (nat_le G n)) as (λ x. own_back n k ≡ chosen places ps c n k) [
     | inl t ↦ absurd (let z : G ≤ n = leb-true G n t in omega arith)
     | inr f ↦ ap (λ (x : Bool). elim x as (λ x. Ty) [ true ↦ Made (head.Rigid (n - G) k) none | false ↦ chosen places ps c n k ]) f

@@ -62,7 +62,7 @@ module _ (N : Names) (places : Kind) (ps : List (Parameter BindId)) (c : Sub) (F
   chosen_read : (qs : List (Parameter BindId)) (x y : Sub) (J : Reading) (H : ℕ) → chosen_limit (two x y) qs ≤ H → Chosen qs x y (image J (two x y)) J H
   chosen_read qs x y J H le n i L e = let z : limit (lift (x n) (y n)) ≤ chosen_limit (two x y) qs = chosen_below (two x y) qs n i in read_same H J L e (lift (x n) (y n)) (omega arith)
 
-  chosen_own : (qs : List (Parameter BindId)) (I : Reading) (F : ℕ) → Good_for I F → ((n : ℕ) → In_parameters qs n → D n) → Chosen qs (own_types places qs) (own_types places qs) (own_types places qs) I F
+  pub chosen_own : (qs : List (Parameter BindId)) (I : Reading) (F : ℕ) → Good_for I F → ((n : ℕ) → In_parameters qs n → D n) → Chosen qs (own_types places qs) (own_types places qs) (own_types places qs) I F
   unfolding read
   chosen_own qs I F g into n i L e =
       let w = own_rigid places qs n i in let d : D n = into n i in let lt : n < F0 = low n d in let more : F0 ≤ F = g.over in

@@ -113,11 +113,11 @@ module _ (N : Names) (places : Kind) where
   scope_local (d ∷ ds) lo scope all = scope_local ds (lo + (pattern_numbers d.name + numbers d.value)) (with_pattern (Reused places (definition_scheme N places d lo scope)) d.name lo scope) (behind_local N places d lo scope all)
 
   module _ (d : Defined) (after : List Defined) where
-    definition_in : (before : List Defined) (lo : ℕ) (scope : Scope) (K : Kinds) (a : Sub) → Definitions_typed N places (before ++ d ∷ after) lo scope K a → Generalised places (definition_scheme N places d (behind before lo) (scope_behind N places before lo scope)) K a
+    pub definition_in : (before : List Defined) (lo : ℕ) (scope : Scope) (K : Kinds) (a : Sub) → Definitions_typed N places (before ++ d ∷ after) lo scope K a → Generalised places (definition_scheme N places d (behind before lo) (scope_behind N places before lo scope)) K a
     definition_in [] lo scope K a h = h.0
     definition_in (e ∷ before) lo scope K a h = definition_in before (lo + (pattern_numbers e.name + numbers e.value)) (with_pattern (Reused places (definition_scheme N places e lo scope)) e.name lo scope) K a h.1
 
-    whole_within : (before : List Defined) (lo : ℕ) → behind before lo + (pattern_numbers d.name + numbers d.value) ≤ lo + program_numbers (before ++ d ∷ after)
+    pub whole_within : (before : List Defined) (lo : ℕ) → behind before lo + (pattern_numbers d.name + numbers d.value) ≤ lo + program_numbers (before ++ d ∷ after)
     whole_within [] lo = omega arith
     whole_within (e ∷ before) lo = let at : ℕ = lo + (pattern_numbers e.name + numbers e.value) in
         let z : behind before at + (pattern_numbers d.name + numbers d.value) ≤ at + program_numbers (before ++ d ∷ after) = whole_within before at in omega arith

@@ -2,6 +2,7 @@
 -- that another name for it has in a principal typing; and each instance of the definition's own principal type, with types
 -- chosen for its parameters, is the type of a use.
 use Rattle.std.specs.Prelude.{◌≡◌, ◌↔◌, ℕ, ◌<◌, List, [], ◌∷◌, ◌++◌}
+use mathlib.Core.Logic.{◌⊎◌}
 use Rattle.fut_scalar.specs.declared.place.BindId.{BindId}
 use Rattle.fut_scalar.specs.declared.place.Place.{Place}
 use Rattle.fut_flat.specs.declared.prim.Ref.TheVariants as ref
@@ -9,12 +10,12 @@ use Rattle.fut_flat.specs.Terms.{Bound_pattern, Use}
 use Rattle.fut_types.specs.declared.Kind.{Kind}
 use Rattle.fut_types.specs.Shapes.{Shapes}
 use Rattle.fut_types.specs.Types.{Ty, Sub, Kinds, HasKind}
-use Rattle.fut_typing.specs.Names.{Names}
+use Rattle.fut_typing.specs.Names.{Names, AreNames}
 use Rattle.fut_typing.specs.Generalised.{Suits, Scheme, Reused}
 use Rattle.fut_typing.specs.Program.{Defined, program_numbers, Program_typed}
 use Rattle.fut_typing.specs.Answers.{Principal}
 use Rattle.fut_typing.specs.Exact.{Way, scheme_behind, local_behind, Fixed, Instance}
-use Rattle.type_generalisation.specs.Parameters.{Is_parameter, Declared_in, replaced}
+use Rattle.type_generalisation.specs.Parameters.{Is_parameter, Declares, Declared_in, Parameter_in, replaced}
 use Rattle.type_generalisation.specs.Ways.{Ends_at, and_body, Renamed_let}
 
 -- t is the definition's type in the principal typing, with types of their kinds for its variables and at the same time for
@@ -38,6 +39,19 @@ InstancesAreUses =
     → (p : Principal N.shapes (program_numbers (before ++ d ∷ after)) (Program_typed N places (before ++ d ∷ after))) → p.opens ≡ []
     → (K : Kinds) (a : Sub) (t : Ty) → Chosen_instance N.shapes (program_numbers (before ++ d ∷ after)) (Program_typed N places (before ++ d ∷ after)) p places (scheme_behind N places before d) K a t
     → Reused places (scheme_behind N places before d) (scheme_behind N places before d).first K a t
+
+-- no other definition of the program, and no local one, has one of the definition's parameters
+abbrev pub Alone : List Defined → Defined → List Defined → Type 0
+Alone before d after = (n : ℕ) → Is_parameter d.parameters n → (Parameter_in before n ⊎ (Declares d.value n ⊎ Parameter_in after n)) → ⊥
+
+-- Generalisation is exact for a definition with written type parameters.
+abbrev pub WrittenIsExact : Type 0
+WrittenIsExact =
+    (N : Names) → AreNames N → (places : Kind) (before after : List Defined) (d : Defined) → Alone before d after
+    → (p : Principal N.shapes (program_numbers (before ++ d ∷ after)) (Program_typed N places (before ++ d ∷ after))) → p.opens ≡ []
+    → (K : Kinds) (a : Sub) → Program_typed N places (before ++ d ∷ after) K a
+    → (t : Ty) → Reused places (scheme_behind N places before d) (scheme_behind N places before d).first K a t
+    ↔ Chosen_instance N.shapes (program_numbers (before ++ d ∷ after)) (Program_typed N places (before ++ d ∷ after)) p places (scheme_behind N places before d) K a t
 
 -- another name x for what is called y: a definition without parameters whose value is a use of y
 abbrev pub renamed : BindId → BindId → Place → ℕ → Defined

@@ -4,4 +4,4 @@
 
 mod laws;
 
-pub use laws::{instances_are_uses, uses_are_exact};
+pub use laws::{instances_are_uses, uses_are_exact, written_generalisation_is_exact};
