@@ -17,14 +17,14 @@ use Rattle.fut_types.proofs.ShapeLaws.{named_rank, place_none, place_step, part_
 use Rattle.fut_typing.specs.Generalised.{parameter_kind, Suits, own_types}
 use Rattle.fut_typing.proofs.Ranges.{true_or, and_true}
 use Rattle.fut_typing.proofs.Members.{In, parts_under, placed_in}
-use Rattle.fut_typing.proofs.Readings.{Reading, Suited, rigid_kind}
+use Rattle.fut_typing.proofs.Readings.{Reading, Suited, head_limit, rigid_kind}
 unfoldable use Rattle.fut_typing.proofs.Readings.{read, read_all}
 use Rattle.fut_typing.proofs.Follows.{In_parameters}
 use Rattle.fut_typing.proofs.Instances.{parameter_limit}
-use Rattle.type_generalisation.specs.Parameters.{chosen}
+use Rattle.type_generalisation.specs.Parameters.{chosen, chosen_head}
 use Rattle.type_generalisation.proofs.Moving.{parameter_below}
-use Rattle.type_generalisation.proofs.Uses.{chosen_kind, chosen_other}
-use Rattle.type_generalisation.proofs.Same.{is_number, number_is, number_self, is_type, type_is, type_self}
+use Rattle.type_generalisation.proofs.Uses.{chosen_kind}
+use Rattle.type_generalisation.proofs.Same.{is_head, head_is, head_self, is_number, number_is, number_self, is_type, type_is, type_self}
 
 abbrev pub first_of : Tys → Ty
 first_of none = Var 0
@@ -39,24 +39,6 @@ abbrev pub is_own : Kind → List (Parameter BindId) → ℕ → Kind → Bool
 is_own places [] n k = false
 is_own places (Size_parameter b ∷ ps) n k = is_own places ps n k
 is_own places (Type_parameter b lifted ∷ ps) n k = elim (ℕ_discrete n b.0) as (λ d. Bool) [ yes e ↦ is_number (level k) (level (parameter_kind places lifted)) | no ne ↦ is_own places ps n k ]
-
-abbrev pub is_parameter : List (Parameter BindId) → ℕ → Bool
-is_parameter [] n = false
-is_parameter (Size_parameter b ∷ ps) n = is_parameter ps n
-is_parameter (Type_parameter b lifted ∷ ps) n = elim (ℕ_discrete n b.0) as (λ d. Bool) [ yes e ↦ true | no ne ↦ is_parameter ps n ]
-
-parameter_out : (ps : List (Parameter BindId)) (n : ℕ) → (In_parameters ps n → ⊥) → is_parameter ps n ≡ false
-parameter_out [] n out = refl
-parameter_out (Size_parameter b ∷ ps) n out = parameter_out ps n out
-parameter_out (Type_parameter b lifted ∷ ps) n out = elim (ℕ_discrete n b.0) as (λ d. (elim d as (λ d. Bool) [ yes e ↦ true | no ne ↦ is_parameter ps n ]) ≡ false) [ yes e ↦ absurd (out (inl e)) | no ne ↦ parameter_out ps n (λ i. out (inr i)) ]
-
-not_parameter : (ps : List (Parameter BindId)) (n : ℕ) → is_parameter ps n ≡ false → In_parameters ps n → ⊥
-not_parameter [] n e i = i
-not_parameter (Size_parameter b ∷ ps) n e i = not_parameter ps n e i
-not_parameter (Type_parameter b lifted ∷ ps) n e i = (elim (ℕ_discrete n b.0) as (λ d. (elim d as (λ d. Bool) [ yes e ↦ true | no ne ↦ is_parameter ps n ]) ≡ false → ((n ≡ b.0) ⊎ In_parameters ps n) → ⊥) [
-  | yes e ↦ λ h i. absurd cc
-  | no ne ↦ λ h i. elim i as (λ x. ⊥) [ inl e ↦ ne e | inr i ↦ not_parameter ps n h i ]
-]) e i
 
 place_here : (from l x : ℕ) (xs : List ℕ) → x ≡ l → place_from from l (x ∷ xs) ≡ Some from
 place_here from l x xs e = place_step from l x xs ∙ ap (λ b. cond b (Some from) (place_from (suc from) l xs)) (eq-eqb x l e)
@@ -90,6 +72,18 @@ module _ (places : Kind) (c : Sub) where
       here : level k ≡ level (parameter_kind places lifted) → (elim (ℕ_discrete (level k) (level (parameter_kind places lifted))) as (λ d. Ty) [ yes e ↦ c n | no ne ↦ Made (head.Rigid n k) none ]) ≡ c n
       here same = elim (ℕ_discrete (level k) (level (parameter_kind places lifted))) as (λ d. (elim d as (λ d. Ty) [ yes e ↦ c n | no ne ↦ Made (head.Rigid n k) none ]) ≡ c n) [ yes e ↦ refl | no ne ↦ absurd (ne same) ]
 
+  own_stays : (ps : List (Parameter BindId)) (n : ℕ) (k : Kind) → is_own places ps n k ≡ false → chosen places ps c n k ≡ Made (head.Rigid n k) none
+  own_stays [] n k h = refl
+  own_stays (Size_parameter b ∷ ps) n k h = own_stays ps n k h
+  own_stays (Type_parameter b lifted ∷ ps) n k h = (elim (ℕ_discrete n b.0) as (λ d. (elim d as (λ d. Bool) [ yes e ↦ is_number (level k) (level (parameter_kind places lifted)) | no ne ↦ is_own places ps n k ]) ≡ false
+      → (elim d as (λ d. Ty) [ yes e ↦ elim (ℕ_discrete (level k) (level (parameter_kind places lifted))) as (λ d. Ty) [ yes e ↦ c n | no ne ↦ Made (head.Rigid n k) none ] | no ne ↦ chosen places ps c n k ]) ≡ Made (head.Rigid n k) none) [
+        | yes e ↦ here (level k) (level (parameter_kind places lifted))
+        | no ne ↦ λ h. own_stays ps n k h
+      ]) h
+    where
+      here : (x y : ℕ) → is_number x y ≡ false → (elim (ℕ_discrete x y) as (λ d. Ty) [ yes e ↦ c n | no ne ↦ Made (head.Rigid n k) none ]) ≡ Made (head.Rigid n k) none
+      here x y = elim (ℕ_discrete x y) as (λ d. (elim d as (λ d. Bool) [ yes e ↦ true | no ne ↦ false ]) ≡ false → (elim d as (λ d. Ty) [ yes e ↦ c n | no ne ↦ Made (head.Rigid n k) none ]) ≡ Made (head.Rigid n k) none) [ yes e ↦ λ h. absurd cc | no ne ↦ λ h. refl ]
+
   own_is : (ps : List (Parameter BindId)) (n : ℕ) → In_parameters ps n → (k : Kind) × (own_types places ps n ≡ Made (head.Rigid n k) none) × (is_own places ps n k ≡ true)
   own_is [] n i = absurd i
   own_is (Size_parameter b ∷ ps) n i = own_is ps n i
@@ -121,24 +115,27 @@ module _ (S : Shapes) (places : Kind) (ps : List (Parameter BindId)) (c : Sub) (
   parts_for ls t i none = none
   parts_for ls t i (more u us) = more (part_for ls t i) (parts_for ls t (suc i) us)
 
-  -- what the parts us of a type made by g are compared with
+  -- what the parts us of a type made by g are compared with: those of the same head, or else those of the same names
+  abbrev pub against_other : Head → Head → Tys → Tys → Tys
+  against_other (head.Record r) h ts us = parts_under (S.fields r) (λ l. named_or l (Made h ts))
+  against_other head.Tuple (head.Record r) ts us = parts_for (S.fields r) (Made (head.Record r) ts) 0 us
+  against_other g h ts us = none
+
   abbrev pub against_made : Head → Head → Tys → Tys → Tys
-  against_made (head.Record r) h ts us = parts_under (S.fields r) (λ l. named_or l (Made h ts))
   against_made head.Array head.Array ts us = ts
   against_made head.Fun head.Fun ts us = ts
   against_made head.Tuple head.Tuple ts us = ts
-  against_made head.Tuple (head.Record r) ts us = parts_for (S.fields r) (Made (head.Record r) ts) 0 us
-  against_made g h ts us = none
+  against_made g h ts us = elim (is_head g h) as (λ x. Tys) [ true ↦ ts | false ↦ against_other g h ts us ]
 
   abbrev pub against : Head → Ty → Tys → Tys
   against g (Var n) us = none
   against g (Made h ts) us = against_made g h ts us
 
-  abbrev pub shift : ℕ → ℕ
-  shift n = elim (nat_le (suc n) F0) as (λ x. ℕ) [ true ↦ elim (is_parameter ps n) as (λ x. ℕ) [ true ↦ n + G | false ↦ n ] | false ↦ n + G ]
+  abbrev pub shift : ℕ → Kind → ℕ
+  shift n k = elim (nat_le (suc n) F0) as (λ x. ℕ) [ true ↦ elim (is_own places ps n k) as (λ x. ℕ) [ true ↦ n + G | false ↦ n ] | false ↦ n + G ]
 
   abbrev pub moved : Head → Tys → Ty
-  moved (head.Rigid n k) none = Made (head.Rigid (shift n) k) none
+  moved (head.Rigid n k) none = Made (head.Rigid (shift n k) k) none
   moved h ts = Made h ts
 
   abbrev pub has_own : Ty → Ty → Bool
@@ -183,14 +180,14 @@ module _ (S : Shapes) (places : Kind) (ps : List (Parameter BindId)) (c : Sub) (
   back_high : (n : ℕ) (k : Kind) → own_back (n + G) k ≡ Made (head.Rigid n k) none
   back_high n k = ap (λ (x : Bool). elim x as (λ x. Ty) [ true ↦ Made (head.Rigid (n + G - G) k) none | false ↦ chosen places ps c (n + G) k ]) (le-leb G (n + G) (omega arith)) ∙ ap (λ m. Made (head.Rigid m k) none) (let z : n + G - G ≡ n = omega arith in z)
 
-  back_shifted : (n : ℕ) (k : Kind) → own_back (shift n) k ≡ Made (head.Rigid n k) none
-  back_shifted n k = elim (true_or (nat_le (suc n) F0)) as (λ x. own_back (shift n) k ≡ Made (head.Rigid n k) none) [
-    | inl low ↦ elim (true_or (is_parameter ps n)) as (λ x. own_back (shift n) k ≡ Made (head.Rigid n k) none) [
-      | inl t ↦ ap (λ m. own_back m k) (ap (λ (x : Bool). elim x as (λ x. ℕ) [ true ↦ elim (is_parameter ps n) as (λ x. ℕ) [ true ↦ n + G | false ↦ n ] | false ↦ n + G ]) low ∙ ap (λ (x : Bool). elim x as (λ x. ℕ) [ true ↦ n + G | false ↦ n ]) t) ∙ back_high n k
-      | inr f ↦ ap (λ m. own_back m k) (ap (λ (x : Bool). elim x as (λ x. ℕ) [ true ↦ elim (is_parameter ps n) as (λ x. ℕ) [ true ↦ n + G | false ↦ n ] | false ↦ n + G ]) low ∙ ap (λ (x : Bool). elim x as (λ x. ℕ) [ true ↦ n + G | false ↦ n ]) f)
-          ∙ back_low n k (let z : suc n ≤ F0 = leb-true (suc n) F0 low in omega arith) ∙ chosen_other places c ps n k (not_parameter ps n f)
+  back_shifted : (n : ℕ) (k : Kind) → own_back (shift n k) k ≡ Made (head.Rigid n k) none
+  back_shifted n k = elim (true_or (nat_le (suc n) F0)) as (λ x. own_back (shift n k) k ≡ Made (head.Rigid n k) none) [
+    | inl low ↦ elim (true_or (is_own places ps n k)) as (λ x. own_back (shift n k) k ≡ Made (head.Rigid n k) none) [
+      | inl t ↦ ap (λ m. own_back m k) (ap (λ (x : Bool). elim x as (λ x. ℕ) [ true ↦ elim (is_own places ps n k) as (λ x. ℕ) [ true ↦ n + G | false ↦ n ] | false ↦ n + G ]) low ∙ ap (λ (x : Bool). elim x as (λ x. ℕ) [ true ↦ n + G | false ↦ n ]) t) ∙ back_high n k
+      | inr f ↦ ap (λ m. own_back m k) (ap (λ (x : Bool). elim x as (λ x. ℕ) [ true ↦ elim (is_own places ps n k) as (λ x. ℕ) [ true ↦ n + G | false ↦ n ] | false ↦ n + G ]) low ∙ ap (λ (x : Bool). elim x as (λ x. ℕ) [ true ↦ n + G | false ↦ n ]) f)
+          ∙ back_low n k (let z : suc n ≤ F0 = leb-true (suc n) F0 low in omega arith) ∙ own_stays places c ps n k f
     ]
-    | inr high ↦ ap (λ m. own_back m k) (ap (λ (x : Bool). elim x as (λ x. ℕ) [ true ↦ elim (is_parameter ps n) as (λ x. ℕ) [ true ↦ n + G | false ↦ n ] | false ↦ n + G ]) high) ∙ back_high n k
+    | inr high ↦ ap (λ m. own_back m k) (ap (λ (x : Bool). elim x as (λ x. ℕ) [ true ↦ elim (is_own places ps n k) as (λ x. ℕ) [ true ↦ n + G | false ↦ n ] | false ↦ n + G ]) high) ∙ back_high n k
   ]
 
   own_read : (t u : Ty) → has_own t u ≡ true → read back t ≡ u
@@ -250,20 +247,20 @@ module _ (S : Shapes) (places : Kind) (ps : List (Parameter BindId)) (c : Sub) (
   pub lifted_own : (n : ℕ) → In_parameters ps n → lifted (own_types places ps n) (c n) ≡ own_types places ps n
   lifted_own n i = let w = own_is places c ps n i in subst (λ t. lifted t (c n) ≡ t) (sym w.1) (lifted_yes (Made (head.Rigid n w.0) none) (c n) (ap (λ b. b && is_type (c n) (c n)) w.2 ∙ type_self (c n)))
 
-  rigid_lifted : (n : ℕ) (k : Kind) → (In_parameters ps n → ⊥) → lifted (Made (head.Rigid n k) none) (Made (head.Rigid n k) none) ≡ Made (head.Rigid (shift n) k) none
+  rigid_lifted : (n : ℕ) (k : Kind) → (In_parameters ps n → ⊥) → lifted (Made (head.Rigid n k) none) (Made (head.Rigid n k) none) ≡ Made (head.Rigid (shift n k) k) none
   unfolding lifted
   rigid_lifted n k out = lifted_made (Made (head.Rigid n k) none) (head.Rigid n k) none (ap (λ b. b && is_type (Made (head.Rigid n k) none) (c n)) (own_out places c ps n k out))
 
   pub lifted_other : (n : ℕ) (k : Kind) → n < F0 → (In_parameters ps n → ⊥) → lifted (Made (head.Rigid n k) none) (Made (head.Rigid n k) none) ≡ Made (head.Rigid n k) none
-  lifted_other n k lt out = rigid_lifted n k out ∙ ap (λ m. Made (head.Rigid m k) none) (ap (λ (x : Bool). elim x as (λ x. ℕ) [ true ↦ elim (is_parameter ps n) as (λ x. ℕ) [ true ↦ n + G | false ↦ n ] | false ↦ n + G ]) (le-leb (suc n) F0 (omega arith))
-      ∙ ap (λ (x : Bool). elim x as (λ x. ℕ) [ true ↦ n + G | false ↦ n ]) (parameter_out ps n out))
+  lifted_other n k lt out = rigid_lifted n k out ∙ ap (λ m. Made (head.Rigid m k) none) (ap (λ (x : Bool). elim x as (λ x. ℕ) [ true ↦ elim (is_own places ps n k) as (λ x. ℕ) [ true ↦ n + G | false ↦ n ] | false ↦ n + G ]) (le-leb (suc n) F0 (omega arith))
+      ∙ ap (λ (x : Bool). elim x as (λ x. ℕ) [ true ↦ n + G | false ↦ n ]) (own_out places c ps n k out))
 
   pub lifted_new : (n : ℕ) (k : Kind) → G ≤ n → lifted (Made (head.Rigid n k) none) (Made (head.Rigid n k) none) ≡ Made (head.Rigid (n + G) k) none
   lifted_new n k le = rigid_lifted n k (λ i. let lt : n < parameter_limit ps = parameter_below ps n i in absurd (omega arith)) ∙ ap (λ m. Made (head.Rigid m k) none) (high (true_or (nat_le (suc n) F0)))
     where
-      high : ((nat_le (suc n) F0 ≡ true) ⊎ (nat_le (suc n) F0 ≡ false)) → shift n ≡ n + G
+      high : ((nat_le (suc n) F0 ≡ true) ⊎ (nat_le (suc n) F0 ≡ false)) → shift n k ≡ n + G
       high (inl t) = absurd (let z : suc n ≤ F0 = leb-true (suc n) F0 t in omega arith)
-      high (inr f) = ap (λ (x : Bool). elim x as (λ x. ℕ) [ true ↦ elim (is_parameter ps n) as (λ x. ℕ) [ true ↦ n + G | false ↦ n ] | false ↦ n + G ]) f
+      high (inr f) = ap (λ (x : Bool). elim x as (λ x. ℕ) [ true ↦ elim (is_own places ps n k) as (λ x. ℕ) [ true ↦ n + G | false ↦ n ] | false ↦ n + G ]) f
 
   -- ---- kinds
   module _ (K : Kinds) where
@@ -310,14 +307,20 @@ module _ (S : Shapes) (places : Kind) (ps : List (Parameter BindId)) (c : Sub) (
     parts_fine m ls t i none le = tt
     parts_fine m ls t i (more u us) le = (part_fine m ls t i le, parts_fine m ls t (suc i) us le)
 
-    made_fine : (m : ℕ) (g h : Head) (ts us : Tys) → m ≤ rank K (Made h ts) → All_fine m (against_made g h ts us)
+    other_fine : (m : ℕ) (g h : Head) (ts us : Tys) → m ≤ rank K (Made h ts) → All_fine m (against_other g h ts us)
+    other_fine m (head.Record r) h ts us le = under_fine m (S.fields r) (Made h ts) le
+    other_fine m head.Tuple (head.Record r) ts us le = parts_fine m (S.fields r) (Made (head.Record r) ts) 0 us le
+    other_fine m g h ts us le = tt
+
+    parts_of_fine : (m : ℕ) (h : Head) (ts : Tys) → m ≤ rank K (Made h ts) → All_fine m ts
     unfolding rank
-    made_fine m (head.Record r) h ts us le = under_fine m (S.fields r) (Made h ts) le
-    made_fine m head.Array head.Array ts us le = least_fine m ts (omega arith)
-    made_fine m head.Fun head.Fun ts us le = least_fine m ts (omega arith)
-    made_fine m head.Tuple head.Tuple ts us le = least_fine m ts (omega arith)
-    made_fine m head.Tuple (head.Record r) ts us le = parts_fine m (S.fields r) (Made (head.Record r) ts) 0 us le
-    made_fine m g h ts us le = tt
+    parts_of_fine m h ts le = least_fine m ts (omega arith)
+
+    made_fine : (m : ℕ) (g h : Head) (ts us : Tys) → m ≤ rank K (Made h ts) → All_fine m (against_made g h ts us)
+    made_fine m head.Array head.Array ts us le = parts_of_fine m head.Array ts le
+    made_fine m head.Fun head.Fun ts us le = parts_of_fine m head.Fun ts le
+    made_fine m head.Tuple head.Tuple ts us le = parts_of_fine m head.Tuple ts le
+    made_fine m g h ts us le = elim (is_head g h) as (λ x. All_fine m (elim x as (λ x. Tys) [ true ↦ ts | false ↦ against_other g h ts us ])) [ true ↦ parts_of_fine m h ts le | false ↦ other_fine m g h ts us le ]
 
     against_fine : (m : ℕ) (g : Head) (t : Ty) (us : Tys) → Fine m t → All_fine m (against g t us)
     against_fine m g (Var n) us f = tt
@@ -417,18 +420,35 @@ module _ (S : Shapes) (places : Kind) (ps : List (Parameter BindId)) (c : Sub) (
     parts_index ls t from (suc i) (more v us) u e = parts_index ls t (suc from) i us u e ∙ ap (part_for ls t) (let z : suc from + i ≡ from + suc i = omega arith in z)
 
     -- of types with a part of this name
-    module _ (l : ℕ) (h : Head) (ts : Tys) (v : Ty) (has : HasPart S l (Made h ts) v) where
-      against_record : (r i : ℕ) (us : Tys) → place_from 0 l (S.fields r) ≡ Some i → at_index (against_made (head.Record r) h ts us) i ≡ v
-      against_record r i us e = let w = label_at 0 l (S.fields r) i e in let z : i ≡ 0 + w.0 = w.1 in ap (at_index (parts_under (S.fields r) (λ l. named_or l (Made h ts)))) (let y : i ≡ w.0 = omega arith in y) ∙ w.2 (λ l. named_or l (Made h ts)) ∙ named_is l (Made h ts) v has
+    same_index : (l : ℕ) (g h : Head) (ts : Tys) (v : Ty) (i : ℕ) → HasPart S l (Made h ts) v → is_head g h ≡ true → place S l g ≡ Some i → at_index ts i ≡ v
+    same_index l g h ts v i has e p = index_at ts i v (ap (λ o. part_at o ts) (sym p ∙ ap (place S l) (head_is g h e)) ∙ sym (part_made S l h ts) ∙ has)
 
-    against_tuple : (l : ℕ) (h : Head) (ts : Tys) (v : Ty) → HasPart S l (Made h ts) v → (i : ℕ) (us : Tys) (u : Ty) → S.position l ≡ Some i → part_at (Some i) us ≡ Some u → at_index (against_made head.Tuple h ts us) i ≡ v
+    other_record : (l : ℕ) (h : Head) (ts : Tys) (v : Ty) → HasPart S l (Made h ts) v → (r i : ℕ) → place_from 0 l (S.fields r) ≡ Some i → at_index (parts_under (S.fields r) (λ l. named_or l (Made h ts))) i ≡ v
+    other_record l h ts v has r i e = let w = label_at 0 l (S.fields r) i e in let z : i ≡ 0 + w.0 = w.1 in ap (at_index (parts_under (S.fields r) (λ l. named_or l (Made h ts)))) (let y : i ≡ w.0 = omega arith in y) ∙ w.2 (λ l. named_or l (Made h ts)) ∙ named_is l (Made h ts) v has
+
+    against_record : (l : ℕ) (h : Head) (ts : Tys) (v : Ty) → HasPart S l (Made h ts) v → (r i : ℕ) (us : Tys) → place S l (head.Record r) ≡ Some i → at_index (against_made (head.Record r) h ts us) i ≡ v
     unfolding place
-    against_tuple l head.Tuple ts v has i us u p e = index_at ts i v (ap (λ o. part_at o ts) (sym p) ∙ sym (part_made S l head.Tuple ts) ∙ has)
-    against_tuple l (head.Record r) ts v has i us u p e = parts_index (S.fields r) (Made (head.Record r) ts) 0 i us u e ∙ ap (part_for (S.fields r) (Made (head.Record r) ts)) (let z : 0 + i ≡ i = omega arith in z) ∙ part_found (S.fields r) (Made (head.Record r) ts) v l i p (inside (place_from 0 l (S.fields r)) refl (sym (part_made S l (head.Record r) ts) ∙ has)) has
+    against_record l h ts v has r i us e = elim (true_or (is_head (head.Record r) h)) as (λ x. at_index (against_made (head.Record r) h ts us) i ≡ v) [
+      | inl y ↦ ap (λ (b : Bool). at_index (elim b as (λ x. Tys) [ true ↦ ts | false ↦ against_other (head.Record r) h ts us ]) i) y ∙ same_index l (head.Record r) h ts v i has y e
+      | inr n ↦ ap (λ (b : Bool). at_index (elim b as (λ x. Tys) [ true ↦ ts | false ↦ against_other (head.Record r) h ts us ]) i) n ∙ other_record l h ts v has r i e
+    ]
+
+    other_tuple : (l : ℕ) (r : ℕ) (ts : Tys) (v : Ty) → HasPart S l (Made (head.Record r) ts) v → (i : ℕ) (us : Tys) (u : Ty) → S.position l ≡ Some i → part_at (Some i) us ≡ Some u → at_index (parts_for (S.fields r) (Made (head.Record r) ts) 0 us) i ≡ v
+    unfolding place
+    other_tuple l r ts v has i us u p e = parts_index (S.fields r) (Made (head.Record r) ts) 0 i us u e ∙ ap (part_for (S.fields r) (Made (head.Record r) ts)) (let z : 0 + i ≡ i = omega arith in z)
+        ∙ part_found (S.fields r) (Made (head.Record r) ts) v l i p (inside (place_from 0 l (S.fields r)) refl (sym (part_made S l (head.Record r) ts) ∙ has)) has
       where
         inside : (o : Option ℕ) → place_from 0 l (S.fields r) ≡ o → part_at o ts ≡ Some v → In l (S.fields r)
         inside None e h = absurd (no_part ts v h)
         inside (Some j) e h = placed_in 0 l (S.fields r) j e
+
+    against_tuple : (l : ℕ) (h : Head) (ts : Tys) (v : Ty) → HasPart S l (Made h ts) v → (i : ℕ) (us : Tys) (u : Ty) → S.position l ≡ Some i → part_at (Some i) us ≡ Some u → at_index (against_made head.Tuple h ts us) i ≡ v
+    unfolding place
+    against_tuple l head.Tuple ts v has i us u p e = index_at ts i v (ap (λ o. part_at o ts) (sym p) ∙ sym (part_made S l head.Tuple ts) ∙ has)
+    against_tuple l (head.Record r) ts v has i us u p e = elim (true_or (is_head head.Tuple (head.Record r))) as (λ x. at_index (against_made head.Tuple (head.Record r) ts us) i ≡ v) [
+      | inl y ↦ ap (λ (b : Bool). at_index (elim b as (λ x. Tys) [ true ↦ ts | false ↦ against_other head.Tuple (head.Record r) ts us ]) i) y ∙ same_index l head.Tuple (head.Record r) ts v i has y p
+      | inr n ↦ ap (λ (b : Bool). at_index (elim b as (λ x. Tys) [ true ↦ ts | false ↦ against_other head.Tuple (head.Record r) ts us ]) i) n ∙ other_tuple l r ts v has i us u p e
+    ]
     against_tuple l (head.Scalar s) ts v has i us u p e = absurd (no_place S l (head.Scalar s) ts v refl has)
     against_tuple l head.Array ts v has i us u p e = absurd (no_place S l head.Array ts v refl has)
     against_tuple l head.Fun ts v has i us u p e = absurd (no_place S l head.Fun ts v refl has)
@@ -467,3 +487,41 @@ module _ (S : Shapes) (places : Kind) (ps : List (Parameter BindId)) (c : Sub) (
     lifted_part l (Made h ts) v (Made head.Fun us) w has has' = absurd (no_part us w has')
     lifted_part l (Made h ts) v (Made (head.Rigid n k) us) w has has' = absurd (no_part us w has')
     lifted_part l (Made h ts) v (Made (head.Abstract n d) us) w has has' = absurd (no_part us w has')
+
+  -- ---- instances of one type
+  same_parts : (h : Head) (ts us : Tys) → against_made h h ts us ≡ ts
+  same_parts head.Array ts us = refl
+  same_parts head.Fun ts us = refl
+  same_parts head.Tuple ts us = refl
+  same_parts (head.Scalar s) ts us = ap (λ (b : Bool). elim b as (λ x. Tys) [ true ↦ ts | false ↦ against_other (head.Scalar s) (head.Scalar s) ts us ]) (head_self (head.Scalar s))
+  same_parts (head.Record r) ts us = ap (λ (b : Bool). elim b as (λ x. Tys) [ true ↦ ts | false ↦ against_other (head.Record r) (head.Record r) ts us ]) (head_self (head.Record r))
+  same_parts (head.Rigid n k) ts us = ap (λ (b : Bool). elim b as (λ x. Tys) [ true ↦ ts | false ↦ against_other (head.Rigid n k) (head.Rigid n k) ts us ]) (head_self (head.Rigid n k))
+  same_parts (head.Abstract n d) ts us = ap (λ (b : Bool). elim b as (λ x. Tys) [ true ↦ ts | false ↦ against_other (head.Abstract n d) (head.Abstract n d) ts us ]) (head_self (head.Abstract n d))
+
+  rigid_same : (n : ℕ) (k : Kind) → n < F0 → lifted (Made (head.Rigid n k) none) (chosen places ps c n k) ≡ Made (head.Rigid n k) none
+  unfolding lifted
+  rigid_same n k lt = elim (true_or (is_own places ps n k)) as (λ x. lifted (Made (head.Rigid n k) none) (chosen places ps c n k) ≡ Made (head.Rigid n k) none) [
+    | inl y ↦ ap (lifted (Made (head.Rigid n k) none)) (own_chosen places c ps n k y).1 ∙ lifted_yes (Made (head.Rigid n k) none) (c n) (ap (λ b. b && is_type (c n) (c n)) y ∙ type_self (c n))
+    | inr f ↦ ap (lifted (Made (head.Rigid n k) none)) (own_stays places c ps n k f) ∙ lifted_made (Made (head.Rigid n k) none) (head.Rigid n k) none (ap (λ b. b && is_type (Made (head.Rigid n k) none) (c n)) f)
+        ∙ ap (λ m. Made (head.Rigid m k) none) (ap (λ (x : Bool). elim x as (λ x. ℕ) [ true ↦ elim (is_own places ps n k) as (λ x. ℕ) [ true ↦ n + G | false ↦ n ] | false ↦ n + G ]) (le-leb (suc n) F0 (omega arith)) ∙ ap (λ (x : Bool). elim x as (λ x. ℕ) [ true ↦ n + G | false ↦ n ]) f)
+  ]
+
+  -- both rows are empty, or neither
+  abbrev pub Both_rows : Tys → Tys → Type 0
+  Both_rows none none = Unit {0}
+  Both_rows none (more u us) = ⊥
+  Both_rows (more t ts) none = ⊥
+  Both_rows (more t ts) (more u us) = Unit {0}
+
+  pub head_lifted : (h : Head) (ts us : Tys) → head_limit h ≤ F0 → Both_rows ts us → lifted (Made h ts) (chosen_head places ps c h us) ≡ Made h (all_lifted ts us)
+  unfolding lifted
+  head_lifted (head.Rigid n k) none none le rows = rigid_same n k (omega arith)
+  head_lifted (head.Rigid n k) none (more u us) le rows = absurd rows
+  head_lifted (head.Rigid n k) (more t ts) none le rows = absurd rows
+  head_lifted (head.Rigid n k) (more t ts) (more u us) le rows = ap (λ vs. Made (head.Rigid n k) (all_lifted vs (more u us))) (same_parts (head.Rigid n k) (more t ts) (more u us))
+  head_lifted (head.Scalar s) ts us le rows = ap (λ vs. Made (head.Scalar s) (all_lifted vs us)) (same_parts (head.Scalar s) ts us)
+  head_lifted head.Array ts us le rows = refl
+  head_lifted head.Tuple ts us le rows = refl
+  head_lifted (head.Record r) ts us le rows = ap (λ vs. Made (head.Record r) (all_lifted vs us)) (same_parts (head.Record r) ts us)
+  head_lifted head.Fun ts us le rows = refl
+  head_lifted (head.Abstract n d) ts us le rows = ap (λ vs. Made (head.Abstract n d) (all_lifted vs us)) (same_parts (head.Abstract n d) ts us)
