@@ -6,7 +6,7 @@ use Rattle.fut_flat.specs.declared.prim.Ref.{Ref}
 use Rattle.fut_flat.specs.Terms.{Parameter, Size_parameter, Type_parameter, Use, Strict, Lambda, Apply, Let, If, Loop, Terms, no_term, term_and, Counted, Over, While}
 use Rattle.fut_flat.specs.Erased.{FlatTerm, FlatTurns}
 use Rattle.fut_typing.specs.Program.{Defined}
-use Rattle.type_generalisation.specs.Parameters.{Is_parameter, Declares, Some_declare, Turns_declare, Declared_in, Parameter_in}
+use Rattle.type_generalisation.specs.Parameters.{Is_parameter, Declares, Some_declare, Turns_declare, Parameter_in}
 
 abbrev pub Below : (ℕ → Type 0) → Type 0
 Below P = (F : ℕ) × ((n : ℕ) → P n → n < F)
@@ -37,10 +37,6 @@ mutual
   turns_below (Counted i m) = declared_below m
   turns_below (Over p e) = declared_below e
   turns_below (While c) = declared_below c
-
-pub definitions_below : (ds : List Defined) → Below (Declared_in ds)
-definitions_below [] = (0, λ n i. absurd i)
-definitions_below (d ∷ ds) = either_below (Declares d.value) (Declared_in ds) (declared_below d.value) (definitions_below ds)
 
 pub program_below : (ds : List Defined) → Below (Parameter_in ds)
 program_below [] = (0, λ n i. absurd i)

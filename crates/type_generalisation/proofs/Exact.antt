@@ -1,5 +1,6 @@
--- Each type of a use is an instance of the definition's principal type, with types chosen for its parameters.
-use Rattle.std.proofs.Common.{◌≡◌, ◌↔◌, ℕ, zero, suc, ◌+◌, ◌≤◌, ◌<◌, refl, sym, ◌∙◌, ap, subst, arith, Bool, true, false, List, [], ◌∷◌, ◌++◌, Some}
+-- The uses of a definition are exactly the instances of its principal type, with types chosen for its parameters.
+use Rattle.std.proofs.Common.{◌≡◌, ◌↔◌, ℕ, zero, suc, ◌+◌, ◌≤◌, ◌<◌, refl, sym, ◌∙◌, ap, subst, arith, Bool, true, false, List, [], ◌∷◌, ◌++◌, Some, length, slice_index_or}
+use Rattle.std.specs.List.{All}
 use mathlib.Core.Logic.{◌⊎◌, inl, inr}
 use native.Mathlib.Decide.{ℕ_discrete}
 use Rattle.fut_scalar.specs.declared.place.BindId.{BindId}
@@ -9,6 +10,7 @@ use Rattle.fut_types.specs.declared.Kind.{Kind}
 use Rattle.fut_types.specs.declared.Head.{Head}
 use Rattle.fut_types.specs.declared.Head.TheVariants as head
 use Rattle.fut_types.specs.Types.{Ty, Var, Made, Tys, none, more, Sub, Kinds, HasKind, level, rank, applied, all_applied}
+use Rattle.fut_types.specs.Shapes.{HasPart}
 use Rattle.fut_types.proofs.TyLaws.{rank_var}
 use Rattle.fut_typing.specs.Names.{Names}
 use Rattle.fut_typing.specs.Scopes.{Scope, nothing}
@@ -16,23 +18,24 @@ use Rattle.fut_typing.specs.Patterns.{with_pattern}
 use Rattle.fut_typing.specs.Free.{is_within}
 use Rattle.fut_typing.specs.Generalised.{Suits, own_types, Scheme, Outside, Variant, Reused, Generalised}
 use Rattle.fut_typing.specs.Program.{Defined, program_numbers, definition_scheme, Definitions_typed, Program_typed}
-use Rattle.fut_typing.specs.Answers.{Principal}
+use Rattle.fut_typing.specs.Answers.{Open, Met, Principal}
 use Rattle.fut_typing.specs.Exact.{behind, scope_behind, scheme_behind, Fixed}
 use Rattle.fut_typing.proofs.Ranges.{pattern_some, true_or, within_true, within_false}
 use Rattle.fut_typing.proofs.Local.{AllLocal, all_local_more, local_pattern}
 use Rattle.fut_typing.proofs.Cong.{Inside, Kept, variant_same, reused_local, generalised_same}
 use Rattle.fut_typing.proofs.Programs.{definition_depends, definitions_same}
 use Rattle.fut_typing.proofs.Exact.{behind_local}
-use Rattle.fut_typing.proofs.Readings.{Reading, read_head, image, Suited, read_kind, Extends, extends_self, head_limit, plain, plain_suited}
+use Rattle.fut_typing.proofs.Readings.{Reading, read_head, image, Suited, read_kind, read_part, Extends, extends_self, head_limit, plain, plain_suited}
 unfoldable use Rattle.fut_typing.proofs.Readings.{read, read_all}
-use Rattle.fut_typing.proofs.Follows.{In_parameters}
+use Rattle.fut_typing.proofs.Follows.{In_parameters, Follows}
 use Rattle.fut_typing.proofs.Instances.{parameter_limit}
-use Rattle.type_generalisation.specs.Parameters.{Declares, Parameter_in, chosen_head, replaced, all_replaced}
-use Rattle.type_generalisation.specs.Claims.{Chosen_instance}
+use Rattle.type_generalisation.specs.Parameters.{Declares, Declared_in, Parameter_in, chosen_head, replaced, all_replaced}
+use Rattle.type_generalisation.specs.Claims.{Chosen_met, Chosen_instance}
 use Rattle.type_generalisation.proofs.Moving.{parameter_below, own_rigid, Good}
-use Rattle.type_generalisation.proofs.Terms.{parameter_is}
-use Rattle.type_generalisation.proofs.Uses.{whole_within}
-use Rattle.type_generalisation.proofs.Lifted.{back, back_low, back_suited, lifted_read, lifted_own}
+use Rattle.type_generalisation.proofs.Terms.{parameter_is, definition_moves, behind_follows}
+use Rattle.type_generalisation.proofs.Chosen.{chosen_for, chosen_other, scope_local, definition_in, whole_within}
+use Rattle.type_generalisation.proofs.Lifted.{back, back_low, back_suited, lifted_read, lifted_own, lifted_part, Both_rows, head_lifted}
+unfoldable use Rattle.type_generalisation.proofs.Lifted.{lifted, all_lifted}
 use Rattle.type_generalisation.proofs.Pairs as pairs
 use Rattle.type_generalisation.proofs.Joins as joins
 use Rattle.type_generalisation.proofs.Twice as twice
@@ -85,6 +88,22 @@ below_top a (suc hi) n lt = elim (ℕ_discrete n hi) as (λ d. top (a n) ≤ top
   where
     less : (n hi : ℕ) → n < suc hi → (n ≡ hi → ⊥) → n < hi
     less n hi lt ne = omega arith
+
+-- and in the parts that are left open
+abbrev pub top_parts : List Open → ℕ
+top_parts [] = 0
+top_parts (o ∷ os) = top o.part + top_parts os
+
+pub parts_top : (os : List Open) (k : ℕ) (o : Open) → k < length os → top (slice_index_or os k o).part ≤ top_parts os
+parts_top [] k o lt = absurd (omega arith)
+parts_top (p ∷ os) zero o lt = omega arith
+parts_top (p ∷ os) (suc k) o lt = let z : top (slice_index_or os k o).part ≤ top_parts os = parts_top os k o (omega arith) in omega arith
+
+-- what local definitions declare is declared
+declared_parameter : (ds : List Defined) (n : ℕ) → Declared_in ds n → Parameter_in ds n
+declared_parameter [] n i = i
+declared_parameter (d ∷ ds) n (inl i) = inr (inl i)
+declared_parameter (d ∷ ds) n (inr i) = inr (inr (declared_parameter ds n i))
 
 behind_up : (ds : List Defined) (lo : ℕ) → lo ≤ behind ds lo
 behind_up [] lo = omega arith
@@ -151,7 +170,7 @@ module _ (N : Names) (places : Kind) (d : Defined) (c : Sub) (F0 G : ℕ) (over 
         )
 
     module _ (before : List Defined) (earlier : (n : ℕ) → Parameter_in before n → D n) (p : Principal N.shapes (program_numbers (before ++ d ∷ after)) (Program_typed N places (before ++ d ∷ after)))
-        (few_types : top_below p.types (program_numbers (before ++ d ∷ after)) ≤ G) (typing : Program_typed N places (before ++ d ∷ after) K a) where
+        (few_types : top_below p.types (program_numbers (before ++ d ∷ after)) ≤ F0) (few_parts : All (λ (o : Open). top o.part ≤ F0) p.opens) (typing : Program_typed N places (before ++ d ∷ after) K a) where
       abbrev s : Scheme
       s = scheme_behind N places before d
 
@@ -179,6 +198,9 @@ module _ (N : Names) (places : Kind) (d : Defined) (c : Sub) (F0 G : ℕ) (over 
         all_replaced_back by none le = refl
         all_replaced_back by (more t ts) le = λ i. more (replaced_back by t (omega arith) i) (all_replaced_back by ts (omega arith) i)
 
+      part_back : (by : Sub) (o : Open) → top o.part ≤ F0 → Met N.shapes by o → Chosen_met N.shapes places ps c (image B by) o
+      part_back by o le met = subst (HasPart N.shapes o.label (read B (by o.variable))) (replaced_back by o.part (omega arith)) (read_part B N.shapes o.label (by o.variable) (applied by o.part) met)
+
       -- all is inside a definition or outside
       inside_or : (n : ℕ) → Inside s n ⊎ Outside s n
       inside_or n = elim (true_or (is_within s.first s.many n)) [ inl t ↦ inl (within_true s.first s.many n t) | inr f ↦ inr (within_false s.first s.many n f) ]
@@ -201,6 +223,64 @@ module _ (N : Names) (places : Kind) (d : Defined) (c : Sub) (F0 G : ℕ) (over 
             kinds = λ n. read_kind K K B suited (p.kinds n) (w.0 n) (w.1 n);
             choice = c;
             suits = suits;
+            met = λ k o lt. part_back w.0 (slice_index_or p.opens k o) (few_parts k o lt) (w.2 k o lt);
             fixed = λ n lt fixed. reads n lt ∙ stays v n fixed;
             is = is ∙ sym (reads s.first (omega arith));
           }
+
+      -- ---- an instance is a use
+      rows : (f g : Sub) (ts : Tys) → Both_rows N.shapes places ps c F0 G over wide (all_applied f ts) (all_replaced places ps c g ts)
+      unfolding applied replaced
+      rows f g none = tt
+      rows f g (more t ts) = tt
+
+      mutual
+        unfolding lifted applied replaced top
+
+        lifted_applied : (f g : Sub) (t : Ty) → top t ≤ F0 → lift (applied f t) (replaced places ps c g t) ≡ applied (two f g) t
+        lifted_applied f g (Var n) le = refl
+        lifted_applied f g (Made h ts) le = head_lifted N.shapes places ps c F0 G over wide h (all_applied f ts) (all_replaced places ps c g ts) (omega arith) (rows f g ts) ∙ ap (Made h) (all_lifted_applied f g ts (omega arith))
+
+        all_lifted_applied : (f g : Sub) (ts : Tys) → all_top ts ≤ F0 → all_lifted N.shapes places ps c F0 G over wide (all_applied f ts) (all_replaced places ps c g ts) ≡ all_applied (two f g) ts
+        all_lifted_applied f g none le = refl
+        all_lifted_applied f g (more t ts) le = λ i. more (lifted_applied f g t (omega arith) i) (all_lifted_applied f g ts (omega arith) i)
+
+      met_lifted : (f g : Sub) (o : Open) → top o.part ≤ F0 → Met N.shapes f o → Chosen_met N.shapes places ps c g o → Met N.shapes (two f g) o
+      met_lifted f g o le m m' = subst (HasPart N.shapes o.label (lift (f o.variable) (g o.variable))) (lifted_applied f g o.part le) (lifted_part N.shapes places ps c F0 G over wide one_label o.label (f o.variable) (applied f o.part) (g o.variable) (replaced places ps c g o.part) m m')
+
+      -- its own types are read as those chosen
+      own_back : (n : ℕ) → In_parameters ps n → (L : Reading) → Extends G B L → read L (own_types places ps n) ≡ c n
+      unfolding read
+      own_back n i L e = let w = chosen_for places c ps n i in let lt : n < parameter_limit ps = parameter_below ps n i in
+          ap (read L) w.1 ∙ e.own n w.0 (omega arith) ∙ back_low N.shapes places ps c F0 G over wide n w.0 (omega arith) ∙ w.2
+
+      here_local : AllLocal (λ n. n < behind before 0) (scope_behind N places before 0 nothing)
+      here_local = scope_local N places before 0 nothing (λ b K a a' t e u. absurd u)
+
+      moved : (x : Sub) → Suits places K c ps → Program_typed N places (before ++ d ∷ after) K x → s.typed c K (image B x)
+      moved x suits typed =
+          let good : Good places K K D F0 low B G = record {
+            suited = back_suited N.shapes places ps c F0 G over wide K suits (variable_kind K);
+            plain = λ n k h. (let lt : n < F0 = low n h in back_low N.shapes places ps c F0 G over wide n k (omega arith) ∙ chosen_other places c ps n k (apart n h));
+            over = over;
+          } in
+          let scope : Scope = scope_behind N places before 0 nothing in
+          let follows : Follows K K B G scope scope = behind_follows N places K K D F0 low B G good before 0 nothing nothing (λ n i. earlier n (declared_parameter before n i)) (λ b K a a' t e u. absurd u) (record { uses = λ b J su e a t u. absurd u; types = λ b J su e t u. absurd u }) in
+          definition_moves N places K K D F0 low B G d (behind before 0) scope scope few here_local follows (own_types places ps) c B G good (omega arith) (extends_self G B) own_back x (definition_in N places d after before 0 nothing K x typed).0
+
+      pub instance_use : (by : Sub) → ((v : ℕ) → HasKind K (p.kinds v) (by v)) → Suits places K c ps → All (Chosen_met N.shapes places ps c by) p.opens → ((n : ℕ) → n < program_numbers (before ++ d ∷ after) → Fixed s n → replaced places ps c by (p.types n) ≡ a n)
+          → Reused places s s.first K a (replaced places ps c by (p.types s.first))
+      instance_use by kinds suits met fixed =
+          let w = p.instance K a typing in
+          let x : Sub = λ n. applied (two w.0 by) (p.types n) in
+          let typed : Program_typed N places (before ++ d ∷ after) K x = p.typing K (two w.0 by) (λ v. pairs.lift_kind N places ps c F0 G over wide K (p.kinds v) (w.0 v) (by v) (w.1 v) (kinds v)) (λ k o lt. met_lifted w.0 by (slice_index_or p.opens k o) (few_parts k o lt) (w.2 k o lt) (met k o lt)) in
+          let o : Sub = image B x in
+          let reads : (n : ℕ) → n < program_numbers (before ++ d ∷ after) → o n ≡ replaced places ps c by (p.types n) = λ n lt.
+          (let z : top (p.types n) ≤ top_below p.types (program_numbers (before ++ d ∷ after)) = below_top p.types (program_numbers (before ++ d ∷ after)) n lt in
+          replaced_back (two w.0 by) (p.types n) (omega arith) ∙ (λ j. replaced places ps c (λ v. lifted_read N.shapes places ps c F0 G over wide (w.0 v) (by v) j) (p.types n))) in
+          let within : behind before 0 + (pattern_numbers d.name + numbers d.value) ≤ 0 + program_numbers (before ++ d ∷ after) = whole_within N places d after before 0 in
+          let some : 0 < pattern_numbers d.name = pattern_some d.name in
+          let u : Reused places s s.first K o (o s.first) = (c, suits, (record { other = o; outside = λ n out. refl; kept = λ n y z e. refl; typed = moved x suits typed }, refl)) in
+          subst (Reused places s s.first K a) (reads s.first (omega arith))
+          (reused_local places (λ n. n < s.first) s (definition_depends N places (λ n. n < behind before 0) d (behind before 0) (scope_behind N places before 0 nothing) here_local) s.first (omega arith, omega arith) K o a (o s.first)
+          (λ n. elim [ inl lt ↦ reads n (omega arith) ∙ fixed n (omega arith) (inl (inl lt)) | inr k ↦ (let m : n < behind before 0 + (pattern_numbers d.name + numbers d.value) = k.0.1 in reads n (omega arith) ∙ fixed n (omega arith) (inr k.1)) ]) u)

@@ -1,7 +1,7 @@
 pub mod Moving
 pub mod Terms
 pub mod Below
-pub mod Uses
+pub mod Chosen
 pub mod Renamed
 pub mod Same
 pub mod Lifted

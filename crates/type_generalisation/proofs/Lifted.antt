@@ -23,7 +23,7 @@ use Rattle.fut_typing.proofs.Follows.{In_parameters}
 use Rattle.fut_typing.proofs.Instances.{parameter_limit}
 use Rattle.type_generalisation.specs.Parameters.{chosen, chosen_head}
 use Rattle.type_generalisation.proofs.Moving.{parameter_below}
-use Rattle.type_generalisation.proofs.Uses.{chosen_kind}
+use Rattle.type_generalisation.proofs.Chosen.{chosen_kind}
 use Rattle.type_generalisation.proofs.Same.{is_head, head_is, head_self, is_number, number_is, number_self, is_type, type_is, type_self}
 
 abbrev pub first_of : Tys → Ty

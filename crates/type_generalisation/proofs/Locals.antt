@@ -21,7 +21,7 @@ use Rattle.fut_typing.proofs.Locals.{up_to, body_local, carried_local, turned_lo
 use Rattle.fut_typing.proofs.Exact.{local_exact}
 use Rattle.type_generalisation.specs.Ways.{Ends_at, Ends_in, Ends_in_turns, and_body, Renamed_let}
 use Rattle.type_generalisation.specs.Claims.{LocalUsesAreExact}
-use Rattle.type_generalisation.proofs.Uses.{scope_local}
+use Rattle.type_generalisation.proofs.Chosen.{scope_local}
 use Rattle.type_generalisation.proofs.Renamed.{used_renamed, renamed_used}
 
 -- the other name is written as a function

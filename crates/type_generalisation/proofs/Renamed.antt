@@ -20,7 +20,7 @@ use Rattle.fut_typing.proofs.Local.{AllLocal, uses_here}
 use Rattle.fut_typing.proofs.Cong.{mixed, mixed_free, mixed_outside, within_no}
 use Rattle.fut_typing.proofs.Exact.{definition_exact}
 use Rattle.type_generalisation.specs.Claims.{renamed, UsesAreExact}
-use Rattle.type_generalisation.proofs.Uses.{scope_local}
+use Rattle.type_generalisation.proofs.Chosen.{scope_local}
 
 module _ (N : Names) (places : Kind) where
   scope_more : (ds : List Defined) (d : Defined) (lo : ℕ) (scope : Scope)

@@ -1,10 +1,5 @@
 // The laws of definitions with written type parameters, each carried by a call.
-ghost use Rattle.type_generalisation.specs.Claims.{InstancesAreUses, LocalUsesAreExact, UsesAreExact, WrittenIsExact};
-
-/// The law that a definition with written type parameters may be used at each instance of its principal type.
-pub fn instances_are_uses()
-    ensures { InstancesAreUses }
-{}
+ghost use Rattle.type_generalisation.specs.Claims.{LocalUsesAreExact, UsesAreExact, WrittenIsExact};
 
 /// The law that generalisation is exact for definitions with written type parameters: the uses of one are exactly the
 /// instances of its principal type, with types chosen for its parameters.

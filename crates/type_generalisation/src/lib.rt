@@ -1,7 +1,7 @@
-//! How far generalisation is exact for definitions with written type parameters (`specs/Claims.antt`). What is put for their
+//! Generalisation is exact, also for definitions with written type parameters (`specs/Claims.antt`). What is put for their
 //! parameters, and which parameters a term declares, stands in `specs/Parameters.antt`.
 #![tactic(auto)]
 
 mod laws;
 
-pub use laws::{instances_are_uses, uses_are_exact, written_generalisation_is_exact};
+pub use laws::{uses_are_exact, written_generalisation_is_exact};
