@@ -1,31 +1,25 @@
 -- What is put for the own types of parameters, and where a definition stands in a program.
-use Rattle.std.proofs.Common.{◌≡◌, ℕ, ◌+◌, ◌≤◌, ◌<◌, refl, sym, ◌∙◌, ap, subst, arith, List, [], ◌∷◌, ◌++◌}
-use Rattle.std.specs.List.{All}
+use Rattle.std.proofs.Common.{◌≡◌, ℕ, ◌+◌, ◌≤◌, ◌<◌, refl, sym, subst, arith, List, [], ◌∷◌, ◌++◌}
 use mathlib.Core.Logic.{◌⊎◌, inl, inr}
 use native.Mathlib.Decide.{ℕ_discrete}
 use Rattle.fut_scalar.specs.declared.place.BindId.{BindId}
 use Rattle.fut_flat.specs.Terms.{Parameter, Size_parameter, Type_parameter}
 use Rattle.fut_flat.specs.Numbers.{pattern_numbers, numbers}
 use Rattle.fut_types.specs.declared.Kind.{Kind}
-use Rattle.fut_types.specs.declared.Head.{Head}
 use Rattle.fut_types.specs.declared.Head.TheVariants as head
-use Rattle.fut_types.specs.Types.{Ty, Var, Made, Tys, none, more, Sub, Kinds, HasKind, level, rank, applied, all_applied}
+use Rattle.fut_types.specs.Types.{Ty, Made, none, Sub, Kinds, HasKind, level, rank}
 use Rattle.fut_typing.specs.Names.{Names}
-use Rattle.fut_typing.specs.Scopes.{Scope, nothing}
+use Rattle.fut_typing.specs.Scopes.{Scope}
 use Rattle.fut_typing.specs.Patterns.{with_pattern}
-use Rattle.fut_typing.specs.Generalised.{parameter_kind, Suits, own_types, Scheme, Reused, Generalised}
-use Rattle.fut_typing.specs.Program.{Defined, program_numbers, definition_scheme, Definitions_typed, Program_typed}
-use Rattle.fut_typing.specs.Exact.{behind, scope_behind, scheme_behind, Fixed}
-use Rattle.fut_typing.proofs.Ranges.{pattern_some}
+use Rattle.fut_typing.specs.Generalised.{parameter_kind, Suits, own_types, Reused, Generalised}
+use Rattle.fut_typing.specs.Program.{Defined, program_numbers, definition_scheme, Definitions_typed}
+use Rattle.fut_typing.specs.Exact.{behind, scope_behind}
 use Rattle.fut_typing.proofs.Local.{AllLocal}
-use Rattle.fut_typing.proofs.Cong.{reused_local}
-use Rattle.fut_typing.proofs.Programs.{definition_depends}
 use Rattle.fut_typing.proofs.Exact.{behind_local}
-use Rattle.fut_typing.proofs.Readings.{Reading, read_head, image, Suited, Extends, extends_self, rigid_kind}
+use Rattle.fut_typing.proofs.Readings.{rigid_kind}
 unfoldable use Rattle.fut_typing.proofs.Readings.{read, read_all}
-use Rattle.fut_typing.proofs.Follows.{In_parameters, Follows}
-use Rattle.fut_typing.proofs.Instances.{parameter_limit}
-use Rattle.type_generalisation.specs.Parameters.{chosen, chosen_head, replaced, all_replaced, Declared_in}
+use Rattle.fut_typing.proofs.Follows.{In_parameters}
+use Rattle.type_generalisation.specs.Parameters.{chosen}
 
 -- ---- what is put for own types
 module _ (places : Kind) (c : Sub) where

@@ -1,5 +1,5 @@
 -- The uses of a definition are exactly the instances of its principal type, with types chosen for its parameters.
-use Rattle.std.proofs.Common.{◌≡◌, ◌↔◌, ℕ, zero, suc, ◌+◌, ◌≤◌, ◌<◌, refl, sym, ◌∙◌, ap, subst, arith, Bool, true, false, List, [], ◌∷◌, ◌++◌, Some, length, slice_index_or}
+use Rattle.std.proofs.Common.{◌≡◌, ℕ, zero, suc, ◌+◌, ◌≤◌, ◌<◌, refl, sym, ◌∙◌, ap, subst, arith, List, [], ◌∷◌, ◌++◌, Some, length, slice_index_or}
 use Rattle.std.specs.List.{All}
 use mathlib.Core.Logic.{◌⊎◌, inl, inr}
 use native.Mathlib.Decide.{ℕ_discrete}

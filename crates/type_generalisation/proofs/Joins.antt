@@ -1,7 +1,7 @@
 -- What names, written types and patterns say of two rows of types, they say of each reading of the types that are lifted from
 -- them.
-use Rattle.std.proofs.Common.{◌≡◌, ℕ, ◌+◌, ◌≤◌, ◌<◌, refl, sym, ◌∙◌, ap, subst, arith, true, false, List, [], ◌∷◌, Option, Some, None}
-use mathlib.Core.Logic.{◌⊎◌, inl, inr}
+use Rattle.std.proofs.Common.{◌≡◌, ℕ, ◌+◌, ◌≤◌, ◌<◌, refl, sym, ◌∙◌, ap, subst, arith, List, [], ◌∷◌, Option, Some, None}
+use mathlib.Core.Logic.{inl, inr}
 use native.Mathlib.Decide.{ℕ_discrete}
 use Rattle.fut_scalar.specs.declared.place.BindId.{BindId}
 use Rattle.fut_flat.specs.declared.prim.Ref.{Ref}
@@ -11,7 +11,7 @@ use Rattle.fut_flat.specs.Numbers.{pattern_numbers, all_pattern_numbers}
 use Rattle.fut_flat.specs.Erased.{FlatType, FlatPattern, FlatTurns}
 use Rattle.fut_types.specs.declared.Kind.{Kind}
 use Rattle.fut_types.specs.declared.Head.TheVariants as head
-use Rattle.fut_types.specs.Types.{Ty, Made, Tys, none, more, Sub, Kinds, applied}
+use Rattle.fut_types.specs.Types.{Ty, Made, Tys, none, more, Sub, Kinds}
 use Rattle.fut_typing.specs.Names.{Names, IsRecord}
 use Rattle.fut_typing.specs.Primitives.{i64_ty}
 use Rattle.fut_typing.specs.Scopes.{Uses, Scope, with_uses, with_type, with_sizes, with_argument, the_one, this_type, Used, IsSize, Denotes, All_denote}

@@ -1,5 +1,5 @@
 -- Another name for a local function has its uses.
-use Rattle.std.proofs.Common.{◌≡◌, ◌↔◌, ℕ, zero, suc, ◌+◌, ◌≤◌, ◌<◌, refl, sym, ◌∙◌, ap, subst, arith, Bool, true, false, List, [], ◌∷◌, ◌++◌}
+use Rattle.std.proofs.Common.{◌≡◌, ◌↔◌, ℕ, zero, suc, ◌+◌, ◌<◌, refl, sym, ◌∙◌, ap, subst, arith, Bool, true, []}
 use Rattle.fut_scalar.specs.declared.place.BindId.{BindId}
 use Rattle.fut_scalar.specs.declared.place.Place.{Place}
 use Rattle.fut_flat.specs.declared.prim.Ref.{Ref}
@@ -14,7 +14,6 @@ use Rattle.fut_typing.specs.Scopes.{Uses, Scope, nothing, with_sizes, the_one}
 use Rattle.fut_typing.specs.Patterns.{with_pattern, with_patterns, with_parameters}
 use Rattle.fut_typing.specs.Generalised.{own_types, Scheme, Reused}
 use Rattle.fut_typing.specs.Typing.{FlatBinding, with_turns, let_scheme, let_uses, with_let, Typed}
-use Rattle.fut_typing.specs.Program.{Defined}
 use Rattle.fut_typing.specs.Exact.{behind, scope_behind, Way, found, part, Leads, Leads_in, Leads_turns, scheme_along, scheme_in, scheme_turns}
 use Rattle.fut_typing.proofs.Local.{AllLocal, uses_here, local_parameters, local_all_ones}
 use Rattle.fut_typing.proofs.Locals.{up_to, body_local, carried_local, turned_local}

@@ -9,7 +9,7 @@ use Rattle.fut_flat.specs.Numbers.{pattern_numbers, all_pattern_numbers, own_num
 use Rattle.fut_flat.specs.Erased.{FlatTerm, FlatTurns}
 use Rattle.fut_types.specs.declared.Kind.{Kind}
 use Rattle.fut_types.specs.declared.Kind.TheVariants as kind
-use Rattle.fut_types.specs.Types.{more, Sub, Kinds, HasKind}
+use Rattle.fut_types.specs.Types.{more, Sub, Kinds}
 use Rattle.fut_typing.specs.Names.{Names}
 use Rattle.fut_typing.specs.Scopes.{Scope, with_sizes, the_one}
 use Rattle.fut_typing.specs.Rules.{Rule}

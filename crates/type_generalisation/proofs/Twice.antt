@@ -1,7 +1,7 @@
 -- Two typings of a term, one with the own types of parameters and one with what is chosen for them, give a third: of each
 -- reading of the types that are lifted from them, if it leaves the types of the parameters that the term declares as they are.
-use Rattle.std.proofs.Common.{◌≡◌, ℕ, ◌+◌, ◌≤◌, ◌<◌, refl, sym, ◌∙◌, ap, subst, arith, Bool, true, false, ◌||◌, List, [], ◌∷◌, Some}
-use mathlib.Core.Logic.{◌⊎◌, inl, inr}
+use Rattle.std.proofs.Common.{◌≡◌, ℕ, ◌+◌, ◌≤◌, ◌<◌, refl, sym, ◌∙◌, ap, subst, arith, Bool, true, false, List, [], ◌∷◌, Some}
+use mathlib.Core.Logic.{inl, inr}
 use Rattle.fut_scalar.specs.declared.place.BindId.{BindId}
 use Rattle.fut_flat.specs.declared.prim.Ref.{Ref}
 use Rattle.fut_flat.specs.Terms.{Parameter, Size_parameter, Type_parameter, Use, Strict, Lambda, Apply, Let, If, Loop, Terms, no_term, term_and, Counted, Over, While}
@@ -10,12 +10,12 @@ use Rattle.fut_flat.specs.Erased.{FlatTerm, FlatTurns}
 use Rattle.fut_types.specs.declared.Kind.{Kind}
 use Rattle.fut_types.specs.declared.Kind.TheVariants as kind
 use Rattle.fut_types.specs.declared.Head.TheVariants as head
-use Rattle.fut_types.specs.Types.{Ty, Made, none, more, Sub, Kinds, HasKind}
+use Rattle.fut_types.specs.Types.{Ty, Made, none, Sub, Kinds}
 use Rattle.fut_typing.specs.Names.{Names}
 use Rattle.fut_typing.specs.Scopes.{Uses, Scope, with_sizes, the_one}
 use Rattle.fut_typing.specs.Rules.{Rule}
 use Rattle.fut_typing.specs.Patterns.{arrows, pattern_types, with_pattern, with_patterns, with_parameters}
-use Rattle.fut_typing.specs.Free.{is_within, has_types, is_free}
+use Rattle.fut_typing.specs.Free.{is_within}
 use Rattle.fut_typing.specs.Generalised.{parameter_kind, Suits, own_types, Scheme, Variant, Reused, Generalised}
 use Rattle.fut_typing.specs.Typing.{term_types, operand, Function_name, with_turns, let_scheme, Let_typed, let_uses, with_let, Typed, All_typed, Turns_typed}
 use Rattle.fut_typing.specs.Program.{Defined, definition_scheme, Definitions_typed}
@@ -29,7 +29,7 @@ use Rattle.fut_typing.proofs.Readings.{Reading, image, Suited, read_kind, Extend
 unfoldable use Rattle.fut_typing.proofs.Readings.{read, read_all}
 use Rattle.fut_typing.proofs.Follows.{In_parameters, read_arrows, read_patterns, read_array, rule_follows}
 use Rattle.fut_typing.proofs.Instances.{parameter_limit}
-use Rattle.type_generalisation.specs.Parameters.{Is_parameter, Declares, Some_declare, Turns_declare, Parameter_in}
+use Rattle.type_generalisation.specs.Parameters.{Declares, Some_declare, Turns_declare, Parameter_in}
 use Rattle.type_generalisation.proofs.Moving.{limit_below, below_limit, chosen_limit, chosen_below, kind_for, raised, raised_suited, raised_extends, new_suit, new_read, parameter_below, own_rigid, Good, good_more}
 unfoldable use Rattle.type_generalisation.proofs.Moving.{new_types}
 use Rattle.type_generalisation.proofs.Terms.{parameter_is, read_terms}

@@ -1,10 +1,9 @@
 -- Generalisation is exact for definitions with written type parameters.
-use Rattle.std.proofs.Common.{◌≡◌, ◌↔◌, ℕ, ◌+◌, ◌≤◌, ◌<◌, sym, subst, arith, List, [], ◌∷◌, ◌++◌, slice_index_or}
+use Rattle.std.proofs.Common.{ℕ, ◌+◌, ◌≤◌, ◌<◌, sym, subst, arith, ◌∷◌, ◌++◌, slice_index_or}
 use Rattle.std.specs.List.{All}
 use mathlib.Core.Logic.{◌⊎◌, inl, inr}
-use Rattle.fut_types.specs.Types.{Ty, Sub, Kinds}
 use Rattle.fut_typing.specs.Generalised.{Scheme, Reused}
-use Rattle.fut_typing.specs.Program.{Defined, program_numbers}
+use Rattle.fut_typing.specs.Program.{program_numbers}
 use Rattle.fut_typing.specs.Answers.{Open}
 use Rattle.fut_typing.specs.Exact.{scheme_behind}
 use Rattle.fut_typing.proofs.Follows.{In_parameters}
