@@ -1,0 +1,14 @@
+pub mod Moving
+pub mod Terms
+pub mod Below
+pub mod Chosen
+pub mod Renamed
+pub mod Same
+pub mod Lifted
+pub mod Pairs
+pub mod Joins
+pub mod Twice
+pub mod Exact
+pub mod Spelled
+pub mod Written
+pub mod Locals
