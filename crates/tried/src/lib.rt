@@ -1,5 +1,5 @@
 //! Calls that are tried in code, since no row of `worked` can say them: real files behind the adapters, the objects in
-//! memory that never fail, and the small owners.
+//! memory that never fail, and copies of values.
 #![tactic(auto)]
 
 #[cfg(test)]
@@ -7,4 +7,4 @@ mod files;
 #[cfg(test)]
 mod memory;
 #[cfg(test)]
-mod owners;
+mod values;
