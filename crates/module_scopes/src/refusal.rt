@@ -1,4 +1,6 @@
 // Why a program has no flat program.
+ghost use Rattle.std.specs.Prelude.{◌≡◌};
+
 use fut_scalar::{NoMemory, Place};
 
 /// Why a name is refused, and where.
@@ -22,6 +24,10 @@ pub enum Stop<'a> {
 }
 
 impl<'a> From<NoMemory> for Stop<'a> {
+    ghost use Rattle.module_scopes.specs.declared.refusal.Stop.TheVariants.{Memory};
+
+    ghost from_gives = { λ _ stop. stop ≡ Memory };
+
     fn from(_error: NoMemory) -> Stop<'a> {
         Stop::Memory
     }
