@@ -419,3 +419,54 @@ constrain_over-enter_pattern-requires-clause-room t c = omega (arith, c.requires
 
 pub constrain_over-enter_pattern-requires-2-clause-room : goal.constrain_over-enter_pattern-requires-2-clause-room
 constrain_over-enter_pattern-requires-2-clause-room t c = omega (arith, c.requires.room, c.in-Ok.ensures.next)
+
+pub constrain_parts-returns-in-Err : goal.constrain_parts-returns-in-Err
+constrain_parts-returns-in-Err t c = record { next = tt; begins = tt; ok = tt; err = tt }
+
+pub constrain_rows-returns-in-Err : goal.constrain_rows-returns-in-Err
+constrain_rows-returns-in-Err t c = record { next = tt; begins = tt; ok = tt; err = tt }
+
+pub constrain_lets-returns-then-lets-eq0 : goal.constrain_lets-returns-then-lets-eq0
+constrain_lets-returns-then-lets-eq0 t c = record { next = tt; ok = tt; err = tt }
+
+pub constrain_row-returns-then-one-gt0 : goal.constrain_row-returns-then-one-gt0
+constrain_row-returns-then-one-gt0 t c = record { next = tt; ok = tt; err = tt }
+
+pub constrain_value-returns-in-Err-enter_sizes : goal.constrain_value-returns-in-Err-enter_sizes
+constrain_value-returns-in-Err-enter_sizes t c = record { next = tt; ok = tt; err = tt }
+
+pub constrain_value-returns-in-Err-enter_pattern : goal.constrain_value-returns-in-Err-enter_pattern
+constrain_value-returns-in-Err-enter_pattern t c = record { next = tt; ok = tt; err = tt }
+
+pub constrain_bound-returns-in-Err : goal.constrain_bound-returns-in-Err
+constrain_bound-returns-in-Err t c = record { next = tt; ok = tt; err = tt }
+
+pub constrain_counted-returns-in-Err-enter_sizes : goal.constrain_counted-returns-in-Err-enter_sizes
+constrain_counted-returns-in-Err-enter_sizes t c = record { next = tt; ok = tt; err = tt }
+
+pub constrain_counted-returns-in-Err-enter_pattern : goal.constrain_counted-returns-in-Err-enter_pattern
+constrain_counted-returns-in-Err-enter_pattern t c = record { next = tt; ok = tt; err = tt }
+
+pub constrain_counted-returns-in-Err-enter : goal.constrain_counted-returns-in-Err-enter
+constrain_counted-returns-in-Err-enter t c = record { next = tt; ok = tt; err = tt }
+
+pub constrain_over-returns-in-Err-enter_sizes : goal.constrain_over-returns-in-Err-enter_sizes
+constrain_over-returns-in-Err-enter_sizes t c = record { next = tt; ok = tt; err = tt }
+
+pub constrain_over-returns-in-Err-enter_pattern : goal.constrain_over-returns-in-Err-enter_pattern
+constrain_over-returns-in-Err-enter_pattern t c = record { next = tt; ok = tt; err = tt }
+
+pub constrain_over-returns-in-Err-enter_pattern-2 : goal.constrain_over-returns-in-Err-enter_pattern-2
+constrain_over-returns-in-Err-enter_pattern-2 t c = record { next = tt; ok = tt; err = tt }
+
+pub constrain_definition-returns-then-depth-ge4294967294 : goal.constrain_definition-returns-then-depth-ge4294967294
+constrain_definition-returns-then-depth-ge4294967294 t c = record { next = tt; ok = tt; err = tt }
+
+pub constrain_definition-returns-in-Err : goal.constrain_definition-returns-in-Err
+constrain_definition-returns-in-Err t c = record { next = tt; ok = tt; err = tt }
+
+pub constrain_value-returns-in-Err : goal.constrain_value-returns-in-Err
+constrain_value-returns-in-Err t c = record { next = tt; ok = tt; err = c.in-Err.ensures.err }
+
+pub constrain_row-returns-then-one : goal.constrain_row-returns-then-one
+constrain_row-returns-then-one t c = record { next = c.constrain_function.ensures.next; ok = c.constrain_function.ensures.ok; err = c.constrain_function.ensures.err }
