@@ -12,11 +12,10 @@ ghost use Rattle.type_constraints.specs.Parts.{Constrained, Head_claim, Head_hom
 
 use crate::operations::{constrain_rule, own_numbers_of};
 use crate::patterns::{constrain_arrows, constrain_chain, constrain_parameters, constrain_pattern};
+use crate::setting::Setting;
 use crate::uses::use_name;
 use fut_flat::{Act, Exp, Form, Head, Let, Loop, LoopForm, Pat, PatForm, Ref};
 use fut_scalar::{BindId, List, Place, ScalarType};
-use fut_types::Kind;
-use std::alloc::Global;
 use type_definitions::{enter_parameters, generalise};
 use type_graph::UnifyErr;
 use type_rules::{Demand, application, carried, choice, counted, gone_over};
@@ -27,66 +26,58 @@ use type_scopes::{
 /// Asks for the rules of all numbers of an expression, which begin at `lo`. The answer is where they end.
 #[cycle(constrain)]
 pub fn constrain<'a>(
-    alloc: Global,
-    places: Kind,
-    base: u32,
+    setting: Setting,
     exp: &Exp<'a>,
-    depth: u32,
     lo: u32,
     inference: &mut Inference<'a>,
 ) -> Result<u32, UnifyErr>
-    requires safe { Safe base inference.old }
-    requires room { lo + numbers (term_of exp.now) ≤ base }
+    requires safe { Safe setting.base inference.old }
+    requires room { lo + numbers (term_of exp.now) ≤ setting.base }
     ensures next { IfOk result (λ next. next ≡ lo + numbers (term_of exp.now)) }
-    ensures ok { OnOk result (Constrained places base depth lo (term_of exp.now) inference.old inference.new) }
-    ensures err { IfErr result (Tells (Unconstrained places base depth lo (term_of exp.now) inference.old inference.new)) }
+    ensures ok { OnOk result (Constrained setting.places setting.base setting.depth lo (term_of exp.now) inference.old inference.new) }
+    ensures err { IfErr result (Tells (Unconstrained setting.places setting.base setting.depth lo (term_of exp.now) inference.old inference.new)) }
 {
     match exp.form {
         Form::Use(reference, before) => constrain_use(
-            alloc, places, base, reference, exp.place, before, depth, lo, inference,
+            setting, reference, exp.place, before, lo, inference,
         ),
         Form::Strict { act, mark, parts } => {
-            constrain_strict(alloc, places, base, &act, mark, parts, depth, lo, inference)
+            constrain_strict(setting, &act, mark, parts, lo, inference)
         }
-        Form::Lambda(params, body) => {
-            constrain_lambda(alloc, places, base, params, body, depth, lo, inference)
-        }
+        Form::Lambda(params, body) => { constrain_lambda(setting, params, body, lo, inference) }
         Form::Apply(function, argument) => {
-            constrain_apply(
-                alloc, places, base, function, argument, depth, lo, inference,
-            )
+            constrain_apply(setting, function, argument, lo, inference)
         }
-        Form::Lets(lets, body) => {
-            constrain_lets(alloc, places, base, lets, body, depth, lo, inference)
-        }
-        Form::If(test, yes, no) => {
-            constrain_if(alloc, places, base, test, yes, no, depth, lo, inference)
-        }
-        Form::Loop(whole) => constrain_loop(alloc, places, base, whole, depth, lo, inference),
+        Form::Lets(lets, body) => { constrain_lets(setting, lets, body, lo, inference) }
+        Form::If(test, yes, no) => { constrain_if(setting, test, yes, no, lo, inference) }
+        Form::Loop(whole) => constrain_loop(setting, whole, lo, inference),
     }
 }
 
 // A use of a name, behind names of modules.
 fn constrain_use(
-    alloc: Global,
-    places: Kind,
-    base: u32,
+    setting: Setting,
     reference: Ref,
     place: Place,
     before: u32,
-    depth: u32,
     lo: u32,
     inference: &mut Inference,
 ) -> Result<u32, UnifyErr>
-    requires safe { Safe base inference.old }
-    requires room { lo + numbers (use_term reference place before) ≤ base }
+    requires safe { Safe setting.base inference.old }
+    requires room { lo + numbers (use_term reference place before) ≤ setting.base }
     ensures next { IfOk result (λ next. next ≡ lo + numbers (use_term reference place before)) }
-    ensures ok { OnOk result (Constrained places base depth lo (use_term reference place before) inference.old inference.new) }
-    ensures err { IfErr result (Tells (Unconstrained places base depth lo (use_term reference place before) inference.old inference.new)) }
+    ensures ok { OnOk result (Constrained setting.places setting.base setting.depth lo (use_term reference place before) inference.old inference.new) }
+    ensures err { IfErr result (Tells (Unconstrained setting.places setting.base setting.depth lo (use_term reference place before) inference.old inference.new)) }
 {
     let _place = place;
-    let _depth = depth;
-    match use_name(alloc, places, base, reference, lo, inference) {
+    match use_name(
+        setting.alloc,
+        setting.places,
+        setting.base,
+        reference,
+        lo,
+        inference,
+    ) {
         Ok(()) => Ok(lo + (1 + (before + before))),
         Err(error) => Err(error),
     }
@@ -95,44 +86,32 @@ fn constrain_use(
 // Parts from left to right, and an operation on them.
 #[cycle(constrain)]
 fn constrain_strict<'a>(
-    alloc: Global,
-    places: Kind,
-    base: u32,
+    setting: Setting,
     act: &Act<'a>,
     mark: Place,
     parts: &[Exp<'a>],
-    depth: u32,
     lo: u32,
     inference: &mut Inference<'a>,
 ) -> Result<u32, UnifyErr>
-    requires safe { Safe base inference.old }
-    requires room { lo + numbers (Strict (operation_of act.now) mark (terms (map term_of parts.now))) ≤ base }
+    requires safe { Safe setting.base inference.old }
+    requires room { lo + numbers (Strict (operation_of act.now) mark (terms (map term_of parts.now))) ≤ setting.base }
     ensures next { IfOk result (λ next. next ≡ lo + numbers (Strict (operation_of act.now) mark (terms (map term_of parts.now)))) }
-    ensures ok { OnOk result (Constrained places base depth lo (Strict (operation_of act.now) mark (terms (map term_of parts.now))) inference.old inference.new) }
-    ensures err { IfErr result (Tells (Unconstrained places base depth lo (Strict (operation_of act.now) mark (terms (map term_of parts.now))) inference.old inference.new)) }
+    ensures ok { OnOk result (Constrained setting.places setting.base setting.depth lo (Strict (operation_of act.now) mark (terms (map term_of parts.now))) inference.old inference.new) }
+    ensures err { IfErr result (Tells (Unconstrained setting.places setting.base setting.depth lo (Strict (operation_of act.now) mark (terms (map term_of parts.now))) inference.old inference.new)) }
 {
     let _mark = mark;
-    let mut begins = List::new(alloc);
+    let mut begins = List::new(setting.alloc);
     let from = lo + own_numbers_of(act);
-    let next = match constrain_parts(
-        alloc,
-        places,
-        base,
-        parts,
-        depth,
-        from,
-        &mut begins,
-        inference,
-    ) {
+    let next = match constrain_parts(setting, parts, from, &mut begins, inference) {
         Ok(next) => next,
         Err(error) => return Err(error),
     };
     match constrain_rule(
-        alloc,
-        places,
-        base,
+        setting.alloc,
+        setting.places,
+        setting.base,
         act,
-        depth,
+        setting.depth,
         lo,
         begins.as_slice(),
         inference,
@@ -145,21 +124,18 @@ fn constrain_strict<'a>(
 // Expressions in a row. Where the numbers of each begin is noted.
 #[cycle(constrain)]
 fn constrain_parts<'a>(
-    alloc: Global,
-    places: Kind,
-    base: u32,
+    setting: Setting,
     parts: &[Exp<'a>],
-    depth: u32,
     lo: u32,
     begins: &mut List<u32>,
     inference: &mut Inference<'a>,
 ) -> Result<u32, UnifyErr>
-    requires safe { Safe base inference.old }
-    requires room { lo + all_numbers (terms (map term_of parts.now)) ≤ base }
+    requires safe { Safe setting.base inference.old }
+    requires room { lo + all_numbers (terms (map term_of parts.now)) ≤ setting.base }
     ensures next { IfOk result (λ next. next ≡ lo + all_numbers (terms (map term_of parts.now))) }
     ensures begins { OnOk result (begins.new ≡ begins.old ++ starts (terms (map term_of parts.now)) lo) }
-    ensures ok { OnOk result (Claimed places base depth lo (Terms_claim places (terms (map term_of parts.now)) lo) (Terms_homes depth (terms (map term_of parts.now)) lo) inference.old inference.new) }
-    ensures err { IfErr result (Tells (Refused places base depth lo (Terms_claim places (terms (map term_of parts.now)) lo) (Terms_homes depth (terms (map term_of parts.now)) lo) inference.old inference.new)) }
+    ensures ok { OnOk result (Claimed setting.places setting.base setting.depth lo (Terms_claim setting.places (terms (map term_of parts.now)) lo) (Terms_homes setting.depth (terms (map term_of parts.now)) lo) inference.old inference.new) }
+    ensures err { IfErr result (Tells (Refused setting.places setting.base setting.depth lo (Terms_claim setting.places (terms (map term_of parts.now)) lo) (Terms_homes setting.depth (terms (map term_of parts.now)) lo) inference.old inference.new)) }
 {
     let mut at = lo;
     for part in parts {
@@ -167,7 +143,7 @@ fn constrain_parts<'a>(
             Ok(()) => {}
             Err(_) => return Err(UnifyErr::Memory),
         }
-        at = match constrain(alloc, places, base, part, depth, at, inference) {
+        at = match constrain(setting, part, at, inference) {
             Ok(next) => next,
             Err(error) => return Err(error),
         };
@@ -178,30 +154,32 @@ fn constrain_parts<'a>(
 // A function and its argument.
 #[cycle(constrain)]
 fn constrain_apply<'a>(
-    alloc: Global,
-    places: Kind,
-    base: u32,
+    setting: Setting,
     function: &Exp<'a>,
     argument: &Exp<'a>,
-    depth: u32,
     lo: u32,
     inference: &mut Inference<'a>,
 ) -> Result<u32, UnifyErr>
-    requires safe { Safe base inference.old }
-    requires room { lo + numbers (Apply (term_of function.now) (term_of argument.now)) ≤ base }
+    requires safe { Safe setting.base inference.old }
+    requires room { lo + numbers (Apply (term_of function.now) (term_of argument.now)) ≤ setting.base }
     ensures next { IfOk result (λ next. next ≡ lo + numbers (Apply (term_of function.now) (term_of argument.now))) }
-    ensures ok { OnOk result (Constrained places base depth lo (Apply (term_of function.now) (term_of argument.now)) inference.old inference.new) }
-    ensures err { IfErr result (Tells (Unconstrained places base depth lo (Apply (term_of function.now) (term_of argument.now)) inference.old inference.new)) }
+    ensures ok { OnOk result (Constrained setting.places setting.base setting.depth lo (Apply (term_of function.now) (term_of argument.now)) inference.old inference.new) }
+    ensures err { IfErr result (Tells (Unconstrained setting.places setting.base setting.depth lo (Apply (term_of function.now) (term_of argument.now)) inference.old inference.new)) }
 {
-    let middle = match constrain(alloc, places, base, function, depth, 1 + lo, inference) {
+    let middle = match constrain(setting, function, 1 + lo, inference) {
         Ok(next) => next,
         Err(error) => return Err(error),
     };
-    let next = match constrain(alloc, places, base, argument, depth, middle, inference) {
+    let next = match constrain(setting, argument, middle, inference) {
         Ok(next) => next,
         Err(error) => return Err(error),
     };
-    match demand(alloc, base, inference, &application(lo, 1 + lo, middle)) {
+    match demand(
+        setting.alloc,
+        setting.base,
+        inference,
+        &application(lo, 1 + lo, middle),
+    ) {
         Ok(()) => Ok(next),
         Err(error) => Err(error),
     }
@@ -210,39 +188,36 @@ fn constrain_apply<'a>(
 // A condition and two branches.
 #[cycle(constrain)]
 fn constrain_if<'a>(
-    alloc: Global,
-    places: Kind,
-    base: u32,
+    setting: Setting,
     test: &Exp<'a>,
     yes: &Exp<'a>,
     no: &Exp<'a>,
-    depth: u32,
     lo: u32,
     inference: &mut Inference<'a>,
 ) -> Result<u32, UnifyErr>
-    requires safe { Safe base inference.old }
-    requires room { lo + numbers (If (term_of test.now) (term_of yes.now) (term_of no.now)) ≤ base }
+    requires safe { Safe setting.base inference.old }
+    requires room { lo + numbers (If (term_of test.now) (term_of yes.now) (term_of no.now)) ≤ setting.base }
     ensures next { IfOk result (λ next. next ≡ lo + numbers (If (term_of test.now) (term_of yes.now) (term_of no.now))) }
-    ensures ok { OnOk result (Constrained places base depth lo (If (term_of test.now) (term_of yes.now) (term_of no.now)) inference.old inference.new) }
-    ensures err { IfErr result (Tells (Unconstrained places base depth lo (If (term_of test.now) (term_of yes.now) (term_of no.now)) inference.old inference.new)) }
+    ensures ok { OnOk result (Constrained setting.places setting.base setting.depth lo (If (term_of test.now) (term_of yes.now) (term_of no.now)) inference.old inference.new) }
+    ensures err { IfErr result (Tells (Unconstrained setting.places setting.base setting.depth lo (If (term_of test.now) (term_of yes.now) (term_of no.now)) inference.old inference.new)) }
 {
-    let second = match constrain(alloc, places, base, test, depth, 1 + lo, inference) {
+    let second = match constrain(setting, test, 1 + lo, inference) {
         Ok(next) => next,
         Err(error) => return Err(error),
     };
-    let third = match constrain(alloc, places, base, yes, depth, second, inference) {
+    let third = match constrain(setting, yes, second, inference) {
         Ok(next) => next,
         Err(error) => return Err(error),
     };
-    let next = match constrain(alloc, places, base, no, depth, third, inference) {
+    let next = match constrain(setting, no, third, inference) {
         Ok(next) => next,
         Err(error) => return Err(error),
     };
     match demand(
-        alloc,
-        base,
+        setting.alloc,
+        setting.base,
         inference,
-        &choice(lo, 1 + lo, second, third, places),
+        &choice(lo, 1 + lo, second, third, setting.places),
     ) {
         Ok(()) => Ok(next),
         Err(error) => Err(error),
@@ -252,29 +227,26 @@ fn constrain_if<'a>(
 // A function of parameters. Its body sees their names.
 #[cycle(constrain)]
 fn constrain_lambda<'a>(
-    alloc: Global,
-    places: Kind,
-    base: u32,
+    setting: Setting,
     params: &[Pat<'a>],
     body: &Exp<'a>,
-    depth: u32,
     lo: u32,
     inference: &mut Inference<'a>,
 ) -> Result<u32, UnifyErr>
-    requires safe { Safe base inference.old }
-    requires room { lo + numbers (Lambda (patterns (map pattern_of params.now)) (term_of body.now)) ≤ base }
+    requires safe { Safe setting.base inference.old }
+    requires room { lo + numbers (Lambda (patterns (map pattern_of params.now)) (term_of body.now)) ≤ setting.base }
     ensures next { IfOk result (λ next. next ≡ lo + numbers (Lambda (patterns (map pattern_of params.now)) (term_of body.now))) }
-    ensures ok { OnOk result (Constrained places base depth lo (Lambda (patterns (map pattern_of params.now)) (term_of body.now)) inference.old inference.new) }
-    ensures err { IfErr result (Tells (Unconstrained places base depth lo (Lambda (patterns (map pattern_of params.now)) (term_of body.now)) inference.old inference.new)) }
+    ensures ok { OnOk result (Constrained setting.places setting.base setting.depth lo (Lambda (patterns (map pattern_of params.now)) (term_of body.now)) inference.old inference.new) }
+    ensures err { IfErr result (Tells (Unconstrained setting.places setting.base setting.depth lo (Lambda (patterns (map pattern_of params.now)) (term_of body.now)) inference.old inference.new)) }
 {
     let mark = mark_of(inference);
-    let mut begins = List::new(alloc);
+    let mut begins = List::new(setting.alloc);
     let from = match constrain_parameters(
-        alloc,
-        places,
-        base,
+        setting.alloc,
+        setting.places,
+        setting.base,
         params,
-        depth,
+        setting.depth,
         1 + lo,
         &mut begins,
         inference,
@@ -282,12 +254,19 @@ fn constrain_lambda<'a>(
         Ok(next) => next,
         Err(error) => return Err(error),
     };
-    let next = match constrain(alloc, places, base, body, depth, from, inference) {
+    let next = match constrain(setting, body, from, inference) {
         Ok(next) => next,
         Err(error) => return Err(error),
     };
     take_back(inference, mark);
-    match constrain_arrows(alloc, base, lo, begins.as_slice(), from, inference) {
+    match constrain_arrows(
+        setting.alloc,
+        setting.base,
+        lo,
+        begins.as_slice(),
+        from,
+        inference,
+    ) {
         Ok(()) => Ok(next),
         Err(error) => Err(error),
     }
@@ -296,35 +275,38 @@ fn constrain_lambda<'a>(
 // A row of lets, and the body behind it. Elaboration makes no row without a let.
 #[cycle(constrain)]
 fn constrain_lets<'a>(
-    alloc: Global,
-    places: Kind,
-    base: u32,
+    setting: Setting,
     lets: &[Let<'a>],
     body: &Exp<'a>,
-    depth: u32,
     lo: u32,
     inference: &mut Inference<'a>,
 ) -> Result<u32, UnifyErr>
-    requires safe { Safe base inference.old }
-    requires room { lo + numbers (lets_term (map row_of lets.now) (term_of body.now)) ≤ base }
+    requires safe { Safe setting.base inference.old }
+    requires room { lo + numbers (lets_term (map row_of lets.now) (term_of body.now)) ≤ setting.base }
     ensures next { IfOk result (λ next. next ≡ lo + numbers (lets_term (map row_of lets.now) (term_of body.now))) }
-    ensures ok { OnOk result (Constrained places base depth lo (lets_term (map row_of lets.now) (term_of body.now)) inference.old inference.new) }
-    ensures err { IfErr result (Tells (Unconstrained places base depth lo (lets_term (map row_of lets.now) (term_of body.now)) inference.old inference.new)) }
+    ensures ok { OnOk result (Constrained setting.places setting.base setting.depth lo (lets_term (map row_of lets.now) (term_of body.now)) inference.old inference.new) }
+    ensures err { IfErr result (Tells (Unconstrained setting.places setting.base setting.depth lo (lets_term (map row_of lets.now) (term_of body.now)) inference.old inference.new)) }
 {
     if lets.len() == 0 {
         return Err(UnifyErr::Memory);
     }
     let mark = mark_of(inference);
-    let mut begins = List::new(alloc);
-    let from = match constrain_rows(alloc, places, base, lets, depth, lo, &mut begins, inference) {
+    let mut begins = List::new(setting.alloc);
+    let from = match constrain_rows(setting, lets, lo, &mut begins, inference) {
         Ok(next) => next,
         Err(error) => return Err(error),
     };
-    let next = match constrain(alloc, places, base, body, depth, from, inference) {
+    let next = match constrain(setting, body, from, inference) {
         Ok(next) => next,
         Err(error) => return Err(error),
     };
-    match constrain_chain(alloc, base, begins.as_slice(), from, inference) {
+    match constrain_chain(
+        setting.alloc,
+        setting.base,
+        begins.as_slice(),
+        from,
+        inference,
+    ) {
         Ok(()) => {}
         Err(error) => return Err(error),
     }
@@ -335,21 +317,18 @@ fn constrain_lets<'a>(
 // Lets in a row, each of which sees the names of those before it. Where the numbers of each begin is noted.
 #[cycle(constrain)]
 fn constrain_rows<'a>(
-    alloc: Global,
-    places: Kind,
-    base: u32,
+    setting: Setting,
     lets: &[Let<'a>],
-    depth: u32,
     lo: u32,
     begins: &mut List<u32>,
     inference: &mut Inference<'a>,
 ) -> Result<u32, UnifyErr>
-    requires safe { Safe base inference.old }
-    requires room { behind_all (map row_of lets.now) lo ≤ base }
+    requires safe { Safe setting.base inference.old }
+    requires room { behind_all (map row_of lets.now) lo ≤ setting.base }
     ensures next { IfOk result (λ next. next ≡ behind_all (map row_of lets.now) lo) }
     ensures begins { OnOk result (begins.new ≡ begins.old ++ row_starts (map row_of lets.now) lo) }
-    ensures ok { OnOk result (Opened places base depth lo (behind_all (map row_of lets.now) lo) (Rows_claim places (map row_of lets.now) lo) (Rows_homes depth (map row_of lets.now) lo) (env_rows (map row_of lets.now) lo) inference.old inference.new) }
-    ensures err { IfErr result (Tells (Refused places base depth lo (Rows_claim places (map row_of lets.now) lo) (Rows_homes depth (map row_of lets.now) lo) inference.old inference.new)) }
+    ensures ok { OnOk result (Opened setting.places setting.base setting.depth lo (behind_all (map row_of lets.now) lo) (Rows_claim setting.places (map row_of lets.now) lo) (Rows_homes setting.depth (map row_of lets.now) lo) (env_rows (map row_of lets.now) lo) inference.old inference.new) }
+    ensures err { IfErr result (Tells (Refused setting.places setting.base setting.depth lo (Rows_claim setting.places (map row_of lets.now) lo) (Rows_homes setting.depth (map row_of lets.now) lo) inference.old inference.new)) }
 {
     let mut at = lo;
     for one in lets {
@@ -357,7 +336,7 @@ fn constrain_rows<'a>(
             Ok(()) => {}
             Err(_) => return Err(UnifyErr::Memory),
         }
-        at = match constrain_row(alloc, places, base, one, depth, at, inference) {
+        at = match constrain_row(setting, one, at, inference) {
             Ok(next) => next,
             Err(error) => return Err(error),
         };
@@ -368,62 +347,51 @@ fn constrain_rows<'a>(
 // A let.
 #[cycle(constrain)]
 fn constrain_row<'a>(
-    alloc: Global,
-    places: Kind,
-    base: u32,
+    setting: Setting,
     one: &Let<'a>,
-    depth: u32,
     lo: u32,
     inference: &mut Inference<'a>,
 ) -> Result<u32, UnifyErr>
-    requires safe { Safe base inference.old }
-    requires room { behind (row_of one.now) lo ≤ base }
+    requires safe { Safe setting.base inference.old }
+    requires room { behind (row_of one.now) lo ≤ setting.base }
     ensures next { IfOk result (λ next. next ≡ behind (row_of one.now) lo) }
-    ensures ok { OnOk result (Opened places base depth lo (behind (row_of one.now) lo) (Row_claim places (row_of one.now) lo) (Row_homes depth (row_of one.now) lo) (env_row (row_of one.now) lo) inference.old inference.new) }
-    ensures err { IfErr result (Tells (Refused places base depth lo (Row_claim places (row_of one.now) lo) (Row_homes depth (row_of one.now) lo) inference.old inference.new)) }
+    ensures ok { OnOk result (Opened setting.places setting.base setting.depth lo (behind (row_of one.now) lo) (Row_claim setting.places (row_of one.now) lo) (Row_homes setting.depth (row_of one.now) lo) (env_row (row_of one.now) lo) inference.old inference.new) }
+    ensures err { IfErr result (Tells (Refused setting.places setting.base setting.depth lo (Row_claim setting.places (row_of one.now) lo) (Row_homes setting.depth (row_of one.now) lo) inference.old inference.new)) }
 {
     if one.is_function {
-        return constrain_function(alloc, places, base, one, depth, lo, inference);
+        return constrain_function(setting, one, lo, inference);
     }
     // Only a function has parameters.
     if one.heads.len() > 0 {
         return Err(UnifyErr::Memory);
     }
-    constrain_value(
-        alloc, places, base, one.sizes, &one.pat, &one.value, depth, lo, inference,
-    )
+    constrain_value(setting, one.sizes, &one.pat, &one.value, lo, inference)
 }
 
 // A let that is written as a function: a definition of a name.
 #[cycle(constrain)]
 fn constrain_function<'a>(
-    alloc: Global,
-    places: Kind,
-    base: u32,
+    setting: Setting,
     one: &Let<'a>,
-    depth: u32,
     lo: u32,
     inference: &mut Inference<'a>,
 ) -> Result<u32, UnifyErr>
-    requires safe { Safe base inference.old }
-    requires room { behind (row_of one.now) lo ≤ base }
+    requires safe { Safe setting.base inference.old }
+    requires room { behind (row_of one.now) lo ≤ setting.base }
     requires function { one.now.is_function ≡ true }
     ensures next { IfOk result (λ next. next ≡ behind (row_of one.now) lo) }
-    ensures ok { OnOk result (Opened places base depth lo (behind (row_of one.now) lo) (Row_claim places (row_of one.now) lo) (Row_homes depth (row_of one.now) lo) (env_row (row_of one.now) lo) inference.old inference.new) }
-    ensures err { IfErr result (Tells (Refused places base depth lo (Row_claim places (row_of one.now) lo) (Row_homes depth (row_of one.now) lo) inference.old inference.new)) }
+    ensures ok { OnOk result (Opened setting.places setting.base setting.depth lo (behind (row_of one.now) lo) (Row_claim setting.places (row_of one.now) lo) (Row_homes setting.depth (row_of one.now) lo) (env_row (row_of one.now) lo) inference.old inference.new) }
+    ensures err { IfErr result (Tells (Refused setting.places setting.base setting.depth lo (Row_claim setting.places (row_of one.now) lo) (Row_homes setting.depth (row_of one.now) lo) inference.old inference.new)) }
 {
     if one.sizes.len() > 0 {
         return Err(UnifyErr::Clash(lo, lo));
     }
     match one.pat.form {
         PatForm::Bound(bind) => constrain_definition(
-            alloc,
-            places,
-            base,
+            setting,
             bind,
             one.heads,
             &one.value,
-            depth,
             1 + lo,
             inference,
         ),
@@ -435,39 +403,53 @@ fn constrain_function<'a>(
 }
 
 /// A definition of a name: its parameters, its value, and its uses behind it. Its numbers begin at `lo`, with that of the name;
-/// `depth` is the depth around it. The answer is where its numbers end.
+/// the depth is that around it. The answer is where its numbers end.
 #[cycle(constrain)]
 pub fn constrain_definition<'a>(
-    alloc: Global,
-    places: Kind,
-    base: u32,
+    setting: Setting,
     name: BindId,
     heads: &[Head],
     value: &Exp<'a>,
-    depth: u32,
     lo: u32,
     inference: &mut Inference<'a>,
 ) -> Result<u32, UnifyErr>
-    requires safe { Safe base inference.old }
-    requires room { lo + (1 + numbers (term_of value.now)) ≤ base }
+    requires safe { Safe setting.base inference.old }
+    requires room { lo + (1 + numbers (term_of value.now)) ≤ setting.base }
     ensures next { IfOk result (λ next. next ≡ lo + (1 + numbers (term_of value.now))) }
-    ensures ok { OnOk result (Opened places base depth lo (lo + (1 + numbers (term_of value.now))) (Definition_claim places (named name (parameters heads.now) (term_of value.now)) lo) (Definition_homes depth (named name (parameters heads.now) (term_of value.now)) lo) (env_definition (named name (parameters heads.now) (term_of value.now)) lo) inference.old inference.new) }
-    ensures err { IfErr result (Tells (Refused places base depth lo (Definition_claim places (named name (parameters heads.now) (term_of value.now)) lo) (Definition_homes depth (named name (parameters heads.now) (term_of value.now)) lo) inference.old inference.new)) }
+    ensures ok { OnOk result (Opened setting.places setting.base setting.depth lo (lo + (1 + numbers (term_of value.now))) (Definition_claim setting.places (named name (parameters heads.now) (term_of value.now)) lo) (Definition_homes setting.depth (named name (parameters heads.now) (term_of value.now)) lo) (env_definition (named name (parameters heads.now) (term_of value.now)) lo) inference.old inference.new) }
+    ensures err { IfErr result (Tells (Refused setting.places setting.base setting.depth lo (Definition_claim setting.places (named name (parameters heads.now) (term_of value.now)) lo) (Definition_homes setting.depth (named name (parameters heads.now) (term_of value.now)) lo) inference.old inference.new)) }
 {
+    let depth = setting.depth;
     if depth >= 4294967294 {
         return Err(UnifyErr::Memory);
     }
+    let inside = Setting {
+        depth: 1 + depth,
+        ..setting
+    };
     let mark = mark_of(inference);
-    let mut own = List::new(alloc);
-    match enter_parameters(base, heads, places, 1 + depth, &mut own, inference) {
+    let mut own = List::new(setting.alloc);
+    match enter_parameters(
+        setting.base,
+        heads,
+        setting.places,
+        1 + depth,
+        &mut own,
+        inference,
+    ) {
         Ok(()) => {}
         Err(_) => return Err(UnifyErr::Memory),
     }
-    let next = match constrain(alloc, places, base, value, 1 + depth, 1 + lo, inference) {
+    let next = match constrain(inside, value, 1 + lo, inference) {
         Ok(next) => next,
         Err(error) => return Err(error),
     };
-    match demand(alloc, base, inference, &[Demand::Same(lo, 1 + lo)]) {
+    match demand(
+        setting.alloc,
+        setting.base,
+        inference,
+        &[Demand::Same(lo, 1 + lo)],
+    ) {
         Ok(()) => {}
         Err(error) => return Err(error),
     }
@@ -481,31 +463,28 @@ pub fn constrain_definition<'a>(
 // A let that is not written as a function.
 #[cycle(constrain)]
 fn constrain_value<'a>(
-    alloc: Global,
-    places: Kind,
-    base: u32,
+    setting: Setting,
     sizes: &[BindId],
     pat: &Pat<'a>,
     value: &Exp<'a>,
-    depth: u32,
     lo: u32,
     inference: &mut Inference<'a>,
 ) -> Result<u32, UnifyErr>
-    requires safe { Safe base inference.old }
-    requires room { behind (value_row sizes.now (pattern_of pat.now) (term_of value.now)) lo ≤ base }
+    requires safe { Safe setting.base inference.old }
+    requires room { behind (value_row sizes.now (pattern_of pat.now) (term_of value.now)) lo ≤ setting.base }
     ensures next { IfOk result (λ next. next ≡ behind (value_row sizes.now (pattern_of pat.now) (term_of value.now)) lo) }
-    ensures ok { OnOk result (Opened places base depth lo (behind (value_row sizes.now (pattern_of pat.now) (term_of value.now)) lo) (Row_claim places (value_row sizes.now (pattern_of pat.now) (term_of value.now)) lo) (Row_homes depth (value_row sizes.now (pattern_of pat.now) (term_of value.now)) lo) (env_row (value_row sizes.now (pattern_of pat.now) (term_of value.now)) lo) inference.old inference.new) }
-    ensures err { IfErr result (Tells (Refused places base depth lo (Row_claim places (value_row sizes.now (pattern_of pat.now) (term_of value.now)) lo) (Row_homes depth (value_row sizes.now (pattern_of pat.now) (term_of value.now)) lo) inference.old inference.new)) }
+    ensures ok { OnOk result (Opened setting.places setting.base setting.depth lo (behind (value_row sizes.now (pattern_of pat.now) (term_of value.now)) lo) (Row_claim setting.places (value_row sizes.now (pattern_of pat.now) (term_of value.now)) lo) (Row_homes setting.depth (value_row sizes.now (pattern_of pat.now) (term_of value.now)) lo) (env_row (value_row sizes.now (pattern_of pat.now) (term_of value.now)) lo) inference.old inference.new) }
+    ensures err { IfErr result (Tells (Refused setting.places setting.base setting.depth lo (Row_claim setting.places (value_row sizes.now (pattern_of pat.now) (term_of value.now)) lo) (Row_homes setting.depth (value_row sizes.now (pattern_of pat.now) (term_of value.now)) lo) inference.old inference.new)) }
 {
-    let next = match constrain_bound(alloc, places, base, sizes, pat, value, depth, lo, inference) {
+    let next = match constrain_bound(setting, sizes, pat, value, lo, inference) {
         Ok(next) => next,
         Err(error) => return Err(error),
     };
-    match enter_sizes(base, sizes, inference) {
+    match enter_sizes(setting.base, sizes, inference) {
         Ok(()) => {}
         Err(_) => return Err(UnifyErr::Memory),
     }
-    match enter_pattern(base, pat, 1 + lo, inference) {
+    match enter_pattern(setting.base, pat, 1 + lo, inference) {
         Ok(_) => Ok(next),
         Err(_) => Err(UnifyErr::Memory),
     }
@@ -514,37 +493,46 @@ fn constrain_value<'a>(
 // A pattern and the value that it is bound to. The pattern sees its size names, the value does not.
 #[cycle(constrain)]
 fn constrain_bound<'a>(
-    alloc: Global,
-    places: Kind,
-    base: u32,
+    setting: Setting,
     sizes: &[BindId],
     pat: &Pat<'a>,
     value: &Exp<'a>,
-    depth: u32,
     lo: u32,
     inference: &mut Inference<'a>,
 ) -> Result<u32, UnifyErr>
-    requires safe { Safe base inference.old }
-    requires room { behind (value_row sizes.now (pattern_of pat.now) (term_of value.now)) lo ≤ base }
+    requires safe { Safe setting.base inference.old }
+    requires room { behind (value_row sizes.now (pattern_of pat.now) (term_of value.now)) lo ≤ setting.base }
     ensures next { IfOk result (λ next. next ≡ behind (value_row sizes.now (pattern_of pat.now) (term_of value.now)) lo) }
-    ensures ok { OnOk result (Claimed places base depth lo (Row_claim places (value_row sizes.now (pattern_of pat.now) (term_of value.now)) lo) (Row_homes depth (value_row sizes.now (pattern_of pat.now) (term_of value.now)) lo) inference.old inference.new) }
-    ensures err { IfErr result (Tells (Refused places base depth lo (Row_claim places (value_row sizes.now (pattern_of pat.now) (term_of value.now)) lo) (Row_homes depth (value_row sizes.now (pattern_of pat.now) (term_of value.now)) lo) inference.old inference.new)) }
+    ensures ok { OnOk result (Claimed setting.places setting.base setting.depth lo (Row_claim setting.places (value_row sizes.now (pattern_of pat.now) (term_of value.now)) lo) (Row_homes setting.depth (value_row sizes.now (pattern_of pat.now) (term_of value.now)) lo) inference.old inference.new) }
+    ensures err { IfErr result (Tells (Refused setting.places setting.base setting.depth lo (Row_claim setting.places (value_row sizes.now (pattern_of pat.now) (term_of value.now)) lo) (Row_homes setting.depth (value_row sizes.now (pattern_of pat.now) (term_of value.now)) lo) inference.old inference.new)) }
 {
     let mark = mark_of(inference);
-    match enter_sizes(base, sizes, inference) {
+    match enter_sizes(setting.base, sizes, inference) {
         Ok(()) => {}
         Err(_) => return Err(UnifyErr::Memory),
     }
-    let from = match constrain_pattern(alloc, places, base, pat, 1 + lo, inference) {
+    let from = match constrain_pattern(
+        setting.alloc,
+        setting.places,
+        setting.base,
+        pat,
+        1 + lo,
+        inference,
+    ) {
         Ok(next) => next,
         Err(error) => return Err(error),
     };
     take_back(inference, mark);
-    let next = match constrain(alloc, places, base, value, depth, from, inference) {
+    let next = match constrain(setting, value, from, inference) {
         Ok(next) => next,
         Err(error) => return Err(error),
     };
-    match demand(alloc, base, inference, &[Demand::Same(1 + lo, from)]) {
+    match demand(
+        setting.alloc,
+        setting.base,
+        inference,
+        &[Demand::Same(1 + lo, from)],
+    ) {
         Ok(()) => Ok(next),
         Err(error) => Err(error),
     }
@@ -553,30 +541,32 @@ fn constrain_bound<'a>(
 // A loop: what it carries and its turns, and its body.
 #[cycle(constrain)]
 fn constrain_loop<'a>(
-    alloc: Global,
-    places: Kind,
-    base: u32,
+    setting: Setting,
     whole: &Loop<'a>,
-    depth: u32,
     lo: u32,
     inference: &mut Inference<'a>,
 ) -> Result<u32, UnifyErr>
-    requires safe { Safe base inference.old }
-    requires room { lo + numbers (loop_of whole.now) ≤ base }
+    requires safe { Safe setting.base inference.old }
+    requires room { lo + numbers (loop_of whole.now) ≤ setting.base }
     ensures next { IfOk result (λ next. next ≡ lo + numbers (loop_of whole.now)) }
-    ensures ok { OnOk result (Constrained places base depth lo (loop_of whole.now) inference.old inference.new) }
-    ensures err { IfErr result (Tells (Unconstrained places base depth lo (loop_of whole.now) inference.old inference.new)) }
+    ensures ok { OnOk result (Constrained setting.places setting.base setting.depth lo (loop_of whole.now) inference.old inference.new) }
+    ensures err { IfErr result (Tells (Unconstrained setting.places setting.base setting.depth lo (loop_of whole.now) inference.old inference.new)) }
 {
     let mark = mark_of(inference);
-    let from = match constrain_head(alloc, places, base, whole, depth, lo, inference) {
+    let from = match constrain_head(setting, whole, lo, inference) {
         Ok(next) => next,
         Err(error) => return Err(error),
     };
-    let next = match constrain(alloc, places, base, &whole.body, depth, from, inference) {
+    let next = match constrain(setting, &whole.body, from, inference) {
         Ok(next) => next,
         Err(error) => return Err(error),
     };
-    match demand(alloc, base, inference, &carried(lo, 1 + lo, from, places)) {
+    match demand(
+        setting.alloc,
+        setting.base,
+        inference,
+        &carried(lo, 1 + lo, from, setting.places),
+    ) {
         Ok(()) => {}
         Err(error) => return Err(error),
     }
@@ -587,56 +577,44 @@ fn constrain_loop<'a>(
 // What a loop carries, and its turns.
 #[cycle(constrain)]
 fn constrain_head<'a>(
-    alloc: Global,
-    places: Kind,
-    base: u32,
+    setting: Setting,
     whole: &Loop<'a>,
-    depth: u32,
     lo: u32,
     inference: &mut Inference<'a>,
 ) -> Result<u32, UnifyErr>
-    requires safe { Safe base inference.old }
-    requires room { behind_head (pattern_of whole.now.pat) (term_of whole.now.first) (turns_of whole.now.form) lo ≤ base }
+    requires safe { Safe setting.base inference.old }
+    requires room { behind_head (pattern_of whole.now.pat) (term_of whole.now.first) (turns_of whole.now.form) lo ≤ setting.base }
     ensures next { IfOk result (λ next. next ≡ behind_head (pattern_of whole.now.pat) (term_of whole.now.first) (turns_of whole.now.form) lo) }
-    ensures ok { OnOk result (Opened places base depth lo (behind_head (pattern_of whole.now.pat) (term_of whole.now.first) (turns_of whole.now.form) lo) (Head_claim places whole.now.sizes.now (pattern_of whole.now.pat) (term_of whole.now.first) (turns_of whole.now.form) lo) (Head_homes depth whole.now.sizes.now (pattern_of whole.now.pat) (term_of whole.now.first) (turns_of whole.now.form) lo) (env_head whole.now.sizes.now (pattern_of whole.now.pat) (term_of whole.now.first) (turns_of whole.now.form) lo) inference.old inference.new) }
-    ensures err { IfErr result (Tells (Refused places base depth lo (Head_claim places whole.now.sizes.now (pattern_of whole.now.pat) (term_of whole.now.first) (turns_of whole.now.form) lo) (Head_homes depth whole.now.sizes.now (pattern_of whole.now.pat) (term_of whole.now.first) (turns_of whole.now.form) lo) inference.old inference.new)) }
+    ensures ok { OnOk result (Opened setting.places setting.base setting.depth lo (behind_head (pattern_of whole.now.pat) (term_of whole.now.first) (turns_of whole.now.form) lo) (Head_claim setting.places whole.now.sizes.now (pattern_of whole.now.pat) (term_of whole.now.first) (turns_of whole.now.form) lo) (Head_homes setting.depth whole.now.sizes.now (pattern_of whole.now.pat) (term_of whole.now.first) (turns_of whole.now.form) lo) (env_head whole.now.sizes.now (pattern_of whole.now.pat) (term_of whole.now.first) (turns_of whole.now.form) lo) inference.old inference.new) }
+    ensures err { IfErr result (Tells (Refused setting.places setting.base setting.depth lo (Head_claim setting.places whole.now.sizes.now (pattern_of whole.now.pat) (term_of whole.now.first) (turns_of whole.now.form) lo) (Head_homes setting.depth whole.now.sizes.now (pattern_of whole.now.pat) (term_of whole.now.first) (turns_of whole.now.form) lo) inference.old inference.new)) }
 {
     match whole.form {
         LoopForm::While(ref test) => constrain_while(
-            alloc,
-            places,
-            base,
+            setting,
             whole.sizes,
             &whole.pat,
             &whole.first,
             test,
-            depth,
             lo,
             inference,
         ),
         LoopForm::For(name, ref bound) => constrain_counted(
-            alloc,
-            places,
-            base,
+            setting,
             whole.sizes,
             &whole.pat,
             &whole.first,
             name,
             bound,
-            depth,
             lo,
             inference,
         ),
         LoopForm::ForIn(ref part, ref array) => constrain_over(
-            alloc,
-            places,
-            base,
+            setting,
             whole.sizes,
             &whole.pat,
             &whole.first,
             part,
             array,
-            depth,
             lo,
             inference,
         ),
@@ -646,34 +624,31 @@ fn constrain_head<'a>(
 // A loop with a condition, which sees the names that the loop carries.
 #[cycle(constrain)]
 fn constrain_while<'a>(
-    alloc: Global,
-    places: Kind,
-    base: u32,
+    setting: Setting,
     sizes: &[BindId],
     pat: &Pat<'a>,
     first: &Exp<'a>,
     test: &Exp<'a>,
-    depth: u32,
     lo: u32,
     inference: &mut Inference<'a>,
 ) -> Result<u32, UnifyErr>
-    requires safe { Safe base inference.old }
-    requires room { behind_head (pattern_of pat.now) (term_of first.now) (While (term_of test.now)) lo ≤ base }
+    requires safe { Safe setting.base inference.old }
+    requires room { behind_head (pattern_of pat.now) (term_of first.now) (While (term_of test.now)) lo ≤ setting.base }
     ensures next { IfOk result (λ next. next ≡ behind_head (pattern_of pat.now) (term_of first.now) (While (term_of test.now)) lo) }
-    ensures ok { OnOk result (Opened places base depth lo (behind_head (pattern_of pat.now) (term_of first.now) (While (term_of test.now)) lo) (Head_claim places sizes.now (pattern_of pat.now) (term_of first.now) (While (term_of test.now)) lo) (Head_homes depth sizes.now (pattern_of pat.now) (term_of first.now) (While (term_of test.now)) lo) (env_head sizes.now (pattern_of pat.now) (term_of first.now) (While (term_of test.now)) lo) inference.old inference.new) }
-    ensures err { IfErr result (Tells (Refused places base depth lo (Head_claim places sizes.now (pattern_of pat.now) (term_of first.now) (While (term_of test.now)) lo) (Head_homes depth sizes.now (pattern_of pat.now) (term_of first.now) (While (term_of test.now)) lo) inference.old inference.new)) }
+    ensures ok { OnOk result (Opened setting.places setting.base setting.depth lo (behind_head (pattern_of pat.now) (term_of first.now) (While (term_of test.now)) lo) (Head_claim setting.places sizes.now (pattern_of pat.now) (term_of first.now) (While (term_of test.now)) lo) (Head_homes setting.depth sizes.now (pattern_of pat.now) (term_of first.now) (While (term_of test.now)) lo) (env_head sizes.now (pattern_of pat.now) (term_of first.now) (While (term_of test.now)) lo) inference.old inference.new) }
+    ensures err { IfErr result (Tells (Refused setting.places setting.base setting.depth lo (Head_claim setting.places sizes.now (pattern_of pat.now) (term_of first.now) (While (term_of test.now)) lo) (Head_homes setting.depth sizes.now (pattern_of pat.now) (term_of first.now) (While (term_of test.now)) lo) inference.old inference.new)) }
 {
-    let from = match constrain_value(alloc, places, base, sizes, pat, first, depth, lo, inference) {
+    let from = match constrain_value(setting, sizes, pat, first, lo, inference) {
         Ok(next) => next,
         Err(error) => return Err(error),
     };
-    let next = match constrain(alloc, places, base, test, depth, from, inference) {
+    let next = match constrain(setting, test, from, inference) {
         Ok(next) => next,
         Err(error) => return Err(error),
     };
     match demand(
-        alloc,
-        base,
+        setting.alloc,
+        setting.base,
         inference,
         &[Demand::Is(from, ScalarType::Bool)],
     ) {
@@ -685,41 +660,43 @@ fn constrain_while<'a>(
 // A loop that counts its turns. Their number does not see the names that the loop carries.
 #[cycle(constrain)]
 fn constrain_counted<'a>(
-    alloc: Global,
-    places: Kind,
-    base: u32,
+    setting: Setting,
     sizes: &[BindId],
     pat: &Pat<'a>,
     first: &Exp<'a>,
     name: BindId,
     bound: &Exp<'a>,
-    depth: u32,
     lo: u32,
     inference: &mut Inference<'a>,
 ) -> Result<u32, UnifyErr>
-    requires safe { Safe base inference.old }
-    requires room { behind_head (pattern_of pat.now) (term_of first.now) (Counted name (term_of bound.now)) lo ≤ base }
+    requires safe { Safe setting.base inference.old }
+    requires room { behind_head (pattern_of pat.now) (term_of first.now) (Counted name (term_of bound.now)) lo ≤ setting.base }
     ensures next { IfOk result (λ next. next ≡ behind_head (pattern_of pat.now) (term_of first.now) (Counted name (term_of bound.now)) lo) }
-    ensures ok { OnOk result (Opened places base depth lo (behind_head (pattern_of pat.now) (term_of first.now) (Counted name (term_of bound.now)) lo) (Head_claim places sizes.now (pattern_of pat.now) (term_of first.now) (Counted name (term_of bound.now)) lo) (Head_homes depth sizes.now (pattern_of pat.now) (term_of first.now) (Counted name (term_of bound.now)) lo) (env_head sizes.now (pattern_of pat.now) (term_of first.now) (Counted name (term_of bound.now)) lo) inference.old inference.new) }
-    ensures err { IfErr result (Tells (Refused places base depth lo (Head_claim places sizes.now (pattern_of pat.now) (term_of first.now) (Counted name (term_of bound.now)) lo) (Head_homes depth sizes.now (pattern_of pat.now) (term_of first.now) (Counted name (term_of bound.now)) lo) inference.old inference.new)) }
+    ensures ok { OnOk result (Opened setting.places setting.base setting.depth lo (behind_head (pattern_of pat.now) (term_of first.now) (Counted name (term_of bound.now)) lo) (Head_claim setting.places sizes.now (pattern_of pat.now) (term_of first.now) (Counted name (term_of bound.now)) lo) (Head_homes setting.depth sizes.now (pattern_of pat.now) (term_of first.now) (Counted name (term_of bound.now)) lo) (env_head sizes.now (pattern_of pat.now) (term_of first.now) (Counted name (term_of bound.now)) lo) inference.old inference.new) }
+    ensures err { IfErr result (Tells (Refused setting.places setting.base setting.depth lo (Head_claim setting.places sizes.now (pattern_of pat.now) (term_of first.now) (Counted name (term_of bound.now)) lo) (Head_homes setting.depth sizes.now (pattern_of pat.now) (term_of first.now) (Counted name (term_of bound.now)) lo) inference.old inference.new)) }
 {
-    let from = match constrain_bound(alloc, places, base, sizes, pat, first, depth, lo, inference) {
+    let from = match constrain_bound(setting, sizes, pat, first, lo, inference) {
         Ok(next) => next,
         Err(error) => return Err(error),
     };
-    let next = match constrain(alloc, places, base, bound, depth, 1 + from, inference) {
+    let next = match constrain(setting, bound, 1 + from, inference) {
         Ok(next) => next,
         Err(error) => return Err(error),
     };
-    match demand(alloc, base, inference, &counted(from, 1 + from)) {
+    match demand(
+        setting.alloc,
+        setting.base,
+        inference,
+        &counted(from, 1 + from),
+    ) {
         Ok(()) => {}
         Err(error) => return Err(error),
     }
-    match enter_sizes(base, sizes, inference) {
+    match enter_sizes(setting.base, sizes, inference) {
         Ok(()) => {}
         Err(_) => return Err(UnifyErr::Memory),
     }
-    match enter_pattern(base, pat, 1 + lo, inference) {
+    match enter_pattern(setting.base, pat, 1 + lo, inference) {
         Ok(_) => {}
         Err(_) => return Err(UnifyErr::Memory),
     }
@@ -732,51 +709,60 @@ fn constrain_counted<'a>(
 // A loop over an array. Its pattern sees the names that the loop carries, the array does not.
 #[cycle(constrain)]
 fn constrain_over<'a>(
-    alloc: Global,
-    places: Kind,
-    base: u32,
+    setting: Setting,
     sizes: &[BindId],
     pat: &Pat<'a>,
     first: &Exp<'a>,
     part: &Pat<'a>,
     array: &Exp<'a>,
-    depth: u32,
     lo: u32,
     inference: &mut Inference<'a>,
 ) -> Result<u32, UnifyErr>
-    requires safe { Safe base inference.old }
-    requires room { behind_head (pattern_of pat.now) (term_of first.now) (Over (pattern_of part.now) (term_of array.now)) lo ≤ base }
+    requires safe { Safe setting.base inference.old }
+    requires room { behind_head (pattern_of pat.now) (term_of first.now) (Over (pattern_of part.now) (term_of array.now)) lo ≤ setting.base }
     ensures next { IfOk result (λ next. next ≡ behind_head (pattern_of pat.now) (term_of first.now) (Over (pattern_of part.now) (term_of array.now)) lo) }
-    ensures ok { OnOk result (Opened places base depth lo (behind_head (pattern_of pat.now) (term_of first.now) (Over (pattern_of part.now) (term_of array.now)) lo) (Head_claim places sizes.now (pattern_of pat.now) (term_of first.now) (Over (pattern_of part.now) (term_of array.now)) lo) (Head_homes depth sizes.now (pattern_of pat.now) (term_of first.now) (Over (pattern_of part.now) (term_of array.now)) lo) (env_head sizes.now (pattern_of pat.now) (term_of first.now) (Over (pattern_of part.now) (term_of array.now)) lo) inference.old inference.new) }
-    ensures err { IfErr result (Tells (Refused places base depth lo (Head_claim places sizes.now (pattern_of pat.now) (term_of first.now) (Over (pattern_of part.now) (term_of array.now)) lo) (Head_homes depth sizes.now (pattern_of pat.now) (term_of first.now) (Over (pattern_of part.now) (term_of array.now)) lo) inference.old inference.new)) }
+    ensures ok { OnOk result (Opened setting.places setting.base setting.depth lo (behind_head (pattern_of pat.now) (term_of first.now) (Over (pattern_of part.now) (term_of array.now)) lo) (Head_claim setting.places sizes.now (pattern_of pat.now) (term_of first.now) (Over (pattern_of part.now) (term_of array.now)) lo) (Head_homes setting.depth sizes.now (pattern_of pat.now) (term_of first.now) (Over (pattern_of part.now) (term_of array.now)) lo) (env_head sizes.now (pattern_of pat.now) (term_of first.now) (Over (pattern_of part.now) (term_of array.now)) lo) inference.old inference.new) }
+    ensures err { IfErr result (Tells (Refused setting.places setting.base setting.depth lo (Head_claim setting.places sizes.now (pattern_of pat.now) (term_of first.now) (Over (pattern_of part.now) (term_of array.now)) lo) (Head_homes setting.depth sizes.now (pattern_of pat.now) (term_of first.now) (Over (pattern_of part.now) (term_of array.now)) lo) inference.old inference.new)) }
 {
     let mark = mark_of(inference);
-    let from = match constrain_value(alloc, places, base, sizes, pat, first, depth, lo, inference) {
+    let from = match constrain_value(setting, sizes, pat, first, lo, inference) {
         Ok(next) => next,
         Err(error) => return Err(error),
     };
-    let middle = match constrain_pattern(alloc, places, base, part, from, inference) {
+    let middle = match constrain_pattern(
+        setting.alloc,
+        setting.places,
+        setting.base,
+        part,
+        from,
+        inference,
+    ) {
         Ok(next) => next,
         Err(error) => return Err(error),
     };
     take_back(inference, mark);
-    let next = match constrain(alloc, places, base, array, depth, middle, inference) {
+    let next = match constrain(setting, array, middle, inference) {
         Ok(next) => next,
         Err(error) => return Err(error),
     };
-    match demand(alloc, base, inference, &gone_over(from, middle, places)) {
+    match demand(
+        setting.alloc,
+        setting.base,
+        inference,
+        &gone_over(from, middle, setting.places),
+    ) {
         Ok(()) => {}
         Err(error) => return Err(error),
     }
-    match enter_sizes(base, sizes, inference) {
+    match enter_sizes(setting.base, sizes, inference) {
         Ok(()) => {}
         Err(_) => return Err(UnifyErr::Memory),
     }
-    match enter_pattern(base, pat, 1 + lo, inference) {
+    match enter_pattern(setting.base, pat, 1 + lo, inference) {
         Ok(_) => {}
         Err(_) => return Err(UnifyErr::Memory),
     }
-    match enter_pattern(base, part, from, inference) {
+    match enter_pattern(setting.base, part, from, inference) {
         Ok(_) => Ok(next),
         Err(_) => Err(UnifyErr::Memory),
     }

@@ -20,6 +20,7 @@ use Rattle.fut_typing.specs.Generalised.{Suits, own_types, Scheme, Outside, Vari
 use Rattle.fut_typing.specs.Program.{Defined, program_numbers, definition_scheme, Definitions_typed, Program_typed}
 use Rattle.fut_typing.specs.Answers.{Open, Met, Principal}
 use Rattle.fut_typing.specs.Exact.{behind, scope_behind, scheme_behind, Fixed}
+use Rattle.fut_typing.specs.Declared.{Is_parameter, Declares, Declared_in, Parameter_in}
 use Rattle.fut_typing.proofs.Ranges.{pattern_some, true_or, within_true, within_false}
 use Rattle.fut_typing.proofs.Local.{AllLocal, all_local_more, local_pattern}
 use Rattle.fut_typing.proofs.Cong.{Inside, Kept, variant_same, reused_local, generalised_same}
@@ -27,12 +28,11 @@ use Rattle.fut_typing.proofs.Programs.{definition_depends, definitions_same}
 use Rattle.fut_typing.proofs.Exact.{behind_local}
 use Rattle.fut_typing.proofs.Readings.{Reading, read_head, image, Suited, read_kind, read_part, Extends, extends_self, head_limit, plain, plain_suited}
 unfoldable use Rattle.fut_typing.proofs.Readings.{read, read_all}
-use Rattle.fut_typing.proofs.Follows.{In_parameters, Follows}
-use Rattle.fut_typing.proofs.Instances.{parameter_limit}
-use Rattle.type_generalisation.specs.Parameters.{Declares, Declared_in, Parameter_in, chosen_head, replaced, all_replaced}
+use Rattle.fut_typing.proofs.Follows.{Follows}
+use Rattle.fut_typing.proofs.Instances.{parameter_limit, parameter_below, own_rigid, Good}
+use Rattle.fut_typing.proofs.Typings.{definition_moves, behind_follows}
+use Rattle.type_generalisation.specs.Parameters.{chosen_head, replaced, all_replaced}
 use Rattle.type_generalisation.specs.Claims.{Chosen_met, Chosen_instance}
-use Rattle.type_generalisation.proofs.Moving.{parameter_below, own_rigid, Good}
-use Rattle.type_generalisation.proofs.Terms.{parameter_is, definition_moves, behind_follows}
 use Rattle.type_generalisation.proofs.Chosen.{chosen_for, chosen_other, scope_local, definition_in, whole_within}
 use Rattle.type_generalisation.proofs.Lifted.{back, back_low, back_suited, lifted_read, lifted_own, lifted_part, Both_rows, head_lifted}
 unfoldable use Rattle.type_generalisation.proofs.Lifted.{lifted, all_lifted}
@@ -110,7 +110,7 @@ behind_up [] lo = omega arith
 behind_up (d ∷ ds) lo = let z : lo + (pattern_numbers d.name + numbers d.value) ≤ behind ds (lo + (pattern_numbers d.name + numbers d.value)) = behind_up ds (lo + (pattern_numbers d.name + numbers d.value)) in omega arith
 
 module _ (N : Names) (places : Kind) (d : Defined) (c : Sub) (F0 G : ℕ) (over : F0 ≤ G) (wide : parameter_limit d.parameters ≤ G) (one_label : (l l' i : ℕ) → N.shapes.position l ≡ Some i → N.shapes.position l' ≡ Some i → l ≡ l') (K : Kinds)
-    (D : ℕ → Type 0) (low : (n : ℕ) → D n → n < F0) (apart : (n : ℕ) → D n → In_parameters d.parameters n → ⊥) where
+    (D : ℕ → Type 0) (low : (n : ℕ) → D n → n < F0) (apart : (n : ℕ) → D n → Is_parameter d.parameters n → ⊥) where
   abbrev ps : List (Parameter BindId)
   ps = d.parameters
 
@@ -165,7 +165,7 @@ module _ (N : Names) (places : Kind) (d : Defined) (c : Sub) (F0 G : ℕ) (over 
         let g : Generalised places s K b = generalised_same places (λ n. n < lo) s (definition_depends N places (λ n. n < lo) e lo scope local) K a b
         (λ n. elim [ inl lt ↦ sym (v.outside n (inl (omega arith))) | inr i ↦ (let z : n < lo + (pattern_numbers e.name + numbers e.value) = i.1 in sym (v.outside n (inl (omega arith)))) ]) h.0 in
         let own : Sub = own_types places e.parameters in (
-          twice.definition_joins N places d.parameters c F0 G over wide one_label K D low apart I G good e lo scope scope scope (λ n i. earlier n (inr (inl i))) local j own own (twice.chosen_own N places d.parameters c F0 G over wide one_label K D low apart e.parameters I G good (λ n i. earlier n (inl (parameter_is e.parameters n i)))) a b h.0.0 g.0 h.0.1 g.1,
+          twice.definition_joins N places d.parameters c F0 G over wide one_label K D low apart I G good e lo scope scope scope (λ n i. earlier n (inr (inl i))) local j own own (twice.chosen_own N places d.parameters c F0 G over wide one_label K D low apart e.parameters I G good (λ n i. earlier n (inl i))) a b h.0.0 g.0 h.0.1 g.1,
           lifted_typing before end inner (λ n i. earlier n (inr (inr i))) (behind_local N places e lo scope local) (twice.behind_joins N places d.parameters c F0 G over wide one_label K D low apart I G good e lo scope scope scope (λ n i. earlier n (inr (inl i))) local j) v h.1,
         )
 
@@ -249,7 +249,7 @@ module _ (N : Names) (places : Kind) (d : Defined) (c : Sub) (F0 G : ℕ) (over 
       met_lifted f g o le m m' = subst (HasPart N.shapes o.label (lift (f o.variable) (g o.variable))) (lifted_applied f g o.part le) (lifted_part N.shapes places ps c F0 G over wide one_label o.label (f o.variable) (applied f o.part) (g o.variable) (replaced places ps c g o.part) m m')
 
       -- its own types are read as those chosen
-      own_back : (n : ℕ) → In_parameters ps n → (L : Reading) → Extends G B L → read L (own_types places ps n) ≡ c n
+      own_back : (n : ℕ) → Is_parameter ps n → (L : Reading) → Extends G B L → read L (own_types places ps n) ≡ c n
       unfolding read
       own_back n i L e = let w = chosen_for places c ps n i in let lt : n < parameter_limit ps = parameter_below ps n i in
           ap (read L) w.1 ∙ e.own n w.0 (omega arith) ∙ back_low N.shapes places ps c F0 G over wide n w.0 (omega arith) ∙ w.2

@@ -1,6 +1,3 @@
-pub mod Moving
-pub mod Terms
-pub mod Below
 pub mod Chosen
 pub mod Renamed
 pub mod Same

@@ -15,14 +15,13 @@ use Rattle.fut_types.specs.Types.{Ty, Var, Made, Tys, none, more, Sub, Kinds, Ha
 use Rattle.fut_types.specs.Shapes.{Shapes, place_from, place, part_at, part_named, HasPart}
 use Rattle.fut_types.proofs.ShapeLaws.{named_rank, place_none, place_step, part_made, no_place}
 use Rattle.fut_typing.specs.Generalised.{parameter_kind, Suits, own_types}
+use Rattle.fut_typing.specs.Declared.{Is_parameter}
 use Rattle.fut_typing.proofs.Ranges.{true_or, and_true}
 use Rattle.fut_typing.proofs.Members.{In, parts_under, placed_in}
 use Rattle.fut_typing.proofs.Readings.{Reading, Suited, head_limit, rigid_kind}
 unfoldable use Rattle.fut_typing.proofs.Readings.{read, read_all}
-use Rattle.fut_typing.proofs.Follows.{In_parameters}
-use Rattle.fut_typing.proofs.Instances.{parameter_limit}
+use Rattle.fut_typing.proofs.Instances.{parameter_limit, parameter_below}
 use Rattle.type_generalisation.specs.Parameters.{chosen, chosen_head}
-use Rattle.type_generalisation.proofs.Moving.{parameter_below}
 use Rattle.type_generalisation.proofs.Chosen.{chosen_kind}
 use Rattle.type_generalisation.proofs.Same.{is_head, head_is, head_self, is_number, number_is, number_self, is_type, type_is, type_self}
 
@@ -51,7 +50,7 @@ unfolding part_at
 no_part ts u e = none-some u e
 
 module _ (places : Kind) (c : Sub) where
-  own_out : (ps : List (Parameter BindId)) (n : ℕ) (k : Kind) → (In_parameters ps n → ⊥) → is_own places ps n k ≡ false
+  own_out : (ps : List (Parameter BindId)) (n : ℕ) (k : Kind) → (Is_parameter ps n → ⊥) → is_own places ps n k ≡ false
   own_out [] n k out = refl
   own_out (Size_parameter b ∷ ps) n k out = own_out ps n k out
   own_out (Type_parameter b lifted ∷ ps) n k out = elim (ℕ_discrete n b.0) as (λ d. (elim d as (λ d. Bool) [ yes e ↦ is_number (level k) (level (parameter_kind places lifted)) | no ne ↦ is_own places ps n k ]) ≡ false) [
@@ -60,11 +59,11 @@ module _ (places : Kind) (c : Sub) where
   ]
 
   -- for it the chosen type is put
-  own_chosen : (ps : List (Parameter BindId)) (n : ℕ) (k : Kind) → is_own places ps n k ≡ true → In_parameters ps n × (chosen places ps c n k ≡ c n)
+  own_chosen : (ps : List (Parameter BindId)) (n : ℕ) (k : Kind) → is_own places ps n k ≡ true → Is_parameter ps n × (chosen places ps c n k ≡ c n)
   own_chosen [] n k h = absurd cc
   own_chosen (Size_parameter b ∷ ps) n k h = own_chosen ps n k h
   own_chosen (Type_parameter b lifted ∷ ps) n k h = (elim (ℕ_discrete n b.0) as (λ d. (elim d as (λ d. Bool) [ yes e ↦ is_number (level k) (level (parameter_kind places lifted)) | no ne ↦ is_own places ps n k ]) ≡ true
-      → ((n ≡ b.0) ⊎ In_parameters ps n) × ((elim d as (λ d. Ty) [ yes e ↦ elim (ℕ_discrete (level k) (level (parameter_kind places lifted))) as (λ d. Ty) [ yes e ↦ c n | no ne ↦ Made (head.Rigid n k) none ] | no ne ↦ chosen places ps c n k ]) ≡ c n)) [
+      → ((n ≡ b.0) ⊎ Is_parameter ps n) × ((elim d as (λ d. Ty) [ yes e ↦ elim (ℕ_discrete (level k) (level (parameter_kind places lifted))) as (λ d. Ty) [ yes e ↦ c n | no ne ↦ Made (head.Rigid n k) none ] | no ne ↦ chosen places ps c n k ]) ≡ c n)) [
         | yes e ↦ λ h. (inl e, here (number_is (level k) (level (parameter_kind places lifted)) h))
         | no ne ↦ λ h. let w = own_chosen ps n k h in (inr w.0, w.1)
       ]) h
@@ -84,7 +83,7 @@ module _ (places : Kind) (c : Sub) where
       here : (x y : ℕ) → is_number x y ≡ false → (elim (ℕ_discrete x y) as (λ d. Ty) [ yes e ↦ c n | no ne ↦ Made (head.Rigid n k) none ]) ≡ Made (head.Rigid n k) none
       here x y = elim (ℕ_discrete x y) as (λ d. (elim d as (λ d. Bool) [ yes e ↦ true | no ne ↦ false ]) ≡ false → (elim d as (λ d. Ty) [ yes e ↦ c n | no ne ↦ Made (head.Rigid n k) none ]) ≡ Made (head.Rigid n k) none) [ yes e ↦ λ h. absurd cc | no ne ↦ λ h. refl ]
 
-  own_is : (ps : List (Parameter BindId)) (n : ℕ) → In_parameters ps n → (k : Kind) × (own_types places ps n ≡ Made (head.Rigid n k) none) × (is_own places ps n k ≡ true)
+  own_is : (ps : List (Parameter BindId)) (n : ℕ) → Is_parameter ps n → (k : Kind) × (own_types places ps n ≡ Made (head.Rigid n k) none) × (is_own places ps n k ≡ true)
   own_is [] n i = absurd i
   own_is (Size_parameter b ∷ ps) n i = own_is ps n i
   own_is (Type_parameter b lifted ∷ ps) n i = elim (ℕ_discrete n b.0) as (λ d. (k : Kind) × ((elim d as (λ d. Ty) [ yes e ↦ Made (head.Rigid n (parameter_kind places lifted)) none | no ne ↦ own_types places ps n ]) ≡ Made (head.Rigid n k) none)
@@ -93,7 +92,7 @@ module _ (places : Kind) (c : Sub) where
         | no ne ↦ own_is ps n (rest ne i)
       ]
     where
-      rest : (n ≡ b.0 → ⊥) → ((n ≡ b.0) ⊎ In_parameters ps n) → In_parameters ps n
+      rest : (n ≡ b.0 → ⊥) → ((n ≡ b.0) ⊎ Is_parameter ps n) → Is_parameter ps n
       rest ne (inl e) = absurd (ne e)
       rest ne (inr i) = i
 
@@ -244,14 +243,14 @@ module _ (S : Shapes) (places : Kind) (ps : List (Parameter BindId)) (c : Sub) (
   }
 
   -- ---- own types
-  pub lifted_own : (n : ℕ) → In_parameters ps n → lifted (own_types places ps n) (c n) ≡ own_types places ps n
+  pub lifted_own : (n : ℕ) → Is_parameter ps n → lifted (own_types places ps n) (c n) ≡ own_types places ps n
   lifted_own n i = let w = own_is places c ps n i in subst (λ t. lifted t (c n) ≡ t) (sym w.1) (lifted_yes (Made (head.Rigid n w.0) none) (c n) (ap (λ b. b && is_type (c n) (c n)) w.2 ∙ type_self (c n)))
 
-  rigid_lifted : (n : ℕ) (k : Kind) → (In_parameters ps n → ⊥) → lifted (Made (head.Rigid n k) none) (Made (head.Rigid n k) none) ≡ Made (head.Rigid (shift n k) k) none
+  rigid_lifted : (n : ℕ) (k : Kind) → (Is_parameter ps n → ⊥) → lifted (Made (head.Rigid n k) none) (Made (head.Rigid n k) none) ≡ Made (head.Rigid (shift n k) k) none
   unfolding lifted
   rigid_lifted n k out = lifted_made (Made (head.Rigid n k) none) (head.Rigid n k) none (ap (λ b. b && is_type (Made (head.Rigid n k) none) (c n)) (own_out places c ps n k out))
 
-  pub lifted_other : (n : ℕ) (k : Kind) → n < F0 → (In_parameters ps n → ⊥) → lifted (Made (head.Rigid n k) none) (Made (head.Rigid n k) none) ≡ Made (head.Rigid n k) none
+  pub lifted_other : (n : ℕ) (k : Kind) → n < F0 → (Is_parameter ps n → ⊥) → lifted (Made (head.Rigid n k) none) (Made (head.Rigid n k) none) ≡ Made (head.Rigid n k) none
   lifted_other n k lt out = rigid_lifted n k out ∙ ap (λ m. Made (head.Rigid m k) none) (ap (λ (x : Bool). elim x as (λ x. ℕ) [ true ↦ elim (is_own places ps n k) as (λ x. ℕ) [ true ↦ n + G | false ↦ n ] | false ↦ n + G ]) (le-leb (suc n) F0 (omega arith))
       ∙ ap (λ (x : Bool). elim x as (λ x. ℕ) [ true ↦ n + G | false ↦ n ]) (own_out places c ps n k out))
 

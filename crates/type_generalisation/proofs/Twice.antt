@@ -19,6 +19,7 @@ use Rattle.fut_typing.specs.Free.{is_within}
 use Rattle.fut_typing.specs.Generalised.{parameter_kind, Suits, own_types, Scheme, Variant, Reused, Generalised}
 use Rattle.fut_typing.specs.Typing.{term_types, operand, Function_name, with_turns, let_scheme, Let_typed, let_uses, with_let, Typed, All_typed, Turns_typed}
 use Rattle.fut_typing.specs.Program.{Defined, definition_scheme, Definitions_typed}
+use Rattle.fut_typing.specs.Declared.{Is_parameter, Declares, Some_declare, Turns_declare, Parameter_in}
 use Rattle.fut_typing.proofs.Ranges.{within_yes}
 use Rattle.fut_typing.proofs.Local.{AllLocal, local_parameters, local_all_ones}
 use Rattle.fut_typing.proofs.Cong.{mixed, mixed_free, mixed_outside, Depends, within_no}
@@ -27,19 +28,17 @@ use Rattle.fut_typing.proofs.Locals.{up_to, let_depends, body_local, carried_loc
 use Rattle.fut_typing.proofs.Exact.{behind_local}
 use Rattle.fut_typing.proofs.Readings.{Reading, image, Suited, read_kind, Extends, extends_self, limit, read_same}
 unfoldable use Rattle.fut_typing.proofs.Readings.{read, read_all}
-use Rattle.fut_typing.proofs.Follows.{In_parameters, read_arrows, read_patterns, read_array, rule_follows}
-use Rattle.fut_typing.proofs.Instances.{parameter_limit}
-use Rattle.type_generalisation.specs.Parameters.{Declares, Some_declare, Turns_declare, Parameter_in}
-use Rattle.type_generalisation.proofs.Moving.{limit_below, below_limit, chosen_limit, chosen_below, kind_for, raised, raised_suited, raised_extends, new_suit, new_read, parameter_below, own_rigid, Good, good_more}
-unfoldable use Rattle.type_generalisation.proofs.Moving.{new_types}
-use Rattle.type_generalisation.proofs.Terms.{parameter_is, read_terms}
+use Rattle.fut_typing.proofs.Follows.{read_arrows, read_patterns, read_array, rule_follows}
+use Rattle.fut_typing.proofs.Instances.{parameter_limit, limit_below, below_limit, chosen_limit, chosen_below, kind_for, raised, raised_suited, raised_extends, new_suit, new_read, parameter_below, own_rigid, Good, good_more}
+unfoldable use Rattle.fut_typing.proofs.Instances.{new_types}
+use Rattle.fut_typing.proofs.Typings.{read_terms}
 use Rattle.type_generalisation.proofs.Lifted.{lifted_other, lifted_new}
 unfoldable use Rattle.type_generalisation.proofs.Lifted.{lifted, all_lifted}
 use Rattle.type_generalisation.proofs.Pairs as pairs
 use Rattle.type_generalisation.proofs.Joins as joins
 
 module _ (N : Names) (places : Kind) (ps : List (Parameter BindId)) (c : Sub) (F0 G : ℕ) (over : F0 ≤ G) (wide : parameter_limit ps ≤ G) (one_label : (l l' i : ℕ) → N.shapes.position l ≡ Some i → N.shapes.position l' ≡ Some i → l ≡ l') (K : Kinds)
-    (D : ℕ → Type 0) (low : (n : ℕ) → D n → n < F0) (apart : (n : ℕ) → D n → In_parameters ps n → ⊥) where
+    (D : ℕ → Type 0) (low : (n : ℕ) → D n → n < F0) (apart : (n : ℕ) → D n → Is_parameter ps n → ⊥) where
   abbrev pub lift : Ty → Ty → Ty
   lift = pairs.lift N places ps c F0 G over wide
 
@@ -57,12 +56,12 @@ module _ (N : Names) (places : Kind) (ps : List (Parameter BindId)) (c : Sub) (F
 
   -- ---- what is chosen for the parameters of definitions
   abbrev pub Chosen : List (Parameter BindId) → Sub → Sub → Sub → Reading → ℕ → Type 0
-  Chosen qs x y z J H = (n : ℕ) → In_parameters qs n → (L : Reading) → Extends H J L → read L (lift (x n) (y n)) ≡ z n
+  Chosen qs x y z J H = (n : ℕ) → Is_parameter qs n → (L : Reading) → Extends H J L → read L (lift (x n) (y n)) ≡ z n
 
   chosen_read : (qs : List (Parameter BindId)) (x y : Sub) (J : Reading) (H : ℕ) → chosen_limit (two x y) qs ≤ H → Chosen qs x y (image J (two x y)) J H
   chosen_read qs x y J H le n i L e = let z : limit (lift (x n) (y n)) ≤ chosen_limit (two x y) qs = chosen_below (two x y) qs n i in read_same H J L e (lift (x n) (y n)) (omega arith)
 
-  pub chosen_own : (qs : List (Parameter BindId)) (I : Reading) (F : ℕ) → Good_for I F → ((n : ℕ) → In_parameters qs n → D n) → Chosen qs (own_types places qs) (own_types places qs) (own_types places qs) I F
+  pub chosen_own : (qs : List (Parameter BindId)) (I : Reading) (F : ℕ) → Good_for I F → ((n : ℕ) → Is_parameter qs n → D n) → Chosen qs (own_types places qs) (own_types places qs) (own_types places qs) I F
   unfolding read
   chosen_own qs I F g into n i L e =
       let w = own_rigid places qs n i in let d : D n = into n i in let lt : n < F0 = low n d in let more : F0 ≤ F = g.over in
@@ -176,7 +175,7 @@ module _ (N : Names) (places : Kind) (ps : List (Parameter BindId)) (c : Sub) (F
         let ls : Scheme = let_scheme N places d v lo l (Typed N places v (1 + lo + pattern_numbers d.pattern)) in
         let rs : Scheme = let_scheme N places d v lo r (Typed N places v (1 + lo + pattern_numbers d.pattern)) in
         let ss : Scheme = let_scheme N places d v lo s (Typed N places v (1 + lo + pattern_numbers d.pattern)) in
-        let into : (n : ℕ) → In_parameters d.parameters n → D n = λ n i. few n (inl (parameter_is d.parameters n i)) in
+        let into : (n : ℕ) → Is_parameter d.parameters n → D n = λ n i. few n (inl i) in
         let move : (x y z : Sub) (J : Reading) (H : ℕ) → Good_for J H → F ≤ H → Extends F I J → Chosen d.parameters x y z J H → (a b : Sub) → ls.typed x K a → rs.typed y K b → ss.typed z K (image J (two a b)) =
         λ x y z J H goodJ le ext chosen a b t t'. (
           (
@@ -301,7 +300,7 @@ module _ (N : Names) (places : Kind) (ps : List (Parameter BindId)) (c : Sub) (F
         → Definitions_typed N places ds lo l K a → Definitions_typed N places ds lo r K b → Definitions_typed N places ds lo s K (image I (two a b))
     definitions_both [] lo l r s few local j a b h h' = h
     definitions_both (d ∷ ds) lo l r s few local j a b h h' = let own : Sub = own_types places d.parameters in (
-      definition_joins d lo l r s (λ n i. few n (inr (inl i))) local j own own (chosen_own d.parameters I F good (λ n i. few n (inl (parameter_is d.parameters n i)))) a b h.0.0 h'.0.0 h.0.1 h'.0.1,
+      definition_joins d lo l r s (λ n i. few n (inr (inl i))) local j own own (chosen_own d.parameters I F good (λ n i. few n (inl i))) a b h.0.0 h'.0.0 h.0.1 h'.0.1,
       definitions_both ds (lo + (pattern_numbers d.name + numbers d.value)) (with_pattern (Reused places (definition_scheme N places d lo l)) d.name lo l) (with_pattern (Reused places (definition_scheme N places d lo r)) d.name lo r) (with_pattern (Reused places (definition_scheme N places d lo s)) d.name lo s)
           (λ n i. few n (inr (inr i))) (behind_local N places d lo s local) (behind_joins d lo l r s (λ n i. few n (inr (inl i))) local j) a b h.1 h'.1,
     )

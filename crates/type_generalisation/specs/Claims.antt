@@ -16,7 +16,8 @@ use Rattle.fut_typing.specs.Generalised.{Suits, Scheme, Reused}
 use Rattle.fut_typing.specs.Program.{Defined, program_numbers, Program_typed}
 use Rattle.fut_typing.specs.Answers.{Open, Principal}
 use Rattle.fut_typing.specs.Exact.{Way, scheme_behind, local_behind, Fixed, Instance}
-use Rattle.type_generalisation.specs.Parameters.{Is_parameter, Declares, Parameter_in, replaced}
+use Rattle.fut_typing.specs.Declared.{Is_parameter, Declares, Parameter_in}
+use Rattle.type_generalisation.specs.Parameters.{replaced}
 use Rattle.type_generalisation.specs.Ways.{Ends_at, and_body, Renamed_let}
 
 -- a part that is left open is there, where types stand for variables and for parameters

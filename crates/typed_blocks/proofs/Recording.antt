@@ -23,7 +23,7 @@ use Rattle.typed_blocks.proofs.Fitting.{some_same, each_found, keyed_found, keye
 use Rattle.typed_blocks.proofs.Shaping.{tuple_is, record_is}
 
 -- ---- names of fields
-keys_put : (f : Text) (s : Known) (fs : Known_fields) → keys (with_field f s fs) ≡ put f (Tuple_value no_value) (keys fs)
+pub keys_put : (f : Text) (s : Known) (fs : Known_fields) → keys (with_field f s fs) ≡ put f (Tuple_value no_value) (keys fs)
 keys_put f s no_known_field = refl
 keys_put f s (known_field_and g u fs) = known (is_before f g) (keys_put f s fs)
   where
@@ -32,7 +32,7 @@ keys_put f s (known_field_and g u fs) = known (is_before f g) (keys_put f s fs)
     known true rec = refl
     known false rec = ap (field_and g (Tuple_value no_value)) rec
 
-keys_replaced : (f : Text) (s : Known) (fs : Known_fields) → keys (replaced f s fs) ≡ keys fs
+pub keys_replaced : (f : Text) (s : Known) (fs : Known_fields) → keys (replaced f s fs) ≡ keys fs
 keys_replaced f s no_known_field = refl
 keys_replaced f s (known_field_and g u fs) = known (bytes_eq g f) (keys_replaced f s fs)
   where
@@ -40,7 +40,7 @@ keys_replaced f s (known_field_and g u fs) = known (bytes_eq g f) (keys_replaced
     known true rec = refl
     known false rec = ap (field_and g (Tuple_value no_value)) rec
 
-each_put : (P : Text → Known → Type 0) (f : Text) (s : Known) (fs : Known_fields) → P f s → Each_field P fs → Each_field P (with_field f s fs)
+pub each_put : (P : Text → Known → Type 0) (f : Text) (s : Known) (fs : Known_fields) → P f s → Each_field P fs → Each_field P (with_field f s fs)
 each_put P f s no_known_field p h = (p, tt)
 each_put P f s (known_field_and g u fs) p h = known (is_before f g) (each_put P f s fs p h.1)
   where
@@ -48,7 +48,7 @@ each_put P f s (known_field_and g u fs) p h = known (is_before f g) (each_put P 
     known true rec = (p, h)
     known false rec = (h.0, rec)
 
-each_replaced : (P : Text → Known → Type 0) (f : Text) (s : Known) (fs : Known_fields) → P f s → Each_field P fs → Each_field P (replaced f s fs)
+pub each_replaced : (P : Text → Known → Type 0) (f : Text) (s : Known) (fs : Known_fields) → P f s → Each_field P fs → Each_field P (replaced f s fs)
 each_replaced P f s no_known_field p h = tt
 each_replaced P f s (known_field_and g u fs) p h = known (bytes_eq g f) refl (each_replaced P f s fs p h.1)
   where
@@ -56,7 +56,7 @@ each_replaced P f s (known_field_and g u fs) p h = known (bytes_eq g f) refl (ea
     known true is rec = (subst (λ x. P x s) (sym ((bytes_eq-Decides g f).0 is)) p, h.1)
     known false is rec = (h.0, rec)
 
-key_found : (s : Text) (fs : Known_fields) → Is_key s (keys fs) → (u : Known) × (field s fs ≡ Some u)
+pub key_found : (s : Text) (fs : Known_fields) → Is_key s (keys fs) → (u : Known) × (field s fs ≡ Some u)
 key_found s no_known_field k = absurd k
 key_found s (known_field_and g w fs) k = known (bytes_eq g s) refl (key_found s fs) k
   where
@@ -65,16 +65,16 @@ key_found s (known_field_and g w fs) k = known (bytes_eq g s) refl (key_found s 
     known false is rec (inl e) = absurd (let z : true ≡ false = sym ((bytes_eq-Decides g s).1 (sym e)) ∙ is in cc)
     known false is rec (inr i) = rec i
 
-named_label : (f : Text → ℕ) (s : Text) (names : List Text) → Named s names → In (f s) (map f names)
+pub named_label : (f : Text → ℕ) (s : Text) (names : List Text) → Named s names → In (f s) (map f names)
 named_label f s [] i = absurd i
 named_label f s (x ∷ names) (inl e) = inl (ap f e)
 named_label f s (x ∷ names) (inr i) = inr (named_label f s names i)
 
 -- the parts behind a first one
-abbrev with_rest : Known → Option (List Known) → Option (List Known)
+abbrev pub with_rest : Known → Option (List Known) → Option (List Known)
 with_rest s o = with_some o (λ ss. Some (s ∷ ss))
 
-abbrev with_known : Option Known → List Text → Known_fields → Option (List Known)
+abbrev pub with_known : Option Known → List Text → Known_fields → Option (List Known)
 with_known o names fs = with_some o (λ s. with_some (record_parts names fs) (λ ss. Some (s ∷ ss)))
 
 -- ---- types of parts

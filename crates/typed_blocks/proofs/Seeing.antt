@@ -22,10 +22,10 @@ use Rattle.typed_blocks.proofs.Fitting.{some_same, find_learns, fits_learn}
 use Rattle.typed_blocks.proofs.Recording.{Each_fits, record_parts_fit}
 use Rattle.typed_blocks.proofs.Shaping.{tuple_is}
 
-tuple_same : (ss rs : Knowns) → Tuple_known rs ≡ Tuple_known ss → ss ≡ rs
+pub tuple_same : (ss rs : Knowns) → Tuple_known rs ≡ Tuple_known ss → ss ≡ rs
 tuple_same ss rs e = cc
 
-record_same : (fs gs : Known_fields) → Record_known gs ≡ Record_known fs → gs ≡ fs
+pub record_same : (fs gs : Known_fields) → Record_known gs ≡ Record_known fs → gs ≡ fs
 record_same fs gs e = cc
 
 -- a pattern binds its names, whatever they stand before

@@ -131,7 +131,7 @@ fields_shape P go (known_field_and f s fs) (known_field_and g r gs) e h k =
 record_shape : (fs gs : Known_fields) → Fields_same_shape fs gs → Same_shape (Record_known fs) (Record_known gs)
 record_shape fs gs a _ us rest (laid_record {hs = hs} l) = λ rest'. let r = a hs us rest l rest' in (r.0, laid_record r.1)
 
-fields_keys : (hs : Field_shapes) (fs gs : Known_fields) (us rest ws rest' : List Atom) → Fields_laid hs fs us rest → Fields_laid hs gs ws rest' → keys fs ≡ keys gs
+pub fields_keys : (hs : Field_shapes) (fs gs : Known_fields) (us rest ws rest' : List Atom) → Fields_laid hs fs us rest → Fields_laid hs gs ws rest' → keys fs ≡ keys gs
 fields_keys _ _ _ _ _ _ _ laid_no_field laid_no_field = refl
 fields_keys _ _ _ us rest ws rest' (laid_field {f = f} {hs = hs} {fs = fs} l ls) (laid_field {fs = gs} m ms) = ap (field_and f (Tuple_value no_value)) (fields_keys hs fs gs _ rest _ rest' ls ms)
 

@@ -35,7 +35,7 @@ use Rattle.typed_blocks.proofs.Seeing.{Bindable, names_learn, names_move, names_
 use Rattle.typed_blocks.proofs.Applying.{fits_function}
 use Rattle.typed_blocks.proofs.Going.{Goes, goes_as, All_go, use_goes, none_go, more_go, strict_goes, lambda_goes, apply_goes, Let_goes, let_goes, if_goes, Tested, loop_goes}
 
-told : (o : Operation Ref BindId) (a : Sub) (lo : ℕ) (integer_at : ℕ → IntType) → ((m : ℕ) → Literal_here o lo m → a m ≡ scalar_ty (types.Int (integer_at m))) → Told (integer_at lo) o (a lo)
+pub told : (o : Operation Ref BindId) (a : Sub) (lo : ℕ) (integer_at : ℕ → IntType) → ((m : ℕ) → Literal_here o lo m → a m ≡ scalar_ty (types.Int (integer_at m))) → Told (integer_at lo) o (a lo)
 told (Integer n None) a lo integer_at h = h lo refl
 told o a lo integer_at h = tt
 

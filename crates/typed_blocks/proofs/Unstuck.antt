@@ -4,12 +4,9 @@ use mathlib.Core.Logic.{inl, inr}
 use native.Mathlib.Decide.{ℕ_discrete}
 use Rattle.fut_scalar.specs.declared.place.BindId.{BindId}
 use Rattle.fut_scalar.specs.declared.scalar.IntType.{IntType}
-use Rattle.fut_flat.specs.declared.prim.Ref.{Ref}
-use Rattle.fut_flat.specs.declared.prim.Ref.TheVariants as ref
 use Rattle.fut_flat.specs.declared.program.Definition.{Definition}
-use Rattle.fut_flat.specs.Terms.{Use, Strict, Lambda, Apply, Let, If, Loop, Terms, no_term, term_and, Counted, Over, While}
 use Rattle.fut_flat.specs.Numbers.{numbers}
-use Rattle.fut_flat.specs.Erased.{FlatTerm, FlatTurns, parameters, term_of}
+use Rattle.fut_flat.specs.Erased.{FlatTerm, parameters, term_of}
 use Rattle.fut_types.specs.declared.Kind.TheVariants as kind
 use Rattle.fut_types.specs.Types.{Ty, Tys, none, more, Sub, Kinds, HasKind}
 use Rattle.fut_typing.specs.Names.{Names, AreNames}
@@ -22,15 +19,15 @@ use Rattle.fut_typing.specs.Exact.{scope_behind}
 use Rattle.fut_typing.proofs.Cong.{within_no}
 use Rattle.fut_typing.proofs.Local.{AllLocal, all_local_more, local_parameters}
 use Rattle.fut_typing.proofs.Exact.{behind_local}
-use Rattle.fut_meaning.specs.Programs.{names_of, all_names_of, names_of_turns, has_use, have_use, turns_have_use, is_reached}
+use Rattle.fut_meaning.specs.Programs.{is_reached}
 use Rattle.fut_meaning.specs.Flats.{is_flat_use, flat_tops}
 use Rattle.fut_blocks.specs.declared.block.Atom.{Atom}
 use Rattle.fut_blocks.specs.Meaning.{look}
 use Rattle.typed_meaning.specs.Fits.{widest}
-use Rattle.typed_meaning.specs.Meant.{No_sizes, Use_meant, Meant, All_meant, Turns_meant, Literal, Literals_told}
+use Rattle.typed_meaning.specs.Meant.{No_sizes, Meant, Literal, Literals_told}
 use Rattle.typed_meaning.specs.Programs.{Definitions_meant, Definitions_told, None_has, One_each}
 use Rattle.typed_meaning.proofs.Literals.{literal_kept}
-use Rattle.typed_meaning.proofs.Programs.{or_left, or_right, both, tops_of, Reached}
+use Rattle.typed_meaning.proofs.Programs.{or_left, or_right, both, uses_of, tops_of, Reached}
 use Rattle.unfold.specs.Knowns.{Known, Knowns, no_known, known_and, no_name, Tops, listed, find}
 use Rattle.unfold.specs.Programs.{Definitions_unfold, d_none, d_reached, d_other, Applies_all, a_none, a_more}
 use Rattle.unfold.specs.Shapes.{Shape, Shapes, Laid, laid_scalar, laid_tuple, All_laid, laid_none, laid_more}
@@ -45,40 +42,6 @@ use Rattle.typed_blocks.proofs.Going.{Goes, goes_as}
 use Rattle.typed_blocks.proofs.Seeing.{names_move, names_types}
 use Rattle.typed_blocks.proofs.Shaping.{shaped}
 use Rattle.typed_blocks.proofs.Surely.{surely}
-
--- a term uses names of P alone, if it has uses of no others
-module _ (P : ℕ → Type 0) where
-  abbrev Used_in : List BindId → FlatTerm → Type 0
-  Used_in bs t = (k : ℕ) → has_use (λ cs r. is_flat_use tt cs r k) bs t ≡ true → P k
-
-  use_of : (r : Ref) (bs : List BindId) → Use_meant (λ k. Unit {0}) r → ((k : ℕ) → is_flat_use tt bs r k ≡ true → P k) → Use_meant P r
-  use_of (ref.Bound b) bs m h = h b.0 (eq-eqb b.0 b.0 refl)
-  use_of (ref.Prim p) bs m h = m
-  use_of (ref.Scalar s) bs m h = tt
-
-  mutual
-    uses_of : (t : FlatTerm) (bs : List BindId) → Meant (λ k. Unit {0}) t → Used_in bs t → Meant P t
-    uses_of (Use r at k) bs m h = use_of r bs m h
-    uses_of (Strict o mark ts) bs m h = (m.0, all_uses_of ts bs m.1 h)
-    uses_of (Lambda ps e) bs m h = (m.0, uses_of e (all_names_of ps bs) m.1 h)
-    uses_of (Apply f e) bs m h = (uses_of f bs m.0 (λ k u. h k (or_left _ _ u)), uses_of e bs m.1 (λ k u. h k (or_right _ _ u)))
-    uses_of (Let b v e) bs m h = (m.0, uses_of v bs m.1 (λ k u. h k (or_left _ _ u)), uses_of e (names_of b.pattern bs) m.2 (λ k u. h k (or_right _ _ u)))
-    uses_of (If c t e) bs m h = (uses_of c bs m.0 (λ k u. h k (or_left _ _ u)), uses_of t bs m.1 (λ k u. h k (or_right _ _ (or_left _ _ u))), uses_of e bs m.2 (λ k u. h k (or_right _ _ (or_right _ _ u))))
-    uses_of (Loop mark sizes p first turns body) bs m h = (
-      m.0,
-      uses_of first bs m.1 (λ k u. h k (or_left _ _ u)),
-      turn_uses_of turns bs (names_of p bs) m.2 (λ k u. h k (or_right _ _ (or_left _ _ u))),
-      uses_of body (names_of_turns turns (names_of p bs)) m.3 (λ k u. h k (or_right _ _ (or_right _ _ u))),
-    )
-
-    all_uses_of : (ts : Terms Ref BindId) (bs : List BindId) → All_meant (λ k. Unit {0}) ts → ((k : ℕ) → have_use (λ cs r. is_flat_use tt cs r k) bs ts ≡ true → P k) → All_meant P ts
-    all_uses_of no_term bs m h = tt
-    all_uses_of (term_and t ts) bs m h = (uses_of t bs m.0 (λ k u. h k (or_left _ _ u)), all_uses_of ts bs m.1 (λ k u. h k (or_right _ _ u)))
-
-    turn_uses_of : (t : FlatTurns) (bs cs : List BindId) → Turns_meant (λ k. Unit {0}) t → ((k : ℕ) → turns_have_use (λ ds r. is_flat_use tt ds r k) bs cs t ≡ true → P k) → Turns_meant P t
-    turn_uses_of (Counted i n) bs cs m h = uses_of n bs m h
-    turn_uses_of (Over p e) bs cs m h = absurd m
-    turn_uses_of (While c) bs cs m h = uses_of c cs m h
 
 module _ (N : Names) (are : AreNames N) (K : Kinds) (a : Sub) (integer_at : ℕ → IntType) (entry : BindId) where
   abbrev At : Tops → Ty → Known → Type 0

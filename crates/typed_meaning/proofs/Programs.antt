@@ -53,7 +53,7 @@ both false y p q = absurd (let z : false ≡ true = p in cc)
 
 -- a term uses names of P alone, if it has uses of no others
 module _ (P : ℕ → Type 0) where
-  abbrev Used_in : List BindId → FlatTerm → Type 0
+  abbrev pub Used_in : List BindId → FlatTerm → Type 0
   Used_in bs t = (k : ℕ) → has_use (λ cs r. is_flat_use tt cs r k) bs t ≡ true → P k
 
   use_of : (r : Ref) (bs : List BindId) → Use_meant (λ k. Unit {0}) r → ((k : ℕ) → is_flat_use tt bs r k ≡ true → P k) → Use_meant P r
@@ -62,7 +62,7 @@ module _ (P : ℕ → Type 0) where
   use_of (ref.Scalar s) bs m h = tt
 
   mutual
-    uses_of : (t : FlatTerm) (bs : List BindId) → Meant (λ k. Unit {0}) t → Used_in bs t → Meant P t
+    pub uses_of : (t : FlatTerm) (bs : List BindId) → Meant (λ k. Unit {0}) t → Used_in bs t → Meant P t
     uses_of (Use r at k) bs m h = use_of r bs m h
     uses_of (Strict o mark ts) bs m h = (m.0, all_uses_of ts bs m.1 h)
     uses_of (Lambda ps e) bs m h = (m.0, uses_of e (all_names_of ps bs) m.1 h)

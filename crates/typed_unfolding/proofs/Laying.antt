@@ -1,6 +1,6 @@
 -- Data of one type and of one shape has components of one row of types, and what is laid out in components of that row is known
 -- of the type's values.
-use Rattle.std.proofs.Common.{◌≡◌, ◌≢◌, ℕ, suc, ◌≤◌, ◌<◌, min, refl, ap, subst, arith, List, [], ◌∷◌, length}
+use Rattle.std.proofs.Common.{◌≡◌, ◌≢◌, ℕ, suc, ◌≤◌, ◌<◌, min, ap, subst, arith, List, [], ◌∷◌, length}
 use native.Mathlib.Decide.{ℕ_discrete}
 use Rattle.fut_scalar.specs.declared.scalar.IntType.{IntType}
 use Rattle.fut_ast.specs.Sorts.{Text}
@@ -8,7 +8,6 @@ use Rattle.fut_types.specs.declared.Kind.TheVariants as kind
 use Rattle.fut_types.specs.declared.Head.TheVariants as head
 use Rattle.fut_types.specs.Types.{Ty, Var, Made, Tys, none, more, Kinds, HasKind, rank, least}
 use Rattle.fut_typing.specs.Names.{Names, count}
-use Rattle.fut_meaning.specs.Values.{Tuple_value, no_value, field_and}
 use Rattle.fut_blocks.specs.declared.block.Atom.{Atom}
 use Rattle.fut_blocks.specs.Typed.{Sort, Are}
 use Rattle.typed_meaning.specs.Fits.{widest, Are_keys}
@@ -17,6 +16,7 @@ use Rattle.unfold.specs.Shapes.{Shape, Scalar_shape, Tuple_shape, Record_shape, 
 use Rattle.typed_blocks.specs.Fits.{On_tuple, On_record, No_known, First_known, Each_field, keys}
 use Rattle.typed_blocks.specs.Shaped.{Of_shape, scalar_of_shape, tuple_of_shape, All_of_shapes, none_of_shapes, more_of_shapes}
 use Rattle.typed_blocks.specs.Sorts.{Sorts, sorts_scalar, sorts_tuple, All_sorts, sorts_none, sorts_more}
+use Rattle.typed_blocks.proofs.Shaping.{fields_keys}
 use Rattle.typed_unfolding.specs.Worlds.{World}
 use Rattle.typed_unfolding.specs.Fits.{On_scalar, Fits, All_fit, Keyed}
 
@@ -117,10 +117,6 @@ record_row Q rows (Tuple_shape hs) = no_row (λ w s. On_record (Q w) s) (Tuple_s
   where
     never : (w : World) (s : Known) (us rest : List Atom) → On_record (Q w) s → Laid (Tuple_shape hs) s us rest → ⊥
     never w _ us rest q (laid_tuple l) = q
-
-fields_keys : (hs : Field_shapes) (fs gs : Known_fields) (us rest ws rest' : List Atom) → Fields_laid hs fs us rest → Fields_laid hs gs ws rest' → keys fs ≡ keys gs
-fields_keys _ _ _ _ _ _ _ laid_no_field laid_no_field = refl
-fields_keys _ _ _ us rest ws rest' (laid_field {f = f} {hs = hs} {fs = fs} l ls) (laid_field {fs = gs} m ms) = ap (field_and f (Tuple_value no_value)) (fields_keys hs fs gs _ rest _ rest' ls ms)
 
 no_field_row : (P : Text → World → Known → Type 0) → Fields_row (λ w fs. Each_field (λ g s. P g w s) fs) no_field_shape
 no_field_row P = record {

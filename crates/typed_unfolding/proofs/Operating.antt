@@ -33,6 +33,7 @@ use Rattle.typed_meaning.proofs.Operating.{Told}
 use Rattle.unfold.specs.Knowns.{Known, Scalar_known, Tuple_known, Record_known, Known_fields, knowns, fields, part, replaced}
 use Rattle.unfold.specs.Unfolding.{Bindings, step, literal_type, Operates, o_integer, o_truth, o_tuple, o_record, o_binary, o_equal, o_unequal, o_negate, o_complement, o_project, o_replace, o_ascribe, o_coerce, o_declared, o_assert}
 use Rattle.typed_blocks.proofs.Fitting.{some_same}
+use Rattle.typed_blocks.proofs.Seeing.{record_same}
 use Rattle.typed_unfolding.specs.Worlds.{World, Below, Comes}
 use Rattle.typed_unfolding.specs.Fits.{On_scalar, Fits, All_fit}
 use Rattle.typed_unfolding.proofs.Worlds.{binds_types, learns_types, comes_none, comes_then, comes_map, comes_step, comes_one}
@@ -163,10 +164,7 @@ module _ (N : Names) (integer_at : ℕ → IntType) (K : Kinds) where
 
     replace_gives : (f : Text) (t : Ty) (u s : Known) → (fs : Known_fields) × (u ≡ Record_known fs) × At w t (Record_known (replaced f s fs)) → Gives (Replace f) (u ∷ s ∷ []) t
     replace_gives f t _ s p n _ _ _ b (o_replace {fs = fs}) =
-        comes_none w n (Is_of t (Record_known (replaced f s fs))) b (subst (λ l. At w t (Record_known (replaced f s l))) (record_same fs p.0 p.1) p.2)
-      where
-        record_same : (fs gs : Known_fields) → Record_known fs ≡ Record_known gs → gs ≡ fs
-        record_same fs gs e = cc
+        comes_none w n (Is_of t (Record_known (replaced f s fs))) b (subst (λ l. At w t (Record_known (replaced f s l))) (record_same fs p.0 (sym p.1)) p.2)
 
     -- ---- written types
     ascribe_gives : (e : FlatType) (t : Ty) (s : Known) → At w t s → Gives (Ascribe e) (s ∷ []) t

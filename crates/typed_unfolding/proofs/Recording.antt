@@ -1,7 +1,6 @@
 -- What is known of the fields of records: of those that are made, of one that is found, and where one is replaced.
-use Rattle.std.proofs.Common.{◌≡◌, ◌≢◌, Bool, true, false, cond, ℕ, zero, suc, ◌+◌, ◌≤◌, ◌<◌, refl, sym, ap, ◌∙◌, subst, arith, List, [], ◌∷◌, map, Option, Some, None, decimal}
+use Rattle.std.proofs.Common.{◌≡◌, ◌≢◌, cond, ℕ, zero, suc, ◌+◌, ◌≤◌, ◌<◌, refl, sym, ap, ◌∙◌, subst, arith, List, [], ◌∷◌, map, Option, Some, None, decimal}
 use Rattle.std.specs.Str.{bytes_eq}
-use Rattle.std.proofs.lemmas.Slice.Eq.{bytes_eq-Decides}
 use mathlib.Core.Logic.{◌⊎◌, inl, inr}
 use Rattle.fut_scalar.specs.declared.scalar.IntType.{IntType}
 use Rattle.fut_ast.specs.Sorts.{Text}
@@ -10,75 +9,20 @@ use Rattle.fut_types.specs.Types.{Ty, Var, Made, Tys, none, more}
 use Rattle.fut_types.specs.Shapes.{place, part_at, part_named, HasPart}
 use Rattle.fut_typing.specs.Names.{Names, AreNames, IsRecord, Parts_named, Spells, count}
 use Rattle.fut_typing.proofs.Members.{In, in_list, list_in}
-use Rattle.fut_meaning.specs.Knowns.{with_some}
 use Rattle.fut_meaning.specs.Operations.{with_name, named_values}
-use Rattle.fut_meaning.specs.Values.{Tuple_value, no_value, field_and, is_before, with_field as put}
+use Rattle.fut_meaning.specs.Values.{Tuple_value, no_value, with_field as put}
 use Rattle.typed_meaning.specs.Fits.{widest, Is_key, In_order, Are_keys}
 use Rattle.typed_meaning.proofs.Decimals.{no_number, spelled, one_number, part_low}
 use Rattle.typed_meaning.proofs.Ordering.{eq_here, eq_other, key_put, key_stays, order_put}
 use Rattle.typed_meaning.proofs.Records.{Named, Apart, covers, long_map, label_named, labels_apart, placed_label}
-use Rattle.unfold.specs.Knowns.{Known, Record_known, Knowns, no_known, known_and, Known_fields, no_known_field, known_field_and, with_field, fields, field, replaced, part_from, part, record_parts}
+use Rattle.unfold.specs.Knowns.{Known, Record_known, Knowns, no_known, known_and, Known_fields, with_field, fields, field, replaced, part_from, part, record_parts}
 use Rattle.typed_blocks.specs.Fits.{On_record, Each_field, keys}
 use Rattle.typed_unfolding.specs.Worlds.{World, Learns}
 use Rattle.typed_unfolding.specs.Fits.{Fits, All_fit, Keyed}
 use Rattle.typed_blocks.proofs.Fitting.{some_same, each_found}
 use Rattle.typed_unfolding.proofs.Fitting.{keyed_found, keyed_from, fits_learn}
+use Rattle.typed_blocks.proofs.Recording.{keys_put, keys_replaced, each_put, each_replaced, key_found, named_label, with_rest, with_known}
 use Rattle.typed_blocks.proofs.Shaping.{tuple_is, record_is}
-
--- ---- names of fields
-keys_put : (f : Text) (s : Known) (fs : Known_fields) → keys (with_field f s fs) ≡ put f (Tuple_value no_value) (keys fs)
-keys_put f s no_known_field = refl
-keys_put f s (known_field_and g u fs) = known (is_before f g) (keys_put f s fs)
-  where
-    known : (b : Bool) → keys (with_field f s fs) ≡ put f (Tuple_value no_value) (keys fs)
-        → keys (cond b (known_field_and f s (known_field_and g u fs)) (known_field_and g u (with_field f s fs))) ≡ cond b (field_and f (Tuple_value no_value) (field_and g (Tuple_value no_value) (keys fs))) (field_and g (Tuple_value no_value) (put f (Tuple_value no_value) (keys fs)))
-    known true rec = refl
-    known false rec = ap (field_and g (Tuple_value no_value)) rec
-
-keys_replaced : (f : Text) (s : Known) (fs : Known_fields) → keys (replaced f s fs) ≡ keys fs
-keys_replaced f s no_known_field = refl
-keys_replaced f s (known_field_and g u fs) = known (bytes_eq g f) (keys_replaced f s fs)
-  where
-    known : (b : Bool) → keys (replaced f s fs) ≡ keys fs → keys (cond b (known_field_and g s fs) (known_field_and g u (replaced f s fs))) ≡ field_and g (Tuple_value no_value) (keys fs)
-    known true rec = refl
-    known false rec = ap (field_and g (Tuple_value no_value)) rec
-
-each_put : (P : Text → Known → Type 0) (f : Text) (s : Known) (fs : Known_fields) → P f s → Each_field P fs → Each_field P (with_field f s fs)
-each_put P f s no_known_field p h = (p, tt)
-each_put P f s (known_field_and g u fs) p h = known (is_before f g) (each_put P f s fs p h.1)
-  where
-    known : (b : Bool) → Each_field P (with_field f s fs) → Each_field P (cond b (known_field_and f s (known_field_and g u fs)) (known_field_and g u (with_field f s fs)))
-    known true rec = (p, h)
-    known false rec = (h.0, rec)
-
-each_replaced : (P : Text → Known → Type 0) (f : Text) (s : Known) (fs : Known_fields) → P f s → Each_field P fs → Each_field P (replaced f s fs)
-each_replaced P f s no_known_field p h = tt
-each_replaced P f s (known_field_and g u fs) p h = known (bytes_eq g f) refl (each_replaced P f s fs p h.1)
-  where
-    known : (b : Bool) → bytes_eq g f ≡ b → Each_field P (replaced f s fs) → Each_field P (cond b (known_field_and g s fs) (known_field_and g u (replaced f s fs)))
-    known true is rec = (subst (λ x. P x s) (sym ((bytes_eq-Decides g f).0 is)) p, h.1)
-    known false is rec = (h.0, rec)
-
-key_found : (s : Text) (fs : Known_fields) → Is_key s (keys fs) → (u : Known) × (field s fs ≡ Some u)
-key_found s no_known_field k = absurd k
-key_found s (known_field_and g w fs) k = known (bytes_eq g s) refl (key_found s fs) k
-  where
-    known : (b : Bool) → bytes_eq g s ≡ b → (Is_key s (keys fs) → (u : Known) × (field s fs ≡ Some u)) → (s ≡ g) ⊎ Is_key s (keys fs) → (u : Known) × (cond b (Some w) (field s fs) ≡ Some u)
-    known true is rec i = (w, refl)
-    known false is rec (inl e) = absurd (let z : true ≡ false = sym ((bytes_eq-Decides g s).1 (sym e)) ∙ is in cc)
-    known false is rec (inr i) = rec i
-
-named_label : (f : Text → ℕ) (s : Text) (names : List Text) → Named s names → In (f s) (map f names)
-named_label f s [] i = absurd i
-named_label f s (x ∷ names) (inl e) = inl (ap f e)
-named_label f s (x ∷ names) (inr i) = inr (named_label f s names i)
-
--- the parts behind a first one
-abbrev with_rest : Known → Option (List Known) → Option (List Known)
-with_rest s o = with_some o (λ ss. Some (s ∷ ss))
-
-abbrev with_known : Option Known → List Text → Known_fields → Option (List Known)
-with_known o names fs = with_some o (λ s. with_some (record_parts names fs) (λ ss. Some (s ∷ ss)))
 
 -- ---- types of parts
 module _ (N : Names) (integer_at : ℕ → IntType) (w : World) where

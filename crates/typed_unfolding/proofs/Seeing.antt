@@ -15,20 +15,15 @@ use Rattle.fut_typing.specs.Scopes.{Uses, Scope, with_uses, with_type, with_size
 use Rattle.fut_typing.specs.Patterns.{pattern_types, with_pattern, with_patterns, with_parameters, Pattern_typed, Patterns_typed}
 use Rattle.fut_typing.proofs.Local.{AllLocal, Agree}
 use Rattle.typed_meaning.specs.Meant.{No_sizes}
-use Rattle.unfold.specs.Knowns.{Known, Tuple_known, Record_known, Knowns, no_known, known_and, Known_fields, Scope as Seen, name_and, listed, find, record_parts}
+use Rattle.unfold.specs.Knowns.{Known, Tuple_known, Record_known, Knowns, no_known, known_and, Scope as Seen, name_and, listed, find, record_parts}
 use Rattle.unfold.specs.Unfolding.{Binds, b_bound, b_wild, b_tuple, b_record, b_typed, All_bind, b_none, b_more}
 use Rattle.typed_unfolding.specs.Worlds.{World, Learns}
 use Rattle.typed_unfolding.specs.Fits.{Fits, All_fit, Names_fit}
 use Rattle.typed_blocks.proofs.Fitting.{some_same}
 use Rattle.typed_unfolding.proofs.Fitting.{find_learns, fits_learn}
 use Rattle.typed_unfolding.proofs.Recording.{Each_fits, record_parts_fit}
+use Rattle.typed_blocks.proofs.Seeing.{tuple_same, record_same}
 use Rattle.typed_blocks.proofs.Shaping.{tuple_is}
-
-tuple_same : (ss rs : Knowns) → Tuple_known rs ≡ Tuple_known ss → ss ≡ rs
-tuple_same ss rs e = cc
-
-record_same : (fs gs : Known_fields) → Record_known gs ≡ Record_known fs → gs ≡ fs
-record_same fs gs e = cc
 
 module _ (N : Names) (integer_at : ℕ → IntType) (P : ℕ → Type 0) (K : Kinds) where
   pub names_learn : (w w' : World) → Learns w w' → (scope : Scope) (a : Sub) (sc : Seen) → Names_fit N integer_at w P scope K a sc → Names_fit N integer_at w' P scope K a sc

@@ -1,11 +1,11 @@
 -- The steps of each typed term are typed: by recursion on terms, over all their typings.
-use Rattle.std.proofs.Common.{◌≡◌, Bool, true, false, ◌||◌, ℕ, ◌+◌, ◌≤◌, ◌<◌, refl, sym, ◌∙◌, subst, arith, List, [], ◌∷◌, None}
+use Rattle.std.proofs.Common.{◌≡◌, Bool, true, false, ◌||◌, ℕ, ◌+◌, ◌≤◌, ◌<◌, refl, sym, ◌∙◌, subst, arith, List, [], ◌∷◌}
 use mathlib.Core.Logic.{inl, inr}
 use Rattle.fut_scalar.specs.declared.place.BindId.{BindId}
 use Rattle.fut_scalar.specs.declared.scalar.IntType.{IntType}
 use Rattle.fut_scalar.specs.declared.scalar.ScalarType.TheVariants as types
 use Rattle.fut_flat.specs.declared.prim.Ref.{Ref}
-use Rattle.fut_flat.specs.Terms.{Bound_pattern, Wild_pattern, Tuple_pattern, Record_pattern, Typed_pattern, Patterns, no_pattern, pattern_and, Operation, Integer, Use, Strict, Lambda, Apply, Let, If, Loop, Terms, no_term, term_and, Counted, Over, While}
+use Rattle.fut_flat.specs.Terms.{Bound_pattern, Wild_pattern, Tuple_pattern, Record_pattern, Typed_pattern, Patterns, no_pattern, pattern_and, Use, Strict, Lambda, Apply, Let, If, Loop, Terms, no_term, term_and, Counted, Over, While}
 use Rattle.fut_flat.specs.Numbers.{pattern_numbers, all_pattern_numbers, own_numbers, numbers, all_numbers}
 use Rattle.fut_flat.specs.Erased.{FlatTerm, FlatPattern}
 use Rattle.fut_types.specs.declared.Kind.TheVariants as kind
@@ -21,12 +21,12 @@ use Rattle.fut_typing.proofs.Local.{AllLocal, all_local_more, local_sizes, local
 use Rattle.fut_typing.proofs.Cong.{within_no}
 use Rattle.fut_typing.proofs.Locals.{body_local}
 use Rattle.typed_meaning.specs.Fits.{widest}
-use Rattle.typed_meaning.specs.Meant.{Has_parameter, No_sizes, Meant, All_meant, Literal_here, Literal, A_literal, Literals_told}
+use Rattle.typed_meaning.specs.Meant.{Has_parameter, No_sizes, Meant, All_meant, Literal, A_literal, Literals_told}
 use Rattle.typed_meaning.proofs.Literals.{literal_kept}
-use Rattle.typed_meaning.proofs.Operating.{Told}
 use Rattle.typed_meaning.proofs.Running.{count_terms}
 use Rattle.unfold.specs.Knowns.{Known, Function_known, Scope as Seen, name_and}
 use Rattle.unfold.specs.Unfolding.{named, Binds, b_bound, a_body, a_waits}
+use Rattle.typed_blocks.proofs.Surely.{told}
 use Rattle.typed_unfolding.specs.Worlds.{World, Learns}
 use Rattle.typed_unfolding.specs.Fits.{Runs_typed, Fits, Names_fit}
 use Rattle.typed_unfolding.proofs.Worlds.{learns_more, learns_types, comes_none, comes_with, comes_same}
@@ -34,10 +34,6 @@ use Rattle.typed_unfolding.proofs.Operating.{operation_gives}
 use Rattle.typed_unfolding.proofs.Seeing.{names_learn, names_move, names_sizes, names_types, name_fits, binds_fit}
 use Rattle.typed_unfolding.proofs.Applying.{fits_function}
 use Rattle.typed_unfolding.proofs.Going.{Goes, goes_as, All_go, use_goes, none_go, more_go, strict_goes, lambda_goes, apply_goes, Let_goes, let_goes, if_goes, counted_goes, while_goes}
-
-told : (o : Operation Ref BindId) (a : Sub) (lo : ℕ) (integer_at : ℕ → IntType) → ((m : ℕ) → Literal_here o lo m → a m ≡ scalar_ty (types.Int (integer_at m))) → Told (integer_at lo) o (a lo)
-told (Integer n None) a lo integer_at h = h lo refl
-told o a lo integer_at h = tt
 
 module _ (N : Names) (are : AreNames N) (integer_at : ℕ → IntType) (P : ℕ → Type 0) (K : Kinds) where
   abbrev At : World → Ty → Known → Type 0

@@ -35,100 +35,64 @@ use Rattle.type_constraints.proofs.Overs.{two_claimed, over_ok, over_err1, over_
 use Rattle.type_constraints.proofs.expressions.+constrain.Goals as goal
 
 pub constrain-constrain_use-requires-clause-room : goal.constrain-constrain_use-requires-clause-room
-constrain-constrain_use-requires-clause-room t c = subst (λ (x : FlatTerm). c.args.lo + numbers x ≤ c.args.base) (term_use c.args.exp.now c.in-Use.reference c.in-Use.before c.in-Use.is) c.requires.room
+constrain-constrain_use-requires-clause-room t c = subst (λ (x : FlatTerm). c.args.lo + numbers x ≤ c.args.setting.base) (term_use c.args.exp.now c.in-Use.reference c.in-Use.before c.in-Use.is) c.requires.room
 
-pub constrain-returns-in-Use-clause-next : goal.constrain-returns-in-Use-clause-next
-constrain-returns-in-Use-clause-next t c = rw (term_use c.args.exp.now c.in-Use.reference c.in-Use.before c.in-Use.is) c.constrain_use.ensures.next
-
-pub constrain-returns-in-Use-clause-ok : goal.constrain-returns-in-Use-clause-ok
-constrain-returns-in-Use-clause-ok t c = rw (term_use c.args.exp.now c.in-Use.reference c.in-Use.before c.in-Use.is) c.constrain_use.ensures.ok
-
-pub constrain-returns-in-Use-clause-err : goal.constrain-returns-in-Use-clause-err
-constrain-returns-in-Use-clause-err t c = rw (term_use c.args.exp.now c.in-Use.reference c.in-Use.before c.in-Use.is) c.constrain_use.ensures.err
+pub constrain-returns-in-Use : goal.constrain-returns-in-Use
+constrain-returns-in-Use t c = record { next = rw (term_use c.args.exp.now c.in-Use.reference c.in-Use.before c.in-Use.is) c.constrain_use.ensures.next; ok = rw (term_use c.args.exp.now c.in-Use.reference c.in-Use.before c.in-Use.is) c.constrain_use.ensures.ok; err = rw (term_use c.args.exp.now c.in-Use.reference c.in-Use.before c.in-Use.is) c.constrain_use.ensures.err }
 
 pub constrain-constrain_strict-requires : goal.constrain-constrain_strict-requires
-constrain-constrain_strict-requires t c = let e = ap (λ (x : FlatTerm). numbers x) (term_strict c.args.exp.now c.in-Strict.act c.in-Strict.mark c.in-Strict.parts c.in-Strict.is) in (omega (arith, e), (c.requires.safe, subst (λ (x : FlatTerm). c.args.lo + numbers x ≤ c.args.base) (term_strict c.args.exp.now c.in-Strict.act c.in-Strict.mark c.in-Strict.parts c.in-Strict.is) c.requires.room))
+constrain-constrain_strict-requires t c = let e = ap (λ (x : FlatTerm). numbers x) (term_strict c.args.exp.now c.in-Strict.act c.in-Strict.mark c.in-Strict.parts c.in-Strict.is) in (omega (arith, e), (c.requires.safe, subst (λ (x : FlatTerm). c.args.lo + numbers x ≤ c.args.setting.base) (term_strict c.args.exp.now c.in-Strict.act c.in-Strict.mark c.in-Strict.parts c.in-Strict.is) c.requires.room))
 
-pub constrain-returns-in-Strict-clause-next : goal.constrain-returns-in-Strict-clause-next
-constrain-returns-in-Strict-clause-next t c = rw (term_strict c.args.exp.now c.in-Strict.act c.in-Strict.mark c.in-Strict.parts c.in-Strict.is) c.constrain_strict.ensures.next
-
-pub constrain-returns-in-Strict-clause-ok : goal.constrain-returns-in-Strict-clause-ok
-constrain-returns-in-Strict-clause-ok t c = rw (term_strict c.args.exp.now c.in-Strict.act c.in-Strict.mark c.in-Strict.parts c.in-Strict.is) c.constrain_strict.ensures.ok
-
-pub constrain-returns-in-Strict-clause-err : goal.constrain-returns-in-Strict-clause-err
-constrain-returns-in-Strict-clause-err t c = rw (term_strict c.args.exp.now c.in-Strict.act c.in-Strict.mark c.in-Strict.parts c.in-Strict.is) c.constrain_strict.ensures.err
+pub constrain-returns-in-Strict : goal.constrain-returns-in-Strict
+constrain-returns-in-Strict t c = record { next = rw (term_strict c.args.exp.now c.in-Strict.act c.in-Strict.mark c.in-Strict.parts c.in-Strict.is) c.constrain_strict.ensures.next; ok = rw (term_strict c.args.exp.now c.in-Strict.act c.in-Strict.mark c.in-Strict.parts c.in-Strict.is) c.constrain_strict.ensures.ok; err = rw (term_strict c.args.exp.now c.in-Strict.act c.in-Strict.mark c.in-Strict.parts c.in-Strict.is) c.constrain_strict.ensures.err }
 
 pub constrain-constrain_apply-requires : goal.constrain-constrain_apply-requires
-constrain-constrain_apply-requires t c = let e = ap (λ (x : FlatTerm). numbers x) (term_apply c.args.exp.now c.in-Apply.function c.in-Apply.argument c.in-Apply.is) in (omega (arith, e), (c.requires.safe, subst (λ (x : FlatTerm). c.args.lo + numbers x ≤ c.args.base) (term_apply c.args.exp.now c.in-Apply.function c.in-Apply.argument c.in-Apply.is) c.requires.room))
+constrain-constrain_apply-requires t c = let e = ap (λ (x : FlatTerm). numbers x) (term_apply c.args.exp.now c.in-Apply.function c.in-Apply.argument c.in-Apply.is) in (omega (arith, e), (c.requires.safe, subst (λ (x : FlatTerm). c.args.lo + numbers x ≤ c.args.setting.base) (term_apply c.args.exp.now c.in-Apply.function c.in-Apply.argument c.in-Apply.is) c.requires.room))
 
-pub constrain-returns-in-Apply-clause-next : goal.constrain-returns-in-Apply-clause-next
-constrain-returns-in-Apply-clause-next t c = rw (term_apply c.args.exp.now c.in-Apply.function c.in-Apply.argument c.in-Apply.is) c.constrain_apply.ensures.next
-
-pub constrain-returns-in-Apply-clause-ok : goal.constrain-returns-in-Apply-clause-ok
-constrain-returns-in-Apply-clause-ok t c = rw (term_apply c.args.exp.now c.in-Apply.function c.in-Apply.argument c.in-Apply.is) c.constrain_apply.ensures.ok
-
-pub constrain-returns-in-Apply-clause-err : goal.constrain-returns-in-Apply-clause-err
-constrain-returns-in-Apply-clause-err t c = rw (term_apply c.args.exp.now c.in-Apply.function c.in-Apply.argument c.in-Apply.is) c.constrain_apply.ensures.err
+pub constrain-returns-in-Apply : goal.constrain-returns-in-Apply
+constrain-returns-in-Apply t c = record { next = rw (term_apply c.args.exp.now c.in-Apply.function c.in-Apply.argument c.in-Apply.is) c.constrain_apply.ensures.next; ok = rw (term_apply c.args.exp.now c.in-Apply.function c.in-Apply.argument c.in-Apply.is) c.constrain_apply.ensures.ok; err = rw (term_apply c.args.exp.now c.in-Apply.function c.in-Apply.argument c.in-Apply.is) c.constrain_apply.ensures.err }
 
 pub constrain-constrain_if-requires : goal.constrain-constrain_if-requires
-constrain-constrain_if-requires t c = let e = ap (λ (x : FlatTerm). numbers x) (term_if c.args.exp.now c.in-If.test c.in-If.yes c.in-If.no c.in-If.is) in (omega (arith, e), (c.requires.safe, subst (λ (x : FlatTerm). c.args.lo + numbers x ≤ c.args.base) (term_if c.args.exp.now c.in-If.test c.in-If.yes c.in-If.no c.in-If.is) c.requires.room))
+constrain-constrain_if-requires t c = let e = ap (λ (x : FlatTerm). numbers x) (term_if c.args.exp.now c.in-If.test c.in-If.yes c.in-If.no c.in-If.is) in (omega (arith, e), (c.requires.safe, subst (λ (x : FlatTerm). c.args.lo + numbers x ≤ c.args.setting.base) (term_if c.args.exp.now c.in-If.test c.in-If.yes c.in-If.no c.in-If.is) c.requires.room))
 
-pub constrain-returns-in-If-clause-next : goal.constrain-returns-in-If-clause-next
-constrain-returns-in-If-clause-next t c = rw (term_if c.args.exp.now c.in-If.test c.in-If.yes c.in-If.no c.in-If.is) c.constrain_if.ensures.next
-
-pub constrain-returns-in-If-clause-ok : goal.constrain-returns-in-If-clause-ok
-constrain-returns-in-If-clause-ok t c = rw (term_if c.args.exp.now c.in-If.test c.in-If.yes c.in-If.no c.in-If.is) c.constrain_if.ensures.ok
-
-pub constrain-returns-in-If-clause-err : goal.constrain-returns-in-If-clause-err
-constrain-returns-in-If-clause-err t c = rw (term_if c.args.exp.now c.in-If.test c.in-If.yes c.in-If.no c.in-If.is) c.constrain_if.ensures.err
+pub constrain-returns-in-If : goal.constrain-returns-in-If
+constrain-returns-in-If t c = record { next = rw (term_if c.args.exp.now c.in-If.test c.in-If.yes c.in-If.no c.in-If.is) c.constrain_if.ensures.next; ok = rw (term_if c.args.exp.now c.in-If.test c.in-If.yes c.in-If.no c.in-If.is) c.constrain_if.ensures.ok; err = rw (term_if c.args.exp.now c.in-If.test c.in-If.yes c.in-If.no c.in-If.is) c.constrain_if.ensures.err }
 
 pub constrain-constrain_lets-requires : goal.constrain-constrain_lets-requires
-constrain-constrain_lets-requires t c = let e = ap (λ (x : FlatTerm). numbers x) (term_lets c.args.exp.now c.in-Lets.lets c.in-Lets.body c.in-Lets.is) in (omega (arith, e), (c.requires.safe, subst (λ (x : FlatTerm). c.args.lo + numbers x ≤ c.args.base) (term_lets c.args.exp.now c.in-Lets.lets c.in-Lets.body c.in-Lets.is) c.requires.room))
+constrain-constrain_lets-requires t c = let e = ap (λ (x : FlatTerm). numbers x) (term_lets c.args.exp.now c.in-Lets.lets c.in-Lets.body c.in-Lets.is) in (omega (arith, e), (c.requires.safe, subst (λ (x : FlatTerm). c.args.lo + numbers x ≤ c.args.setting.base) (term_lets c.args.exp.now c.in-Lets.lets c.in-Lets.body c.in-Lets.is) c.requires.room))
 
-pub constrain-returns-in-Lets-clause-next : goal.constrain-returns-in-Lets-clause-next
-constrain-returns-in-Lets-clause-next t c = rw (term_lets c.args.exp.now c.in-Lets.lets c.in-Lets.body c.in-Lets.is) c.constrain_lets.ensures.next
-
-pub constrain-returns-in-Lets-clause-ok : goal.constrain-returns-in-Lets-clause-ok
-constrain-returns-in-Lets-clause-ok t c = rw (term_lets c.args.exp.now c.in-Lets.lets c.in-Lets.body c.in-Lets.is) c.constrain_lets.ensures.ok
-
-pub constrain-returns-in-Lets-clause-err : goal.constrain-returns-in-Lets-clause-err
-constrain-returns-in-Lets-clause-err t c = rw (term_lets c.args.exp.now c.in-Lets.lets c.in-Lets.body c.in-Lets.is) c.constrain_lets.ensures.err
+pub constrain-returns-in-Lets : goal.constrain-returns-in-Lets
+constrain-returns-in-Lets t c = record { next = rw (term_lets c.args.exp.now c.in-Lets.lets c.in-Lets.body c.in-Lets.is) c.constrain_lets.ensures.next; ok = rw (term_lets c.args.exp.now c.in-Lets.lets c.in-Lets.body c.in-Lets.is) c.constrain_lets.ensures.ok; err = rw (term_lets c.args.exp.now c.in-Lets.lets c.in-Lets.body c.in-Lets.is) c.constrain_lets.ensures.err }
 
 pub constrain-constrain_lambda-requires : goal.constrain-constrain_lambda-requires
-constrain-constrain_lambda-requires t c = let e = ap (λ (x : FlatTerm). numbers x) (term_lambda c.args.exp.now c.in-Lambda.params c.in-Lambda.body c.in-Lambda.is) in (omega (arith, e), (c.requires.safe, subst (λ (x : FlatTerm). c.args.lo + numbers x ≤ c.args.base) (term_lambda c.args.exp.now c.in-Lambda.params c.in-Lambda.body c.in-Lambda.is) c.requires.room))
+constrain-constrain_lambda-requires t c = let e = ap (λ (x : FlatTerm). numbers x) (term_lambda c.args.exp.now c.in-Lambda.params c.in-Lambda.body c.in-Lambda.is) in (omega (arith, e), (c.requires.safe, subst (λ (x : FlatTerm). c.args.lo + numbers x ≤ c.args.setting.base) (term_lambda c.args.exp.now c.in-Lambda.params c.in-Lambda.body c.in-Lambda.is) c.requires.room))
 
-pub constrain-returns-in-Lambda-clause-next : goal.constrain-returns-in-Lambda-clause-next
-constrain-returns-in-Lambda-clause-next t c = rw (term_lambda c.args.exp.now c.in-Lambda.params c.in-Lambda.body c.in-Lambda.is) c.constrain_lambda.ensures.next
+pub constrain-returns-in-Lambda : goal.constrain-returns-in-Lambda
+constrain-returns-in-Lambda t c = record { next = rw (term_lambda c.args.exp.now c.in-Lambda.params c.in-Lambda.body c.in-Lambda.is) c.constrain_lambda.ensures.next; ok = rw (term_lambda c.args.exp.now c.in-Lambda.params c.in-Lambda.body c.in-Lambda.is) c.constrain_lambda.ensures.ok; err = rw (term_lambda c.args.exp.now c.in-Lambda.params c.in-Lambda.body c.in-Lambda.is) c.constrain_lambda.ensures.err }
 
-pub constrain-returns-in-Lambda-clause-ok : goal.constrain-returns-in-Lambda-clause-ok
-constrain-returns-in-Lambda-clause-ok t c = rw (term_lambda c.args.exp.now c.in-Lambda.params c.in-Lambda.body c.in-Lambda.is) c.constrain_lambda.ensures.ok
-
-pub constrain-returns-in-Lambda-clause-err : goal.constrain-returns-in-Lambda-clause-err
-constrain-returns-in-Lambda-clause-err t c = rw (term_lambda c.args.exp.now c.in-Lambda.params c.in-Lambda.body c.in-Lambda.is) c.constrain_lambda.ensures.err
-
-pub constrain_apply-returns-in-Err-clause-err : goal.constrain_apply-returns-in-Err-clause-err
-constrain_apply-returns-in-Err-clause-err t c = tells c.in-Err.error (refused_apply c.args.places c.args.base c.args.depth c.args.lo (term_of c.args.function.now) (term_of c.args.argument.now) c.args.inference.now c.constrain.new.inference) c.in-Err.ensures.err
+pub constrain_apply-returns-in-Err : goal.constrain_apply-returns-in-Err
+constrain_apply-returns-in-Err t c = record { next = tt; ok = tt; err = tells c.in-Err.error (refused_apply c.args.setting.places c.args.setting.base c.args.setting.depth c.args.lo (term_of c.args.function.now) (term_of c.args.argument.now) c.args.inference.now c.constrain.new.inference) c.in-Err.ensures.err }
 
 pub constrain_apply-constrain-requires-2 : goal.constrain_apply-constrain-requires-2
 constrain_apply-constrain-requires-2 t c = (omega arith, (c.in-Ok.ensures.ok.later.safe, omega (arith, c.requires.room, c.in-Ok.ensures.next)))
 
-pub constrain_apply-returns-in-Err-constrain-clause-err : goal.constrain_apply-returns-in-Err-constrain-clause-err
-constrain_apply-returns-in-Err-constrain-clause-err t c = tells c.in-Err-constrain.error (refused_apply2 c.args.places c.args.base c.args.depth c.args.lo c.in-Ok.next (term_of c.args.function.now) (term_of c.args.argument.now) c.args.inference.now c.constrain.new.inference c.constrain-2.new.inference c.requires.safe c.in-Ok.ensures.next c.in-Ok.ensures.ok) c.in-Err-constrain.ensures.err
+pub constrain_apply-returns-in-Err-constrain : goal.constrain_apply-returns-in-Err-constrain
+constrain_apply-returns-in-Err-constrain t c = record { next = tt; ok = tt; err = tells c.in-Err-constrain.error (refused_apply2 c.args.setting.places c.args.setting.base c.args.setting.depth c.args.lo c.in-Ok.next (term_of c.args.function.now) (term_of c.args.argument.now) c.args.inference.now c.constrain.new.inference c.constrain-2.new.inference c.requires.safe c.in-Ok.ensures.next c.in-Ok.ensures.ok) c.in-Err-constrain.ensures.err }
 
 pub constrain_apply-demand-requires-clause-within : goal.constrain_apply-demand-requires-clause-within
-constrain_apply-demand-requires-clause-within t c = c.application.ensures.within _ c.args.base (below_two c.args.base _ _ _ (omega (arith, c.requires.room)) (omega (arith, c.requires.room, numbers_some (term_of c.args.function.now), numbers_some (term_of c.args.argument.now))) (omega (arith, c.requires.room, c.in-Ok.ensures.next, numbers_some (term_of c.args.argument.now))))
+constrain_apply-demand-requires-clause-within t c = c.application.ensures.within _ c.args.setting.base (below_two c.args.setting.base _ _ _ (omega (arith, c.requires.room)) (omega (arith, c.requires.room, numbers_some (term_of c.args.function.now), numbers_some (term_of c.args.argument.now))) (omega (arith, c.requires.room, c.in-Ok.ensures.next, numbers_some (term_of c.args.argument.now))))
 
-pub constrain_apply-returns-in-Ok-demand-clause-ok : goal.constrain_apply-returns-in-Ok-demand-clause-ok
-constrain_apply-returns-in-Ok-demand-clause-ok t c = apply_ok c.args.places c.args.base c.args.depth c.args.lo c.in-Ok.next (term_of c.args.function.now) (term_of c.args.argument.now) c.args.inference.now c.constrain.new.inference c.constrain-2.new.inference c.demand.new.inference c.requires.safe c.in-Ok.ensures.next c.application.result c.application.ensures.says c.application.ensures.allowed c.in-Ok.ensures.ok c.in-Ok-constrain.ensures.ok c.in-Ok-demand.ensures.ok
+pub constrain_apply-returns-in-Ok-demand : goal.constrain_apply-returns-in-Ok-demand
+constrain_apply-returns-in-Ok-demand t c = record { next = omega (arith, c.in-Ok.ensures.next, c.in-Ok-constrain.ensures.next); ok = apply_ok c.args.setting.places c.args.setting.base c.args.setting.depth c.args.lo c.in-Ok.next (term_of c.args.function.now) (term_of c.args.argument.now) c.args.inference.now c.constrain.new.inference c.constrain-2.new.inference c.demand.new.inference c.requires.safe c.in-Ok.ensures.next c.application.result c.application.ensures.says c.application.ensures.allowed c.in-Ok.ensures.ok c.in-Ok-constrain.ensures.ok c.in-Ok-demand.ensures.ok; err = tt }
 
-pub constrain_apply-returns-in-Err-demand-clause-err : goal.constrain_apply-returns-in-Err-demand-clause-err
-constrain_apply-returns-in-Err-demand-clause-err t c = tells c.in-Err-demand.error (apply_err3 c.args.places c.args.base c.args.depth c.args.lo c.in-Ok.next (term_of c.args.function.now) (term_of c.args.argument.now) c.args.inference.now c.constrain.new.inference c.constrain-2.new.inference c.demand.new.inference c.requires.safe c.in-Ok.ensures.next c.application.result c.application.ensures.says c.application.ensures.allowed c.in-Ok.ensures.ok c.in-Ok-constrain.ensures.ok) c.in-Err-demand.ensures.err
+pub constrain_apply-returns-in-Err-demand : goal.constrain_apply-returns-in-Err-demand
+constrain_apply-returns-in-Err-demand t c = record { next = tt; ok = tt; err = tells c.in-Err-demand.error (apply_err3 c.args.setting.places c.args.setting.base c.args.setting.depth c.args.lo c.in-Ok.next (term_of c.args.function.now) (term_of c.args.argument.now) c.args.inference.now c.constrain.new.inference c.constrain-2.new.inference c.demand.new.inference c.requires.safe c.in-Ok.ensures.next c.application.result c.application.ensures.says c.application.ensures.allowed c.in-Ok.ensures.ok c.in-Ok-constrain.ensures.ok) c.in-Err-demand.ensures.err }
 
-pub constrain_if-returns-in-Err-clause-err : goal.constrain_if-returns-in-Err-clause-err
-constrain_if-returns-in-Err-clause-err t c = tells c.in-Err.error (refused_if c.args.places c.args.base c.args.depth c.args.lo (term_of c.args.test.now) (term_of c.args.yes.now) (term_of c.args.no.now) c.args.inference.now c.constrain.new.inference) c.in-Err.ensures.err
+pub constrain_if-returns-in-Err : goal.constrain_if-returns-in-Err
+constrain_if-returns-in-Err t c = record { next = tt; ok = tt; err = tells c.in-Err.error (refused_if c.args.setting.places c.args.setting.base c.args.setting.depth c.args.lo (term_of c.args.test.now) (term_of c.args.yes.now) (term_of c.args.no.now) c.args.inference.now c.constrain.new.inference) c.in-Err.ensures.err }
 
-pub constrain_if-returns-in-Err-constrain-clause-err : goal.constrain_if-returns-in-Err-constrain-clause-err
-constrain_if-returns-in-Err-constrain-clause-err t c = tells c.in-Err-constrain.error (refused_if2 c.args.places c.args.base c.args.depth c.args.lo c.in-Ok.next (term_of c.args.test.now) (term_of c.args.yes.now) (term_of c.args.no.now) c.args.inference.now c.constrain.new.inference c.constrain-2.new.inference c.requires.safe c.in-Ok.ensures.next c.in-Ok.ensures.ok) c.in-Err-constrain.ensures.err
+pub constrain_if-returns-in-Err-constrain : goal.constrain_if-returns-in-Err-constrain
+constrain_if-returns-in-Err-constrain t c = record { next = tt; ok = tt; err = tells c.in-Err-constrain.error (refused_if2 c.args.setting.places c.args.setting.base c.args.setting.depth c.args.lo c.in-Ok.next (term_of c.args.test.now) (term_of c.args.yes.now) (term_of c.args.no.now) c.args.inference.now c.constrain.new.inference c.constrain-2.new.inference c.requires.safe c.in-Ok.ensures.next c.in-Ok.ensures.ok) c.in-Err-constrain.ensures.err }
 
 pub constrain_if-constrain-requires-2 : goal.constrain_if-constrain-requires-2
 constrain_if-constrain-requires-2 t c = (omega arith, (c.in-Ok.ensures.ok.later.safe, omega (arith, c.requires.room, c.in-Ok.ensures.next)))
@@ -136,194 +100,176 @@ constrain_if-constrain-requires-2 t c = (omega arith, (c.in-Ok.ensures.ok.later.
 pub constrain_if-constrain-requires-3 : goal.constrain_if-constrain-requires-3
 constrain_if-constrain-requires-3 t c = (omega arith, (c.in-Ok-constrain.ensures.ok.later.safe, omega (arith, c.requires.room, c.in-Ok.ensures.next, c.in-Ok-constrain.ensures.next)))
 
-pub constrain_if-returns-in-Err-constrain-2-clause-err : goal.constrain_if-returns-in-Err-constrain-2-clause-err
-constrain_if-returns-in-Err-constrain-2-clause-err t c = tells c.in-Err-constrain-2.error (refused_if3 c.args.places c.args.base c.args.depth c.args.lo c.in-Ok.next c.in-Ok-constrain.next (term_of c.args.test.now) (term_of c.args.yes.now) (term_of c.args.no.now) c.args.inference.now c.constrain.new.inference c.constrain-2.new.inference c.constrain-3.new.inference c.requires.safe c.in-Ok.ensures.next (c.in-Ok-constrain.ensures.next ∙ ap (λ m. m + numbers (term_of c.args.yes.now)) c.in-Ok.ensures.next) c.in-Ok.ensures.ok c.in-Ok-constrain.ensures.ok) c.in-Err-constrain-2.ensures.err
+pub constrain_if-returns-in-Err-constrain-2 : goal.constrain_if-returns-in-Err-constrain-2
+constrain_if-returns-in-Err-constrain-2 t c = record { next = tt; ok = tt; err = tells c.in-Err-constrain-2.error (refused_if3 c.args.setting.places c.args.setting.base c.args.setting.depth c.args.lo c.in-Ok.next c.in-Ok-constrain.next (term_of c.args.test.now) (term_of c.args.yes.now) (term_of c.args.no.now) c.args.inference.now c.constrain.new.inference c.constrain-2.new.inference c.constrain-3.new.inference c.requires.safe c.in-Ok.ensures.next (c.in-Ok-constrain.ensures.next ∙ ap (λ m. m + numbers (term_of c.args.yes.now)) c.in-Ok.ensures.next) c.in-Ok.ensures.ok c.in-Ok-constrain.ensures.ok) c.in-Err-constrain-2.ensures.err }
 
 pub constrain_if-demand-requires-clause-within : goal.constrain_if-demand-requires-clause-within
-constrain_if-demand-requires-clause-within t c = c.choice.ensures.within _ c.args.base (below_four c.args.base _ _ _ _ (omega (arith, c.requires.room)) (omega (arith, c.requires.room, numbers_some (term_of c.args.test.now))) (omega (arith, c.requires.room, c.in-Ok.ensures.next, numbers_some (term_of c.args.yes.now))) (omega (arith, c.requires.room, c.in-Ok.ensures.next, c.in-Ok-constrain.ensures.next, numbers_some (term_of c.args.no.now))))
+constrain_if-demand-requires-clause-within t c = c.choice.ensures.within _ c.args.setting.base (below_four c.args.setting.base _ _ _ _ (omega (arith, c.requires.room)) (omega (arith, c.requires.room, numbers_some (term_of c.args.test.now))) (omega (arith, c.requires.room, c.in-Ok.ensures.next, numbers_some (term_of c.args.yes.now))) (omega (arith, c.requires.room, c.in-Ok.ensures.next, c.in-Ok-constrain.ensures.next, numbers_some (term_of c.args.no.now))))
 
-pub constrain_if-returns-in-Ok-demand-clause-ok : goal.constrain_if-returns-in-Ok-demand-clause-ok
-constrain_if-returns-in-Ok-demand-clause-ok t c = if_ok c.args.places c.args.base c.args.depth c.args.lo c.in-Ok.next c.in-Ok-constrain.next (term_of c.args.test.now) (term_of c.args.yes.now) (term_of c.args.no.now) c.args.inference.now c.constrain.new.inference c.constrain-2.new.inference c.constrain-3.new.inference c.demand.new.inference c.requires.safe c.in-Ok.ensures.next (c.in-Ok-constrain.ensures.next ∙ ap (λ m. m + numbers (term_of c.args.yes.now)) c.in-Ok.ensures.next) c.choice.result c.choice.ensures.says c.choice.ensures.allowed c.in-Ok.ensures.ok c.in-Ok-constrain.ensures.ok c.in-Ok-constrain-2.ensures.ok c.in-Ok-demand.ensures.ok
+pub constrain_if-returns-in-Ok-demand : goal.constrain_if-returns-in-Ok-demand
+constrain_if-returns-in-Ok-demand t c = record { next = omega (arith, c.in-Ok.ensures.next, c.in-Ok-constrain.ensures.next, c.in-Ok-constrain-2.ensures.next); ok = if_ok c.args.setting.places c.args.setting.base c.args.setting.depth c.args.lo c.in-Ok.next c.in-Ok-constrain.next (term_of c.args.test.now) (term_of c.args.yes.now) (term_of c.args.no.now) c.args.inference.now c.constrain.new.inference c.constrain-2.new.inference c.constrain-3.new.inference c.demand.new.inference c.requires.safe c.in-Ok.ensures.next (c.in-Ok-constrain.ensures.next ∙ ap (λ m. m + numbers (term_of c.args.yes.now)) c.in-Ok.ensures.next) c.choice.result c.choice.ensures.says c.choice.ensures.allowed c.in-Ok.ensures.ok c.in-Ok-constrain.ensures.ok c.in-Ok-constrain-2.ensures.ok c.in-Ok-demand.ensures.ok; err = tt }
 
-pub constrain_if-returns-in-Err-demand-clause-err : goal.constrain_if-returns-in-Err-demand-clause-err
-constrain_if-returns-in-Err-demand-clause-err t c = tells c.in-Err-demand.error (if_err4 c.args.places c.args.base c.args.depth c.args.lo c.in-Ok.next c.in-Ok-constrain.next (term_of c.args.test.now) (term_of c.args.yes.now) (term_of c.args.no.now) c.args.inference.now c.constrain.new.inference c.constrain-2.new.inference c.constrain-3.new.inference c.demand.new.inference c.requires.safe c.in-Ok.ensures.next (c.in-Ok-constrain.ensures.next ∙ ap (λ m. m + numbers (term_of c.args.yes.now)) c.in-Ok.ensures.next) c.choice.result c.choice.ensures.says c.choice.ensures.allowed c.in-Ok.ensures.ok c.in-Ok-constrain.ensures.ok c.in-Ok-constrain-2.ensures.ok) c.in-Err-demand.ensures.err
+pub constrain_if-returns-in-Err-demand : goal.constrain_if-returns-in-Err-demand
+constrain_if-returns-in-Err-demand t c = record { next = tt; ok = tt; err = tells c.in-Err-demand.error (if_err4 c.args.setting.places c.args.setting.base c.args.setting.depth c.args.lo c.in-Ok.next c.in-Ok-constrain.next (term_of c.args.test.now) (term_of c.args.yes.now) (term_of c.args.no.now) c.args.inference.now c.constrain.new.inference c.constrain-2.new.inference c.constrain-3.new.inference c.demand.new.inference c.requires.safe c.in-Ok.ensures.next (c.in-Ok-constrain.ensures.next ∙ ap (λ m. m + numbers (term_of c.args.yes.now)) c.in-Ok.ensures.next) c.choice.result c.choice.ensures.says c.choice.ensures.allowed c.in-Ok.ensures.ok c.in-Ok-constrain.ensures.ok c.in-Ok-constrain-2.ensures.ok) c.in-Err-demand.ensures.err }
 
 pub constrain_parts-loop-part-init : goal.constrain_parts-loop-part-init
-constrain_parts-loop-part-init t c = gone_none c.args.places c.args.base c.args.depth c.args.lo c.args.begins.now c.args.inference.now c.requires.safe
+constrain_parts-loop-part-init t c = gone_none c.args.setting.places c.args.setting.base c.args.setting.depth c.args.lo c.args.begins.now c.args.inference.now c.requires.safe
 
 pub constrain_parts-constrain-requires : goal.constrain_parts-constrain-requires
-constrain_parts-constrain-requires t c = (falls_in c.args.parts.now c.loop-part.part-index _ t c.loop-part-test.true (omega arith), (c.loop-part.invariant.claimed.later.safe, room_in c.args.parts.now c.loop-part.part-index _ c.args.lo c.loop-part.at c.args.base c.loop-part-test.true c.loop-part.invariant.next c.requires.room))
+constrain_parts-constrain-requires t c = (falls_in c.args.parts.now c.loop-part.part-index _ t c.loop-part-test.true (omega arith), (c.loop-part.invariant.claimed.later.safe, room_in c.args.parts.now c.loop-part.part-index _ c.args.lo c.loop-part.at c.args.setting.base c.loop-part-test.true c.loop-part.invariant.next c.requires.room))
 
-pub constrain_parts-returns-in-Err-constrain-clause-err : goal.constrain_parts-returns-in-Err-constrain-clause-err
-constrain_parts-returns-in-Err-constrain-clause-err t c = let w = at_place c.args.parts.now c.loop-part.part-index _ c.loop-part-test.true in tells c.in-Err-constrain.error (gone_refused c.args.places c.args.base c.args.depth c.args.lo c.loop-part.at (take c.loop-part.part-index c.args.parts.now) (slice_index_or c.args.parts.now c.loop-part.part-index _) c.args.begins.now c.loop-part.begins c.args.inference.now c.loop-part.inference c.constrain.new.inference c.requires.safe c.loop-part.invariant c.args.parts.now w.0 w.1) c.in-Err-constrain.ensures.err
+pub constrain_parts-returns-in-Err-constrain : goal.constrain_parts-returns-in-Err-constrain
+constrain_parts-returns-in-Err-constrain t c = record { next = tt; begins = tt; ok = tt; err = let w = at_place c.args.parts.now c.loop-part.part-index _ c.loop-part-test.true in tells c.in-Err-constrain.error (gone_refused c.args.setting.places c.args.setting.base c.args.setting.depth c.args.lo c.loop-part.at (take c.loop-part.part-index c.args.parts.now) (slice_index_or c.args.parts.now c.loop-part.part-index _) c.args.begins.now c.loop-part.begins c.args.inference.now c.loop-part.inference c.constrain.new.inference c.requires.safe c.loop-part.invariant c.args.parts.now w.0 w.1) c.in-Err-constrain.ensures.err }
 
 pub constrain_parts-loop-part-preserved : goal.constrain_parts-loop-part-preserved
-constrain_parts-loop-part-preserved t c = subst (λ (l : List Exp). Gone_over c.args.places c.args.base c.args.depth c.args.lo c.in-Ok-constrain.next l c.args.begins.now c.push.new.self c.args.inference.now c.constrain.new.inference) (take_more c.args.parts.now c.loop-part.part-index _ c.loop-part-test.true) (gone_more c.args.places c.args.base c.args.depth c.args.lo c.loop-part.at (take c.loop-part.part-index c.args.parts.now) (slice_index_or c.args.parts.now c.loop-part.part-index _) c.args.begins.now c.loop-part.begins c.args.inference.now c.loop-part.inference c.constrain.new.inference c.requires.safe c.loop-part.invariant c.in-Ok-constrain.next c.push.new.self c.in-Ok.ensures.ok c.in-Ok-constrain.ensures.next c.in-Ok-constrain.ensures.ok)
+constrain_parts-loop-part-preserved t c = subst (λ (l : List Exp). Gone_over c.args.setting.places c.args.setting.base c.args.setting.depth c.args.lo c.in-Ok-constrain.next l c.args.begins.now c.push.new.self c.args.inference.now c.constrain.new.inference) (take_more c.args.parts.now c.loop-part.part-index _ c.loop-part-test.true) (gone_more c.args.setting.places c.args.setting.base c.args.setting.depth c.args.lo c.loop-part.at (take c.loop-part.part-index c.args.parts.now) (slice_index_or c.args.parts.now c.loop-part.part-index _) c.args.begins.now c.loop-part.begins c.args.inference.now c.loop-part.inference c.constrain.new.inference c.requires.safe c.loop-part.invariant c.in-Ok-constrain.next c.push.new.self c.in-Ok.ensures.ok c.in-Ok-constrain.ensures.next c.in-Ok-constrain.ensures.ok)
 
-pub constrain_strict-returns-in-Err-clause-err : goal.constrain_strict-returns-in-Err-clause-err
-constrain_strict-returns-in-Err-clause-err t c = tells c.in-Err.error (refused_strict c.args.places c.args.base c.args.depth c.args.lo (c.args.lo + c.own_numbers_of.result) (operation_of c.args.act.now) c.args.mark (terms (map term_of c.args.parts.now)) c.args.inference.now c.constrain_parts.new.inference c.requires.safe (ap (λ n. c.args.lo + n) c.own_numbers_of.ensures)) c.in-Err.ensures.err
+pub constrain_strict-returns-in-Err : goal.constrain_strict-returns-in-Err
+constrain_strict-returns-in-Err t c = record { next = tt; ok = tt; err = tells c.in-Err.error (refused_strict c.args.setting.places c.args.setting.base c.args.setting.depth c.args.lo (c.args.lo + c.own_numbers_of.result) (operation_of c.args.act.now) c.args.mark (terms (map term_of c.args.parts.now)) c.args.inference.now c.constrain_parts.new.inference c.requires.safe (ap (λ n. c.args.lo + n) c.own_numbers_of.ensures)) c.in-Err.ensures.err }
 
 pub constrain_strict-constrain_rule-requires-clause-parts : goal.constrain_strict-constrain_rule-requires-clause-parts
-constrain_strict-constrain_rule-requires-clause-parts t c = subst (λ l. Each (λ n. n < c.args.base) l) (sym (c.as_slice.ensures ∙ c.in-Ok.ensures.begins ∙ ap (λ l. l ++ starts (terms (map term_of c.args.parts.now)) (c.args.lo + c.own_numbers_of.result)) c.new-begins.ensures)) (starts_below c.args.base (terms (map term_of c.args.parts.now)) (c.args.lo + c.own_numbers_of.result) (omega (arith, c.requires.room, c.own_numbers_of.ensures)))
+constrain_strict-constrain_rule-requires-clause-parts t c = subst (λ l. Each (λ n. n < c.args.setting.base) l) (sym (c.as_slice.ensures ∙ c.in-Ok.ensures.begins ∙ ap (λ l. l ++ starts (terms (map term_of c.args.parts.now)) (c.args.lo + c.own_numbers_of.result)) c.new-begins.ensures)) (starts_below c.args.setting.base (terms (map term_of c.args.parts.now)) (c.args.lo + c.own_numbers_of.result) (omega (arith, c.requires.room, c.own_numbers_of.ensures)))
 
-pub constrain_strict-returns-in-Ok-constrain_rule-clause-ok : goal.constrain_strict-returns-in-Ok-constrain_rule-clause-ok
-constrain_strict-returns-in-Ok-constrain_rule-clause-ok t c = strict_ok c.args.places c.args.base c.args.depth c.args.lo (c.args.lo + c.own_numbers_of.result) (operation_of c.args.act.now) c.args.mark (terms (map term_of c.args.parts.now)) c.args.inference.now c.constrain_parts.new.inference c.constrain_rule.new.inference c.requires.safe (ap (λ n. c.args.lo + n) c.own_numbers_of.ensures) c.as_slice.result.now (c.as_slice.ensures ∙ c.in-Ok.ensures.begins ∙ ap (λ l. l ++ starts (terms (map term_of c.args.parts.now)) (c.args.lo + c.own_numbers_of.result)) c.new-begins.ensures) c.in-Ok.ensures.ok (c.in-Ok-constrain_rule.ensures.ok (c.args.lo + c.own_numbers_of.result + all_numbers (terms (map term_of c.args.parts.now))) (omega (arith, own_some (operation_of c.args.act.now), c.own_numbers_of.ensures)))
+pub constrain_strict-returns-in-Ok-constrain_rule : goal.constrain_strict-returns-in-Ok-constrain_rule
+constrain_strict-returns-in-Ok-constrain_rule t c = record { next = omega (arith, c.in-Ok.ensures.next, c.own_numbers_of.ensures); ok = strict_ok c.args.setting.places c.args.setting.base c.args.setting.depth c.args.lo (c.args.lo + c.own_numbers_of.result) (operation_of c.args.act.now) c.args.mark (terms (map term_of c.args.parts.now)) c.args.inference.now c.constrain_parts.new.inference c.constrain_rule.new.inference c.requires.safe (ap (λ n. c.args.lo + n) c.own_numbers_of.ensures) c.as_slice.result.now (c.as_slice.ensures ∙ c.in-Ok.ensures.begins ∙ ap (λ l. l ++ starts (terms (map term_of c.args.parts.now)) (c.args.lo + c.own_numbers_of.result)) c.new-begins.ensures) c.in-Ok.ensures.ok (c.in-Ok-constrain_rule.ensures.ok (c.args.lo + c.own_numbers_of.result + all_numbers (terms (map term_of c.args.parts.now))) (omega (arith, own_some (operation_of c.args.act.now), c.own_numbers_of.ensures))); err = tt }
 
-pub constrain_strict-returns-clause-err : goal.constrain_strict-returns-clause-err
-constrain_strict-returns-clause-err t c = tells c.in-Err-constrain_rule.error (λ r. strict_err2 c.args.places c.args.base c.args.depth c.args.lo (c.args.lo + c.own_numbers_of.result) (operation_of c.args.act.now) c.args.mark (terms (map term_of c.args.parts.now)) c.args.inference.now c.constrain_parts.new.inference c.constrain_rule.new.inference c.requires.safe (ap (λ n. c.args.lo + n) c.own_numbers_of.ensures) c.as_slice.result.now (c.as_slice.ensures ∙ c.in-Ok.ensures.begins ∙ ap (λ l. l ++ starts (terms (map term_of c.args.parts.now)) (c.args.lo + c.own_numbers_of.result)) c.new-begins.ensures) c.in-Ok.ensures.ok (r (c.args.lo + c.own_numbers_of.result + all_numbers (terms (map term_of c.args.parts.now))) (omega (arith, own_some (operation_of c.args.act.now), c.own_numbers_of.ensures)))) c.in-Err-constrain_rule.ensures.err
+pub constrain_strict-returns : goal.constrain_strict-returns
+constrain_strict-returns t c = record { next = tt; ok = tt; err = tells c.in-Err-constrain_rule.error (λ r. strict_err2 c.args.setting.places c.args.setting.base c.args.setting.depth c.args.lo (c.args.lo + c.own_numbers_of.result) (operation_of c.args.act.now) c.args.mark (terms (map term_of c.args.parts.now)) c.args.inference.now c.constrain_parts.new.inference c.constrain_rule.new.inference c.requires.safe (ap (λ n. c.args.lo + n) c.own_numbers_of.ensures) c.as_slice.result.now (c.as_slice.ensures ∙ c.in-Ok.ensures.begins ∙ ap (λ l. l ++ starts (terms (map term_of c.args.parts.now)) (c.args.lo + c.own_numbers_of.result)) c.new-begins.ensures) c.in-Ok.ensures.ok (r (c.args.lo + c.own_numbers_of.result + all_numbers (terms (map term_of c.args.parts.now))) (omega (arith, own_some (operation_of c.args.act.now), c.own_numbers_of.ensures)))) c.in-Err-constrain_rule.ensures.err }
 
-pub constrain_lambda-returns-in-Err-clause-err : goal.constrain_lambda-returns-in-Err-clause-err
-constrain_lambda-returns-in-Err-clause-err t c = tells c.in-Err.error (lambda_err1 c.args.places c.args.base c.args.depth c.args.lo (1 + c.args.lo + all_pattern_numbers (patterns (map pattern_of c.args.params.now))) (patterns (map pattern_of c.args.params.now)) (term_of c.args.body.now) refl c.args.inference.now c.constrain_parameters.new.inference) c.in-Err.ensures.err
+pub constrain_lambda-returns-in-Err : goal.constrain_lambda-returns-in-Err
+constrain_lambda-returns-in-Err t c = record { next = tt; ok = tt; err = tells c.in-Err.error (lambda_err1 c.args.setting.places c.args.setting.base c.args.setting.depth c.args.lo (1 + c.args.lo + all_pattern_numbers (patterns (map pattern_of c.args.params.now))) (patterns (map pattern_of c.args.params.now)) (term_of c.args.body.now) refl c.args.inference.now c.constrain_parameters.new.inference) c.in-Err.ensures.err }
 
 pub constrain_lambda-constrain-requires : goal.constrain_lambda-constrain-requires
 constrain_lambda-constrain-requires t c = (omega arith, (c.in-Ok.ensures.ok.later.safe, omega (arith, c.requires.room, c.in-Ok.ensures.next)))
 
-pub constrain_lambda-returns-in-Err-constrain-clause-err : goal.constrain_lambda-returns-in-Err-constrain-clause-err
-constrain_lambda-returns-in-Err-constrain-clause-err t c = tells c.in-Err-constrain.error (lambda_err2 c.args.places c.args.base c.args.depth c.args.lo c.in-Ok.next (patterns (map pattern_of c.args.params.now)) (term_of c.args.body.now) c.in-Ok.ensures.next c.args.inference.now c.constrain_parameters.new.inference c.in-Ok.ensures.ok c.constrain.new.inference) c.in-Err-constrain.ensures.err
+pub constrain_lambda-returns-in-Err-constrain : goal.constrain_lambda-returns-in-Err-constrain
+constrain_lambda-returns-in-Err-constrain t c = record { next = tt; ok = tt; err = tells c.in-Err-constrain.error (lambda_err2 c.args.setting.places c.args.setting.base c.args.setting.depth c.args.lo c.in-Ok.next (patterns (map pattern_of c.args.params.now)) (term_of c.args.body.now) c.in-Ok.ensures.next c.args.inference.now c.constrain_parameters.new.inference c.in-Ok.ensures.ok c.constrain.new.inference) c.in-Err-constrain.ensures.err }
 
 pub constrain_lambda-constrain_arrows-requires-clause-params : goal.constrain_lambda-constrain_arrows-requires-clause-params
-constrain_lambda-constrain_arrows-requires-clause-params t c = subst (λ l. Each (λ n. n < c.args.base) l) (sym (c.as_slice.ensures ∙ c.in-Ok.ensures.begins ∙ ap (λ l. l ++ pattern_starts (patterns (map pattern_of c.args.params.now)) (1 + c.args.lo)) c.new-begins.ensures)) (pattern_starts_below c.args.base (patterns (map pattern_of c.args.params.now)) (1 + c.args.lo) (omega (arith, c.requires.room)))
+constrain_lambda-constrain_arrows-requires-clause-params t c = subst (λ l. Each (λ n. n < c.args.setting.base) l) (sym (c.as_slice.ensures ∙ c.in-Ok.ensures.begins ∙ ap (λ l. l ++ pattern_starts (patterns (map pattern_of c.args.params.now)) (1 + c.args.lo)) c.new-begins.ensures)) (pattern_starts_below c.args.setting.base (patterns (map pattern_of c.args.params.now)) (1 + c.args.lo) (omega (arith, c.requires.room)))
 
 pub constrain_lambda-constrain_arrows-requires-clause-body : goal.constrain_lambda-constrain_arrows-requires-clause-body
 constrain_lambda-constrain_arrows-requires-clause-body t c = omega (arith, c.requires.room, c.in-Ok.ensures.next, numbers_some (term_of c.args.body.now))
 
-pub constrain_lambda-returns-in-Ok-constrain_arrows-clause-ok : goal.constrain_lambda-returns-in-Ok-constrain_arrows-clause-ok
-constrain_lambda-returns-in-Ok-constrain_arrows-clause-ok t c = lambda_ok c.args.places c.args.base c.args.depth c.args.lo c.in-Ok.next (patterns (map pattern_of c.args.params.now)) (term_of c.args.body.now) c.in-Ok.ensures.next c.args.inference.now c.constrain_parameters.new.inference c.in-Ok.ensures.ok c.constrain.new.inference c.take_back.new.inference c.requires.safe c.in-Ok-constrain.ensures.ok (λ before added e l. c.take_back.ensures before added e (l ∙ sym c.mark_of-mark.ensures)) c.constrain_arrows.new.inference c.as_slice.result.now (c.as_slice.ensures ∙ c.in-Ok.ensures.begins ∙ ap (λ l. l ++ pattern_starts (patterns (map pattern_of c.args.params.now)) (1 + c.args.lo)) c.new-begins.ensures) c.in-Ok-constrain_arrows.ensures.ok
+pub constrain_lambda-returns-in-Ok-constrain_arrows : goal.constrain_lambda-returns-in-Ok-constrain_arrows
+constrain_lambda-returns-in-Ok-constrain_arrows t c = record { next = omega (arith, c.in-Ok.ensures.next, c.in-Ok-constrain.ensures.next); ok = lambda_ok c.args.setting.places c.args.setting.base c.args.setting.depth c.args.lo c.in-Ok.next (patterns (map pattern_of c.args.params.now)) (term_of c.args.body.now) c.in-Ok.ensures.next c.args.inference.now c.constrain_parameters.new.inference c.in-Ok.ensures.ok c.constrain.new.inference c.take_back.new.inference c.requires.safe c.in-Ok-constrain.ensures.ok (λ before added e l. c.take_back.ensures before added e (l ∙ sym c.mark_of-mark.ensures)) c.constrain_arrows.new.inference c.as_slice.result.now (c.as_slice.ensures ∙ c.in-Ok.ensures.begins ∙ ap (λ l. l ++ pattern_starts (patterns (map pattern_of c.args.params.now)) (1 + c.args.lo)) c.new-begins.ensures) c.in-Ok-constrain_arrows.ensures.ok; err = tt }
 
-pub constrain_lambda-returns-clause-err : goal.constrain_lambda-returns-clause-err
-constrain_lambda-returns-clause-err t c = tells c.in-Err-constrain_arrows.error (lambda_err3 c.args.places c.args.base c.args.depth c.args.lo c.in-Ok.next (patterns (map pattern_of c.args.params.now)) (term_of c.args.body.now) c.in-Ok.ensures.next c.args.inference.now c.constrain_parameters.new.inference c.in-Ok.ensures.ok c.constrain.new.inference c.take_back.new.inference c.requires.safe c.in-Ok-constrain.ensures.ok (λ before added e l. c.take_back.ensures before added e (l ∙ sym c.mark_of-mark.ensures)) c.constrain_arrows.new.inference c.as_slice.result.now (c.as_slice.ensures ∙ c.in-Ok.ensures.begins ∙ ap (λ l. l ++ pattern_starts (patterns (map pattern_of c.args.params.now)) (1 + c.args.lo)) c.new-begins.ensures)) c.in-Err-constrain_arrows.ensures.err
+pub constrain_lambda-returns : goal.constrain_lambda-returns
+constrain_lambda-returns t c = record { next = tt; ok = tt; err = tells c.in-Err-constrain_arrows.error (lambda_err3 c.args.setting.places c.args.setting.base c.args.setting.depth c.args.lo c.in-Ok.next (patterns (map pattern_of c.args.params.now)) (term_of c.args.body.now) c.in-Ok.ensures.next c.args.inference.now c.constrain_parameters.new.inference c.in-Ok.ensures.ok c.constrain.new.inference c.take_back.new.inference c.requires.safe c.in-Ok-constrain.ensures.ok (λ before added e l. c.take_back.ensures before added e (l ∙ sym c.mark_of-mark.ensures)) c.constrain_arrows.new.inference c.as_slice.result.now (c.as_slice.ensures ∙ c.in-Ok.ensures.begins ∙ ap (λ l. l ++ pattern_starts (patterns (map pattern_of c.args.params.now)) (1 + c.args.lo)) c.new-begins.ensures)) c.in-Err-constrain_arrows.ensures.err }
 
 pub constrain_lets-constrain_rows-requires : goal.constrain_lets-constrain_rows-requires
 constrain_lets-constrain_rows-requires t c = (omega (arith, numbers_lets (map row_of c.args.lets.now) (term_of c.args.body.now), numbers_some (term_of c.args.body.now)), (c.requires.safe, omega (arith, c.requires.room, numbers_lets (map row_of c.args.lets.now) (term_of c.args.body.now), behind_from (map row_of c.args.lets.now) c.args.lo)))
 
-pub constrain_lets-returns-in-Err-clause-err : goal.constrain_lets-returns-in-Err-clause-err
-constrain_lets-returns-in-Err-clause-err t c = tells c.in-Err.error (lets_err1 c.args.places c.args.base c.args.depth c.args.lo (behind_all (map row_of c.args.lets.now) c.args.lo) (map row_of c.args.lets.now) (term_of c.args.body.now) refl c.args.inference.now c.constrain_rows.new.inference) c.in-Err.ensures.err
+pub constrain_lets-returns-in-Err : goal.constrain_lets-returns-in-Err
+constrain_lets-returns-in-Err t c = record { next = tt; ok = tt; err = tells c.in-Err.error (lets_err1 c.args.setting.places c.args.setting.base c.args.setting.depth c.args.lo (behind_all (map row_of c.args.lets.now) c.args.lo) (map row_of c.args.lets.now) (term_of c.args.body.now) refl c.args.inference.now c.constrain_rows.new.inference) c.in-Err.ensures.err }
 
 pub constrain_lets-constrain-requires : goal.constrain_lets-constrain-requires
 constrain_lets-constrain-requires t c = (omega (arith, numbers_lets (map row_of c.args.lets.now) (term_of c.args.body.now), (some_rows c.args.lets.now (omega (arith, c.if-lets-eq0.false)))), (c.in-Ok.ensures.ok.later.safe, omega (arith, c.requires.room, c.in-Ok.ensures.next, numbers_lets (map row_of c.args.lets.now) (term_of c.args.body.now), behind_from (map row_of c.args.lets.now) c.args.lo)))
 
-pub constrain_lets-returns-in-Err-constrain-clause-err : goal.constrain_lets-returns-in-Err-constrain-clause-err
-constrain_lets-returns-in-Err-constrain-clause-err t c = tells c.in-Err-constrain.error (lets_err2 c.args.places c.args.base c.args.depth c.args.lo c.in-Ok.next (map row_of c.args.lets.now) (term_of c.args.body.now) c.in-Ok.ensures.next c.args.inference.now c.constrain_rows.new.inference c.in-Ok.ensures.ok c.constrain.new.inference) c.in-Err-constrain.ensures.err
+pub constrain_lets-returns-in-Err-constrain : goal.constrain_lets-returns-in-Err-constrain
+constrain_lets-returns-in-Err-constrain t c = record { next = tt; ok = tt; err = tells c.in-Err-constrain.error (lets_err2 c.args.setting.places c.args.setting.base c.args.setting.depth c.args.lo c.in-Ok.next (map row_of c.args.lets.now) (term_of c.args.body.now) c.in-Ok.ensures.next c.args.inference.now c.constrain_rows.new.inference c.in-Ok.ensures.ok c.constrain.new.inference) c.in-Err-constrain.ensures.err }
 
 pub constrain_lets-constrain_chain-requires-clause-numbers : goal.constrain_lets-constrain_chain-requires-clause-numbers
-constrain_lets-constrain_chain-requires-clause-numbers t c = subst (λ l. Each (λ n. n < c.args.base) l) (sym (c.as_slice.ensures ∙ c.in-Ok.ensures.begins ∙ ap (λ l. l ++ row_starts (map row_of c.args.lets.now) c.args.lo) c.new-begins.ensures)) (row_starts_below c.args.base (map row_of c.args.lets.now) c.args.lo (omega (arith, c.requires.room, numbers_lets (map row_of c.args.lets.now) (term_of c.args.body.now), behind_from (map row_of c.args.lets.now) c.args.lo)))
+constrain_lets-constrain_chain-requires-clause-numbers t c = subst (λ l. Each (λ n. n < c.args.setting.base) l) (sym (c.as_slice.ensures ∙ c.in-Ok.ensures.begins ∙ ap (λ l. l ++ row_starts (map row_of c.args.lets.now) c.args.lo) c.new-begins.ensures)) (row_starts_below c.args.setting.base (map row_of c.args.lets.now) c.args.lo (omega (arith, c.requires.room, numbers_lets (map row_of c.args.lets.now) (term_of c.args.body.now), behind_from (map row_of c.args.lets.now) c.args.lo)))
 
 pub constrain_lets-constrain_chain-requires-clause-last : goal.constrain_lets-constrain_chain-requires-clause-last
 constrain_lets-constrain_chain-requires-clause-last t c = omega (arith, c.requires.room, c.in-Ok.ensures.next, numbers_lets (map row_of c.args.lets.now) (term_of c.args.body.now), behind_from (map row_of c.args.lets.now) c.args.lo, numbers_some (term_of c.args.body.now))
 
-pub constrain_lets-returns-in-Err-constrain_chain-clause-err : goal.constrain_lets-returns-in-Err-constrain_chain-clause-err
-constrain_lets-returns-in-Err-constrain_chain-clause-err t c = tells c.in-Err-constrain_chain.error (lets_err3 c.args.places c.args.base c.args.depth c.args.lo c.in-Ok.next (map row_of c.args.lets.now) (term_of c.args.body.now) c.in-Ok.ensures.next c.args.inference.now c.constrain_rows.new.inference c.in-Ok.ensures.ok c.constrain.new.inference c.in-Ok-constrain.ensures.ok c.as_slice.result.now (c.as_slice.ensures ∙ c.in-Ok.ensures.begins ∙ ap (λ l. l ++ row_starts (map row_of c.args.lets.now) c.args.lo) c.new-begins.ensures) c.constrain_chain.new.inference) c.in-Err-constrain_chain.ensures.err
+pub constrain_lets-returns-in-Err-constrain_chain : goal.constrain_lets-returns-in-Err-constrain_chain
+constrain_lets-returns-in-Err-constrain_chain t c = record { next = tt; ok = tt; err = tells c.in-Err-constrain_chain.error (lets_err3 c.args.setting.places c.args.setting.base c.args.setting.depth c.args.lo c.in-Ok.next (map row_of c.args.lets.now) (term_of c.args.body.now) c.in-Ok.ensures.next c.args.inference.now c.constrain_rows.new.inference c.in-Ok.ensures.ok c.constrain.new.inference c.in-Ok-constrain.ensures.ok c.as_slice.result.now (c.as_slice.ensures ∙ c.in-Ok.ensures.begins ∙ ap (λ l. l ++ row_starts (map row_of c.args.lets.now) c.args.lo) c.new-begins.ensures) c.constrain_chain.new.inference) c.in-Err-constrain_chain.ensures.err }
 
-pub constrain_lets-returns-clause-next : goal.constrain_lets-returns-clause-next
-constrain_lets-returns-clause-next t c = omega (arith, c.in-Ok-constrain.ensures.next, c.in-Ok.ensures.next, numbers_lets (map row_of c.args.lets.now) (term_of c.args.body.now), behind_from (map row_of c.args.lets.now) c.args.lo)
-
-pub constrain_lets-returns-clause-ok : goal.constrain_lets-returns-clause-ok
-constrain_lets-returns-clause-ok t c = lets_ok c.args.places c.args.base c.args.depth c.args.lo c.in-Ok.next (map row_of c.args.lets.now) (term_of c.args.body.now) c.in-Ok.ensures.next c.args.inference.now c.constrain_rows.new.inference c.in-Ok.ensures.ok c.constrain.new.inference c.in-Ok-constrain.ensures.ok c.as_slice.result.now (c.as_slice.ensures ∙ c.in-Ok.ensures.begins ∙ ap (λ l. l ++ row_starts (map row_of c.args.lets.now) c.args.lo) c.new-begins.ensures) c.constrain_chain.new.inference c.take_back.new.inference c.requires.safe c.in-Ok-constrain_chain.ensures.ok (λ before added e l. c.take_back.ensures before added e (l ∙ sym c.mark_of-mark.ensures))
+pub constrain_lets-returns : goal.constrain_lets-returns
+constrain_lets-returns t c = record { next = omega (arith, c.in-Ok-constrain.ensures.next, c.in-Ok.ensures.next, numbers_lets (map row_of c.args.lets.now) (term_of c.args.body.now), behind_from (map row_of c.args.lets.now) c.args.lo); ok = lets_ok c.args.setting.places c.args.setting.base c.args.setting.depth c.args.lo c.in-Ok.next (map row_of c.args.lets.now) (term_of c.args.body.now) c.in-Ok.ensures.next c.args.inference.now c.constrain_rows.new.inference c.in-Ok.ensures.ok c.constrain.new.inference c.in-Ok-constrain.ensures.ok c.as_slice.result.now (c.as_slice.ensures ∙ c.in-Ok.ensures.begins ∙ ap (λ l. l ++ row_starts (map row_of c.args.lets.now) c.args.lo) c.new-begins.ensures) c.constrain_chain.new.inference c.take_back.new.inference c.requires.safe c.in-Ok-constrain_chain.ensures.ok (λ before added e l. c.take_back.ensures before added e (l ∙ sym c.mark_of-mark.ensures)); err = tt }
 
 pub constrain_rows-loop-one-init : goal.constrain_rows-loop-one-init
-constrain_rows-loop-one-init t c = lets_none c.args.places c.args.base c.args.depth c.args.lo c.args.begins.now c.args.inference.now c.requires.safe
+constrain_rows-loop-one-init t c = lets_none c.args.setting.places c.args.setting.base c.args.setting.depth c.args.lo c.args.begins.now c.args.inference.now c.requires.safe
 
 pub constrain_rows-constrain_row-requires : goal.constrain_rows-constrain_row-requires
-constrain_rows-constrain_row-requires t c = (row_falls c.args.lets.now c.loop-one.one-index _ t c.loop-one-test.true (omega arith), (c.loop-one.invariant.opened.later.safe, row_room c.args.lets.now c.loop-one.one-index _ c.args.lo c.loop-one.at c.args.base c.loop-one-test.true c.loop-one.invariant.next c.requires.room))
+constrain_rows-constrain_row-requires t c = (row_falls c.args.lets.now c.loop-one.one-index _ t c.loop-one-test.true (omega arith), (c.loop-one.invariant.opened.later.safe, row_room c.args.lets.now c.loop-one.one-index _ c.args.lo c.loop-one.at c.args.setting.base c.loop-one-test.true c.loop-one.invariant.next c.requires.room))
 
-pub constrain_rows-returns-in-Err-constrain_row-clause-err : goal.constrain_rows-returns-in-Err-constrain_row-clause-err
-constrain_rows-returns-in-Err-constrain_row-clause-err t c = let w = row_split c.args.lets.now c.loop-one.one-index _ c.loop-one-test.true in tells c.in-Err-constrain_row.error (lets_refused c.args.places c.args.base c.args.depth c.args.lo c.loop-one.at (map row_of (take c.loop-one.one-index c.args.lets.now)) _ c.args.begins.now c.loop-one.begins c.args.inference.now c.loop-one.inference c.constrain_row.new.inference c.loop-one.invariant (map row_of c.args.lets.now) w.0 w.1) c.in-Err-constrain_row.ensures.err
+pub constrain_rows-returns-in-Err-constrain_row : goal.constrain_rows-returns-in-Err-constrain_row
+constrain_rows-returns-in-Err-constrain_row t c = record { next = tt; begins = tt; ok = tt; err = let w = row_split c.args.lets.now c.loop-one.one-index _ c.loop-one-test.true in tells c.in-Err-constrain_row.error (lets_refused c.args.setting.places c.args.setting.base c.args.setting.depth c.args.lo c.loop-one.at (map row_of (take c.loop-one.one-index c.args.lets.now)) _ c.args.begins.now c.loop-one.begins c.args.inference.now c.loop-one.inference c.constrain_row.new.inference c.loop-one.invariant (map row_of c.args.lets.now) w.0 w.1) c.in-Err-constrain_row.ensures.err }
 
 pub constrain_rows-loop-one-preserved : goal.constrain_rows-loop-one-preserved
-constrain_rows-loop-one-preserved t c = subst (λ l. Lets_open c.args.places c.args.base c.args.depth c.args.lo c.in-Ok-constrain_row.next l c.args.begins.now c.push.new.self c.args.inference.now c.constrain_row.new.inference) (row_more c.args.lets.now c.loop-one.one-index _ c.loop-one-test.true) (lets_more c.args.places c.args.base c.args.depth c.args.lo c.loop-one.at (map row_of (take c.loop-one.one-index c.args.lets.now)) _ c.args.begins.now c.loop-one.begins c.args.inference.now c.loop-one.inference c.constrain_row.new.inference c.loop-one.invariant c.in-Ok-constrain_row.next c.push.new.self c.in-Ok.ensures.ok c.in-Ok-constrain_row.ensures.next c.in-Ok-constrain_row.ensures.ok)
+constrain_rows-loop-one-preserved t c = subst (λ l. Lets_open c.args.setting.places c.args.setting.base c.args.setting.depth c.args.lo c.in-Ok-constrain_row.next l c.args.begins.now c.push.new.self c.args.inference.now c.constrain_row.new.inference) (row_more c.args.lets.now c.loop-one.one-index _ c.loop-one-test.true) (lets_more c.args.setting.places c.args.setting.base c.args.setting.depth c.args.lo c.loop-one.at (map row_of (take c.loop-one.one-index c.args.lets.now)) _ c.args.begins.now c.loop-one.begins c.args.inference.now c.loop-one.inference c.constrain_row.new.inference c.loop-one.invariant c.in-Ok-constrain_row.next c.push.new.self c.in-Ok.ensures.ok c.in-Ok-constrain_row.ensures.next c.in-Ok-constrain_row.ensures.ok)
 
-pub constrain_rows-returns-clause-ok : goal.constrain_rows-returns-clause-ok
-constrain_rows-returns-clause-ok t c = subst (λ l. Opened c.args.places c.args.base c.args.depth c.args.lo (behind_all (map row_of l) c.args.lo) (Rows_claim c.args.places (map row_of l) c.args.lo) (Rows_homes c.args.depth (map row_of l) c.args.lo) (env_rows (map row_of l) c.args.lo) c.args.inference.now c.loop-one.inference) (take_all c.args.lets.now c.loop-one.one-index c.loop-one-test.false) c.loop-one.invariant.opened
+pub constrain_rows-returns : goal.constrain_rows-returns
+constrain_rows-returns t c = record { next = subst (λ l. c.loop-one.at ≡ behind_all (map row_of l) c.args.lo) (take_all c.args.lets.now c.loop-one.one-index c.loop-one-test.false) c.loop-one.invariant.next; begins = subst (λ l. c.loop-one.begins ≡ c.args.begins.now ++ row_starts (map row_of l) c.args.lo) (take_all c.args.lets.now c.loop-one.one-index c.loop-one-test.false) c.loop-one.invariant.noted; ok = subst (λ l. Opened c.args.setting.places c.args.setting.base c.args.setting.depth c.args.lo (behind_all (map row_of l) c.args.lo) (Rows_claim c.args.setting.places (map row_of l) c.args.lo) (Rows_homes c.args.setting.depth (map row_of l) c.args.lo) (env_rows (map row_of l) c.args.lo) c.args.inference.now c.loop-one.inference) (take_all c.args.lets.now c.loop-one.one-index c.loop-one-test.false) c.loop-one.invariant.opened; err = tt }
 
 pub constrain_row-constrain_value-requires : goal.constrain_row-constrain_value-requires
-constrain_row-constrain_value-requires t c = let e = ap (λ (l : Row). behind l 0) (value_is c.args.one.now c.if-one.false (omega (arith, c.if-one-gt0.false))) in (omega (arith, e), (c.requires.safe, subst (λ (l : Row). behind l c.args.lo ≤ c.args.base) (value_is c.args.one.now c.if-one.false (omega (arith, c.if-one-gt0.false))) c.requires.room))
+constrain_row-constrain_value-requires t c = let e = ap (λ (l : Row). behind l 0) (value_is c.args.one.now c.if-one.false (omega (arith, c.if-one-gt0.false))) in (omega (arith, e), (c.requires.safe, subst (λ (l : Row). behind l c.args.lo ≤ c.args.setting.base) (value_is c.args.one.now c.if-one.false (omega (arith, c.if-one-gt0.false))) c.requires.room))
 
-pub constrain_row-returns-clause-next : goal.constrain_row-returns-clause-next
-constrain_row-returns-clause-next t c = rw (value_is c.args.one.now c.if-one.false (omega (arith, c.if-one-gt0.false))) c.constrain_value.ensures.next
+pub constrain_row-returns : goal.constrain_row-returns
+constrain_row-returns t c = record { next = rw (value_is c.args.one.now c.if-one.false (omega (arith, c.if-one-gt0.false))) c.constrain_value.ensures.next; ok = rw (value_is c.args.one.now c.if-one.false (omega (arith, c.if-one-gt0.false))) c.constrain_value.ensures.ok; err = rw (value_is c.args.one.now c.if-one.false (omega (arith, c.if-one-gt0.false))) c.constrain_value.ensures.err }
 
-pub constrain_row-returns-clause-ok : goal.constrain_row-returns-clause-ok
-constrain_row-returns-clause-ok t c = rw (value_is c.args.one.now c.if-one.false (omega (arith, c.if-one-gt0.false))) c.constrain_value.ensures.ok
-
-pub constrain_row-returns-clause-err : goal.constrain_row-returns-clause-err
-constrain_row-returns-clause-err t c = rw (value_is c.args.one.now c.if-one.false (omega (arith, c.if-one-gt0.false))) c.constrain_value.ensures.err
-
-pub constrain_bound-returns-in-Err-constrain_pattern-clause-err : goal.constrain_bound-returns-in-Err-constrain_pattern-clause-err
-constrain_bound-returns-in-Err-constrain_pattern-clause-err t c = tells c.in-Err-constrain_pattern.error (value_err1 c.args.places c.args.base c.args.depth c.args.lo (1 + c.args.lo + pattern_numbers (pattern_of c.args.pat.now)) c.args.sizes.now (pattern_of c.args.pat.now) (term_of c.args.value.now) refl c.args.inference.now c.enter_sizes.new.inference (c.in-Ok.ensures.ok (1 + c.args.lo)) c.constrain_pattern.new.inference) c.in-Err-constrain_pattern.ensures.err
+pub constrain_bound-returns-in-Err-constrain_pattern : goal.constrain_bound-returns-in-Err-constrain_pattern
+constrain_bound-returns-in-Err-constrain_pattern t c = record { next = tt; ok = tt; err = tells c.in-Err-constrain_pattern.error (value_err1 c.args.setting.places c.args.setting.base c.args.setting.depth c.args.lo (1 + c.args.lo + pattern_numbers (pattern_of c.args.pat.now)) c.args.sizes.now (pattern_of c.args.pat.now) (term_of c.args.value.now) refl c.args.inference.now c.enter_sizes.new.inference (c.in-Ok.ensures.ok (1 + c.args.lo)) c.constrain_pattern.new.inference) c.in-Err-constrain_pattern.ensures.err }
 
 pub constrain_bound-constrain-requires : goal.constrain_bound-constrain-requires
-constrain_bound-constrain-requires t c = (omega arith, ((pattern_claimed c.args.places c.args.base c.args.depth c.args.lo c.in-Ok-constrain_pattern.next c.args.sizes.now (pattern_of c.args.pat.now) (term_of c.args.value.now) c.in-Ok-constrain_pattern.ensures.next c.args.inference.now c.enter_sizes.new.inference (c.in-Ok.ensures.ok (1 + c.args.lo)) c.constrain_pattern.new.inference c.take_back.new.inference c.requires.safe c.in-Ok-constrain_pattern.ensures.ok (λ before added e l. c.take_back.ensures before added e (l ∙ sym c.mark_of-mark.ensures))).later.safe, omega (arith, c.requires.room, c.in-Ok-constrain_pattern.ensures.next)))
+constrain_bound-constrain-requires t c = (omega arith, ((pattern_claimed c.args.setting.places c.args.setting.base c.args.setting.depth c.args.lo c.in-Ok-constrain_pattern.next c.args.sizes.now (pattern_of c.args.pat.now) (term_of c.args.value.now) c.in-Ok-constrain_pattern.ensures.next c.args.inference.now c.enter_sizes.new.inference (c.in-Ok.ensures.ok (1 + c.args.lo)) c.constrain_pattern.new.inference c.take_back.new.inference c.requires.safe c.in-Ok-constrain_pattern.ensures.ok (λ before added e l. c.take_back.ensures before added e (l ∙ sym c.mark_of-mark.ensures))).later.safe, omega (arith, c.requires.room, c.in-Ok-constrain_pattern.ensures.next)))
 
-pub constrain_bound-returns-in-Err-constrain-clause-err : goal.constrain_bound-returns-in-Err-constrain-clause-err
-constrain_bound-returns-in-Err-constrain-clause-err t c = tells c.in-Err-constrain.error (value_err2 c.args.places c.args.base c.args.depth c.args.lo c.in-Ok-constrain_pattern.next c.args.sizes.now (pattern_of c.args.pat.now) (term_of c.args.value.now) c.in-Ok-constrain_pattern.ensures.next c.args.inference.now c.take_back.new.inference c.requires.safe (pattern_claimed c.args.places c.args.base c.args.depth c.args.lo c.in-Ok-constrain_pattern.next c.args.sizes.now (pattern_of c.args.pat.now) (term_of c.args.value.now) c.in-Ok-constrain_pattern.ensures.next c.args.inference.now c.enter_sizes.new.inference (c.in-Ok.ensures.ok (1 + c.args.lo)) c.constrain_pattern.new.inference c.take_back.new.inference c.requires.safe c.in-Ok-constrain_pattern.ensures.ok (λ before added e l. c.take_back.ensures before added e (l ∙ sym c.mark_of-mark.ensures))) c.constrain.new.inference) c.in-Err-constrain.ensures.err
+pub constrain_bound-returns-in-Err-constrain : goal.constrain_bound-returns-in-Err-constrain
+constrain_bound-returns-in-Err-constrain t c = record { next = tt; ok = tt; err = tells c.in-Err-constrain.error (value_err2 c.args.setting.places c.args.setting.base c.args.setting.depth c.args.lo c.in-Ok-constrain_pattern.next c.args.sizes.now (pattern_of c.args.pat.now) (term_of c.args.value.now) c.in-Ok-constrain_pattern.ensures.next c.args.inference.now c.take_back.new.inference c.requires.safe (pattern_claimed c.args.setting.places c.args.setting.base c.args.setting.depth c.args.lo c.in-Ok-constrain_pattern.next c.args.sizes.now (pattern_of c.args.pat.now) (term_of c.args.value.now) c.in-Ok-constrain_pattern.ensures.next c.args.inference.now c.enter_sizes.new.inference (c.in-Ok.ensures.ok (1 + c.args.lo)) c.constrain_pattern.new.inference c.take_back.new.inference c.requires.safe c.in-Ok-constrain_pattern.ensures.ok (λ before added e l. c.take_back.ensures before added e (l ∙ sym c.mark_of-mark.ensures))) c.constrain.new.inference) c.in-Err-constrain.ensures.err }
 
 pub constrain_bound-demand-requires-clause-within : goal.constrain_bound-demand-requires-clause-within
-constrain_bound-demand-requires-clause-within t c = same_within c.constrain.new.inference.table c.args.base (1 + c.args.lo) c.in-Ok-constrain_pattern.next (omega (arith, c.requires.room, c.in-Ok-constrain_pattern.ensures.next, numbers_some (term_of c.args.value.now))) (omega (arith, c.requires.room, c.in-Ok-constrain_pattern.ensures.next, numbers_some (term_of c.args.value.now)))
+constrain_bound-demand-requires-clause-within t c = same_within c.constrain.new.inference.table c.args.setting.base (1 + c.args.lo) c.in-Ok-constrain_pattern.next (omega (arith, c.requires.room, c.in-Ok-constrain_pattern.ensures.next, numbers_some (term_of c.args.value.now))) (omega (arith, c.requires.room, c.in-Ok-constrain_pattern.ensures.next, numbers_some (term_of c.args.value.now)))
 
-pub constrain_bound-returns-in-Err-demand-clause-err : goal.constrain_bound-returns-in-Err-demand-clause-err
-constrain_bound-returns-in-Err-demand-clause-err t c = tells c.in-Err-demand.error (value_err3 c.args.places c.args.base c.args.depth c.args.lo c.in-Ok-constrain_pattern.next c.args.sizes.now (pattern_of c.args.pat.now) (term_of c.args.value.now) c.in-Ok-constrain_pattern.ensures.next c.args.inference.now c.take_back.new.inference c.requires.safe (pattern_claimed c.args.places c.args.base c.args.depth c.args.lo c.in-Ok-constrain_pattern.next c.args.sizes.now (pattern_of c.args.pat.now) (term_of c.args.value.now) c.in-Ok-constrain_pattern.ensures.next c.args.inference.now c.enter_sizes.new.inference (c.in-Ok.ensures.ok (1 + c.args.lo)) c.constrain_pattern.new.inference c.take_back.new.inference c.requires.safe c.in-Ok-constrain_pattern.ensures.ok (λ before added e l. c.take_back.ensures before added e (l ∙ sym c.mark_of-mark.ensures))) c.constrain.new.inference c.in-Ok-constrain.ensures.ok (demand.Same (1 + c.args.lo) c.in-Ok-constrain_pattern.next ∷ []) (same_says (1 + c.args.lo) c.in-Ok-constrain_pattern.next) (same_allowed (1 + c.args.lo) c.in-Ok-constrain_pattern.next) c.demand.new.inference) c.in-Err-demand.ensures.err
+pub constrain_bound-returns-in-Err-demand : goal.constrain_bound-returns-in-Err-demand
+constrain_bound-returns-in-Err-demand t c = record { next = tt; ok = tt; err = tells c.in-Err-demand.error (value_err3 c.args.setting.places c.args.setting.base c.args.setting.depth c.args.lo c.in-Ok-constrain_pattern.next c.args.sizes.now (pattern_of c.args.pat.now) (term_of c.args.value.now) c.in-Ok-constrain_pattern.ensures.next c.args.inference.now c.take_back.new.inference c.requires.safe (pattern_claimed c.args.setting.places c.args.setting.base c.args.setting.depth c.args.lo c.in-Ok-constrain_pattern.next c.args.sizes.now (pattern_of c.args.pat.now) (term_of c.args.value.now) c.in-Ok-constrain_pattern.ensures.next c.args.inference.now c.enter_sizes.new.inference (c.in-Ok.ensures.ok (1 + c.args.lo)) c.constrain_pattern.new.inference c.take_back.new.inference c.requires.safe c.in-Ok-constrain_pattern.ensures.ok (λ before added e l. c.take_back.ensures before added e (l ∙ sym c.mark_of-mark.ensures))) c.constrain.new.inference c.in-Ok-constrain.ensures.ok (demand.Same (1 + c.args.lo) c.in-Ok-constrain_pattern.next ∷ []) (same_says (1 + c.args.lo) c.in-Ok-constrain_pattern.next) (same_allowed (1 + c.args.lo) c.in-Ok-constrain_pattern.next) c.demand.new.inference) c.in-Err-demand.ensures.err }
 
-pub constrain_bound-returns-in-Ok-demand-clause-ok : goal.constrain_bound-returns-in-Ok-demand-clause-ok
-constrain_bound-returns-in-Ok-demand-clause-ok t c = row c.args.places c.args.base c.args.depth c.args.lo c.in-Ok-constrain_pattern.next c.args.sizes.now (pattern_of c.args.pat.now) (term_of c.args.value.now) c.in-Ok-constrain_pattern.ensures.next c.args.inference.now c.take_back.new.inference c.requires.safe (pattern_claimed c.args.places c.args.base c.args.depth c.args.lo c.in-Ok-constrain_pattern.next c.args.sizes.now (pattern_of c.args.pat.now) (term_of c.args.value.now) c.in-Ok-constrain_pattern.ensures.next c.args.inference.now c.enter_sizes.new.inference (c.in-Ok.ensures.ok (1 + c.args.lo)) c.constrain_pattern.new.inference c.take_back.new.inference c.requires.safe c.in-Ok-constrain_pattern.ensures.ok (λ before added e l. c.take_back.ensures before added e (l ∙ sym c.mark_of-mark.ensures))) c.constrain.new.inference c.in-Ok-constrain.ensures.ok (demand.Same (1 + c.args.lo) c.in-Ok-constrain_pattern.next ∷ []) (same_says (1 + c.args.lo) c.in-Ok-constrain_pattern.next) (same_allowed (1 + c.args.lo) c.in-Ok-constrain_pattern.next) c.demand.new.inference c.in-Ok-demand.ensures.ok
+pub constrain_bound-returns-in-Ok-demand : goal.constrain_bound-returns-in-Ok-demand
+constrain_bound-returns-in-Ok-demand t c = record { next = omega (arith, c.in-Ok-constrain_pattern.ensures.next, c.in-Ok-constrain.ensures.next); ok = row c.args.setting.places c.args.setting.base c.args.setting.depth c.args.lo c.in-Ok-constrain_pattern.next c.args.sizes.now (pattern_of c.args.pat.now) (term_of c.args.value.now) c.in-Ok-constrain_pattern.ensures.next c.args.inference.now c.take_back.new.inference c.requires.safe (pattern_claimed c.args.setting.places c.args.setting.base c.args.setting.depth c.args.lo c.in-Ok-constrain_pattern.next c.args.sizes.now (pattern_of c.args.pat.now) (term_of c.args.value.now) c.in-Ok-constrain_pattern.ensures.next c.args.inference.now c.enter_sizes.new.inference (c.in-Ok.ensures.ok (1 + c.args.lo)) c.constrain_pattern.new.inference c.take_back.new.inference c.requires.safe c.in-Ok-constrain_pattern.ensures.ok (λ before added e l. c.take_back.ensures before added e (l ∙ sym c.mark_of-mark.ensures))) c.constrain.new.inference c.in-Ok-constrain.ensures.ok (demand.Same (1 + c.args.lo) c.in-Ok-constrain_pattern.next ∷ []) (same_says (1 + c.args.lo) c.in-Ok-constrain_pattern.next) (same_allowed (1 + c.args.lo) c.in-Ok-constrain_pattern.next) c.demand.new.inference c.in-Ok-demand.ensures.ok; err = tt }
 
 pub constrain_value-constrain_bound-requires : goal.constrain_value-constrain_bound-requires
 constrain_value-constrain_bound-requires t c = (omega arith, (c.requires.safe, omega (arith, c.requires.room)))
 
-pub constrain_value-returns-in-Ok-enter_pattern-clause-ok : goal.constrain_value-returns-in-Ok-enter_pattern-clause-ok
-constrain_value-returns-in-Ok-enter_pattern-clause-ok t c = value_ok c.args.places c.args.base c.args.depth c.args.lo (1 + c.args.lo + pattern_numbers (pattern_of c.args.pat.now)) c.args.sizes.now (pattern_of c.args.pat.now) (term_of c.args.value.now) refl c.constrain_bound.new.inference c.enter_sizes.new.inference c.enter_pattern.new.inference c.in-Ok-enter_sizes.ensures.ok c.in-Ok-enter_pattern.ensures.ok c.args.inference.now c.requires.safe c.in-Ok.ensures.ok
+pub constrain_value-returns-in-Ok-enter_pattern : goal.constrain_value-returns-in-Ok-enter_pattern
+constrain_value-returns-in-Ok-enter_pattern t c = record { next = c.in-Ok.ensures.next; ok = value_ok c.args.setting.places c.args.setting.base c.args.setting.depth c.args.lo (1 + c.args.lo + pattern_numbers (pattern_of c.args.pat.now)) c.args.sizes.now (pattern_of c.args.pat.now) (term_of c.args.value.now) refl c.constrain_bound.new.inference c.enter_sizes.new.inference c.enter_pattern.new.inference c.in-Ok-enter_sizes.ensures.ok c.in-Ok-enter_pattern.ensures.ok c.args.inference.now c.requires.safe c.in-Ok.ensures.ok; err = tt }
 
 pub constrain-constrain_loop-requires : goal.constrain-constrain_loop-requires
-constrain-constrain_loop-requires t c = let e = ap (λ (x : FlatTerm). numbers x) (term_loop c.args.exp.now c.in-Loop.whole c.in-Loop.is) in (omega (arith, e), (c.requires.safe, subst (λ (x : FlatTerm). c.args.lo + numbers x ≤ c.args.base) (term_loop c.args.exp.now c.in-Loop.whole c.in-Loop.is) c.requires.room))
+constrain-constrain_loop-requires t c = let e = ap (λ (x : FlatTerm). numbers x) (term_loop c.args.exp.now c.in-Loop.whole c.in-Loop.is) in (omega (arith, e), (c.requires.safe, subst (λ (x : FlatTerm). c.args.lo + numbers x ≤ c.args.setting.base) (term_loop c.args.exp.now c.in-Loop.whole c.in-Loop.is) c.requires.room))
 
-pub constrain-returns-in-Loop-clause-next : goal.constrain-returns-in-Loop-clause-next
-constrain-returns-in-Loop-clause-next t c = rw (term_loop c.args.exp.now c.in-Loop.whole c.in-Loop.is) c.constrain_loop.ensures.next
-
-pub constrain-returns-in-Loop-clause-ok : goal.constrain-returns-in-Loop-clause-ok
-constrain-returns-in-Loop-clause-ok t c = rw (term_loop c.args.exp.now c.in-Loop.whole c.in-Loop.is) c.constrain_loop.ensures.ok
-
-pub constrain-returns-in-Loop-clause-err : goal.constrain-returns-in-Loop-clause-err
-constrain-returns-in-Loop-clause-err t c = rw (term_loop c.args.exp.now c.in-Loop.whole c.in-Loop.is) c.constrain_loop.ensures.err
+pub constrain-returns-in-Loop : goal.constrain-returns-in-Loop
+constrain-returns-in-Loop t c = record { next = rw (term_loop c.args.exp.now c.in-Loop.whole c.in-Loop.is) c.constrain_loop.ensures.next; ok = rw (term_loop c.args.exp.now c.in-Loop.whole c.in-Loop.is) c.constrain_loop.ensures.ok; err = rw (term_loop c.args.exp.now c.in-Loop.whole c.in-Loop.is) c.constrain_loop.ensures.err }
 
 pub constrain_loop-constrain_head-requires : goal.constrain_loop-constrain_head-requires
 constrain_loop-constrain_head-requires t c = let e = (ap (λ (x : FlatTerm). numbers x) (loop_is c.args.whole.now)) in (omega (arith, e, numbers_some (term_of c.args.whole.now.body)), (c.requires.safe, omega (arith, e, c.requires.room)))
 
-pub constrain_loop-returns-in-Err-clause-err : goal.constrain_loop-returns-in-Err-clause-err
-constrain_loop-returns-in-Err-clause-err t c = tells c.in-Err.error (λ r. subst (λ (x : FlatTerm). Unconstrained c.args.places c.args.base c.args.depth c.args.lo x c.args.inference.now c.constrain_head.new.inference) (sym (loop_is c.args.whole.now)) (loop_err1 c.args.places c.args.base c.args.depth c.args.lo (behind_head (pattern_of c.args.whole.now.pat) (term_of c.args.whole.now.first) (turns_of c.args.whole.now.form) c.args.lo) c.args.whole.now.mark c.args.whole.now.sizes.now (pattern_of c.args.whole.now.pat) (term_of c.args.whole.now.first) (turns_of c.args.whole.now.form) (term_of c.args.whole.now.body) refl c.args.inference.now c.constrain_head.new.inference r)) c.in-Err.ensures.err
+pub constrain_loop-returns-in-Err : goal.constrain_loop-returns-in-Err
+constrain_loop-returns-in-Err t c = record { next = tt; ok = tt; err = tells c.in-Err.error (λ r. subst (λ (x : FlatTerm). Unconstrained c.args.setting.places c.args.setting.base c.args.setting.depth c.args.lo x c.args.inference.now c.constrain_head.new.inference) (sym (loop_is c.args.whole.now)) (loop_err1 c.args.setting.places c.args.setting.base c.args.setting.depth c.args.lo (behind_head (pattern_of c.args.whole.now.pat) (term_of c.args.whole.now.first) (turns_of c.args.whole.now.form) c.args.lo) c.args.whole.now.mark c.args.whole.now.sizes.now (pattern_of c.args.whole.now.pat) (term_of c.args.whole.now.first) (turns_of c.args.whole.now.form) (term_of c.args.whole.now.body) refl c.args.inference.now c.constrain_head.new.inference r)) c.in-Err.ensures.err }
 
 pub constrain_loop-constrain-requires : goal.constrain_loop-constrain-requires
 constrain_loop-constrain-requires t c = let e = (ap (λ (x : FlatTerm). numbers x) (loop_is c.args.whole.now)) in (omega (arith, e, numbers_some (term_of c.args.whole.now.first)), (c.in-Ok.ensures.ok.later.safe, omega (arith, e, c.requires.room, c.in-Ok.ensures.next)))
 
-pub constrain_loop-returns-in-Err-constrain-clause-err : goal.constrain_loop-returns-in-Err-constrain-clause-err
-constrain_loop-returns-in-Err-constrain-clause-err t c = tells c.in-Err-constrain.error (λ r. subst (λ (x : FlatTerm). Unconstrained c.args.places c.args.base c.args.depth c.args.lo x c.args.inference.now c.constrain.new.inference) (sym (loop_is c.args.whole.now)) (loop_err2 c.args.places c.args.base c.args.depth c.args.lo c.in-Ok.next c.args.whole.now.mark c.args.whole.now.sizes.now (pattern_of c.args.whole.now.pat) (term_of c.args.whole.now.first) (turns_of c.args.whole.now.form) (term_of c.args.whole.now.body) c.in-Ok.ensures.next c.args.inference.now c.constrain_head.new.inference c.in-Ok.ensures.ok c.constrain.new.inference r)) c.in-Err-constrain.ensures.err
+pub constrain_loop-returns-in-Err-constrain : goal.constrain_loop-returns-in-Err-constrain
+constrain_loop-returns-in-Err-constrain t c = record { next = tt; ok = tt; err = tells c.in-Err-constrain.error (λ r. subst (λ (x : FlatTerm). Unconstrained c.args.setting.places c.args.setting.base c.args.setting.depth c.args.lo x c.args.inference.now c.constrain.new.inference) (sym (loop_is c.args.whole.now)) (loop_err2 c.args.setting.places c.args.setting.base c.args.setting.depth c.args.lo c.in-Ok.next c.args.whole.now.mark c.args.whole.now.sizes.now (pattern_of c.args.whole.now.pat) (term_of c.args.whole.now.first) (turns_of c.args.whole.now.form) (term_of c.args.whole.now.body) c.in-Ok.ensures.next c.args.inference.now c.constrain_head.new.inference c.in-Ok.ensures.ok c.constrain.new.inference r)) c.in-Err-constrain.ensures.err }
 
 pub constrain_loop-demand-requires-clause-within : goal.constrain_loop-demand-requires-clause-within
-constrain_loop-demand-requires-clause-within t c = let e = (ap (λ (x : FlatTerm). numbers x) (loop_is c.args.whole.now)) in c.carried.ensures.within _ c.args.base (below_two c.args.base _ _ _ (omega (arith, e, c.requires.room)) (omega (arith, e, c.requires.room, numbers_some (term_of c.args.whole.now.body))) (omega (arith, e, c.requires.room, c.in-Ok.ensures.next, numbers_some (term_of c.args.whole.now.body))))
+constrain_loop-demand-requires-clause-within t c = let e = (ap (λ (x : FlatTerm). numbers x) (loop_is c.args.whole.now)) in c.carried.ensures.within _ c.args.setting.base (below_two c.args.setting.base _ _ _ (omega (arith, e, c.requires.room)) (omega (arith, e, c.requires.room, numbers_some (term_of c.args.whole.now.body))) (omega (arith, e, c.requires.room, c.in-Ok.ensures.next, numbers_some (term_of c.args.whole.now.body))))
 
-pub constrain_loop-returns-in-Err-demand-clause-err : goal.constrain_loop-returns-in-Err-demand-clause-err
-constrain_loop-returns-in-Err-demand-clause-err t c = tells c.in-Err-demand.error (λ r. subst (λ (x : FlatTerm). Unconstrained c.args.places c.args.base c.args.depth c.args.lo x c.args.inference.now c.demand.new.inference) (sym (loop_is c.args.whole.now)) (loop_err3 c.args.places c.args.base c.args.depth c.args.lo c.in-Ok.next c.args.whole.now.mark c.args.whole.now.sizes.now (pattern_of c.args.whole.now.pat) (term_of c.args.whole.now.first) (turns_of c.args.whole.now.form) (term_of c.args.whole.now.body) c.in-Ok.ensures.next c.args.inference.now c.constrain_head.new.inference c.in-Ok.ensures.ok c.constrain.new.inference c.demand.new.inference c.in-Ok-constrain.ensures.ok c.carried.result c.carried.ensures.says c.carried.ensures.allowed r)) c.in-Err-demand.ensures.err
+pub constrain_loop-returns-in-Err-demand : goal.constrain_loop-returns-in-Err-demand
+constrain_loop-returns-in-Err-demand t c = record { next = tt; ok = tt; err = tells c.in-Err-demand.error (λ r. subst (λ (x : FlatTerm). Unconstrained c.args.setting.places c.args.setting.base c.args.setting.depth c.args.lo x c.args.inference.now c.demand.new.inference) (sym (loop_is c.args.whole.now)) (loop_err3 c.args.setting.places c.args.setting.base c.args.setting.depth c.args.lo c.in-Ok.next c.args.whole.now.mark c.args.whole.now.sizes.now (pattern_of c.args.whole.now.pat) (term_of c.args.whole.now.first) (turns_of c.args.whole.now.form) (term_of c.args.whole.now.body) c.in-Ok.ensures.next c.args.inference.now c.constrain_head.new.inference c.in-Ok.ensures.ok c.constrain.new.inference c.demand.new.inference c.in-Ok-constrain.ensures.ok c.carried.result c.carried.ensures.says c.carried.ensures.allowed r)) c.in-Err-demand.ensures.err }
 
-pub constrain_loop-returns-clause-next : goal.constrain_loop-returns-clause-next
-constrain_loop-returns-clause-next t c = let e = (ap (λ (x : FlatTerm). numbers x) (loop_is c.args.whole.now)) in omega (arith, e, c.in-Ok.ensures.next, c.in-Ok-constrain.ensures.next)
+pub constrain_loop-returns : goal.constrain_loop-returns
+constrain_loop-returns t c = record { next = let e = (ap (λ (x : FlatTerm). numbers x) (loop_is c.args.whole.now)) in omega (arith, e, c.in-Ok.ensures.next, c.in-Ok-constrain.ensures.next); ok = subst (λ (x : FlatTerm). Constrained c.args.setting.places c.args.setting.base c.args.setting.depth c.args.lo x c.args.inference.now c.take_back.new.inference) (sym (loop_is c.args.whole.now)) (loop_ok c.args.setting.places c.args.setting.base c.args.setting.depth c.args.lo c.in-Ok.next c.args.whole.now.mark c.args.whole.now.sizes.now (pattern_of c.args.whole.now.pat) (term_of c.args.whole.now.first) (turns_of c.args.whole.now.form) (term_of c.args.whole.now.body) c.in-Ok.ensures.next c.args.inference.now c.constrain_head.new.inference c.in-Ok.ensures.ok c.constrain.new.inference c.demand.new.inference c.in-Ok-constrain.ensures.ok c.carried.result c.carried.ensures.says c.carried.ensures.allowed c.take_back.new.inference c.requires.safe c.in-Ok-demand.ensures.ok (λ before added e l. c.take_back.ensures before added e (l ∙ sym c.mark_of-mark.ensures))); err = tt }
 
-pub constrain_loop-returns-clause-ok : goal.constrain_loop-returns-clause-ok
-constrain_loop-returns-clause-ok t c = subst (λ (x : FlatTerm). Constrained c.args.places c.args.base c.args.depth c.args.lo x c.args.inference.now c.take_back.new.inference) (sym (loop_is c.args.whole.now)) (loop_ok c.args.places c.args.base c.args.depth c.args.lo c.in-Ok.next c.args.whole.now.mark c.args.whole.now.sizes.now (pattern_of c.args.whole.now.pat) (term_of c.args.whole.now.first) (turns_of c.args.whole.now.form) (term_of c.args.whole.now.body) c.in-Ok.ensures.next c.args.inference.now c.constrain_head.new.inference c.in-Ok.ensures.ok c.constrain.new.inference c.demand.new.inference c.in-Ok-constrain.ensures.ok c.carried.result c.carried.ensures.says c.carried.ensures.allowed c.take_back.new.inference c.requires.safe c.in-Ok-demand.ensures.ok (λ before added e l. c.take_back.ensures before added e (l ∙ sym c.mark_of-mark.ensures)))
-
-pub constrain_while-returns-in-Err-clause-err : goal.constrain_while-returns-in-Err-clause-err
-constrain_while-returns-in-Err-clause-err t c = tells c.in-Err.error (while_err1 c.args.places c.args.base c.args.depth c.args.lo (behind_first (pattern_of c.args.pat.now) (term_of c.args.first.now) c.args.lo) c.args.sizes.now (pattern_of c.args.pat.now) (term_of c.args.first.now) (term_of c.args.test.now) refl c.args.inference.now c.constrain_value.new.inference) c.in-Err.ensures.err
+pub constrain_while-returns-in-Err : goal.constrain_while-returns-in-Err
+constrain_while-returns-in-Err t c = record { next = tt; ok = tt; err = tells c.in-Err.error (while_err1 c.args.setting.places c.args.setting.base c.args.setting.depth c.args.lo (behind_first (pattern_of c.args.pat.now) (term_of c.args.first.now) c.args.lo) c.args.sizes.now (pattern_of c.args.pat.now) (term_of c.args.first.now) (term_of c.args.test.now) refl c.args.inference.now c.constrain_value.new.inference) c.in-Err.ensures.err }
 
 pub constrain_while-constrain-requires : goal.constrain_while-constrain-requires
 constrain_while-constrain-requires t c = (omega (arith, numbers_some (term_of c.args.first.now)), (c.in-Ok.ensures.ok.later.safe, omega (arith, c.requires.room, c.in-Ok.ensures.next)))
 
-pub constrain_while-returns-in-Err-constrain-clause-err : goal.constrain_while-returns-in-Err-constrain-clause-err
-constrain_while-returns-in-Err-constrain-clause-err t c = tells c.in-Err-constrain.error (while_err2 c.args.places c.args.base c.args.depth c.args.lo c.in-Ok.next c.args.sizes.now (pattern_of c.args.pat.now) (term_of c.args.first.now) (term_of c.args.test.now) c.in-Ok.ensures.next c.args.inference.now c.constrain_value.new.inference c.in-Ok.ensures.ok c.constrain.new.inference) c.in-Err-constrain.ensures.err
+pub constrain_while-returns-in-Err-constrain : goal.constrain_while-returns-in-Err-constrain
+constrain_while-returns-in-Err-constrain t c = record { next = tt; ok = tt; err = tells c.in-Err-constrain.error (while_err2 c.args.setting.places c.args.setting.base c.args.setting.depth c.args.lo c.in-Ok.next c.args.sizes.now (pattern_of c.args.pat.now) (term_of c.args.first.now) (term_of c.args.test.now) c.in-Ok.ensures.next c.args.inference.now c.constrain_value.new.inference c.in-Ok.ensures.ok c.constrain.new.inference) c.in-Err-constrain.ensures.err }
 
 pub constrain_while-demand-requires-clause-within : goal.constrain_while-demand-requires-clause-within
-constrain_while-demand-requires-clause-within t c = truth_within _ c.args.base c.in-Ok.next (omega (arith, c.requires.room, c.in-Ok.ensures.next, numbers_some (term_of c.args.test.now)))
+constrain_while-demand-requires-clause-within t c = truth_within _ c.args.setting.base c.in-Ok.next (omega (arith, c.requires.room, c.in-Ok.ensures.next, numbers_some (term_of c.args.test.now)))
 
-pub constrain_while-returns-in-Ok-demand-clause-ok : goal.constrain_while-returns-in-Ok-demand-clause-ok
-constrain_while-returns-in-Ok-demand-clause-ok t c = while_ok c.args.places c.args.base c.args.depth c.args.lo c.in-Ok.next c.args.sizes.now (pattern_of c.args.pat.now) (term_of c.args.first.now) (term_of c.args.test.now) c.in-Ok.ensures.next c.args.inference.now c.constrain_value.new.inference c.in-Ok.ensures.ok c.constrain.new.inference c.demand.new.inference c.in-Ok-constrain.ensures.ok c.in-Ok-demand.ensures.ok
+pub constrain_while-returns-in-Ok-demand : goal.constrain_while-returns-in-Ok-demand
+constrain_while-returns-in-Ok-demand t c = record { next = omega (arith, c.in-Ok.ensures.next, c.in-Ok-constrain.ensures.next); ok = while_ok c.args.setting.places c.args.setting.base c.args.setting.depth c.args.lo c.in-Ok.next c.args.sizes.now (pattern_of c.args.pat.now) (term_of c.args.first.now) (term_of c.args.test.now) c.in-Ok.ensures.next c.args.inference.now c.constrain_value.new.inference c.in-Ok.ensures.ok c.constrain.new.inference c.demand.new.inference c.in-Ok-constrain.ensures.ok c.in-Ok-demand.ensures.ok; err = tt }
 
-pub constrain_while-returns-in-Err-demand-clause-err : goal.constrain_while-returns-in-Err-demand-clause-err
-constrain_while-returns-in-Err-demand-clause-err t c = tells c.in-Err-demand.error (while_err3 c.args.places c.args.base c.args.depth c.args.lo c.in-Ok.next c.args.sizes.now (pattern_of c.args.pat.now) (term_of c.args.first.now) (term_of c.args.test.now) c.in-Ok.ensures.next c.args.inference.now c.constrain_value.new.inference c.in-Ok.ensures.ok c.constrain.new.inference c.demand.new.inference c.in-Ok-constrain.ensures.ok) c.in-Err-demand.ensures.err
+pub constrain_while-returns-in-Err-demand : goal.constrain_while-returns-in-Err-demand
+constrain_while-returns-in-Err-demand t c = record { next = tt; ok = tt; err = tells c.in-Err-demand.error (while_err3 c.args.setting.places c.args.setting.base c.args.setting.depth c.args.lo c.in-Ok.next c.args.sizes.now (pattern_of c.args.pat.now) (term_of c.args.first.now) (term_of c.args.test.now) c.in-Ok.ensures.next c.args.inference.now c.constrain_value.new.inference c.in-Ok.ensures.ok c.constrain.new.inference c.demand.new.inference c.in-Ok-constrain.ensures.ok) c.in-Err-demand.ensures.err }
 
 pub constrain_while-constrain_value-requires : goal.constrain_while-constrain_value-requires
 constrain_while-constrain_value-requires t c = (omega (arith, numbers_some (term_of c.args.test.now)), (c.requires.safe, omega (arith, c.requires.room)))
@@ -331,68 +277,50 @@ constrain_while-constrain_value-requires t c = (omega (arith, numbers_some (term
 pub constrain_head-constrain_while-requires : goal.constrain_head-constrain_while-requires
 constrain_head-constrain_while-requires t c = let e = ap (λ (x : FlatTurns). turn_numbers x) (ap turns_of c.in-While.is ∙ turns_while c.in-While.test) in (omega (arith, e), (c.requires.safe, omega (arith, e, c.requires.room)))
 
-pub constrain_head-returns-in-While-clause-next : goal.constrain_head-returns-in-While-clause-next
-constrain_head-returns-in-While-clause-next t c = rw (ap turns_of c.in-While.is ∙ turns_while c.in-While.test) c.constrain_while.ensures.next
-
-pub constrain_head-returns-in-While-clause-ok : goal.constrain_head-returns-in-While-clause-ok
-constrain_head-returns-in-While-clause-ok t c = rw (ap turns_of c.in-While.is ∙ turns_while c.in-While.test) c.constrain_while.ensures.ok
-
-pub constrain_head-returns-in-While-clause-err : goal.constrain_head-returns-in-While-clause-err
-constrain_head-returns-in-While-clause-err t c = rw (ap turns_of c.in-While.is ∙ turns_while c.in-While.test) c.constrain_while.ensures.err
+pub constrain_head-returns-in-While : goal.constrain_head-returns-in-While
+constrain_head-returns-in-While t c = record { next = rw (ap turns_of c.in-While.is ∙ turns_while c.in-While.test) c.constrain_while.ensures.next; ok = rw (ap turns_of c.in-While.is ∙ turns_while c.in-While.test) c.constrain_while.ensures.ok; err = rw (ap turns_of c.in-While.is ∙ turns_while c.in-While.test) c.constrain_while.ensures.err }
 
 pub constrain_head-constrain_counted-requires : goal.constrain_head-constrain_counted-requires
 constrain_head-constrain_counted-requires t c = let e = ap (λ (x : FlatTurns). turn_numbers x) (ap turns_of c.in-For.is ∙ turns_counted c.in-For.name c.in-For.bound) in (omega (arith, e), (c.requires.safe, omega (arith, e, c.requires.room)))
 
-pub constrain_head-returns-in-For-clause-next : goal.constrain_head-returns-in-For-clause-next
-constrain_head-returns-in-For-clause-next t c = rw (ap turns_of c.in-For.is ∙ turns_counted c.in-For.name c.in-For.bound) c.constrain_counted.ensures.next
-
-pub constrain_head-returns-in-For-clause-ok : goal.constrain_head-returns-in-For-clause-ok
-constrain_head-returns-in-For-clause-ok t c = rw (ap turns_of c.in-For.is ∙ turns_counted c.in-For.name c.in-For.bound) c.constrain_counted.ensures.ok
-
-pub constrain_head-returns-in-For-clause-err : goal.constrain_head-returns-in-For-clause-err
-constrain_head-returns-in-For-clause-err t c = rw (ap turns_of c.in-For.is ∙ turns_counted c.in-For.name c.in-For.bound) c.constrain_counted.ensures.err
+pub constrain_head-returns-in-For : goal.constrain_head-returns-in-For
+constrain_head-returns-in-For t c = record { next = rw (ap turns_of c.in-For.is ∙ turns_counted c.in-For.name c.in-For.bound) c.constrain_counted.ensures.next; ok = rw (ap turns_of c.in-For.is ∙ turns_counted c.in-For.name c.in-For.bound) c.constrain_counted.ensures.ok; err = rw (ap turns_of c.in-For.is ∙ turns_counted c.in-For.name c.in-For.bound) c.constrain_counted.ensures.err }
 
 pub constrain_counted-constrain_bound-requires : goal.constrain_counted-constrain_bound-requires
 constrain_counted-constrain_bound-requires t c = (omega arith, (c.requires.safe, omega (arith, c.requires.room)))
 
-pub constrain_counted-returns-in-Err-clause-err : goal.constrain_counted-returns-in-Err-clause-err
-constrain_counted-returns-in-Err-clause-err t c = tells c.in-Err.error (counted_err1 c.args.places c.args.base c.args.depth c.args.lo (behind_first (pattern_of c.args.pat.now) (term_of c.args.first.now) c.args.lo) c.args.sizes.now (pattern_of c.args.pat.now) (term_of c.args.first.now) (term_of c.args.bound.now) c.args.name refl c.args.inference.now c.constrain_bound.new.inference) c.in-Err.ensures.err
+pub constrain_counted-returns-in-Err : goal.constrain_counted-returns-in-Err
+constrain_counted-returns-in-Err t c = record { next = tt; ok = tt; err = tells c.in-Err.error (counted_err1 c.args.setting.places c.args.setting.base c.args.setting.depth c.args.lo (behind_first (pattern_of c.args.pat.now) (term_of c.args.first.now) c.args.lo) c.args.sizes.now (pattern_of c.args.pat.now) (term_of c.args.first.now) (term_of c.args.bound.now) c.args.name refl c.args.inference.now c.constrain_bound.new.inference) c.in-Err.ensures.err }
 
 pub constrain_counted-constrain-requires : goal.constrain_counted-constrain-requires
 constrain_counted-constrain-requires t c = (omega arith, (c.in-Ok.ensures.ok.later.safe, omega (arith, c.requires.room, c.in-Ok.ensures.next)))
 
-pub constrain_counted-returns-in-Err-constrain-clause-err : goal.constrain_counted-returns-in-Err-constrain-clause-err
-constrain_counted-returns-in-Err-constrain-clause-err t c = tells c.in-Err-constrain.error (counted_err2 c.args.places c.args.base c.args.depth c.args.lo c.in-Ok.next c.args.sizes.now (pattern_of c.args.pat.now) (term_of c.args.first.now) (term_of c.args.bound.now) c.args.name c.in-Ok.ensures.next c.args.inference.now c.constrain_bound.new.inference c.constrain.new.inference c.requires.safe c.in-Ok.ensures.ok) c.in-Err-constrain.ensures.err
+pub constrain_counted-returns-in-Err-constrain : goal.constrain_counted-returns-in-Err-constrain
+constrain_counted-returns-in-Err-constrain t c = record { next = tt; ok = tt; err = tells c.in-Err-constrain.error (counted_err2 c.args.setting.places c.args.setting.base c.args.setting.depth c.args.lo c.in-Ok.next c.args.sizes.now (pattern_of c.args.pat.now) (term_of c.args.first.now) (term_of c.args.bound.now) c.args.name c.in-Ok.ensures.next c.args.inference.now c.constrain_bound.new.inference c.constrain.new.inference c.requires.safe c.in-Ok.ensures.ok) c.in-Err-constrain.ensures.err }
 
 pub constrain_counted-demand-requires-clause-within : goal.constrain_counted-demand-requires-clause-within
-constrain_counted-demand-requires-clause-within t c = c.counted.ensures.within _ c.args.base (omega (arith, c.requires.room, c.in-Ok.ensures.next), (omega (arith, c.requires.room, c.in-Ok.ensures.next, numbers_some (term_of c.args.bound.now)), tt))
+constrain_counted-demand-requires-clause-within t c = c.counted.ensures.within _ c.args.setting.base (omega (arith, c.requires.room, c.in-Ok.ensures.next), (omega (arith, c.requires.room, c.in-Ok.ensures.next, numbers_some (term_of c.args.bound.now)), tt))
 
-pub constrain_counted-returns-in-Err-demand-clause-err : goal.constrain_counted-returns-in-Err-demand-clause-err
-constrain_counted-returns-in-Err-demand-clause-err t c = tells c.in-Err-demand.error (counted_err3 c.args.places c.args.base c.args.depth c.args.lo c.in-Ok.next c.args.sizes.now (pattern_of c.args.pat.now) (term_of c.args.first.now) (term_of c.args.bound.now) c.args.name c.in-Ok.ensures.next c.args.inference.now c.constrain_bound.new.inference c.constrain.new.inference c.requires.safe c.in-Ok.ensures.ok c.demand.new.inference c.in-Ok-constrain.ensures.ok c.counted.result c.counted.ensures.says c.counted.ensures.allowed) c.in-Err-demand.ensures.err
+pub constrain_counted-returns-in-Err-demand : goal.constrain_counted-returns-in-Err-demand
+constrain_counted-returns-in-Err-demand t c = record { next = tt; ok = tt; err = tells c.in-Err-demand.error (counted_err3 c.args.setting.places c.args.setting.base c.args.setting.depth c.args.lo c.in-Ok.next c.args.sizes.now (pattern_of c.args.pat.now) (term_of c.args.first.now) (term_of c.args.bound.now) c.args.name c.in-Ok.ensures.next c.args.inference.now c.constrain_bound.new.inference c.constrain.new.inference c.requires.safe c.in-Ok.ensures.ok c.demand.new.inference c.in-Ok-constrain.ensures.ok c.counted.result c.counted.ensures.says c.counted.ensures.allowed) c.in-Err-demand.ensures.err }
 
 pub constrain_counted-enter_sizes-requires : goal.constrain_counted-enter_sizes-requires
-constrain_counted-enter_sizes-requires t c = record { safe = (c.in-Ok-demand.ensures.ok c.args.places 0 0).later.safe }
+constrain_counted-enter_sizes-requires t c = record { safe = (c.in-Ok-demand.ensures.ok c.args.setting.places 0 0).later.safe }
 
-pub constrain_counted-returns-in-Ok-enter-clause-ok : goal.constrain_counted-returns-in-Ok-enter-clause-ok
-constrain_counted-returns-in-Ok-enter-clause-ok t c = counted_ok c.args.places c.args.base c.args.depth c.args.lo c.in-Ok.next c.args.sizes.now (pattern_of c.args.pat.now) (term_of c.args.first.now) (term_of c.args.bound.now) c.args.name c.in-Ok.ensures.next c.args.inference.now c.constrain_bound.new.inference c.constrain.new.inference c.requires.safe c.in-Ok.ensures.ok c.demand.new.inference c.in-Ok-constrain.ensures.ok c.counted.result c.counted.ensures.says c.counted.ensures.allowed c.in-Ok-demand.ensures.ok c.enter_sizes.new.inference c.enter_pattern.new.inference c.enter.new.inference c.in-Ok-enter_sizes.ensures.ok c.in-Ok-enter_pattern.ensures.ok c.in-Ok-enter_pattern.ensures.safe (omega (arith, c.requires.room, c.in-Ok.ensures.next)) c.in-Ok-enter.ensures.within c.in-Ok-enter.ensures.fresh c.in-Ok-enter.ensures.ok
+pub constrain_counted-returns-in-Ok-enter : goal.constrain_counted-returns-in-Ok-enter
+constrain_counted-returns-in-Ok-enter t c = record { next = omega (arith, c.in-Ok.ensures.next, c.in-Ok-constrain.ensures.next); ok = counted_ok c.args.setting.places c.args.setting.base c.args.setting.depth c.args.lo c.in-Ok.next c.args.sizes.now (pattern_of c.args.pat.now) (term_of c.args.first.now) (term_of c.args.bound.now) c.args.name c.in-Ok.ensures.next c.args.inference.now c.constrain_bound.new.inference c.constrain.new.inference c.requires.safe c.in-Ok.ensures.ok c.demand.new.inference c.in-Ok-constrain.ensures.ok c.counted.result c.counted.ensures.says c.counted.ensures.allowed c.in-Ok-demand.ensures.ok c.enter_sizes.new.inference c.enter_pattern.new.inference c.enter.new.inference c.in-Ok-enter_sizes.ensures.ok c.in-Ok-enter_pattern.ensures.ok c.in-Ok-enter_pattern.ensures.safe (omega (arith, c.requires.room, c.in-Ok.ensures.next)) c.in-Ok-enter.ensures.within c.in-Ok-enter.ensures.fresh c.in-Ok-enter.ensures.ok; err = tt }
 
 pub constrain_head-constrain_over-requires : goal.constrain_head-constrain_over-requires
 constrain_head-constrain_over-requires t c = let e = ap (λ (x : FlatTurns). turn_numbers x) (ap turns_of c.in-ForIn.is ∙ turns_over c.in-ForIn.part c.in-ForIn.array) in (omega (arith, e), (c.requires.safe, omega (arith, e, c.requires.room)))
 
-pub constrain_head-returns-in-ForIn-clause-next : goal.constrain_head-returns-in-ForIn-clause-next
-constrain_head-returns-in-ForIn-clause-next t c = rw (ap turns_of c.in-ForIn.is ∙ turns_over c.in-ForIn.part c.in-ForIn.array) c.constrain_over.ensures.next
-
-pub constrain_head-returns-in-ForIn-clause-ok : goal.constrain_head-returns-in-ForIn-clause-ok
-constrain_head-returns-in-ForIn-clause-ok t c = rw (ap turns_of c.in-ForIn.is ∙ turns_over c.in-ForIn.part c.in-ForIn.array) c.constrain_over.ensures.ok
-
-pub constrain_head-returns-in-ForIn-clause-err : goal.constrain_head-returns-in-ForIn-clause-err
-constrain_head-returns-in-ForIn-clause-err t c = rw (ap turns_of c.in-ForIn.is ∙ turns_over c.in-ForIn.part c.in-ForIn.array) c.constrain_over.ensures.err
+pub constrain_head-returns-in-ForIn : goal.constrain_head-returns-in-ForIn
+constrain_head-returns-in-ForIn t c = record { next = rw (ap turns_of c.in-ForIn.is ∙ turns_over c.in-ForIn.part c.in-ForIn.array) c.constrain_over.ensures.next; ok = rw (ap turns_of c.in-ForIn.is ∙ turns_over c.in-ForIn.part c.in-ForIn.array) c.constrain_over.ensures.ok; err = rw (ap turns_of c.in-ForIn.is ∙ turns_over c.in-ForIn.part c.in-ForIn.array) c.constrain_over.ensures.err }
 
 pub constrain_over-constrain_value-requires : goal.constrain_over-constrain_value-requires
 constrain_over-constrain_value-requires t c = (omega (arith, numbers_some (term_of c.args.array.now)), (c.requires.safe, omega (arith, c.requires.room)))
 
-pub constrain_over-returns-in-Err-clause-err : goal.constrain_over-returns-in-Err-clause-err
-constrain_over-returns-in-Err-clause-err t c = tells c.in-Err.error (over_err1 c.args.places c.args.base c.args.depth c.args.lo (behind_first (pattern_of c.args.pat.now) (term_of c.args.first.now) c.args.lo) ((behind_first (pattern_of c.args.pat.now) (term_of c.args.first.now) c.args.lo) + pattern_numbers (pattern_of c.args.part.now)) c.args.sizes.now (pattern_of c.args.pat.now) (term_of c.args.first.now) (pattern_of c.args.part.now) (term_of c.args.array.now) refl refl c.args.inference.now c.constrain_value.new.inference) c.in-Err.ensures.err
+pub constrain_over-returns-in-Err : goal.constrain_over-returns-in-Err
+constrain_over-returns-in-Err t c = record { next = tt; ok = tt; err = tells c.in-Err.error (over_err1 c.args.setting.places c.args.setting.base c.args.setting.depth c.args.lo (behind_first (pattern_of c.args.pat.now) (term_of c.args.first.now) c.args.lo) ((behind_first (pattern_of c.args.pat.now) (term_of c.args.first.now) c.args.lo) + pattern_numbers (pattern_of c.args.part.now)) c.args.sizes.now (pattern_of c.args.pat.now) (term_of c.args.first.now) (pattern_of c.args.part.now) (term_of c.args.array.now) refl refl c.args.inference.now c.constrain_value.new.inference) c.in-Err.ensures.err }
 
 pub constrain_over-constrain_pattern-requires-clause-safe : goal.constrain_over-constrain_pattern-requires-clause-safe
 constrain_over-constrain_pattern-requires-clause-safe t c = c.in-Ok.ensures.ok.later.safe
@@ -400,127 +328,91 @@ constrain_over-constrain_pattern-requires-clause-safe t c = c.in-Ok.ensures.ok.l
 pub constrain_over-constrain_pattern-requires-clause-room : goal.constrain_over-constrain_pattern-requires-clause-room
 constrain_over-constrain_pattern-requires-clause-room t c = omega (arith, c.requires.room, c.in-Ok.ensures.next)
 
-pub constrain_over-returns-in-Err-constrain_pattern-clause-err : goal.constrain_over-returns-in-Err-constrain_pattern-clause-err
-constrain_over-returns-in-Err-constrain_pattern-clause-err t c = tells c.in-Err-constrain_pattern.error (over_err2 c.args.places c.args.base c.args.depth c.args.lo c.in-Ok.next (c.in-Ok.next + pattern_numbers (pattern_of c.args.part.now)) c.args.sizes.now (pattern_of c.args.pat.now) (term_of c.args.first.now) (pattern_of c.args.part.now) (term_of c.args.array.now) c.in-Ok.ensures.next refl c.args.inference.now c.constrain_value.new.inference c.in-Ok.ensures.ok c.constrain_pattern.new.inference) c.in-Err-constrain_pattern.ensures.err
+pub constrain_over-returns-in-Err-constrain_pattern : goal.constrain_over-returns-in-Err-constrain_pattern
+constrain_over-returns-in-Err-constrain_pattern t c = record { next = tt; ok = tt; err = tells c.in-Err-constrain_pattern.error (over_err2 c.args.setting.places c.args.setting.base c.args.setting.depth c.args.lo c.in-Ok.next (c.in-Ok.next + pattern_numbers (pattern_of c.args.part.now)) c.args.sizes.now (pattern_of c.args.pat.now) (term_of c.args.first.now) (pattern_of c.args.part.now) (term_of c.args.array.now) c.in-Ok.ensures.next refl c.args.inference.now c.constrain_value.new.inference c.in-Ok.ensures.ok c.constrain_pattern.new.inference) c.in-Err-constrain_pattern.ensures.err }
 
 pub constrain_over-constrain-requires : goal.constrain_over-constrain-requires
-constrain_over-constrain-requires t c = (omega (arith, numbers_some (term_of c.args.first.now)), ((two_claimed c.args.places c.args.base c.args.depth c.args.lo c.in-Ok.next c.in-Ok-constrain_pattern.next c.args.sizes.now (pattern_of c.args.pat.now) (term_of c.args.first.now) (pattern_of c.args.part.now) (term_of c.args.array.now) c.in-Ok.ensures.next c.in-Ok-constrain_pattern.ensures.next c.args.inference.now c.constrain_value.new.inference c.in-Ok.ensures.ok c.constrain_pattern.new.inference c.take_back.new.inference c.requires.safe c.in-Ok-constrain_pattern.ensures.ok (λ before added e l. c.take_back.ensures before added e (l ∙ sym c.mark_of-mark.ensures))).later.safe, omega (arith, c.requires.room, c.in-Ok.ensures.next, c.in-Ok-constrain_pattern.ensures.next)))
+constrain_over-constrain-requires t c = (omega (arith, numbers_some (term_of c.args.first.now)), ((two_claimed c.args.setting.places c.args.setting.base c.args.setting.depth c.args.lo c.in-Ok.next c.in-Ok-constrain_pattern.next c.args.sizes.now (pattern_of c.args.pat.now) (term_of c.args.first.now) (pattern_of c.args.part.now) (term_of c.args.array.now) c.in-Ok.ensures.next c.in-Ok-constrain_pattern.ensures.next c.args.inference.now c.constrain_value.new.inference c.in-Ok.ensures.ok c.constrain_pattern.new.inference c.take_back.new.inference c.requires.safe c.in-Ok-constrain_pattern.ensures.ok (λ before added e l. c.take_back.ensures before added e (l ∙ sym c.mark_of-mark.ensures))).later.safe, omega (arith, c.requires.room, c.in-Ok.ensures.next, c.in-Ok-constrain_pattern.ensures.next)))
 
-pub constrain_over-returns-in-Err-constrain-clause-err : goal.constrain_over-returns-in-Err-constrain-clause-err
-constrain_over-returns-in-Err-constrain-clause-err t c = tells c.in-Err-constrain.error (over_err3 c.args.places c.args.base c.args.depth c.args.lo c.in-Ok.next c.in-Ok-constrain_pattern.next c.args.sizes.now (pattern_of c.args.pat.now) (term_of c.args.first.now) (pattern_of c.args.part.now) (term_of c.args.array.now) c.in-Ok.ensures.next c.in-Ok-constrain_pattern.ensures.next c.args.inference.now c.take_back.new.inference c.constrain.new.inference c.requires.safe (two_claimed c.args.places c.args.base c.args.depth c.args.lo c.in-Ok.next c.in-Ok-constrain_pattern.next c.args.sizes.now (pattern_of c.args.pat.now) (term_of c.args.first.now) (pattern_of c.args.part.now) (term_of c.args.array.now) c.in-Ok.ensures.next c.in-Ok-constrain_pattern.ensures.next c.args.inference.now c.constrain_value.new.inference c.in-Ok.ensures.ok c.constrain_pattern.new.inference c.take_back.new.inference c.requires.safe c.in-Ok-constrain_pattern.ensures.ok (λ before added e l. c.take_back.ensures before added e (l ∙ sym c.mark_of-mark.ensures)))) c.in-Err-constrain.ensures.err
+pub constrain_over-returns-in-Err-constrain : goal.constrain_over-returns-in-Err-constrain
+constrain_over-returns-in-Err-constrain t c = record { next = tt; ok = tt; err = tells c.in-Err-constrain.error (over_err3 c.args.setting.places c.args.setting.base c.args.setting.depth c.args.lo c.in-Ok.next c.in-Ok-constrain_pattern.next c.args.sizes.now (pattern_of c.args.pat.now) (term_of c.args.first.now) (pattern_of c.args.part.now) (term_of c.args.array.now) c.in-Ok.ensures.next c.in-Ok-constrain_pattern.ensures.next c.args.inference.now c.take_back.new.inference c.constrain.new.inference c.requires.safe (two_claimed c.args.setting.places c.args.setting.base c.args.setting.depth c.args.lo c.in-Ok.next c.in-Ok-constrain_pattern.next c.args.sizes.now (pattern_of c.args.pat.now) (term_of c.args.first.now) (pattern_of c.args.part.now) (term_of c.args.array.now) c.in-Ok.ensures.next c.in-Ok-constrain_pattern.ensures.next c.args.inference.now c.constrain_value.new.inference c.in-Ok.ensures.ok c.constrain_pattern.new.inference c.take_back.new.inference c.requires.safe c.in-Ok-constrain_pattern.ensures.ok (λ before added e l. c.take_back.ensures before added e (l ∙ sym c.mark_of-mark.ensures)))) c.in-Err-constrain.ensures.err }
 
 pub constrain_over-demand-requires-clause-within : goal.constrain_over-demand-requires-clause-within
-constrain_over-demand-requires-clause-within t c = c.gone_over.ensures.within _ c.args.base (omega (arith, c.requires.room, c.in-Ok.ensures.next, numbers_some (term_of c.args.array.now)), (omega (arith, c.requires.room, c.in-Ok.ensures.next, c.in-Ok-constrain_pattern.ensures.next, numbers_some (term_of c.args.array.now)), tt))
+constrain_over-demand-requires-clause-within t c = c.gone_over.ensures.within _ c.args.setting.base (omega (arith, c.requires.room, c.in-Ok.ensures.next, numbers_some (term_of c.args.array.now)), (omega (arith, c.requires.room, c.in-Ok.ensures.next, c.in-Ok-constrain_pattern.ensures.next, numbers_some (term_of c.args.array.now)), tt))
 
-pub constrain_over-returns-in-Err-demand-clause-err : goal.constrain_over-returns-in-Err-demand-clause-err
-constrain_over-returns-in-Err-demand-clause-err t c = tells c.in-Err-demand.error (over_err4 c.args.places c.args.base c.args.depth c.args.lo c.in-Ok.next c.in-Ok-constrain_pattern.next c.args.sizes.now (pattern_of c.args.pat.now) (term_of c.args.first.now) (pattern_of c.args.part.now) (term_of c.args.array.now) c.in-Ok.ensures.next c.in-Ok-constrain_pattern.ensures.next c.args.inference.now c.take_back.new.inference c.constrain.new.inference c.requires.safe (two_claimed c.args.places c.args.base c.args.depth c.args.lo c.in-Ok.next c.in-Ok-constrain_pattern.next c.args.sizes.now (pattern_of c.args.pat.now) (term_of c.args.first.now) (pattern_of c.args.part.now) (term_of c.args.array.now) c.in-Ok.ensures.next c.in-Ok-constrain_pattern.ensures.next c.args.inference.now c.constrain_value.new.inference c.in-Ok.ensures.ok c.constrain_pattern.new.inference c.take_back.new.inference c.requires.safe c.in-Ok-constrain_pattern.ensures.ok (λ before added e l. c.take_back.ensures before added e (l ∙ sym c.mark_of-mark.ensures))) c.demand.new.inference c.in-Ok-constrain.ensures.ok c.gone_over.result c.gone_over.ensures.says c.gone_over.ensures.allowed) c.in-Err-demand.ensures.err
+pub constrain_over-returns-in-Err-demand : goal.constrain_over-returns-in-Err-demand
+constrain_over-returns-in-Err-demand t c = record { next = tt; ok = tt; err = tells c.in-Err-demand.error (over_err4 c.args.setting.places c.args.setting.base c.args.setting.depth c.args.lo c.in-Ok.next c.in-Ok-constrain_pattern.next c.args.sizes.now (pattern_of c.args.pat.now) (term_of c.args.first.now) (pattern_of c.args.part.now) (term_of c.args.array.now) c.in-Ok.ensures.next c.in-Ok-constrain_pattern.ensures.next c.args.inference.now c.take_back.new.inference c.constrain.new.inference c.requires.safe (two_claimed c.args.setting.places c.args.setting.base c.args.setting.depth c.args.lo c.in-Ok.next c.in-Ok-constrain_pattern.next c.args.sizes.now (pattern_of c.args.pat.now) (term_of c.args.first.now) (pattern_of c.args.part.now) (term_of c.args.array.now) c.in-Ok.ensures.next c.in-Ok-constrain_pattern.ensures.next c.args.inference.now c.constrain_value.new.inference c.in-Ok.ensures.ok c.constrain_pattern.new.inference c.take_back.new.inference c.requires.safe c.in-Ok-constrain_pattern.ensures.ok (λ before added e l. c.take_back.ensures before added e (l ∙ sym c.mark_of-mark.ensures))) c.demand.new.inference c.in-Ok-constrain.ensures.ok c.gone_over.result c.gone_over.ensures.says c.gone_over.ensures.allowed) c.in-Err-demand.ensures.err }
 
 pub constrain_over-enter_sizes-requires : goal.constrain_over-enter_sizes-requires
-constrain_over-enter_sizes-requires t c = record { safe = (c.in-Ok-demand.ensures.ok c.args.places 0 0).later.safe }
+constrain_over-enter_sizes-requires t c = record { safe = (c.in-Ok-demand.ensures.ok c.args.setting.places 0 0).later.safe }
 
-pub constrain_over-returns-in-Ok-enter_pattern-2-clause-ok : goal.constrain_over-returns-in-Ok-enter_pattern-2-clause-ok
-constrain_over-returns-in-Ok-enter_pattern-2-clause-ok t c = over_ok c.args.places c.args.base c.args.depth c.args.lo c.in-Ok.next c.in-Ok-constrain_pattern.next c.args.sizes.now (pattern_of c.args.pat.now) (term_of c.args.first.now) (pattern_of c.args.part.now) (term_of c.args.array.now) c.in-Ok.ensures.next c.in-Ok-constrain_pattern.ensures.next c.args.inference.now c.take_back.new.inference c.constrain.new.inference c.requires.safe (two_claimed c.args.places c.args.base c.args.depth c.args.lo c.in-Ok.next c.in-Ok-constrain_pattern.next c.args.sizes.now (pattern_of c.args.pat.now) (term_of c.args.first.now) (pattern_of c.args.part.now) (term_of c.args.array.now) c.in-Ok.ensures.next c.in-Ok-constrain_pattern.ensures.next c.args.inference.now c.constrain_value.new.inference c.in-Ok.ensures.ok c.constrain_pattern.new.inference c.take_back.new.inference c.requires.safe c.in-Ok-constrain_pattern.ensures.ok (λ before added e l. c.take_back.ensures before added e (l ∙ sym c.mark_of-mark.ensures))) c.demand.new.inference c.in-Ok-constrain.ensures.ok c.gone_over.result c.gone_over.ensures.says c.gone_over.ensures.allowed c.enter_sizes.new.inference c.enter_pattern.new.inference c.enter_pattern-2.new.inference c.in-Ok-demand.ensures.ok c.in-Ok-enter_sizes.ensures.ok c.in-Ok-enter_pattern.ensures.ok c.in-Ok-enter_pattern-2.ensures.ok
+pub constrain_over-returns-in-Ok-enter_pattern-2 : goal.constrain_over-returns-in-Ok-enter_pattern-2
+constrain_over-returns-in-Ok-enter_pattern-2 t c = record { next = omega (arith, c.in-Ok.ensures.next, c.in-Ok-constrain_pattern.ensures.next, c.in-Ok-constrain.ensures.next); ok = over_ok c.args.setting.places c.args.setting.base c.args.setting.depth c.args.lo c.in-Ok.next c.in-Ok-constrain_pattern.next c.args.sizes.now (pattern_of c.args.pat.now) (term_of c.args.first.now) (pattern_of c.args.part.now) (term_of c.args.array.now) c.in-Ok.ensures.next c.in-Ok-constrain_pattern.ensures.next c.args.inference.now c.take_back.new.inference c.constrain.new.inference c.requires.safe (two_claimed c.args.setting.places c.args.setting.base c.args.setting.depth c.args.lo c.in-Ok.next c.in-Ok-constrain_pattern.next c.args.sizes.now (pattern_of c.args.pat.now) (term_of c.args.first.now) (pattern_of c.args.part.now) (term_of c.args.array.now) c.in-Ok.ensures.next c.in-Ok-constrain_pattern.ensures.next c.args.inference.now c.constrain_value.new.inference c.in-Ok.ensures.ok c.constrain_pattern.new.inference c.take_back.new.inference c.requires.safe c.in-Ok-constrain_pattern.ensures.ok (λ before added e l. c.take_back.ensures before added e (l ∙ sym c.mark_of-mark.ensures))) c.demand.new.inference c.in-Ok-constrain.ensures.ok c.gone_over.result c.gone_over.ensures.says c.gone_over.ensures.allowed c.enter_sizes.new.inference c.enter_pattern.new.inference c.enter_pattern-2.new.inference c.in-Ok-demand.ensures.ok c.in-Ok-enter_sizes.ensures.ok c.in-Ok-enter_pattern.ensures.ok c.in-Ok-enter_pattern-2.ensures.ok; err = tt }
 
 pub constrain_definition-constrain-requires : goal.constrain_definition-constrain-requires
 constrain_definition-constrain-requires t c = (omega arith, (c.in-Ok.ensures.safe, omega (arith, c.requires.room)))
 
-pub constrain_definition-returns-in-Err-constrain-clause-err : goal.constrain_definition-returns-in-Err-constrain-clause-err
-constrain_definition-returns-in-Err-constrain-clause-err t c = tells c.in-Err-constrain.error (definition_err1 c.args.places c.args.base c.args.depth c.args.lo c.args.name (parameters c.args.heads.now) (term_of c.args.value.now) c.args.inference.now c.enter_parameters.new.inference c.requires.safe c.in-Ok.ensures.ok (omega (arith, c.if-depth-ge4294967294.false)) c.constrain.new.inference) c.in-Err-constrain.ensures.err
+pub constrain_definition-returns-in-Err-constrain : goal.constrain_definition-returns-in-Err-constrain
+constrain_definition-returns-in-Err-constrain t c = record { next = tt; ok = tt; err = tells c.in-Err-constrain.error (definition_err1 c.args.setting.places c.args.setting.base c.args.setting.depth c.args.lo c.args.name (parameters c.args.heads.now) (term_of c.args.value.now) c.args.inference.now c.enter_parameters.new.inference c.requires.safe c.in-Ok.ensures.ok (omega (arith, c.if-depth-ge4294967294.false)) c.constrain.new.inference) c.in-Err-constrain.ensures.err }
 
 pub constrain_definition-demand-requires-clause-within : goal.constrain_definition-demand-requires-clause-within
-constrain_definition-demand-requires-clause-within t c = same_within c.constrain.new.inference.table c.args.base c.args.lo (1 + c.args.lo) (omega (arith, c.requires.room, numbers_some (term_of c.args.value.now))) (omega (arith, c.requires.room, numbers_some (term_of c.args.value.now)))
+constrain_definition-demand-requires-clause-within t c = same_within c.constrain.new.inference.table c.args.setting.base c.args.lo (1 + c.args.lo) (omega (arith, c.requires.room, numbers_some (term_of c.args.value.now))) (omega (arith, c.requires.room, numbers_some (term_of c.args.value.now)))
 
-pub constrain_definition-returns-in-Err-demand-clause-err : goal.constrain_definition-returns-in-Err-demand-clause-err
-constrain_definition-returns-in-Err-demand-clause-err t c = tells c.in-Err-demand.error (definition_err2 c.args.places c.args.base c.args.depth c.args.lo c.args.name (parameters c.args.heads.now) (term_of c.args.value.now) c.args.inference.now c.enter_parameters.new.inference c.requires.safe c.in-Ok.ensures.ok (omega (arith, c.if-depth-ge4294967294.false)) c.constrain.new.inference c.demand.new.inference c.in-Ok-constrain.ensures.ok) c.in-Err-demand.ensures.err
+pub constrain_definition-returns-in-Err-demand : goal.constrain_definition-returns-in-Err-demand
+constrain_definition-returns-in-Err-demand t c = record { next = tt; ok = tt; err = tells c.in-Err-demand.error (definition_err2 c.args.setting.places c.args.setting.base c.args.setting.depth c.args.lo c.args.name (parameters c.args.heads.now) (term_of c.args.value.now) c.args.inference.now c.enter_parameters.new.inference c.requires.safe c.in-Ok.ensures.ok (omega (arith, c.if-depth-ge4294967294.false)) c.constrain.new.inference c.demand.new.inference c.in-Ok-constrain.ensures.ok) c.in-Err-demand.ensures.err }
 
 pub constrain_definition-generalise-requires : goal.constrain_definition-generalise-requires
 constrain_definition-generalise-requires t c = record {
-  sound = definition_sound c.args.places c.args.base c.args.depth c.args.lo c.args.name (parameters c.args.heads.now) (term_of c.args.value.now) c.args.inference.now c.enter_parameters.new.inference c.requires.safe c.in-Ok.ensures.ok (omega (arith, c.if-depth-ge4294967294.false)) c.constrain.new.inference c.demand.new.inference c.in-Ok-constrain.ensures.ok c.in-Ok-demand.ensures.ok c.requires.room c.take_back.new.inference (λ before added e l. c.take_back.ensures before added e (l ∙ sym c.mark_of-mark.ensures)) c.as_slice.result.now (c.as_slice.ensures ∙ c.in-Ok.ensures.own ∙ ap (λ l. l ++ type_numbers (parameters c.args.heads.now)) c.new-own.ensures);
-  root = definition_root c.args.places c.args.base c.args.depth c.args.lo c.args.name (parameters c.args.heads.now) (term_of c.args.value.now) c.args.inference.now c.enter_parameters.new.inference c.requires.safe c.in-Ok.ensures.ok (omega (arith, c.if-depth-ge4294967294.false)) c.constrain.new.inference c.demand.new.inference c.in-Ok-constrain.ensures.ok c.in-Ok-demand.ensures.ok c.requires.room c.take_back.new.inference (λ before added e l. c.take_back.ensures before added e (l ∙ sym c.mark_of-mark.ensures)) c.as_slice.result.now (c.as_slice.ensures ∙ c.in-Ok.ensures.own ∙ ap (λ l. l ++ type_numbers (parameters c.args.heads.now)) c.new-own.ensures);
-  own = definition_own c.args.places c.args.base c.args.depth c.args.lo c.args.name (parameters c.args.heads.now) (term_of c.args.value.now) c.args.inference.now c.enter_parameters.new.inference c.requires.safe c.in-Ok.ensures.ok (omega (arith, c.if-depth-ge4294967294.false)) c.constrain.new.inference c.demand.new.inference c.in-Ok-constrain.ensures.ok c.in-Ok-demand.ensures.ok c.requires.room c.take_back.new.inference (λ before added e l. c.take_back.ensures before added e (l ∙ sym c.mark_of-mark.ensures)) c.as_slice.result.now (c.as_slice.ensures ∙ c.in-Ok.ensures.own ∙ ap (λ l. l ++ type_numbers (parameters c.args.heads.now)) c.new-own.ensures);
+  sound = definition_sound c.args.setting.places c.args.setting.base c.args.setting.depth c.args.lo c.args.name (parameters c.args.heads.now) (term_of c.args.value.now) c.args.inference.now c.enter_parameters.new.inference c.requires.safe c.in-Ok.ensures.ok (omega (arith, c.if-depth-ge4294967294.false)) c.constrain.new.inference c.demand.new.inference c.in-Ok-constrain.ensures.ok c.in-Ok-demand.ensures.ok c.requires.room c.take_back.new.inference (λ before added e l. c.take_back.ensures before added e (l ∙ sym c.mark_of-mark.ensures)) c.as_slice.result.now (c.as_slice.ensures ∙ c.in-Ok.ensures.own ∙ ap (λ l. l ++ type_numbers (parameters c.args.heads.now)) c.new-own.ensures);
+  root = definition_root c.args.setting.places c.args.setting.base c.args.setting.depth c.args.lo c.args.name (parameters c.args.heads.now) (term_of c.args.value.now) c.args.inference.now c.enter_parameters.new.inference c.requires.safe c.in-Ok.ensures.ok (omega (arith, c.if-depth-ge4294967294.false)) c.constrain.new.inference c.demand.new.inference c.in-Ok-constrain.ensures.ok c.in-Ok-demand.ensures.ok c.requires.room c.take_back.new.inference (λ before added e l. c.take_back.ensures before added e (l ∙ sym c.mark_of-mark.ensures)) c.as_slice.result.now (c.as_slice.ensures ∙ c.in-Ok.ensures.own ∙ ap (λ l. l ++ type_numbers (parameters c.args.heads.now)) c.new-own.ensures);
+  own = definition_own c.args.setting.places c.args.setting.base c.args.setting.depth c.args.lo c.args.name (parameters c.args.heads.now) (term_of c.args.value.now) c.args.inference.now c.enter_parameters.new.inference c.requires.safe c.in-Ok.ensures.ok (omega (arith, c.if-depth-ge4294967294.false)) c.constrain.new.inference c.demand.new.inference c.in-Ok-constrain.ensures.ok c.in-Ok-demand.ensures.ok c.requires.room c.take_back.new.inference (λ before added e l. c.take_back.ensures before added e (l ∙ sym c.mark_of-mark.ensures)) c.as_slice.result.now (c.as_slice.ensures ∙ c.in-Ok.ensures.own ∙ ap (λ l. l ++ type_numbers (parameters c.args.heads.now)) c.new-own.ensures);
 }
 
-pub constrain_definition-returns-in-Ok-generalise-clause-ok : goal.constrain_definition-returns-in-Ok-generalise-clause-ok
-constrain_definition-returns-in-Ok-generalise-clause-ok t c = definition_ok c.args.places c.args.base c.args.depth c.args.lo c.args.name (parameters c.args.heads.now) (term_of c.args.value.now) c.args.inference.now c.enter_parameters.new.inference c.requires.safe c.in-Ok.ensures.ok (omega (arith, c.if-depth-ge4294967294.false)) c.constrain.new.inference c.demand.new.inference c.in-Ok-constrain.ensures.ok c.in-Ok-demand.ensures.ok c.requires.room c.take_back.new.inference (λ before added e l. c.take_back.ensures before added e (l ∙ sym c.mark_of-mark.ensures)) c.as_slice.result.now (c.as_slice.ensures ∙ c.in-Ok.ensures.own ∙ ap (λ l. l ++ type_numbers (parameters c.args.heads.now)) c.new-own.ensures) c.generalise.new.inference c.in-Ok-generalise.ensures.ok
+pub constrain_definition-returns-in-Ok-generalise : goal.constrain_definition-returns-in-Ok-generalise
+constrain_definition-returns-in-Ok-generalise t c = record { next = omega (arith, c.in-Ok-constrain.ensures.next); ok = definition_ok c.args.setting.places c.args.setting.base c.args.setting.depth c.args.lo c.args.name (parameters c.args.heads.now) (term_of c.args.value.now) c.args.inference.now c.enter_parameters.new.inference c.requires.safe c.in-Ok.ensures.ok (omega (arith, c.if-depth-ge4294967294.false)) c.constrain.new.inference c.demand.new.inference c.in-Ok-constrain.ensures.ok c.in-Ok-demand.ensures.ok c.requires.room c.take_back.new.inference (λ before added e l. c.take_back.ensures before added e (l ∙ sym c.mark_of-mark.ensures)) c.as_slice.result.now (c.as_slice.ensures ∙ c.in-Ok.ensures.own ∙ ap (λ l. l ++ type_numbers (parameters c.args.heads.now)) c.new-own.ensures) c.generalise.new.inference c.in-Ok-generalise.ensures.ok; err = tt }
 
-pub constrain_definition-returns-clause-err : goal.constrain_definition-returns-clause-err
-constrain_definition-returns-clause-err t c = tells_both c.in-Err-generalise.error (λ x e. definition_err3 c.args.places c.args.base c.args.depth c.args.lo c.args.name (parameters c.args.heads.now) (term_of c.args.value.now) c.args.inference.now c.enter_parameters.new.inference c.requires.safe c.in-Ok.ensures.ok (omega (arith, c.if-depth-ge4294967294.false)) c.constrain.new.inference c.demand.new.inference c.in-Ok-constrain.ensures.ok c.in-Ok-demand.ensures.ok c.requires.room c.take_back.new.inference (λ before added e l. c.take_back.ensures before added e (l ∙ sym c.mark_of-mark.ensures)) c.as_slice.result.now (c.as_slice.ensures ∙ c.in-Ok.ensures.own ∙ ap (λ l. l ++ type_numbers (parameters c.args.heads.now)) c.new-own.ensures) c.generalise.new.inference x e) c.in-Err-generalise.ensures.err c.in-Err-generalise.ensures.same
+pub constrain_definition-returns : goal.constrain_definition-returns
+constrain_definition-returns t c = record { next = tt; ok = tt; err = tells_both c.in-Err-generalise.error (λ x e. definition_err3 c.args.setting.places c.args.setting.base c.args.setting.depth c.args.lo c.args.name (parameters c.args.heads.now) (term_of c.args.value.now) c.args.inference.now c.enter_parameters.new.inference c.requires.safe c.in-Ok.ensures.ok (omega (arith, c.if-depth-ge4294967294.false)) c.constrain.new.inference c.demand.new.inference c.in-Ok-constrain.ensures.ok c.in-Ok-demand.ensures.ok c.requires.room c.take_back.new.inference (λ before added e l. c.take_back.ensures before added e (l ∙ sym c.mark_of-mark.ensures)) c.as_slice.result.now (c.as_slice.ensures ∙ c.in-Ok.ensures.own ∙ ap (λ l. l ++ type_numbers (parameters c.args.heads.now)) c.new-own.ensures) c.generalise.new.inference x e) c.in-Err-generalise.ensures.err c.in-Err-generalise.ensures.same }
 
-pub constrain_function-returns-then-one-gt0-clause-err : goal.constrain_function-returns-then-one-gt0-clause-err
-constrain_function-returns-then-one-gt0-clause-err t c = function_refused c.args.places c.args.base c.args.depth c.args.lo c.args.one.now c.requires.function c.args.inference.now c.requires.safe (no_sizes c.args.one.now.sizes.now (pattern_of c.args.one.now.pat) (omega (arith, c.if-one-gt0.true)))
+pub constrain_function-returns-then-one-gt0 : goal.constrain_function-returns-then-one-gt0
+constrain_function-returns-then-one-gt0 t c = record { next = tt; ok = tt; err = function_refused c.args.setting.places c.args.setting.base c.args.setting.depth c.args.lo c.args.one.now c.requires.function c.args.inference.now c.requires.safe (no_sizes c.args.one.now.sizes.now (pattern_of c.args.one.now.pat) (omega (arith, c.if-one-gt0.true))) }
 
 pub constrain_function-constrain_definition-requires : goal.constrain_function-constrain_definition-requires
-constrain_function-constrain_definition-requires t c = let e = row_numbers c.args.places c.args.base c.args.depth 0 c.args.one.now c.requires.function c.args.inference.now c.in-Bound.bind (pattern_bound c.args.one.now.pat c.in-Bound.bind c.in-Bound.is) (omega (arith, c.if-one-gt0.false)) c.args.inference.now in
-    let z = row_numbers c.args.places c.args.base c.args.depth c.args.lo c.args.one.now c.requires.function c.args.inference.now c.in-Bound.bind (pattern_bound c.args.one.now.pat c.in-Bound.bind c.in-Bound.is) (omega (arith, c.if-one-gt0.false)) c.args.inference.now in (omega (arith, e), (c.requires.safe, omega (arith, z, c.requires.room)))
+constrain_function-constrain_definition-requires t c = let e = row_numbers c.args.setting.places c.args.setting.base c.args.setting.depth 0 c.args.one.now c.requires.function c.args.inference.now c.in-Bound.bind (pattern_bound c.args.one.now.pat c.in-Bound.bind c.in-Bound.is) (omega (arith, c.if-one-gt0.false)) c.args.inference.now in
+    let z = row_numbers c.args.setting.places c.args.setting.base c.args.setting.depth c.args.lo c.args.one.now c.requires.function c.args.inference.now c.in-Bound.bind (pattern_bound c.args.one.now.pat c.in-Bound.bind c.in-Bound.is) (omega (arith, c.if-one-gt0.false)) c.args.inference.now in (omega (arith, e), (c.requires.safe, omega (arith, z, c.requires.room)))
 
-pub constrain_function-returns-in-Bound-clause-next : goal.constrain_function-returns-in-Bound-clause-next
-constrain_function-returns-in-Bound-clause-next t c = ok_also c.constrain_definition.result (λ n e. e ∙ sym (row_numbers c.args.places c.args.base c.args.depth c.args.lo c.args.one.now c.requires.function c.args.inference.now c.in-Bound.bind (pattern_bound c.args.one.now.pat c.in-Bound.bind c.in-Bound.is) (omega (arith, c.if-one-gt0.false)) c.constrain_definition.new.inference)) c.constrain_definition.ensures.next
+pub constrain_function-returns-in-Bound : goal.constrain_function-returns-in-Bound
+constrain_function-returns-in-Bound t c = record { next = ok_also c.constrain_definition.result (λ n e. e ∙ sym (row_numbers c.args.setting.places c.args.setting.base c.args.setting.depth c.args.lo c.args.one.now c.requires.function c.args.inference.now c.in-Bound.bind (pattern_bound c.args.one.now.pat c.in-Bound.bind c.in-Bound.is) (omega (arith, c.if-one-gt0.false)) c.constrain_definition.new.inference)) c.constrain_definition.ensures.next; ok = on_ok c.constrain_definition.result (function_ok c.args.setting.places c.args.setting.base c.args.setting.depth c.args.lo c.args.one.now c.requires.function c.args.inference.now c.in-Bound.bind (pattern_bound c.args.one.now.pat c.in-Bound.bind c.in-Bound.is) (omega (arith, c.if-one-gt0.false)) c.constrain_definition.new.inference) c.constrain_definition.ensures.ok; err = if_err c.constrain_definition.result (function_err c.args.setting.places c.args.setting.base c.args.setting.depth c.args.lo c.args.one.now c.requires.function c.args.inference.now c.in-Bound.bind (pattern_bound c.args.one.now.pat c.in-Bound.bind c.in-Bound.is) (omega (arith, c.if-one-gt0.false)) c.constrain_definition.new.inference) c.constrain_definition.ensures.err }
 
-pub constrain_function-returns-in-Bound-clause-ok : goal.constrain_function-returns-in-Bound-clause-ok
-constrain_function-returns-in-Bound-clause-ok t c = on_ok c.constrain_definition.result (function_ok c.args.places c.args.base c.args.depth c.args.lo c.args.one.now c.requires.function c.args.inference.now c.in-Bound.bind (pattern_bound c.args.one.now.pat c.in-Bound.bind c.in-Bound.is) (omega (arith, c.if-one-gt0.false)) c.constrain_definition.new.inference) c.constrain_definition.ensures.ok
+pub constrain_function-returns-in-Wild : goal.constrain_function-returns-in-Wild
+constrain_function-returns-in-Wild t c = record { next = tt; ok = tt; err = function_refused c.args.setting.places c.args.setting.base c.args.setting.depth c.args.lo c.args.one.now c.requires.function c.args.inference.now c.requires.safe (subst (λ (p : FlatPattern). Function_name c.args.one.now.sizes.now p → ⊥) (sym (pattern_wild c.args.one.now.pat c.in-Wild.is)) (no_wild c.args.one.now.sizes.now)) }
 
-pub constrain_function-returns-in-Bound-clause-err : goal.constrain_function-returns-in-Bound-clause-err
-constrain_function-returns-in-Bound-clause-err t c = if_err c.constrain_definition.result (function_err c.args.places c.args.base c.args.depth c.args.lo c.args.one.now c.requires.function c.args.inference.now c.in-Bound.bind (pattern_bound c.args.one.now.pat c.in-Bound.bind c.in-Bound.is) (omega (arith, c.if-one-gt0.false)) c.constrain_definition.new.inference) c.constrain_definition.ensures.err
+pub constrain_function-returns-in-Tuple : goal.constrain_function-returns-in-Tuple
+constrain_function-returns-in-Tuple t c = record { next = tt; ok = tt; err = function_refused c.args.setting.places c.args.setting.base c.args.setting.depth c.args.lo c.args.one.now c.requires.function c.args.inference.now c.requires.safe (subst (λ (p : FlatPattern). Function_name c.args.one.now.sizes.now p → ⊥) (sym (pattern_tuple c.args.one.now.pat c.in-Tuple.field-0 c.in-Tuple.is)) (no_tuple c.args.one.now.sizes.now _)) }
 
-pub constrain_function-returns-in-Wild-clause-err : goal.constrain_function-returns-in-Wild-clause-err
-constrain_function-returns-in-Wild-clause-err t c = function_refused c.args.places c.args.base c.args.depth c.args.lo c.args.one.now c.requires.function c.args.inference.now c.requires.safe (subst (λ (p : FlatPattern). Function_name c.args.one.now.sizes.now p → ⊥) (sym (pattern_wild c.args.one.now.pat c.in-Wild.is)) (no_wild c.args.one.now.sizes.now))
+pub constrain_function-returns-in-Record : goal.constrain_function-returns-in-Record
+constrain_function-returns-in-Record t c = record { next = tt; ok = tt; err = function_refused c.args.setting.places c.args.setting.base c.args.setting.depth c.args.lo c.args.one.now c.requires.function c.args.inference.now c.requires.safe (subst (λ (p : FlatPattern). Function_name c.args.one.now.sizes.now p → ⊥) (sym (record_is c.args.one.now.pat c.in-Record.field-0 c.in-Record.is)) (no_record c.args.one.now.sizes.now _ _)) }
 
-pub constrain_function-returns-in-Tuple-clause-err : goal.constrain_function-returns-in-Tuple-clause-err
-constrain_function-returns-in-Tuple-clause-err t c = function_refused c.args.places c.args.base c.args.depth c.args.lo c.args.one.now c.requires.function c.args.inference.now c.requires.safe (subst (λ (p : FlatPattern). Function_name c.args.one.now.sizes.now p → ⊥) (sym (pattern_tuple c.args.one.now.pat c.in-Tuple.field-0 c.in-Tuple.is)) (no_tuple c.args.one.now.sizes.now _))
-
-pub constrain_function-returns-in-Record-clause-err : goal.constrain_function-returns-in-Record-clause-err
-constrain_function-returns-in-Record-clause-err t c = function_refused c.args.places c.args.base c.args.depth c.args.lo c.args.one.now c.requires.function c.args.inference.now c.requires.safe (subst (λ (p : FlatPattern). Function_name c.args.one.now.sizes.now p → ⊥) (sym (record_is c.args.one.now.pat c.in-Record.field-0 c.in-Record.is)) (no_record c.args.one.now.sizes.now _ _))
-
-pub constrain_function-returns-in-Typed-clause-err : goal.constrain_function-returns-in-Typed-clause-err
-constrain_function-returns-in-Typed-clause-err t c = function_refused c.args.places c.args.base c.args.depth c.args.lo c.args.one.now c.requires.function c.args.inference.now c.requires.safe (subst (λ (p : FlatPattern). Function_name c.args.one.now.sizes.now p → ⊥) (sym (pattern_typed c.args.one.now.pat c.in-Typed.field-0 c.in-Typed.field-1 c.in-Typed.is)) (no_typed c.args.one.now.sizes.now _ _))
+pub constrain_function-returns-in-Typed : goal.constrain_function-returns-in-Typed
+constrain_function-returns-in-Typed t c = record { next = tt; ok = tt; err = function_refused c.args.setting.places c.args.setting.base c.args.setting.depth c.args.lo c.args.one.now c.requires.function c.args.inference.now c.requires.safe (subst (λ (p : FlatPattern). Function_name c.args.one.now.sizes.now p → ⊥) (sym (pattern_typed c.args.one.now.pat c.in-Typed.field-0 c.in-Typed.field-1 c.in-Typed.is)) (no_typed c.args.one.now.sizes.now _ _)) }
 
 pub constrain_apply-constrain-requires : goal.constrain_apply-constrain-requires
 constrain_apply-constrain-requires t c = (omega arith, (c.requires.safe, omega (arith, c.requires.room)))
 
-pub constrain_apply-returns-in-Ok-demand-clause-next : goal.constrain_apply-returns-in-Ok-demand-clause-next
-constrain_apply-returns-in-Ok-demand-clause-next t c = omega (arith, c.in-Ok.ensures.next, c.in-Ok-constrain.ensures.next)
-
 pub constrain_if-constrain-requires : goal.constrain_if-constrain-requires
 constrain_if-constrain-requires t c = (omega arith, (c.requires.safe, omega (arith, c.requires.room)))
 
-pub constrain_if-returns-in-Ok-demand-clause-next : goal.constrain_if-returns-in-Ok-demand-clause-next
-constrain_if-returns-in-Ok-demand-clause-next t c = omega (arith, c.in-Ok.ensures.next, c.in-Ok-constrain.ensures.next, c.in-Ok-constrain-2.ensures.next)
-
-pub constrain_parts-returns-clause-next : goal.constrain_parts-returns-clause-next
-constrain_parts-returns-clause-next t c = subst (λ (l : List Exp). c.loop-part.at ≡ c.args.lo + all_numbers (terms (map term_of l))) (take_all c.args.parts.now c.loop-part.part-index c.loop-part-test.false) c.loop-part.invariant.next
-
-pub constrain_parts-returns-clause-begins : goal.constrain_parts-returns-clause-begins
-constrain_parts-returns-clause-begins t c = subst (λ (l : List Exp). c.loop-part.begins ≡ c.args.begins.now ++ starts (terms (map term_of l)) c.args.lo) (take_all c.args.parts.now c.loop-part.part-index c.loop-part-test.false) c.loop-part.invariant.noted
-
-pub constrain_parts-returns-clause-ok : goal.constrain_parts-returns-clause-ok
-constrain_parts-returns-clause-ok t c = subst (λ (l : List Exp). Claimed c.args.places c.args.base c.args.depth c.args.lo (Terms_claim c.args.places (terms (map term_of l)) c.args.lo) (Terms_homes c.args.depth (terms (map term_of l)) c.args.lo) c.args.inference.now c.loop-part.inference) (take_all c.args.parts.now c.loop-part.part-index c.loop-part-test.false) c.loop-part.invariant.claimed
+pub constrain_parts-returns : goal.constrain_parts-returns
+constrain_parts-returns t c = record { next = subst (λ (l : List Exp). c.loop-part.at ≡ c.args.lo + all_numbers (terms (map term_of l))) (take_all c.args.parts.now c.loop-part.part-index c.loop-part-test.false) c.loop-part.invariant.next; begins = subst (λ (l : List Exp). c.loop-part.begins ≡ c.args.begins.now ++ starts (terms (map term_of l)) c.args.lo) (take_all c.args.parts.now c.loop-part.part-index c.loop-part-test.false) c.loop-part.invariant.noted; ok = subst (λ (l : List Exp). Claimed c.args.setting.places c.args.setting.base c.args.setting.depth c.args.lo (Terms_claim c.args.setting.places (terms (map term_of l)) c.args.lo) (Terms_homes c.args.setting.depth (terms (map term_of l)) c.args.lo) c.args.inference.now c.loop-part.inference) (take_all c.args.parts.now c.loop-part.part-index c.loop-part-test.false) c.loop-part.invariant.claimed; err = tt }
 
 pub constrain_strict-constrain_parts-requires : goal.constrain_strict-constrain_parts-requires
 constrain_strict-constrain_parts-requires t c = (omega (arith, own_some (operation_of c.args.act.now)), (c.requires.safe, omega (arith, c.requires.room, c.own_numbers_of.ensures)))
 
-pub constrain_strict-returns-in-Ok-constrain_rule-clause-next : goal.constrain_strict-returns-in-Ok-constrain_rule-clause-next
-constrain_strict-returns-in-Ok-constrain_rule-clause-next t c = omega (arith, c.in-Ok.ensures.next, c.own_numbers_of.ensures)
-
-pub constrain_rows-returns-clause-next : goal.constrain_rows-returns-clause-next
-constrain_rows-returns-clause-next t c = subst (λ l. c.loop-one.at ≡ behind_all (map row_of l) c.args.lo) (take_all c.args.lets.now c.loop-one.one-index c.loop-one-test.false) c.loop-one.invariant.next
-
-pub constrain_rows-returns-clause-begins : goal.constrain_rows-returns-clause-begins
-constrain_rows-returns-clause-begins t c = subst (λ l. c.loop-one.begins ≡ c.args.begins.now ++ row_starts (map row_of l) c.args.lo) (take_all c.args.lets.now c.loop-one.one-index c.loop-one-test.false) c.loop-one.invariant.noted
-
 pub constrain_row-constrain_function-requires : goal.constrain_row-constrain_function-requires
 constrain_row-constrain_function-requires t c = (omega arith, (c.requires.safe, (c.requires.room, c.if-one.true)))
 
-pub constrain_bound-returns-in-Ok-demand-clause-next : goal.constrain_bound-returns-in-Ok-demand-clause-next
-constrain_bound-returns-in-Ok-demand-clause-next t c = omega (arith, c.in-Ok-constrain_pattern.ensures.next, c.in-Ok-constrain.ensures.next)
-
-pub constrain_while-returns-in-Ok-demand-clause-next : goal.constrain_while-returns-in-Ok-demand-clause-next
-constrain_while-returns-in-Ok-demand-clause-next t c = omega (arith, c.in-Ok.ensures.next, c.in-Ok-constrain.ensures.next)
-
 pub constrain_counted-enter_pattern-requires-clause-room : goal.constrain_counted-enter_pattern-requires-clause-room
 constrain_counted-enter_pattern-requires-clause-room t c = omega (arith, c.requires.room)
-
-pub constrain_counted-returns-in-Ok-enter-clause-next : goal.constrain_counted-returns-in-Ok-enter-clause-next
-constrain_counted-returns-in-Ok-enter-clause-next t c = omega (arith, c.in-Ok.ensures.next, c.in-Ok-constrain.ensures.next)
 
 pub constrain_over-enter_pattern-requires-clause-room : goal.constrain_over-enter_pattern-requires-clause-room
 constrain_over-enter_pattern-requires-clause-room t c = omega (arith, c.requires.room)
@@ -528,5 +420,53 @@ constrain_over-enter_pattern-requires-clause-room t c = omega (arith, c.requires
 pub constrain_over-enter_pattern-requires-2-clause-room : goal.constrain_over-enter_pattern-requires-2-clause-room
 constrain_over-enter_pattern-requires-2-clause-room t c = omega (arith, c.requires.room, c.in-Ok.ensures.next)
 
-pub constrain_definition-returns-in-Ok-generalise-clause-next : goal.constrain_definition-returns-in-Ok-generalise-clause-next
-constrain_definition-returns-in-Ok-generalise-clause-next t c = omega (arith, c.in-Ok-constrain.ensures.next)
+pub constrain_parts-returns-in-Err : goal.constrain_parts-returns-in-Err
+constrain_parts-returns-in-Err t c = record { next = tt; begins = tt; ok = tt; err = tt }
+
+pub constrain_rows-returns-in-Err : goal.constrain_rows-returns-in-Err
+constrain_rows-returns-in-Err t c = record { next = tt; begins = tt; ok = tt; err = tt }
+
+pub constrain_lets-returns-then-lets-eq0 : goal.constrain_lets-returns-then-lets-eq0
+constrain_lets-returns-then-lets-eq0 t c = record { next = tt; ok = tt; err = tt }
+
+pub constrain_row-returns-then-one-gt0 : goal.constrain_row-returns-then-one-gt0
+constrain_row-returns-then-one-gt0 t c = record { next = tt; ok = tt; err = tt }
+
+pub constrain_value-returns-in-Err-enter_sizes : goal.constrain_value-returns-in-Err-enter_sizes
+constrain_value-returns-in-Err-enter_sizes t c = record { next = tt; ok = tt; err = tt }
+
+pub constrain_value-returns-in-Err-enter_pattern : goal.constrain_value-returns-in-Err-enter_pattern
+constrain_value-returns-in-Err-enter_pattern t c = record { next = tt; ok = tt; err = tt }
+
+pub constrain_bound-returns-in-Err : goal.constrain_bound-returns-in-Err
+constrain_bound-returns-in-Err t c = record { next = tt; ok = tt; err = tt }
+
+pub constrain_counted-returns-in-Err-enter_sizes : goal.constrain_counted-returns-in-Err-enter_sizes
+constrain_counted-returns-in-Err-enter_sizes t c = record { next = tt; ok = tt; err = tt }
+
+pub constrain_counted-returns-in-Err-enter_pattern : goal.constrain_counted-returns-in-Err-enter_pattern
+constrain_counted-returns-in-Err-enter_pattern t c = record { next = tt; ok = tt; err = tt }
+
+pub constrain_counted-returns-in-Err-enter : goal.constrain_counted-returns-in-Err-enter
+constrain_counted-returns-in-Err-enter t c = record { next = tt; ok = tt; err = tt }
+
+pub constrain_over-returns-in-Err-enter_sizes : goal.constrain_over-returns-in-Err-enter_sizes
+constrain_over-returns-in-Err-enter_sizes t c = record { next = tt; ok = tt; err = tt }
+
+pub constrain_over-returns-in-Err-enter_pattern : goal.constrain_over-returns-in-Err-enter_pattern
+constrain_over-returns-in-Err-enter_pattern t c = record { next = tt; ok = tt; err = tt }
+
+pub constrain_over-returns-in-Err-enter_pattern-2 : goal.constrain_over-returns-in-Err-enter_pattern-2
+constrain_over-returns-in-Err-enter_pattern-2 t c = record { next = tt; ok = tt; err = tt }
+
+pub constrain_definition-returns-then-depth-ge4294967294 : goal.constrain_definition-returns-then-depth-ge4294967294
+constrain_definition-returns-then-depth-ge4294967294 t c = record { next = tt; ok = tt; err = tt }
+
+pub constrain_definition-returns-in-Err : goal.constrain_definition-returns-in-Err
+constrain_definition-returns-in-Err t c = record { next = tt; ok = tt; err = tt }
+
+pub constrain_value-returns-in-Err : goal.constrain_value-returns-in-Err
+constrain_value-returns-in-Err t c = record { next = tt; ok = tt; err = c.in-Err.ensures.err }
+
+pub constrain_row-returns-then-one : goal.constrain_row-returns-then-one
+constrain_row-returns-then-one t c = record { next = c.constrain_function.ensures.next; ok = c.constrain_function.ensures.ok; err = c.constrain_function.ensures.err }

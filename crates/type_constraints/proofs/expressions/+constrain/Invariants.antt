@@ -25,7 +25,7 @@ abbrev pub decreases-constrain_if : goal.decreases-constrain_if
 decreases-constrain_if l = 3 * numbers (If (term_of l.test.now) (term_of l.yes.now) (term_of l.no.now))
 
 abbrev pub invariant-constrain_parts-loop-part : goal.invariant-constrain_parts-loop-part
-invariant-constrain_parts-loop-part l = Gone_over l.places l.base l.depth l.lo l.at (take l.part-index l.parts) l.fn.begins l.begins l.fn.inference l.inference
+invariant-constrain_parts-loop-part l = Gone_over l.setting.places l.setting.base l.setting.depth l.lo l.at (take l.part-index l.parts) l.fn.begins l.begins l.fn.inference l.inference
 
 abbrev pub decreases-constrain_lambda : goal.decreases-constrain_lambda
 decreases-constrain_lambda l = 3 * numbers (Lambda (patterns (map pattern_of l.params.now)) (term_of l.body.now))
@@ -43,7 +43,7 @@ abbrev pub decreases-constrain_value : goal.decreases-constrain_value
 decreases-constrain_value l = 3 * behind (value_row l.sizes.now (pattern_of l.pat.now) (term_of l.value.now)) 0
 
 abbrev pub invariant-constrain_rows-loop-one : goal.invariant-constrain_rows-loop-one
-invariant-constrain_rows-loop-one l = Lets_open l.places l.base l.depth l.lo l.at (map row_of (take l.one-index l.lets)) l.fn.begins l.begins l.fn.inference l.inference
+invariant-constrain_rows-loop-one l = Lets_open l.setting.places l.setting.base l.setting.depth l.lo l.at (map row_of (take l.one-index l.lets)) l.fn.begins l.begins l.fn.inference l.inference
 
 abbrev pub decreases-constrain_loop : goal.decreases-constrain_loop
 decreases-constrain_loop l = 3 * numbers (loop_of l.whole.now)
