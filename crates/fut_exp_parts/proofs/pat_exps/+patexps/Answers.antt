@@ -20,3 +20,6 @@ exps_of-returns t c = rw c.into_bump_slice.ensures (all_made _ exp_of_pat _ c.pa
 
 pub fields_of-fields-preserved : goal.fields_of-fields-preserved
 fields_of-fields-preserved t c = rw c.in_ok-push.ensures.items (one_more _ (λ (f : Text × SourcePat). (f.0, exp_of_pat f.1)) _ c.fields.made.items c.args.fields.now c.fields.field-index _ c.field-item.result c.fields-test.true c.fields.invariant c.field-item.is (ap (λ (e : SourceExp). (c.field-item.result.name.now, e)) c.in_ok-exp.ensures))
+
+pub fields_of-returns : goal.fields_of-returns
+fields_of-returns t c = rw c.into_bump_slice.ensures (all_made _ (λ (f : Text × SourcePat). (f.0, exp_of_pat f.1)) _ c.fields.made.items c.args.fields.now c.fields.field-index c.fields-test.false c.fields.auto.field-index-end c.fields.invariant)
