@@ -1,3 +1,4 @@
 pub mod FieldLaws
 pub mod IndexLaws
+pub mod ListLaws
 pub mod PatLaws

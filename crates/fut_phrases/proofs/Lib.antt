@@ -1,1 +1,2 @@
 pub mod ArrowLaws
+pub mod ReadLaws

@@ -24,3 +24,6 @@ items-preserved g c =
 
 pub returns-clause-exact : goal.returns-clause-exact
 returns-clause-exact g c = rw c.refused.ensures (commas_spent (phrases (read_at c.args.inner)) g.R.ReadItem.sort (map g.R.ReadItem.seen c.items.made.items) c.items.height (length c.args.tokens.now) c.items._turn c.items.rest.now (commas_at (phrases (read_at c.args.inner)) (length c.args.tokens.now) g.R.ReadItem.sort c.args.first_height c.args.tokens.now) c.items.invariant.0 c.items-test.false)
+
+pub returns-then-not-starts_with-clause-low : goal.returns-then-not-starts_with-clause-low
+returns-then-not-starts_with-clause-low g c = omega (arith, c.greater-height.ensures, c.in_ok-item.ensures.low, c.items.invariant.1)

@@ -25,3 +25,12 @@ returns-then-begins-clause-exact g c = rw c.refused.ensures (many_spent (phrases
 
 pub returns-clause-exact : goal.returns-clause-exact
 returns-clause-exact g c = rw c.into_bump_slice-2.ensures (many_end_here (phrases (read_at c.args.inner)) g.R.ReadItem.sort (map g.R.ReadItem.seen c.items.made.items) c.items.height (length c.args.tokens.now) c.items._turn c.items.rest.now (many_at (phrases (read_at c.args.inner)) (length c.args.tokens.now) g.R.ReadItem.sort c.args.first_height c.args.tokens.now) c.items.invariant.0 (sym c.begins-2.ensures ∙ c.if-begins.false))
+
+pub returns-then-not-begins-clause-low : goal.returns-then-not-begins-clause-low
+returns-then-not-begins-clause-low g c = c.items.invariant.1
+
+pub returns-clause-low : goal.returns-clause-low
+returns-clause-low g c = c.items.invariant.1
+
+pub returns-then-begins-clause-low : goal.returns-then-begins-clause-low
+returns-then-begins-clause-low g c = tt

@@ -1,0 +1,85 @@
+-- What a reader answers where one of its parts fails or where its node was made, and rows whose phrases stand between two symbols.
+use Rattle.std.proofs.Common.{◌≡◌, ◌≤◌, ◌<◌, nat_lt, ℕ, suc, true, false, Bool, List, ◌∷◌, [], length, Result, Ok, Err, refl, sym, ap, arith, rules}
+use Rattle.std.specs.Result.{IfOk}
+use Rattle.std.specs.Borrow.{Bor}
+use Rattle.fut_token.specs.declared.token.Fixed.{Fixed}
+use Rattle.fut_token.specs.declared.token.Token.{Token}
+use Rattle.fut_ast.specs.Parts.{Sign, Commas, Word}
+use Rattle.fut_ast.specs.Sorts.{Sort, Tree, Text}
+use Rattle.fut_ast.specs.Tokens.{starts, tail}
+use Rattle.fut_grammar.specs.declared.fault.Fault.{Fault}
+use Rattle.fut_grammar.specs.declared.fault.Stop.{Stop}
+use Rattle.fut_grammar.specs.declared.fault.Stop.TheVariants as stop
+use Rattle.fut_grammar.specs.Reading.{◌>>=◌, Fails, Gives, Read, commas_at, word_at, parts_at, has_at, expect}
+use Rattle.fut_phrases.specs.declared.found.Found.{Found}
+use Rattle.fut_phrases.specs.Found.{found_as}
+use Rattle.fut_phrases.specs.Signs.{enclosed_at, word_before}
+
+-- one reading fails as another does, where its faults are that one's
+pub fails_as : {A B : Type 0} (e : Stop) {r : Result A Fault} {q : Result B Fault} → Fails e r → ((f : Fault) → r ≡ Err f → q ≡ Err f) → Fails e q
+fails_as stop.Memory failed same = tt
+fails_as (stop.Fault f) failed same = same f failed
+
+-- what was read is as high as reading says
+abbrev height_in : {Y : Type 0} → Read Y → ℕ
+height_in (Ok y) = y.1
+height_in (Err f) = 0
+
+pub high_as : {X Y : Type 0} (view : X → Y) (r : Result (Found X) Stop) (y : Y) {h k : ℕ} (us : List Token) → Gives (found_as view) r (Ok (y, h, us)) → h ≤ k → IfOk r (λ x. x.height ≤ k)
+high_as view (Ok x) y us gives le = let same : x.height ≡ _ = sym (ap height_in gives) in rw same le
+high_as view (Err e) y us gives le = tt
+
+pub high_is : {X Y : Type 0} (view : X → Y) (r : Result (Found X) Stop) (y : Y) (h : ℕ) (us : List Token) → Gives (found_as view) r (Ok (y, h, us)) → IfOk r (λ x. x.height ≡ h)
+high_is view (Ok x) y h us gives = sym (ap height_in gives)
+high_is view (Err e) y h us gives = tt
+
+pub low_as : {X : Type 0} (r : Result (Found X) Stop) {h k : ℕ} → IfOk r (λ x. x.height ≡ h) → h ≤ k → IfOk r (λ x. x.height ≤ k)
+low_as (Ok x) same le = rw same le
+low_as (Err e) same le = tt
+
+-- what nothing goes on with
+pub same_read : {A : Type 0} (r : Result A Fault) → (r >>= λ y. Ok y) ≡ r
+same_read (Ok y) = refl
+same_read (Err f) = refl
+
+-- whether another node fits on top
+pub below : {h d : ℕ} → h ≤ d → nat_lt h (suc d) ≡ true
+below {h} {d} le = let lt : h < suc d = omega (arith, le) in search (arith, rules, lt)
+
+pub above : {h d : ℕ} → d < h → nat_lt h (suc d) ≡ false
+above {h} {d} lt = let le : suc d ≤ h = omega (arith, lt) in search (arith, rules, le)
+
+-- by the outcome of a test, and of reading
+by_test : {C : Type 0} (b : Bool) → (b ≡ true → C) → (b ≡ false → C) → C
+by_test true holds fails = holds refl
+by_test false holds fails = fails refl
+
+by_read : {A C : Type 0} (r : Result A Fault) → ((y : A) → r ≡ Ok y → C) → ((f : Fault) → r ≡ Err f → C) → C
+by_read (Ok y) reads fails = reads y refl
+by_read (Err f) reads fails = fails f refl
+
+-- a row of phrases with commas between, and two symbols around them
+module _ (sub : (n : Sort) → List Token → Read (Tree n)) (n m : Sort) (opening closing : Fixed) (made : List (Tree m) → Tree n) (ts : List Token) where
+  abbrev pub enclosed_row : Read (Tree n)
+  enclosed_row = parts_at sub true n (Sign opening ∷ Commas m ∷ Sign closing ∷ []) (λ sign xs end. made xs) 0 ts
+
+  pub enclosed_as : enclosed_row ≡ (enclosed_at sub opening closing m ts >>= λ y. Ok (made y.0, suc y.1, y.2))
+  unfolding parts_at has_at expect
+  enclosed_as =
+      by_test (starts opening ts)
+      (λ begun. by_read (commas_at sub (length (tail ts)) m 0 (tail ts))
+      (λ y read. by_test (starts closing y.2) (λ ended. rw (begun, read, ended) refl) (λ ended. rw (begun, read, ended) refl))
+      (λ f read. rw (begun, read) refl))
+      (λ begun. rw begun refl)
+
+-- a name between two symbols, in what is no node
+module _ (sub : (n : Sort) → List Token → Read (Tree n)) (n : Sort) (opening closing : Fixed) (made : Text → Tree n) (ts : List Token) where
+  abbrev pub word_row : Read (Tree n)
+  word_row = parts_at sub false n (Sign opening ∷ Word ∷ Sign closing ∷ []) (λ sign x end. made x.1) 0 ts
+
+  pub word_as : starts opening ts ≡ true → word_row ≡ (word_before closing (tail ts) >>= λ y. Ok (made y.0, 0, y.1))
+  unfolding parts_at has_at expect
+  word_as begun =
+      by_read (word_at (tail ts))
+      (λ y read. by_test (starts closing y.1) (λ ended. rw (begun, read, ended) refl) (λ ended. rw (begun, read, ended) refl))
+      (λ f read. rw (begun, read) refl)
