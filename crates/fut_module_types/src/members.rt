@@ -134,7 +134,10 @@ fn value<'a>(bump: &'a Bump, inner: u32, tokens: &'a [Token]) -> MemberAnswer<'a
     ensures low { IfOk result (λ x. x.height ≤ inner + 1) }
 {
     let rest = rest_of(tokens);
-    without_form(What::OperatorDefinition, rest)?;
+    match without_form(What::OperatorDefinition, rest) {
+        Ok(()) => (),
+        Err(stop) => return Err(stop),
+    }
     let place = next_spot(rest).place;
     let (name, rest) = match take_word(rest) {
         Ok(found) => found,
@@ -170,7 +173,10 @@ fn type_name<'a>(bump: &'a Bump, inner: u32, tokens: &'a [Token]) -> MemberAnswe
     ensures low { IfOk result (λ x. x.height ≤ inner + 1) }
 {
     let rest = rest_of(tokens);
-    without_form(What::LiftedType, rest)?;
+    match without_form(What::LiftedType, rest) {
+        Ok(()) => (),
+        Err(stop) => return Err(stop),
+    }
     let place = next_spot(rest).place;
     let (name, rest) = match take_word(rest) {
         Ok(found) => found,

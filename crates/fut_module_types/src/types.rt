@@ -1,15 +1,15 @@
 // Module types: each production over what reads the module types and members in it.
-ghost use Rattle.std.specs.Prelude.{◌≡◌, ◌≤◌, ◌<◌, ◌+◌, suc, length, false, true, IfOk, Ok};
+ghost use Rattle.std.specs.Prelude.{◌≡◌, ◌≤◌, ◌<◌, ◌+◌, suc, false, if◌then◌else◌, true, IfOk, Ok};
+ghost use Rattle.fut_ast.specs.Behind.{begins_mtype, begins_named};
 ghost use Rattle.fut_ast.specs.ModRows.{mod_param, mtype_arrow, mtype_path, mtype_specs, round_mtype, with_item};
 ghost use Rattle.fut_ast.specs.Rows.{far_mtype, of_mod, with_types};
-ghost use Rattle.fut_ast.specs.Sorts.{Mod_param, With_item};
-ghost use Rattle.fut_ast.specs.Tokens.{starts};
+ghost use Rattle.fut_ast.specs.Sorts.{Applied_type, Mod_param, Whole_type, With_item};
+ghost use Rattle.fut_ast.specs.Tokens.{starts, tail};
 ghost use Rattle.fut_grammar.specs.Phrases.{atomic_mtype_at, far_at, items, once_at, phrases, read_at, whole_mtype_at};
 ghost use Rattle.fut_grammar.specs.Reading.{Gives, row_at, several_at, suffix_at};
 ghost use Rattle.fut_module_types.specs.MtypeFound.{param_found, with_found, withs_found};
 ghost use Rattle.fut_phrases.specs.Found.{tree_found};
 ghost use Rattle.fut_tree.specs.ModTypes.{with_of};
-ghost use Rattle.fut_tree.specs.Names.{names};
 
 use crate::members::Members;
 use crate::tie::{ModTypeAnswer, ReadMember, ReadModType, whole_behind};
@@ -23,7 +23,6 @@ use fut_phrases::tokens::{
     take, take_path, take_word,
 };
 use fut_phrases::types::{applied_type, whole_type};
-use fut_scalar::Place;
 use fut_token::{Fixed, Token};
 use fut_tree::{Label, ModType, ModTypeForm, Param, TypeExp, With};
 
@@ -39,6 +38,7 @@ pub fn whole_below<'a, R: ReadModType<'a>, S: ReadMember<'a>>(
 ) -> ModTypeAnswer<'a>
     requires law { R.reads read inner }
     requires member_law { S.reads read_member inner }
+    requires begun { begins_mtype tokens.now ≡ true }
     requires room { inner < 1000 }
     ensures exact { Gives tree_found result (whole_mtype_at (phrases (read_at inner)) (suc inner) arrows tokens.now) }
     ensures low { IfOk result (λ x. x.height ≤ inner + 1) }
@@ -69,6 +69,7 @@ fn atomic_below<'a, R: ReadModType<'a>, S: ReadMember<'a>>(
 ) -> ModTypeAnswer<'a>
     requires law { R.reads read inner }
     requires member_law { S.reads read_member inner }
+    requires begun { begins_mtype tokens.now ≡ true }
     requires room { inner < 1000 }
     ensures exact { Gives tree_found result (atomic_mtype_at (phrases (read_at inner)) (suc inner) arrows tokens.now) }
     ensures low { IfOk result (λ x. x.height ≤ inner + 1) }
@@ -200,27 +201,25 @@ fn round<'a, R: ReadModType<'a>>(
     tokens: &'a [Token],
 ) -> ModTypeAnswer<'a>
     requires law { R.reads read inner }
+    requires first { starts Fixed.OpenParen tokens.now ≡ true }
+    requires unnamed { begins_named (tail tokens.now) ≡ false }
     requires room { inner < 1000 }
     ensures exact { Gives tree_found result (row_at (phrases (read_at inner)) (of_mod (round_mtype arrows)) tokens.now) }
     ensures low { IfOk result (λ x. x.height ≤ inner + 1) }
 {
     let _arrows = arrows;
-    let rest = match take(tokens, Fixed::OpenParen) {
-        Ok(rest) => rest,
-        Err(stop) => return Err(stop),
-    };
-    if begins_name_and_colon(rest) {
-        return Err(Stop::Fault(refused(rest)));
-    }
-    let found = match read.whole(inner, true, rest) {
+    let found = match read.whole(inner, true, rest_of(tokens)) {
         Ok(found) => found,
         Err(stop) => return Err(stop),
     };
-    Ok(Found {
-        tree: found.tree,
-        height: found.height + 1,
-        rest: take(found.rest, Fixed::CloseParen)?,
-    })
+    match take(found.rest, Fixed::CloseParen) {
+        Ok(rest) => Ok(Found {
+            tree: found.tree,
+            height: found.height + 1,
+            rest,
+        }),
+        Err(stop) => Err(stop),
+    }
 }
 
 #[tactic(auto, unfolding(fut_grammar::specs::Reading::row_at, fut_grammar::specs::Reading::parts_at, fut_grammar::specs::Reading::has_at, fut_grammar::specs::Reading::sub_at, fut_grammar::specs::Phrases::phrases))]
@@ -232,17 +231,20 @@ fn members_in_braces<'a, S: ReadMember<'a>>(
     tokens: &'a [Token],
 ) -> ModTypeAnswer<'a>
     requires law { S.reads read_member inner }
+    requires first { starts Fixed.OpenBrace tokens.now ≡ true }
     requires room { inner < 1000 }
     ensures exact { Gives tree_found result (row_at (phrases (read_at inner)) (of_mod (mtype_specs arrows)) tokens.now) }
     ensures low { IfOk result (λ x. x.height ≤ inner + 1) }
 {
     let _arrows = arrows;
     let place = next_spot(tokens).place;
-    let rest = match take(tokens, Fixed::OpenBrace) {
-        Ok(rest) => rest,
-        Err(stop) => return Err(stop),
-    };
-    let all = match many(bump, Members { read: read_member }, inner, 0, rest) {
+    let all = match many(
+        bump,
+        Members { read: read_member },
+        inner,
+        0,
+        rest_of(tokens),
+    ) {
         Ok(all) => all,
         Err(stop) => return Err(stop),
     };
@@ -320,18 +322,18 @@ fn withs<'a>(
     ensures low { IfOk result (λ x. x.height ≤ inner) }
 {
     if arrows {
-        several(bump, WithTypes, inner, first_height, tokens)
+        several(bump, WithItems::<true>, inner, first_height, tokens)
     } else {
-        several(bump, WithAppliedTypes, inner, first_height, tokens)
+        several(bump, WithItems::<false>, inner, first_height, tokens)
     }
 }
 
-/// `with .. = ..`, where the type may have an arrow at its top.
+/// `with .. = ..`, where the type may have an arrow at its top, or not.
 #[derive(Clone, Copy)]
-struct WithTypes;
+struct WithItems<const ARROWS: bool>;
 
-impl<'a> ReadItem<'a, With<'a>> for WithTypes {
-    ghost sort = { With_item true };
+impl<'a, const ARROWS: bool> ReadItem<'a, With<'a>> for WithItems<ARROWS> {
+    ghost sort = { With_item ARROWS };
 
     ghost seen = { with_of };
 
@@ -343,38 +345,11 @@ impl<'a> ReadItem<'a, With<'a>> for WithTypes {
         inner: u32,
         tokens: &'a [Token],
     ) -> Result<Found<'a, With<'a>>, Stop> {
-        with(bump, inner, true, tokens)
+        with(bump, inner, ARROWS, tokens)
     }
 }
 
-impl<'a> BeginItem<'a, With<'a>> for WithTypes {
-    fn begins(self, tokens: &'a [Token]) -> bool {
-        starts_with(tokens, Fixed::KeyWith)
-    }
-}
-
-/// `with .. = ..`, where the type has no arrow at its top.
-#[derive(Clone, Copy)]
-struct WithAppliedTypes;
-
-impl<'a> ReadItem<'a, With<'a>> for WithAppliedTypes {
-    ghost sort = { With_item false };
-
-    ghost seen = { with_of };
-
-    ghost reads = { λ s d. d < 1000 };
-
-    fn item(
-        self,
-        bump: &'a Bump,
-        inner: u32,
-        tokens: &'a [Token],
-    ) -> Result<Found<'a, With<'a>>, Stop> {
-        with(bump, inner, false, tokens)
-    }
-}
-
-impl<'a> BeginItem<'a, With<'a>> for WithAppliedTypes {
+impl<'a, const ARROWS: bool> BeginItem<'a, With<'a>> for WithItems<ARROWS> {
     fn begins(self, tokens: &'a [Token]) -> bool {
         starts_with(tokens, Fixed::KeyWith)
     }
@@ -404,44 +379,57 @@ fn any_with<'a>(
     arrows: bool,
     tokens: &'a [Token],
 ) -> Result<Found<'a, With<'a>>, Stop>
-    requires { inner < 1000 }
+    requires first { starts Fixed.KeyWith tokens.now ≡ true }
+    requires room { inner < 1000 }
     ensures exact { Gives with_found result (row_at (items (read_at inner)) (of_mod (with_item arrows)) tokens.now) }
     ensures low { IfOk result (λ x. x.height ≤ inner) }
 {
-    let rest = take(tokens, Fixed::KeyWith)?;
+    let rest = rest_of(tokens);
     let place = next_spot(rest).place;
-    let (path, rest) = take_path(bump, rest)?;
-    let rest = take(rest, Fixed::Equal)?;
-    if arrows {
-        Ok(typed(place, path, whole_type(bump, inner, rest)?))
-    } else {
-        Ok(typed(place, path, applied_type(bump, inner, rest)?))
+    let (path, rest) = match take_path(bump, rest) {
+        Ok(found) => found,
+        Err(stop) => return Err(stop),
+    };
+    let rest = match take(rest, Fixed::Equal) {
+        Ok(rest) => rest,
+        Err(stop) => return Err(stop),
+    };
+    match type_of_sort(bump, inner, arrows, rest) {
+        Ok(ty) => Ok(Found {
+            tree: With {
+                place,
+                path,
+                ty: ty.tree,
+            },
+            height: ty.height,
+            rest: ty.rest,
+        }),
+        Err(stop) => Err(stop),
     }
 }
 
-fn typed<'a>(
-    place: Place,
-    path: &'a [&'a str],
-    ty: Found<'a, &'a TypeExp<'a>>,
-) -> Found<'a, With<'a>>
-    ensures tree { with_of result.tree ≡ record { place = place; path = names path.now; ty = ty.entry.tree.now } }
-    ensures height { result.height ≡ ty.entry.height }
-    ensures rest { result.rest.now ≡ ty.entry.rest.now }
+// A type that may have an arrow at its top, or not.
+fn type_of_sort<'a>(
+    bump: &'a Bump,
+    inner: u32,
+    arrows: bool,
+    tokens: &'a [Token],
+) -> Result<Found<'a, &'a TypeExp<'a>>, Stop>
+    requires { inner < 1000 }
+    ensures exact { Gives tree_found result (if arrows then read_at inner Whole_type tokens.now else read_at inner Applied_type tokens.now) }
+    ensures low { IfOk result (λ x. x.height ≤ inner) }
 {
-    Found {
-        tree: With {
-            place,
-            path,
-            ty: ty.tree,
-        },
-        height: ty.height,
-        rest: ty.rest,
+    if arrows {
+        whole_type(bump, inner, tokens)
+    } else {
+        applied_type(bump, inner, tokens)
     }
 }
 
 // This module type was read, and the arena holds it.
 fn made<'a>(bump: &'a Bump, ty: ModType<'a>, height: u32, rest: &'a [Token]) -> ModTypeAnswer<'a>
-    ensures { Gives tree_found result (Ok (ty.entry, height, rest.now)) }
+    ensures exact { Gives tree_found result (Ok (ty.entry, height, rest.now)) }
+    ensures low { IfOk result (λ x. x.height ≡ height) }
 {
     match bump.try_alloc(ty) {
         Ok(tree) => Ok(Found { tree, height, rest }),

@@ -1,23 +1,23 @@
--- Either sort of type behind the equals sign.
-use Rattle.std.proofs.Common.{◌≡◌, max, Bool, Ok, sym, subst, refl, arith}
-use Rattle.fut_ast.specs.ModRows.{with_item}
-use Rattle.fut_ast.specs.Rows.{of_mod}
-use Rattle.fut_ast.specs.Sorts.{With_item}
+-- Both productions are read alike.
+use Rattle.std.proofs.Common.{ap, ◌∙◌}
+use Rattle.fut_ast.specs.declared.node.Spot.{Spot}
+use Rattle.fut_ast.specs.Tokens.{spot_of}
 use Rattle.fut_grammar.specs.Phrases.{items, read_at}
-use Rattle.fut_grammar.specs.Reading.{row_at, parts_at, has_at, sub_at}
-use Rattle.fut_module_types.specs.MtypeFound.{with_found}
+use Rattle.fut_module_types.proofs.WithLaws.{path_stops, equal_stops, type_stops, with_is}
 use Rattle.fut_module_types.proofs.types.any_with.Goals as goal
 
-pub returns-in_ok-whole_type-clause-exact : goal.returns-in_ok-whole_type-clause-exact
-unfolding row_at parts_at has_at sub_at items
-returns-in_ok-whole_type-clause-exact c =
-    let P : Bool → Type 0 = λ b. row_at (items (read_at c.args.inner)) {n = With_item b} (of_mod (with_item b)) c.args.tokens.now ≡ Ok (with_found c.typed.result) in
-    let h : max 0 c.in_ok-whole_type.field-0.height ≡ c.in_ok-whole_type.field-0.height = omega arith in
-    subst P (sym c.if-arrows.true) (rw (c.in_ok-rest.ensures, c.in_ok-path.ensures, c.in_ok-rest-2.ensures, c.in_ok-whole_type.ensures.exact, c.typed.ensures.tree, c.typed.ensures.height, c.typed.ensures.rest, c.next_spot.ensures, h) refl)
+pub returns-in-Err : goal.returns-in-Err
+returns-in-Err c = record { exact = path_stops (items (read_at c.args.inner)) c.args.tokens.now c.requires.first c.args.arrows c.in-Err.stop (rw c.rest_of-rest.ensures at c.in-Err.ensures); low = tt }
 
-pub returns-in_ok-applied_type-clause-exact : goal.returns-in_ok-applied_type-clause-exact
-unfolding row_at parts_at has_at sub_at items
-returns-in_ok-applied_type-clause-exact c =
-    let P : Bool → Type 0 = λ b. row_at (items (read_at c.args.inner)) {n = With_item b} (of_mod (with_item b)) c.args.tokens.now ≡ Ok (with_found c.typed-else-arrows.result) in
-    let h : max 0 c.in_ok-applied_type.field-0.height ≡ c.in_ok-applied_type.field-0.height = omega arith in
-    subst P (sym c.if-arrows.false) (rw (c.in_ok-rest.ensures, c.in_ok-path.ensures, c.in_ok-rest-2.ensures, c.in_ok-applied_type.ensures.exact, c.typed-else-arrows.ensures.tree, c.typed-else-arrows.ensures.height, c.typed-else-arrows.ensures.rest, c.next_spot.ensures, h) refl)
+pub returns-in-Err-take : goal.returns-in-Err-take
+returns-in-Err-take c = record { exact = equal_stops (items (read_at c.args.inner)) c.args.tokens.now c.requires.first _ _ (rw c.rest_of-rest.ensures at c.in-Ok.ensures) c.args.arrows c.in-Err-take.stop c.in-Err-take.ensures; low = tt }
+
+pub returns-in-Err-type_of_sort : goal.returns-in-Err-type_of_sort
+unfolding items
+returns-in-Err-type_of_sort c = record { exact = type_stops (items (read_at c.args.inner)) c.args.tokens.now c.requires.first _ _ (rw c.rest_of-rest.ensures at c.in-Ok.ensures) _ c.in-Ok-take.ensures c.args.arrows c.in-Err-type_of_sort.stop c.in-Err-type_of_sort.ensures.exact; low = tt }
+
+pub returns-in-Ok-type_of_sort : goal.returns-in-Ok-type_of_sort
+unfolding items
+returns-in-Ok-type_of_sort c =
+    let at = ap (λ (s : Spot). s.place) (c.next_spot.ensures ∙ ap spot_of c.rest_of-rest.ensures) in
+    record { exact = rw at (with_is (items (read_at c.args.inner)) c.args.tokens.now c.requires.first _ _ (rw c.rest_of-rest.ensures at c.in-Ok.ensures) _ c.in-Ok-take.ensures c.args.arrows _ _ _ c.in-Ok-type_of_sort.ensures.exact); low = c.in-Ok-type_of_sort.ensures.low }
