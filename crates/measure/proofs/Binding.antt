@@ -231,13 +231,13 @@ no_record fs (Known_primitive q ss) sc h = refl
 -- ---- what the code asks of values
 
 module _ (s : Held_known) where
-  pub neither_parts : (n : ℕ) → (s.form ≡ held.Data → ⊥) → ((ss : Bor (List Held_known)) → s.form ≡ held.Tuple ss → ⊥) → has_parts n (known_of s) ≡ false
+  pub neither_parts : (n : ℕ) → (s.form.now ≡ held.Data → ⊥) → ((ss : Bor (List Held_known)) → s.form.now ≡ held.Tuple ss → ⊥) → has_parts n (known_of s) ≡ false
   neither_parts n d t = by_form s (λ k. has_parts n k ≡ false) (λ is. absurd (d is)) (λ ss is. absurd (t ss is)) (λ fs ss is. refl) (λ c is. refl) (λ p ss is. refl)
 
-  pub neither_fields : (s.form ≡ held.Data → ⊥) → ((fs : Bor (List (Bor Text))) (ss : Bor (List Held_known)) → s.form ≡ held.Record fs ss → ⊥) → has_fields (known_of s) ≡ false
+  pub neither_fields : (s.form.now ≡ held.Data → ⊥) → ((fs : Bor (List (Bor Text))) (ss : Bor (List Held_known)) → s.form.now ≡ held.Record fs ss → ⊥) → has_fields (known_of s) ≡ false
   neither_fields d r = by_form s (λ k. has_fields k ≡ false) (λ is. absurd (d is)) (λ ss is. refl) (λ fs ss is. absurd (r fs ss is)) (λ c is. refl) (λ p ss is. refl)
 
-  pub no_part : (i : ℕ) → ((ss : Bor (List Held_known)) → s.form ≡ held.Tuple ss → ⊥) → part_at i (known_of s) ≡ Data
+  pub no_part : (i : ℕ) → ((ss : Bor (List Held_known)) → s.form.now ≡ held.Tuple ss → ⊥) → part_at i (known_of s) ≡ Data
   no_part i t = by_form s (λ k. part_at i k ≡ Data) (λ is. refl) (λ ss is. absurd (t ss is)) (λ fs ss is. refl) (λ c is. refl) (λ p ss is. refl)
 
 pub one_held : (ss : List Held_known) (i : ℕ) (d : Held_known) → i < length ss → one_of i (knowns (map known_of ss)) ≡ known_of (get_or ss i d)

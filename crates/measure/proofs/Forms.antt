@@ -28,7 +28,7 @@ use Rattle.measure.specs.declared.stop.Stop.TheVariants.{Nodes, Depth, Lost, Mem
 use Rattle.measure.specs.declared.walked.Walked.{Walked}
 use Rattle.measure.specs.declared.walked.Count.{Count}
 use Rattle.measure.specs.declared.walked.Turn.{Turn}
-use Rattle.measure.specs.Answers.{over, deep, ended_at, is_stuck, no_memory_left, at_once, Walked_to, walked, stopped, Data_to, gives_data, not_walked, gives_function, Turned_to, turned, turn_stopped}
+use Rattle.measure.specs.Answers.{Known_to, not_known, no_memory_to_know, no_memory, over, deep, ended_at, is_stuck, no_memory_left, at_once, Walked_to, walked, stopped, Data_to, gives_data, not_walked, gives_function, Turned_to, turned, turn_stopped}
 use Rattle.measure.proofs.Walks.{lost_here}
 use Rattle.measure.proofs.Peeling.{peeled_walk}
 
@@ -54,8 +54,9 @@ module _ (tops sc : Scope) (level spent : ℕ) where
     pub form_use : (u : Ref) (k : ℕ) (s : Held_known) → e.form ≡ form.Use u k → Some (known_of s) ≡ known_use tops sc u → Walked_to tops sc level spent (term_of e) (Ok (record { known = s; nodes = 1; depth = 1 }))
     form_use u k s is q = as_term _ _ (term_use e u k is) (walked (v_use (sym q)))
 
-    pub form_unknown : (u : Ref) (k : ℕ) → e.form ≡ form.Use u k → None ≡ known_use tops sc u → Walked_to tops sc level spent (term_of e) (Err Lost)
-    form_unknown u k is q = as_term _ _ (term_use e u k is) (stopped (lost_here (no_name (sym q))))
+    pub form_unknown : (u : Ref) (k : ℕ) (r : Stop) → e.form ≡ form.Use u k → Known_to (known_use tops sc u) (Err r) → Walked_to tops sc level spent (term_of e) (Err r)
+    form_unknown u k _ is (not_known q) = as_term _ _ (term_use e u k is) (stopped (lost_here (no_name q)))
+    form_unknown u k _ is no_memory_to_know = as_term _ _ (term_use e u k is) (stopped no_memory)
 
     pub form_lambda : (ps : Bor (List Pat)) (b : Bor Exp) (s : Held_known) → e.form ≡ form.Lambda ps b → known_of s ≡ Known_function (patterns (map pattern_of ps.now)) (term_of b.now) sc → Walked_to tops sc level spent (term_of e) (Ok (record { known = s; nodes = 1; depth = 1 }))
     form_lambda ps b s is q = as_term _ _ (term_lambda e ps b is) (walked (subst (λ z. Visits tops sc (Rattle.fut_flat.specs.Terms.Lambda (patterns (map pattern_of ps.now)) (term_of b.now)) z 1 1) (sym q) v_lambda))

@@ -1,4 +1,5 @@
 pub mod Mirror
+pub mod Making
 pub mod Finding
 pub mod Uses
 pub mod Numbered

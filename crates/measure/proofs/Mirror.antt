@@ -15,7 +15,7 @@ use Rattle.measure.specs.declared.known.Scope.TheVariants as scope
 use Rattle.measure.specs.Held.{knowns, named, known_form, scope_form, known_of, closure_of, scope_of}
 
 unfoldable pub form_known : KnownForm → Known
-form_known = fold-KnownForm Known Scope Known Known known_form scope_form (λ c. Known_function (patterns (map pattern_of c.params.now)) (term_of c.body.now) c.scope.now) (λ s. s.form)
+form_known = fold-KnownForm Known Scope Known Known known_form scope_form (λ c. Known_function (patterns (map pattern_of c.params.now)) (term_of c.body.now) c.scope.now) (λ s. s.form.now)
 
 abbrev pub Layer : Type 0
 Layer = KnownForm-F KnownForm Held_scope Closure Held_known
@@ -35,12 +35,12 @@ layer_is (KnownForm-F.Record fs ss) = refl
 layer_is (KnownForm-F.Function c) = refl
 layer_is (KnownForm-F.Primitive p ss) = refl
 
-known_at : (s : Held_known) (f : KnownForm) (l : Layer) → s.form ≡ f → out-KnownForm f ≡ l → known_of s ≡ layer l
+known_at : (s : Held_known) (f : KnownForm) (l : Layer) → s.form.now ≡ f → out-KnownForm f ≡ l → known_of s ≡ layer l
 unfolding known_of form_known scope_of closure_of
 known_at s f l is o =
-    fold_out-Known Known Scope Known Known known_form scope_form (λ c. Known_function (patterns (map pattern_of c.params.now)) (term_of c.body.now) c.scope.now) (λ s. s.form) s
+    fold_out-Known Known Scope Known Known known_form scope_form (λ c. Known_function (patterns (map pattern_of c.params.now)) (term_of c.body.now) c.scope.now) (λ s. s.form.now) s
     ∙ ap form_known is
-    ∙ fold_out-KnownForm Known Scope Known Known known_form scope_form (λ c. Known_function (patterns (map pattern_of c.params.now)) (term_of c.body.now) c.scope.now) (λ s. s.form) f
+    ∙ fold_out-KnownForm Known Scope Known Known known_form scope_form (λ c. Known_function (patterns (map pattern_of c.params.now)) (term_of c.body.now) c.scope.now) (λ s. s.form.now) f
     ∙ layer_is (out-KnownForm f)
     ∙ ap layer o
 
@@ -49,39 +49,39 @@ back f g q = sym (roll-out-KnownForm f) ∙ ap roll-KnownForm q ∙ roll-out-Kno
 
 pub closure_is : (c : Closure) → closure_of c ≡ Known_function (patterns (map pattern_of c.params.now)) (term_of c.body.now) (scope_of c.scope.now)
 unfolding closure_of known_of form_known scope_of
-closure_is c = fold_out-Closure Known Scope Known Known known_form scope_form (λ c. Known_function (patterns (map pattern_of c.params.now)) (term_of c.body.now) c.scope.now) (λ s. s.form) c
+closure_is c = fold_out-Closure Known Scope Known Known known_form scope_form (λ c. Known_function (patterns (map pattern_of c.params.now)) (term_of c.body.now) c.scope.now) (λ s. s.form.now) c
 
 -- what is said of each form is said of what is known
 module _ (s : Held_known) (P : Known → Type 0) where
-  pub by_form : (s.form ≡ form.Data → P Data) → ((ss : Bor (List Held_known)) → s.form ≡ form.Tuple ss → P (Known_tuple (knowns (map known_of ss.now)))) → ((fs : Bor (List (Bor Text))) (ss : Bor (List Held_known)) → s.form ≡ form.Record fs ss → P (Known_record (named (texts fs.now) (map known_of ss.now)))) → ((c : Bor Closure) → s.form ≡ form.Function c → P (Known_function (patterns (map pattern_of c.now.params.now)) (term_of c.now.body.now) (scope_of c.now.scope.now))) → ((p : Primitive) (ss : Bor (List Held_known)) → s.form ≡ form.Primitive p ss → P (Known_primitive p (knowns (map known_of ss.now)))) → P (known_of s)
-  by_form d t r f p = at (out-KnownForm s.form) refl
+  pub by_form : (s.form.now ≡ form.Data → P Data) → ((ss : Bor (List Held_known)) → s.form.now ≡ form.Tuple ss → P (Known_tuple (knowns (map known_of ss.now)))) → ((fs : Bor (List (Bor Text))) (ss : Bor (List Held_known)) → s.form.now ≡ form.Record fs ss → P (Known_record (named (texts fs.now) (map known_of ss.now)))) → ((c : Bor Closure) → s.form.now ≡ form.Function c → P (Known_function (patterns (map pattern_of c.now.params.now)) (term_of c.now.body.now) (scope_of c.now.scope.now))) → ((p : Primitive) (ss : Bor (List Held_known)) → s.form.now ≡ form.Primitive p ss → P (Known_primitive p (knowns (map known_of ss.now)))) → P (known_of s)
+  by_form d t r f p = at (out-KnownForm s.form.now) refl
     where
-      at : (l : Layer) → out-KnownForm s.form ≡ l → P (known_of s)
+      at : (l : Layer) → out-KnownForm s.form.now ≡ l → P (known_of s)
       at KnownForm-F.Data q = subst P (sym (known_at s _ _ refl q)) (d (back _ _ (q ∙ sym form.outs-Data)))
       at (KnownForm-F.Tuple ss) q = subst P (sym (known_at s _ _ refl q)) (t ss (back _ _ (q ∙ sym (form.outs-Tuple ss))))
       at (KnownForm-F.Record fs ss) q = subst P (sym (known_at s _ _ refl q)) (r fs ss (back _ _ (q ∙ sym (form.outs-Record fs ss))))
       at (KnownForm-F.Function c) q = subst P (sym (known_at s _ _ refl q ∙ closure_is c.now)) (f c (back _ _ (q ∙ sym (form.outs-Function c))))
       at (KnownForm-F.Primitive p' ss) q = subst P (sym (known_at s _ _ refl q)) (p p' ss (back _ _ (q ∙ sym (form.outs-Primitive p' ss))))
 
-pub not_data : (s : Held_known) → (s.form ≡ form.Data → ⊥) → is_data (known_of s) ≡ false
+pub not_data : (s : Held_known) → (s.form.now ≡ form.Data → ⊥) → is_data (known_of s) ≡ false
 not_data s n = by_form s (λ k. is_data k ≡ false) (λ is. absurd (n is)) (λ ss is. refl) (λ fs ss is. refl) (λ c is. refl) (λ p ss is. refl)
 
-pub known_data : (s : Held_known) → s.form ≡ form.Data → known_of s ≡ Data
+pub known_data : (s : Held_known) → s.form.now ≡ form.Data → known_of s ≡ Data
 known_data s is = known_at s _ _ is form.outs-Data
 
-pub known_tuple : (s : Held_known) (ss : Bor (List Held_known)) → s.form ≡ form.Tuple ss → known_of s ≡ Known_tuple (knowns (map known_of ss.now))
+pub known_tuple : (s : Held_known) (ss : Bor (List Held_known)) → s.form.now ≡ form.Tuple ss → known_of s ≡ Known_tuple (knowns (map known_of ss.now))
 known_tuple s ss is = known_at s _ _ is (form.outs-Tuple ss)
 
-pub known_record : (s : Held_known) (fs : Bor (List (Bor Text))) (ss : Bor (List Held_known)) → s.form ≡ form.Record fs ss → known_of s ≡ Known_record (named (texts fs.now) (map known_of ss.now))
+pub known_record : (s : Held_known) (fs : Bor (List (Bor Text))) (ss : Bor (List Held_known)) → s.form.now ≡ form.Record fs ss → known_of s ≡ Known_record (named (texts fs.now) (map known_of ss.now))
 known_record s fs ss is = known_at s _ _ is (form.outs-Record fs ss)
 
-pub known_closure : (s : Held_known) (c : Bor Closure) → s.form ≡ form.Function c → known_of s ≡ closure_of c.now
+pub known_closure : (s : Held_known) (c : Bor Closure) → s.form.now ≡ form.Function c → known_of s ≡ closure_of c.now
 known_closure s c is = known_at s _ _ is (form.outs-Function c)
 
-pub known_function : (s : Held_known) (c : Bor Closure) → s.form ≡ form.Function c → known_of s ≡ Known_function (patterns (map pattern_of c.now.params.now)) (term_of c.now.body.now) (scope_of c.now.scope.now)
+pub known_function : (s : Held_known) (c : Bor Closure) → s.form.now ≡ form.Function c → known_of s ≡ Known_function (patterns (map pattern_of c.now.params.now)) (term_of c.now.body.now) (scope_of c.now.scope.now)
 known_function s c is = known_closure s c is ∙ closure_is c.now
 
-pub known_primitive : (s : Held_known) (p : Primitive) (ss : Bor (List Held_known)) → s.form ≡ form.Primitive p ss → known_of s ≡ Known_primitive p (knowns (map known_of ss.now))
+pub known_primitive : (s : Held_known) (p : Primitive) (ss : Bor (List Held_known)) → s.form.now ≡ form.Primitive p ss → known_of s ≡ Known_primitive p (knowns (map known_of ss.now))
 known_primitive s p ss is = known_at s _ _ is (form.outs-Primitive p ss)
 
 scope_layer_is : (l : Scope-F KnownForm Held_scope Closure Held_known) (b : BindId) (s : Held_known) (sc : Bor Held_scope) → l ≡ Scope-F.Bind b s sc → scope_form (map-Scope KnownForm Held_scope Closure Held_known Known Scope Known Known form_known scope_of closure_of known_of l) ≡ known_as b (known_of s) (scope_of sc.now)
@@ -90,10 +90,10 @@ scope_layer_is l b s sc e = rw e refl
 
 pub scope_empty : scope_of scope.Empty ≡ empty
 unfolding scope_of scope_form known_of form_known closure_of
-scope_empty = fold_out-Scope Known Scope Known Known known_form scope_form (λ c. Known_function (patterns (map pattern_of c.params.now)) (term_of c.body.now) c.scope.now) (λ s. s.form) scope.Empty ∙ ap (λ l. scope_form (map-Scope KnownForm Held_scope Closure Held_known Known Scope Known Known form_known scope_of closure_of known_of l)) scope.outs-Empty
+scope_empty = fold_out-Scope Known Scope Known Known known_form scope_form (λ c. Known_function (patterns (map pattern_of c.params.now)) (term_of c.body.now) c.scope.now) (λ s. s.form.now) scope.Empty ∙ ap (λ l. scope_form (map-Scope KnownForm Held_scope Closure Held_known Known Scope Known Known form_known scope_of closure_of known_of l)) scope.outs-Empty
 
 pub scope_bind : (b : BindId) (s : Held_known) (sc : Bor Held_scope) → scope_of (scope.Bind b s sc) ≡ known_as b (known_of s) (scope_of sc.now)
 unfolding scope_of known_of form_known closure_of
-scope_bind b s sc = fold_out-Scope Known Scope Known Known known_form scope_form (λ c. Known_function (patterns (map pattern_of c.params.now)) (term_of c.body.now) c.scope.now) (λ s. s.form) (scope.Bind b s sc) ∙ scope_layer_is _ b s sc (scope.outs-Bind b s sc)
+scope_bind b s sc = fold_out-Scope Known Scope Known Known known_form scope_form (λ c. Known_function (patterns (map pattern_of c.params.now)) (term_of c.body.now) c.scope.now) (λ s. s.form.now) (scope.Bind b s sc) ∙ scope_layer_is _ b s sc (scope.outs-Bind b s sc)
 
 pub ruleset mirrors = (known_data, known_tuple, known_record, known_function, known_primitive, scope_empty, scope_bind)

@@ -173,11 +173,11 @@ projected_other (x ∷ y ∷ ss) f n = refl
 abbrev pub assertion : Operation Ref BindId
 assertion = Assert
 
-pub assert_ok : (ss : List Held_known) (d : Held_known) → length ss ≡ 2 → is_data (known_of (get_or ss 0 d)) ≡ true → known_result assertion (Parts_of ss) ≡ Some (known_of (get_or ss 1 d))
+pub assert_ok : (ss : List Held_known) (d d' : Held_known) → length ss ≡ 2 → is_data (known_of (get_or ss 0 d)) ≡ true → known_result assertion (Parts_of ss) ≡ Some (known_of (get_or ss 1 d'))
 unfolding known_result knowns
-assert_ok [] d n h = absurd (omega (arith, n))
-assert_ok (x ∷ []) d n h = absurd (omega (arith, n))
-assert_ok (x ∷ y ∷ []) d n h = by_first (known_of x) h
+assert_ok [] d d' n h = absurd (omega (arith, n))
+assert_ok (x ∷ []) d d' n h = absurd (omega (arith, n))
+assert_ok (x ∷ y ∷ []) d d' n h = by_first (known_of x) h
   where
     by_first : (k : Known) → is_data k ≡ true → known_result assertion (known_and k (known_and (known_of y) known_none)) ≡ Some (known_of y)
     by_first Data h = refl
@@ -185,7 +185,7 @@ assert_ok (x ∷ y ∷ []) d n h = by_first (known_of x) h
     by_first (Known_record fs) h = absurd (let z : false ≡ true = h in cc)
     by_first (Known_function ps e sc) h = absurd (let z : false ≡ true = h in cc)
     by_first (Known_primitive p ss) h = absurd (let z : false ≡ true = h in cc)
-assert_ok (x ∷ y ∷ w ∷ ss) d n h = absurd (omega (arith, n))
+assert_ok (x ∷ y ∷ w ∷ ss) d d' n h = absurd (omega (arith, n))
 
 pub assert_function : (ss : List Held_known) (d : Held_known) → length ss ≡ 2 → is_data (known_of (get_or ss 0 d)) ≡ false → known_result assertion (Parts_of ss) ≡ data_of (Parts_of ss)
 unfolding known_result knowns
@@ -287,19 +287,16 @@ module _ (f : Text) (u k : Known) where
   pub replaced_by_function : u ≡ Data → is_data k ≡ false → Known_to (replaced_in f u k) (Err Lost)
   replaced_by_function q h = not_known (ap (λ z. replaced_in f z k) q ∙ function_in f k h)
 
-  pub replaced_field : (s : Held_known) (fs gs : Known_fields) → u ≡ Known_record fs → gs ≡ known_replaced f k fs → known_of s ≡ known_record gs → Known_to (replaced_in f u k) (Ok s)
-  replaced_field s fs gs q e r = known_is (ap (λ z. replaced_in f z k) q ∙ sym (ap (λ z. Some (known_record z)) e) ∙ ap Some (sym r))
+  pub replaced_field : {r : Result Held_known Stop} (fs gs : Known_fields) → u ≡ Known_record fs → gs ≡ known_replaced f k fs → Known_to (Some (known_record gs)) r → Known_to (replaced_in f u k) r
+  replaced_field fs gs q e h = known_as_wanted (ap (λ z. replaced_in f z k) q ∙ sym (ap (λ z. Some (known_record z)) e)) h
 
-pub replaced_neither : (f : Text) (s : Held_known) (k : Known) → (s.form ≡ held.Data → ⊥) → ((fs : Bor (List (Bor Text))) (ss : Bor (List Held_known)) → s.form ≡ held.Record fs ss → ⊥) → Known_to (replaced_in f (known_of s) k) (Err Lost)
+pub replaced_neither : (f : Text) (s : Held_known) (k : Known) → (s.form.now ≡ held.Data → ⊥) → ((fs : Bor (List (Bor Text))) (ss : Bor (List Held_known)) → s.form.now ≡ held.Record fs ss → ⊥) → Known_to (replaced_in f (known_of s) k) (Err Lost)
 replaced_neither f s k d r = by_form s (λ u. Known_to (replaced_in f u k) (Err Lost)) (λ is. absurd (d is)) (λ ss is. not_known refl) (λ fs ss is. absurd (r fs ss is)) (λ c is. not_known refl) (λ p ss is. not_known refl)
 
 -- ---- a part of what has parts
 
-pub part_neither : (f : Text) (s : Held_known) → (s.form ≡ held.Data → ⊥) → ((ss : Bor (List Held_known)) → s.form ≡ held.Tuple ss → ⊥) → ((fs : Bor (List (Bor Text))) (ss : Bor (List Held_known)) → s.form ≡ held.Record fs ss → ⊥) → Known_to (known_part f (known_of s)) (Err Lost)
+pub part_neither : (f : Text) (s : Held_known) → (s.form.now ≡ held.Data → ⊥) → ((ss : Bor (List Held_known)) → s.form.now ≡ held.Tuple ss → ⊥) → ((fs : Bor (List (Bor Text))) (ss : Bor (List Held_known)) → s.form.now ≡ held.Record fs ss → ⊥) → Known_to (known_part f (known_of s)) (Err Lost)
 part_neither f s d t r = by_form s (λ u. Known_to (known_part f u) (Err Lost)) (λ is. absurd (d is)) (λ ss is. absurd (t ss is)) (λ fs ss is. absurd (r fs ss is)) (λ c is. not_known refl) (λ p ss is. not_known refl)
 
 pub no_memory_for : (o : Option Known) (r : Stop) → r ≡ Memory → Known_to o (Err r)
 no_memory_for o r e = subst (λ z. Known_to o (Err z)) (sym e) no_memory_to_know
-
-pub record_made : (names : List (Bor Text)) (ss : List Held_known) (s : Held_known) (fs : Known_fields) → known_fields (texts names) (Parts_of ss) ≡ Some fs → known_of s ≡ known_record fs → Known_to (some_record (known_fields (texts names) (Parts_of ss))) (Ok s)
-record_made names ss s fs e r = known_is (ap some_record e ∙ ap Some (sym r))

@@ -32,13 +32,13 @@ module _ (tops : Scope) (level spent : ℕ) (h : Held_known) (s : Known) where
   is_none : {k : Known} → is_function k ≡ false → Ran_to tops level spent k s (Err Lost)
   is_none n = run_stopped (is_stuck (no_function n))
 
-  pub run_other : ((c : Bor Closure) → h.form ≡ form.Function c → ⊥) → ((p : Primitive) (ss : Bor (List Held_known)) → h.form ≡ form.Primitive p ss → ⊥) → Ran_to tops level spent (known_of h) s (Err Lost)
+  pub run_other : ((c : Bor Closure) → h.form.now ≡ form.Function c → ⊥) → ((p : Primitive) (ss : Bor (List Held_known)) → h.form.now ≡ form.Primitive p ss → ⊥) → Ran_to tops level spent (known_of h) s (Err Lost)
   run_other f p = by_form h (λ k. Ran_to tops level spent k s (Err Lost)) (λ is. is_none refl) (λ ss is. is_none refl) (λ fs ss is. is_none refl) (λ c is. absurd (f c is)) (λ q ss is. absurd (p q ss is))
 
-  pub run_of_function : (c : Bor Closure) (r : Result Walked Stop) → h.form ≡ form.Function c → Ran_to tops level spent (Known_function (patterns (map pattern_of c.now.params.now)) (term_of c.now.body.now) (scope_of c.now.scope.now)) s r → Ran_to tops level spent (known_of h) s r
+  pub run_of_function : (c : Bor Closure) (r : Result Walked Stop) → h.form.now ≡ form.Function c → Ran_to tops level spent (Known_function (patterns (map pattern_of c.now.params.now)) (term_of c.now.body.now) (scope_of c.now.scope.now)) s r → Ran_to tops level spent (known_of h) s r
   run_of_function c r is x = subst (λ z. Ran_to tops level spent z s r) (sym (known_function h c is)) x
 
-  pub run_of_primitive : (p : Primitive) (ss : Bor (List Held_known)) (r : Result Walked Stop) → h.form ≡ form.Primitive p ss → Ran_to tops level spent (Known_primitive p (knowns (map known_of ss.now))) s r → Ran_to tops level spent (known_of h) s r
+  pub run_of_primitive : (p : Primitive) (ss : Bor (List Held_known)) (r : Result Walked Stop) → h.form.now ≡ form.Primitive p ss → Ran_to tops level spent (Known_primitive p (knowns (map known_of ss.now))) s r → Ran_to tops level spent (known_of h) s r
   run_of_primitive p ss r is x = subst (λ z. Ran_to tops level spent z s r) (sym (known_primitive h p ss is)) x
 
 -- ---- functions
@@ -99,6 +99,10 @@ module _ (tops : Scope) (level spent : ℕ) (p : Primitive) (ss all : List Held_
     primitive_ran r k le (given v) q = ran (subst (λ z. Runs tops (Known_primitive p (knowns (map known_of ss))) (known_of x) z r.nodes r.depth) (sym q) (r_primitive (long le) (subst (λ z. Given_visits tops z (with_known (knowns (map known_of ss)) (known_of x)) r.nodes r.depth) is (subst (λ z. Given_visits tops ks z r.nodes r.depth) more v))))
 
 -- ---- the arguments of a primitive
+
+-- what is read from a list is what stands there
+pub function_at : {tops : Scope} {level spent k : ℕ} {r : Result Count Stop} {s s' : Held_known} → s' ≡ s → Function_to tops level spent k (known_of s') r → Function_to tops level spent k (known_of s) r
+function_at {tops} {level} {spent} {k} {r} e h = subst (λ z. Function_to tops level spent k (known_of z) r) e h
 
 some_left : (i : ℕ) (ss : List Held_known) → i < length ss → drop i ss ≡ [] → ⊥
 some_left i [] lt e = absurd (omega (arith, lt))

@@ -1,25 +1,28 @@
 -- What is known of a use.
-use Rattle.std.proofs.Common.{◌≡◌, Some, None, refl, ap}
+use Rattle.std.proofs.Common.{◌≡◌, Option, Some, None, ap}
 use Rattle.fut_scalar.specs.declared.place.BindId.{BindId}
 use Rattle.fut_scalar.specs.declared.scalar.ScalarType.{ScalarType}
 use Rattle.fut_flat.specs.declared.prim.Primitive.{Primitive}
+use Rattle.fut_flat.specs.declared.prim.Ref.{Ref}
 use Rattle.fut_flat.specs.declared.prim.Ref.TheVariants as ref
 use Rattle.fut_meaning.specs.Knowns.{Known, Scope, find, or_else, known_use, known_primitive}
 
-pub use_local : (tops sc : Scope) (b : BindId) (s : Known) → find sc b.0 ≡ Some s → known_use tops sc (ref.Bound b) ≡ Some s
-unfolding known_use
-use_local tops sc b s e = ap (λ z. or_else z (find tops b.0)) e
+-- of a local name, or else of a definition
+pub name_here : {a : Option Known} {s : Known} (b : Option Known) → Some s ≡ a → Some s ≡ or_else a b
+name_here b e = ap (λ z. or_else z b) e
 
-pub use_top : (tops sc : Scope) (b : BindId) → find sc b.0 ≡ None → known_use tops sc (ref.Bound b) ≡ find tops b.0
-unfolding known_use
-use_top tops sc b e = ap (λ z. or_else z (find tops b.0)) e
+pub name_behind : {a b : Option Known} → None ≡ a → b ≡ or_else a b
+name_behind {b = b} e = ap (λ z. or_else z b) e
 
-pub use_primitive : (tops sc : Scope) (p : Primitive) → known_use tops sc (ref.Prim p) ≡ Some (known_primitive p)
-unfolding known_use
-use_primitive tops sc p = refl
+module _ (tops sc : Scope) (u : Ref) where
+  pub use_name : (b : BindId) → u ≡ ref.Bound b → known_use tops sc u ≡ or_else (find sc b.0) (find tops b.0)
+  unfolding known_use
+  use_name b is = ap (known_use tops sc) is
 
-pub use_scalar : (tops sc : Scope) (s : ScalarType) → known_use tops sc (ref.Scalar s) ≡ None
-unfolding known_use
-use_scalar tops sc s = refl
+  pub use_primitive : (p : Primitive) → u ≡ ref.Prim p → known_use tops sc u ≡ Some (known_primitive p)
+  unfolding known_use
+  use_primitive p is = ap (known_use tops sc) is
 
-pub ruleset uses = (use_local, use_top, use_primitive, use_scalar)
+  pub use_scalar : (s : ScalarType) → u ≡ ref.Scalar s → known_use tops sc u ≡ None
+  unfolding known_use
+  use_scalar s is = ap (known_use tops sc) is

@@ -31,13 +31,13 @@ scope_form Scope-F.Empty = empty
 scope_form (Scope-F.Bind b s sc) = known_as b s sc.now
 
 unfoldable pub known_of : Held_known → Known
-known_of = fold-Known Known Scope Known Known known_form scope_form (λ c. Known_function (patterns (map pattern_of c.params.now)) (term_of c.body.now) c.scope.now) (λ s. s.form)
+known_of = fold-Known Known Scope Known Known known_form scope_form (λ c. Known_function (patterns (map pattern_of c.params.now)) (term_of c.body.now) c.scope.now) (λ s. s.form.now)
 
 unfoldable pub closure_of : Closure → Known
-closure_of = fold-Closure Known Scope Known Known known_form scope_form (λ c. Known_function (patterns (map pattern_of c.params.now)) (term_of c.body.now) c.scope.now) (λ s. s.form)
+closure_of = fold-Closure Known Scope Known Known known_form scope_form (λ c. Known_function (patterns (map pattern_of c.params.now)) (term_of c.body.now) c.scope.now) (λ s. s.form.now)
 
 unfoldable pub scope_of : Held_scope → Scope
-scope_of = fold-Scope Known Scope Known Known known_form scope_form (λ c. Known_function (patterns (map pattern_of c.params.now)) (term_of c.body.now) c.scope.now) (λ s. s.form)
+scope_of = fold-Scope Known Scope Known Known known_form scope_form (λ c. Known_function (patterns (map pattern_of c.params.now)) (term_of c.body.now) c.scope.now) (λ s. s.form.now)
 
 abbrev pub maybe_known : Option Held_known → Option Known
 maybe_known = option_map known_of

@@ -1,16 +1,19 @@
 // What is known of values before a program runs.
-ghost use Rattle.std.specs.Prelude.{◌≡◌, map};
-ghost use Rattle.fut_meaning.specs.Knowns.{all_data, is_data};
+ghost use Rattle.std.specs.Prelude.{◌≡◌, IfErr, IfOk, map};
+ghost use Rattle.fut_meaning.specs.Knowns.{Data, all_data, is_data};
 ghost use Rattle.measure.specs.Held.{known_of, knowns};
+ghost use Rattle.measure.specs.declared.stop.Stop.TheVariants as stop;
 
+use crate::stop::Stop;
+use bumpalo::Bump;
 use fut_flat::{Exp, Pat, Primitive};
 use fut_scalar::BindId;
 
-/// What is known of a value.
+/// What is known of a value. It is one reference, so it is handed on at little cost.
 #[cycle(known)]
 #[derive(Clone, Copy)]
 pub struct Known<'a> {
-    pub form: KnownForm<'a>,
+    pub form: &'a KnownForm<'a>,
 }
 
 #[cycle(known)]
@@ -43,11 +46,31 @@ pub enum Scope<'a> {
     Bind(BindId, Known<'a>, &'a Scope<'a>),
 }
 
+static DATA: KnownForm<'static> = KnownForm::Data;
+
+/// What is known of data.
+pub fn known_data<'a>() -> Known<'a>
+    ensures { known_of result ≡ Data }
+{
+    Known { form: &DATA }
+}
+
+/// What has this form, in the arena.
+pub fn held<'a>(bump: &'a Bump, form: KnownForm<'a>) -> Result<Known<'a>, Stop>
+    ensures ok { IfOk result (λ known. known.form.now ≡ form.entry) }
+    ensures err { IfErr result (λ e. e ≡ stop.Memory) }
+{
+    match bump.try_alloc(form) {
+        Ok(form) => Ok(Known { form }),
+        Err(_) => Err(Stop::Memory),
+    }
+}
+
 /// Whether a value is data: no function, and nothing that holds one.
 pub fn is_data(known: Known<'_>) -> bool
     ensures { result ≡ is_data (known_of known.entry) }
 {
-    match known.form {
+    match *known.form {
         KnownForm::Data => true,
         _ => false,
     }

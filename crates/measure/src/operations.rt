@@ -1,12 +1,12 @@
 // What is known of the values of operations.
-ghost use Rattle.std.specs.Prelude.{◌≡◌, map};
+ghost use Rattle.std.specs.Prelude.{Some, map};
 ghost use Rattle.fut_flat.specs.Erased.{operation_of, texts};
 ghost use Rattle.fut_flat.specs.Terms.{Assert, Project, Replace};
 ghost use Rattle.fut_meaning.specs.Knowns.{data_of, known_fields, known_part, known_part_from, known_result, known_tuple, replaced_in, some_record};
 ghost use Rattle.measure.specs.Held.{known_of, knowns, maybe_known};
 ghost use Rattle.measure.specs.Answers.{Known_to, one_or_data};
 
-use crate::known::{Known, KnownForm, all_data, is_data};
+use crate::known::{Known, KnownForm, all_data, held, is_data, known_data};
 use crate::lists::put_named;
 use crate::records::{field_known, known_record};
 use crate::stop::Stop;
@@ -19,33 +19,31 @@ fn data_of<'a>(parts: &[Known<'a>]) -> Result<Known<'a>, Stop>
     ensures { Known_to (data_of (knowns (map known_of parts.now))) result }
 {
     if all_data(parts) {
-        Ok(Known {
-            form: KnownForm::Data,
-        })
+        Ok(known_data())
     } else {
         Err(Stop::Lost)
     }
 }
 
-fn tuple_of<'a>(parts: &'a [Known<'a>]) -> Known<'a>
-    ensures { known_of result ≡ known_tuple (knowns (map known_of parts.now)) }
+fn tuple_of<'a>(bump: &'a Bump, parts: &'a [Known<'a>]) -> Result<Known<'a>, Stop>
+    ensures { Known_to (Some (known_tuple (knowns (map known_of parts.now)))) result }
 {
     if all_data(parts) {
-        Known {
-            form: KnownForm::Data,
-        }
+        Ok(known_data())
     } else {
-        Known {
-            form: KnownForm::Tuple(parts),
-        }
+        held(bump, KnownForm::Tuple(parts))
     }
 }
 
-fn record_of<'a>(names: &'a [&'a str], parts: &'a [Known<'a>]) -> Result<Known<'a>, Stop>
+fn record_of<'a>(
+    bump: &'a Bump,
+    names: &'a [&'a str],
+    parts: &'a [Known<'a>],
+) -> Result<Known<'a>, Stop>
     ensures { Known_to (some_record (known_fields (texts names.now) (knowns (map known_of parts.now)))) result }
 {
     if names.len() == parts.len() {
-        Ok(known_record(names, parts))
+        known_record(bump, names, parts)
     } else {
         Err(Stop::Lost)
     }
@@ -60,7 +58,7 @@ fn replaced<'a>(
 ) -> Result<Known<'a>, Stop>
     ensures { Known_to (replaced_in name.now (known_of whole.entry) (known_of known.entry)) result }
 {
-    match whole.form {
+    match *whole.form {
         KnownForm::Data => {
             if is_data(known) {
                 Ok(whole)
@@ -69,7 +67,7 @@ fn replaced<'a>(
             }
         }
         KnownForm::Record(names, parts) => match put_named(bump, names, parts, name, known) {
-            Ok(made) => Ok(known_record(names, made)),
+            Ok(made) => known_record(bump, names, made),
             Err(stop) => Err(stop),
         },
         _ => Err(Stop::Lost),
@@ -95,7 +93,7 @@ fn position_of<'a>(parts: &'a [Known<'a>], name: &str) -> Result<Known<'a>, Stop
 pub fn part_of<'a>(known: Known<'a>, name: &str) -> Result<Known<'a>, Stop>
     ensures { Known_to (known_part name.now (known_of known.entry)) result }
 {
-    match known.form {
+    match *known.form {
         KnownForm::Data => Ok(known),
         KnownForm::Tuple(knowns) => position_of(knowns, name),
         KnownForm::Record(names, parts) => match field_known(names, parts, name) {
@@ -138,8 +136,8 @@ pub fn result_of<'a>(
     ensures { Known_to (known_result (operation_of act.now) (knowns (map known_of parts.now))) result }
 {
     match *act {
-        Act::Tuple => Ok(tuple_of(parts)),
-        Act::Record(names) => record_of(names, parts),
+        Act::Tuple => tuple_of(bump, parts),
+        Act::Record(names) => record_of(bump, names, parts),
         Act::Project(name) => projected(name, parts),
         Act::Replace(name) => with_replaced(bump, name, parts),
         Act::Ascribe(_) => same_of(parts),

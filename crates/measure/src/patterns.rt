@@ -2,13 +2,13 @@
 ghost use Rattle.std.specs.Prelude.{◌≡◌, IfOk, IfErr, length, map, true};
 ghost use Rattle.fut_flat.specs.Erased.{pattern_of, patterns};
 ghost use Rattle.fut_flat.specs.Terms.{Record_pattern, Tuple_pattern};
-ghost use Rattle.measure.specs.Patterns.{field_names, field_patterns, has_fields, has_parts, part_at};
+ghost use Rattle.measure.specs.Patterns.{field_names, field_patterns, has_fields, has_parts, one_of, part_at};
 ghost use Rattle.measure.specs.declared.stop.Stop.TheVariants as stop;
 ghost use Rattle.fut_meaning.specs.Knowns.{data_bound, known_bound};
-ghost use Rattle.measure.specs.Held.{known_of, scope_of};
+ghost use Rattle.measure.specs.Held.{known_of, knowns, scope_of};
 ghost use Rattle.measure.specs.Answers.{Bound_to};
 
-use crate::known::{Known, KnownForm, Scope};
+use crate::known::{Known, KnownForm, Scope, known_data};
 use crate::operations::part_of;
 use crate::scope::bound;
 use crate::stop::Stop;
@@ -24,21 +24,14 @@ pub fn bind_data<'a>(
     ensures ok { IfOk result (λ inner. scope_of inner.now ≡ data_bound (pattern_of pat.now) (scope_of scope.now)) }
     ensures err { IfErr result (λ e. e ≡ stop.Memory) }
 {
-    bind(
-        bump,
-        pat,
-        Known {
-            form: KnownForm::Data,
-        },
-        scope,
-    )
+    bind(bump, pat, known_data(), scope)
 }
 
 // Whether a value is a tuple of so many parts, or data.
 fn has_parts(known: Known<'_>, count: usize) -> bool
     ensures { result ≡ has_parts count (known_of known.entry) }
 {
-    match known.form {
+    match *known.form {
         KnownForm::Data => true,
         KnownForm::Tuple(parts) => parts.len() == count,
         _ => false,
@@ -49,10 +42,22 @@ fn has_parts(known: Known<'_>, count: usize) -> bool
 fn has_fields(known: Known<'_>) -> bool
     ensures { result ≡ has_fields (known_of known.entry) }
 {
-    match known.form {
+    match *known.form {
         KnownForm::Data => true,
         KnownForm::Record(_, _) => true,
         _ => false,
+    }
+}
+
+// One of several parts.
+fn one_of<'a>(parts: &'a [Known<'a>], at: usize) -> Known<'a>
+    ensures { known_of result ≡ one_of at (knowns (map known_of parts.now)) }
+{
+    if at < parts.len() {
+        let part = &parts[at];
+        *part
+    } else {
+        known_data()
     }
 }
 
@@ -60,20 +65,9 @@ fn has_fields(known: Known<'_>) -> bool
 fn part_at<'a>(known: Known<'a>, at: usize) -> Known<'a>
     ensures { known_of result ≡ part_at at (known_of known.entry) }
 {
-    match known.form {
-        KnownForm::Tuple(parts) => {
-            if at < parts.len() {
-                let part = &parts[at];
-                *part
-            } else {
-                Known {
-                    form: KnownForm::Data,
-                }
-            }
-        }
-        _ => Known {
-            form: KnownForm::Data,
-        },
+    match *known.form {
+        KnownForm::Tuple(parts) => one_of(parts, at),
+        _ => known_data(),
     }
 }
 

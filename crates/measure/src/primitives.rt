@@ -1,24 +1,24 @@
 // Primitives, and the parameters that they have.
-ghost use Rattle.std.specs.Prelude.{◌≡◌};
+ghost use Rattle.std.specs.Prelude.{◌≡◌, IfErr, IfOk};
 ghost use Rattle.fut_meaning.specs.Knowns.{known_primitive};
 ghost use Rattle.fut_meaning.specs.Operations.{parameters_of};
 ghost use Rattle.measure.specs.Held.{known_of};
+ghost use Rattle.measure.specs.declared.stop.Stop.TheVariants as stop;
 
-use crate::known::{Known, KnownForm};
+use crate::known::{Known, KnownForm, held, known_data};
+use crate::stop::Stop;
+use bumpalo::Bump;
 use fut_flat::Primitive;
 
 /// What the use of a primitive is.
 #[tactic(auto, using(crate::proofs::Mirror::mirrors), unfolding(crate::specs::Held::knowns))]
-pub fn known_primitive<'a>(primitive: Primitive) -> Known<'a>
-    ensures { known_of result ≡ known_primitive primitive }
+pub fn known_primitive<'a>(bump: &'a Bump, primitive: Primitive) -> Result<Known<'a>, Stop>
+    ensures ok { IfOk result (λ known. known_of known ≡ known_primitive primitive) }
+    ensures err { IfErr result (λ e. e ≡ stop.Memory) }
 {
     match primitive {
-        Primitive::Lowest(_) | Primitive::Highest(_) | Primitive::NumBits(_) => Known {
-            form: KnownForm::Data,
-        },
-        _ => Known {
-            form: KnownForm::Primitive(primitive, &[]),
-        },
+        Primitive::Lowest(_) | Primitive::Highest(_) | Primitive::NumBits(_) => Ok(known_data()),
+        _ => held(bump, KnownForm::Primitive(primitive, &[])),
     }
 }
 

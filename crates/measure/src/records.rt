@@ -1,11 +1,14 @@
 // Records that hold functions.
-ghost use Rattle.std.specs.Prelude.{◌≡◌, map};
+ghost use Rattle.std.specs.Prelude.{◌≡◌, Some, map};
 ghost use Rattle.fut_flat.specs.Erased.{texts};
 ghost use Rattle.fut_meaning.specs.Knowns.{known_field_of, known_record};
 ghost use Rattle.measure.specs.Held.{known_of, maybe_known, named};
+ghost use Rattle.measure.specs.Answers.{Known_to};
 
-use crate::known::{Known, KnownForm, all_data};
+use crate::known::{Known, KnownForm, all_data, held, known_data};
 use crate::lists::name_of;
+use crate::stop::Stop;
+use bumpalo::Bump;
 
 /// What is known of a field.
 pub fn field_known<'a>(names: &[&str], parts: &[Known<'a>], name: &str) -> Option<Known<'a>>
@@ -22,16 +25,16 @@ pub fn field_known<'a>(names: &[&str], parts: &[Known<'a>], name: &str) -> Optio
 }
 
 /// A record with these fields, which is data where each is.
-pub fn known_record<'a>(names: &'a [&'a str], parts: &'a [Known<'a>]) -> Known<'a>
-    ensures { known_of result ≡ known_record (named (texts names.now) (map known_of parts.now)) }
+pub fn known_record<'a>(
+    bump: &'a Bump,
+    names: &'a [&'a str],
+    parts: &'a [Known<'a>],
+) -> Result<Known<'a>, Stop>
+    ensures { Known_to (Some (known_record (named (texts names.now) (map known_of parts.now)))) result }
 {
     if all_data(parts) {
-        Known {
-            form: KnownForm::Data,
-        }
+        Ok(known_data())
     } else {
-        Known {
-            form: KnownForm::Record(names, parts),
-        }
+        held(bump, KnownForm::Record(names, parts))
     }
 }

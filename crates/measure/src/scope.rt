@@ -5,7 +5,7 @@ ghost use Rattle.fut_meaning.specs.Knowns.{Known_function, empty, find, known_as
 ghost use Rattle.measure.specs.Held.{known_of, scope_of, maybe_known};
 ghost use Rattle.measure.specs.declared.stop.Stop.TheVariants as stop;
 
-use crate::known::{Closure, Known, KnownForm, Scope};
+use crate::known::{Closure, Known, KnownForm, Scope, held};
 use crate::stop::Stop;
 use bumpalo::Bump;
 use fut_flat::{Exp, Pat};
@@ -68,9 +68,7 @@ pub fn captured<'a>(
         body,
         scope,
     }) {
-        Ok(closure) => Ok(Known {
-            form: KnownForm::Function(closure),
-        }),
+        Ok(closure) => held(bump, KnownForm::Function(closure)),
         Err(_) => Err(Stop::Memory),
     }
 }

@@ -1,6 +1,7 @@
 // What is known of the definitions.
 ghost use Rattle.std.specs.Prelude.{◌≡◌, IfOk, IfErr, length};
-ghost use Rattle.fut_meaning.specs.Knowns.{empty, find, known_use};
+ghost use Rattle.fut_meaning.specs.Knowns.{empty, find, known_use, or_else};
+ghost use Rattle.measure.specs.Answers.{Known_to};
 ghost use Rattle.measure.specs.Held.{maybe_known, scope_of};
 ghost use Rattle.measure.specs.Tables.{Kept, Tabled};
 ghost use Rattle.measure.specs.declared.stop.Stop.TheVariants as stop;
@@ -54,18 +55,32 @@ impl<'t, 'a> Tops<'t, 'a> {
     }
 }
 
-/// What is known of a use: of a local name, or else of a definition.
-#[tactic(auto, using(crate::proofs::Uses::uses))]
-pub fn known_use<'a>(tops: &Tops<'_, 'a>, scope: &'a Scope<'a>, reference: Ref) -> Option<Known<'a>>
+// What is known of a name: of a local one, or else of a definition.
+fn known_name<'a>(tops: &Tops<'_, 'a>, scope: &'a Scope<'a>, number: BindId) -> Option<Known<'a>>
     requires kept { Kept tops.now }
-    ensures { maybe_known result ≡ known_use (scope_of tops.now.list.now) (scope_of scope.now) reference }
+    ensures { maybe_known result ≡ or_else (find (scope_of scope.now) number.0) (find (scope_of tops.now.list.now) number.0) }
+{
+    match find(scope, number) {
+        Some(known) => Some(known),
+        None => tops.of(number),
+    }
+}
+
+/// What is known of a use: of a local name, or else of a definition.
+pub fn known_use<'a>(
+    tops: &Tops<'_, 'a>,
+    scope: &'a Scope<'a>,
+    reference: Ref,
+) -> Result<Known<'a>, Stop>
+    requires kept { Kept tops.now }
+    ensures { Known_to (known_use (scope_of tops.now.list.now) (scope_of scope.now) reference) result }
 {
     match reference {
-        Ref::Bound(number) => match find(scope, number) {
-            Some(known) => Some(known),
-            None => tops.of(number),
+        Ref::Bound(number) => match known_name(tops, scope, number) {
+            Some(known) => Ok(known),
+            None => Err(Stop::Lost),
         },
-        Ref::Prim(primitive) => Some(known_primitive(primitive)),
-        Ref::Scalar(_) => None,
+        Ref::Prim(primitive) => known_primitive(tops.bump, primitive),
+        Ref::Scalar(_) => Err(Stop::Lost),
     }
 }

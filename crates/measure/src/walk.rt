@@ -10,7 +10,7 @@ ghost use Rattle.fut_meaning.specs.Walk.{is_let, is_visit};
 ghost use Rattle.measure.specs.Plain.{Plain};
 ghost use Rattle.measure.specs.Tables.{Kept};
 
-use crate::known::{Known, KnownForm, Scope, is_data};
+use crate::known::{Known, KnownForm, Scope, held, is_data, known_data};
 use crate::lists::with_last;
 use crate::operations::result_of;
 use crate::patterns::{bind, bind_data};
@@ -66,12 +66,12 @@ fn walk_form<'a>(
 {
     match exp.form {
         Form::Use(reference, _) => match known_use(tops, scope, reference) {
-            Some(known) => Ok(Walked {
+            Ok(known) => Ok(Walked {
                 known,
                 nodes: 1,
                 depth: 1,
             }),
-            None => Err(Stop::Lost),
+            Err(stop) => Err(stop),
         },
         Form::Strict { act, mark, parts } => { walk_strict(tops, used, scope, &act, mark, parts) }
         Form::Lambda(params, body) => match captured(tops.bump, params, body, scope) {
@@ -185,7 +185,7 @@ fn walk_apply<'a>(
 }
 
 #[cycle(walk)]
-#[tactic(auto, using(crate::proofs::Walks::branches, crate::proofs::Mirror::known_data))]
+#[tactic(auto, using(crate::proofs::Walks::branches))]
 fn walk_if<'a>(
     tops: &Tops<'_, 'a>,
     used: Used,
@@ -235,16 +235,14 @@ fn walk_if<'a>(
         Err(stop) => return Err(stop),
     };
     Ok(Walked {
-        known: Known {
-            form: KnownForm::Data,
-        },
+        known: known_data(),
         nodes: 1 + c.nodes + a.nodes + b.nodes,
         depth: 1 + c.depth.max(a.depth.max(b.depth)),
     })
 }
 
 #[cycle(walk)]
-#[tactic(auto, using(crate::proofs::Walks::loops, crate::proofs::Mirror::known_data, fut_flat::proofs::ErasedForms::loop_is))]
+#[tactic(auto, using(crate::proofs::Walks::loops, fut_flat::proofs::ErasedForms::loop_is))]
 fn walk_loop<'a>(
     tops: &Tops<'_, 'a>,
     used: Used,
@@ -297,9 +295,7 @@ fn walk_loop<'a>(
         Err(stop) => return Err(stop),
     };
     Ok(Walked {
-        known: Known {
-            form: KnownForm::Data,
-        },
+        known: known_data(),
         nodes: 1 + first.nodes + turn.nodes + body.nodes,
         depth: 1 + first.depth.max(turn.depth.max(body.depth)),
     })
@@ -307,7 +303,7 @@ fn walk_loop<'a>(
 
 // What says how many turns there are: outside of the loop's names, but for the condition of a `while`.
 #[cycle(walk)]
-#[tactic(auto, using(crate::proofs::Forms::turning, crate::proofs::Mirror::known_data))]
+#[tactic(auto, using(crate::proofs::Forms::turning))]
 fn walk_turns<'a>(
     tops: &Tops<'_, 'a>,
     used: Used,
@@ -328,14 +324,7 @@ fn walk_turns<'a>(
                 Ok(n) => n,
                 Err(stop) => return Err(stop),
             };
-            let names = match bound(
-                tops.bump,
-                *number,
-                Known {
-                    form: KnownForm::Data,
-                },
-                inside,
-            ) {
+            let names = match bound(tops.bump, *number, known_data(), inside) {
                 Ok(names) => names,
                 Err(stop) => return Err(stop),
             };
@@ -589,7 +578,7 @@ fn run<'a>(
     ensures few { IfOk result (λ r. used.spent + r.nodes ≤ 1048576) }
     ensures flat { IfOk result (λ r. used.level + r.depth ≤ 1000) }
 {
-    match function.form {
+    match *function.form {
         KnownForm::Function(closure) => run_function(
             tops,
             used,
@@ -644,7 +633,7 @@ fn run_function<'a>(
 }
 
 #[cycle(walk)]
-#[tactic(auto, using(crate::proofs::Running::primitives, crate::proofs::Mirror::known_primitive, crate::proofs::Mirror::known_data))]
+#[tactic(auto, using(crate::proofs::Running::primitives))]
 fn run_primitive<'a>(
     tops: &Tops<'_, 'a>,
     used: Used,
@@ -665,13 +654,14 @@ fn run_primitive<'a>(
     };
     let parameters = parameters_of(primitive);
     if given.len() + 1 < parameters.len() {
-        return Ok(Walked {
-            known: Known {
-                form: KnownForm::Primitive(primitive, all),
-            },
-            nodes: 0,
-            depth: 0,
-        });
+        return match held(tops.bump, KnownForm::Primitive(primitive, all)) {
+            Ok(known) => Ok(Walked {
+                known,
+                nodes: 0,
+                depth: 0,
+            }),
+            Err(stop) => Err(stop),
+        };
     }
     if used.nested >= MOST_NESTED {
         return Err(Stop::Memory);
@@ -689,9 +679,7 @@ fn run_primitive<'a>(
         Err(stop) => return Err(stop),
     };
     Ok(Walked {
-        known: Known {
-            form: KnownForm::Data,
-        },
+        known: known_data(),
         nodes: made.nodes,
         depth: made.depth,
     })
@@ -746,7 +734,7 @@ fn run_given<'a>(
 
 /// A function applied to so much data, which has to give data.
 #[cycle(walk)]
-#[tactic(auto, using(crate::proofs::Running::functions, crate::proofs::Mirror::known_data))]
+#[tactic(auto, using(crate::proofs::Running::functions))]
 pub fn run_with_data<'a>(
     tops: &Tops<'_, 'a>,
     used: Used,
@@ -774,9 +762,7 @@ pub fn run_with_data<'a>(
                 ..used
             },
             made.known,
-            Known {
-                form: KnownForm::Data,
-            },
+            known_data(),
         ) {
             Ok(r) => r,
             Err(stop) => return Err(stop),

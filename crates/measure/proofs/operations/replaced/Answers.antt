@@ -16,7 +16,7 @@ pub returns-in-Err : goal.returns-in-Err
 returns-in-Err c = no_memory_for _ _ c.in-Err.ensures.err
 
 pub returns-in-Ok : goal.returns-in-Ok
-returns-in-Ok c = replaced_field _ _ _ _ _ _ (known_record _ _ _ c.in-Record.is) (ap (λ z. named (texts c.in-Record.names.now) (map known_of z)) c.in-Ok.ensures.ok ∙ put_known c.args.name.now c.args.known (texts c.in-Record.names.now) c.in-Record.parts.now) c.known_record.ensures
+returns-in-Ok c = replaced_field _ _ _ _ _ (known_record _ _ _ c.in-Record.is) (ap (λ z. named (texts c.in-Record.names.now) (map known_of z)) c.in-Ok.ensures.ok ∙ put_known c.args.name.now c.args.known (texts c.in-Record.names.now) c.in-Record.parts.now) c.known_record.ensures
 
 pub returns-in_default : goal.returns-in_default
 returns-in_default c = replaced_neither _ _ _ c.in_default.not-Data c.in_default.not-Record

@@ -1,10 +1,8 @@
-use Rattle.std.proofs.Common.{Some, sym, ap, ◌∙◌}
-use Rattle.measure.specs.Answers.{known_is}
 use Rattle.measure.proofs.Parts.{known_as_wanted, result_tuple, result_record, result_projected, result_ascribed, result_coerced, result_declared, result_asserted, result_other, result_replaced}
 use Rattle.measure.proofs.operations.result_of.Goals as goal
 
 pub returns-in-Tuple : goal.returns-in-Tuple
-returns-in-Tuple c = known_is (result_tuple _ _ c.in-Tuple.is ∙ ap Some (sym c.tuple_of.ensures))
+returns-in-Tuple c = known_as_wanted (result_tuple _ _ c.in-Tuple.is) c.tuple_of.ensures
 
 pub returns-in-Record : goal.returns-in-Record
 returns-in-Record c = known_as_wanted (result_record _ _ _ c.in-Record.is) c.record_of.ensures

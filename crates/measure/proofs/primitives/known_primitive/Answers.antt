@@ -1,9 +1,12 @@
-use Rattle.std.proofs.Common.{refl, sym, ◌∙◌}
+use Rattle.std.proofs.Common.{sym}
 use Rattle.measure.specs.Held.{knowns}
-use Rattle.measure.proofs.Mirror.{known_primitive}
+use Rattle.measure.proofs.Making.{primitive_made}
 use Rattle.measure.proofs.Numbered.{is_function}
 use Rattle.measure.proofs.primitives.known_primitive.Goals as goal
 
-pub returns-in_default : goal.returns-in_default
+pub returns-in_default-clause-ok : goal.returns-in_default-clause-ok
 unfolding knowns
-returns-in_default c = known_primitive _ _ _ refl ∙ sym (is_function _ c.in_default.not-Lowest c.in_default.not-Highest c.in_default.not-NumBits)
+returns-in_default-clause-ok c = primitive_made _ _ _ (sym (is_function _ c.in_default.not-Lowest c.in_default.not-Highest c.in_default.not-NumBits)) c.held.ensures.ok
+
+pub returns-in_default-clause-err : goal.returns-in_default-clause-err
+returns-in_default-clause-err c = c.held.ensures.err

@@ -1,7 +1,11 @@
-use Rattle.std.proofs.Common.{refl, ap, ◌∙◌}
+use Rattle.std.proofs.Common.{ap, ◌∙◌}
 use Rattle.measure.specs.Held.{closure_of}
-use Rattle.measure.proofs.Mirror.{known_closure, closure_is}
+use Rattle.measure.proofs.Making.{function_made}
+use Rattle.measure.proofs.Mirror.{closure_is}
 use Rattle.measure.proofs.scope.captured.Goals as goal
 
 pub returns-in-Ok-clause-ok : goal.returns-in-Ok-clause-ok
-returns-in-Ok-clause-ok c = known_closure _ _ refl ∙ ap closure_of c.in-Ok.ensures ∙ closure_is _
+returns-in-Ok-clause-ok c = function_made _ _ (ap closure_of c.in-Ok.ensures ∙ closure_is _) c.held.ensures.ok
+
+pub returns-in-Ok-clause-err : goal.returns-in-Ok-clause-err
+returns-in-Ok-clause-err c = c.held.ensures.err

@@ -4,9 +4,10 @@ use Rattle.measure.proofs.Walks.{apply_function, apply_argument, apply_run, appl
 use Rattle.measure.proofs.Forms.{too_deep, too_many, form_use, form_unknown, form_lambda, form_strict, form_apply, form_if, form_loop, data_ok, data_function, data_stopped, plain_visit, plain_row, counted_stopped, counted_ok, over_stopped, over_ok, while_stopped, while_ok}
 use Rattle.measure.proofs.Rows.{greater, parts_more, parts_fail, parts_memory, parts_done, let_value, let_ok, let_pattern, rows_ended, rows_done, not_row, lets_more, lets_row, lets_last, lets_ok}
 use Rattle.measure.proofs.Leads.{leads_start, rows_start, rows_more, all_start, given_start, function_start}
-use Rattle.measure.proofs.Running.{run_other, run_of_function, run_of_primitive, run_none, run_pattern, run_last, run_waits, primitive_waits, primitive_stopped, primitive_ran, given_more, given_fail, given_many, given_few, given_done, function_more, function_fail, function_data, function_other}
+use Rattle.measure.proofs.Running.{function_at, run_other, run_of_function, run_of_primitive, run_none, run_pattern, run_last, run_waits, primitive_waits, primitive_stopped, primitive_ran, given_more, given_fail, given_many, given_few, given_done, function_more, function_fail, function_data, function_other}
 use Rattle.measure.proofs.Peeling.{peeled_walk}
-use Rattle.measure.proofs.Mirror.{known_data, known_primitive}
+use Rattle.measure.proofs.Making.{known_gives}
+use Rattle.measure.proofs.Mirror.{known_primitive}
 use Rattle.measure.proofs.Endings.{walk_memory, turned_memory, ran_memory, loop_as}
 use Rattle.measure.proofs.walk.+walk.Goals as goal
 
@@ -38,7 +39,7 @@ pub run_given-returns : goal.run_given-returns
 run_given-returns t c = record { walk = given_done _ _ _ _ _ _ _ _ (omega (arith, c.if-at-parameters-2.false)) (omega (arith, c.loop-known-test.false)) c.loop-known.invariant.0; few = c.loop-known.invariant.2; flat = c.loop-known.invariant.3 }
 
 pub run_given-returns-in-Err : goal.run_given-returns-in-Err
-run_given-returns-in-Err t c = record { walk = given_fail _ _ _ _ _ _ _ _ _ _ _ (omega (arith, c.if-at-parameters.false)) c.loop-known-test.true c.loop-known.invariant.0 c.in-Err.ensures.walk; few = tt; flat = tt }
+run_given-returns-in-Err t c = record { walk = given_fail _ _ _ _ _ _ _ _ _ _ _ (omega (arith, c.if-at-parameters.false)) c.loop-known-test.true c.loop-known.invariant.0 (function_at c.known-item.is c.in-Err.ensures.walk); few = tt; flat = tt }
 
 pub run_given-returns-then-at-parameters : goal.run_given-returns-then-at-parameters
 run_given-returns-then-at-parameters t c = record { walk = given_many _ _ _ _ _ _ _ _ (omega (arith, c.if-at-parameters.true)) c.loop-known-test.true c.loop-known.invariant.0; few = tt; flat = tt }
@@ -49,8 +50,11 @@ run_given-returns-then-at-parameters-2 t c = record { walk = given_few _ _ _ _ _
 pub run_primitive-returns-in-Err : goal.run_primitive-returns-in-Err
 run_primitive-returns-in-Err t c = record { walk = ran_memory _ c.in-Err.ensures.err; few = tt; flat = tt }
 
-pub run_primitive-returns-then-given-parameters : goal.run_primitive-returns-then-given-parameters
-run_primitive-returns-then-given-parameters t c = record { walk = primitive_waits _ _ _ _ _ _ _ _ c.parameters_of-parameters.ensures c.in-Ok.ensures.ok _ (omega (arith, c.if-given-parameters.true)) (known_primitive _ _ _ refl); few = omega (arith, c.requires.spent); flat = omega (arith, c.requires.level) }
+pub run_primitive-returns-in-Err-held : goal.run_primitive-returns-in-Err-held
+run_primitive-returns-in-Err-held t c = record { walk = ran_memory _ c.in-Err-held.ensures.err; few = tt; flat = tt }
+
+pub run_primitive-returns-in-Ok-held : goal.run_primitive-returns-in-Ok-held
+run_primitive-returns-in-Ok-held t c = record { walk = primitive_waits _ _ _ _ _ _ _ _ c.parameters_of-parameters.ensures c.in-Ok.ensures.ok _ (omega (arith, c.if-given-parameters.true)) (known_primitive _ _ _ c.in-Ok-held.ensures.ok); few = omega (arith, c.requires.spent); flat = omega (arith, c.requires.level) }
 
 pub run_primitive-returns-then-used-ge-MOST_NESTED : goal.run_primitive-returns-then-used-ge-MOST_NESTED
 run_primitive-returns-then-used-ge-MOST_NESTED t c = record { walk = ran_memory _ refl; few = tt; flat = tt }
@@ -59,10 +63,10 @@ pub run_primitive-returns-in-Err-run_given : goal.run_primitive-returns-in-Err-r
 run_primitive-returns-in-Err-run_given t c = record { walk = primitive_stopped _ _ _ _ _ _ _ _ c.parameters_of-parameters.ensures c.in-Ok.ensures.ok _ (omega (arith, c.if-given-parameters.false)) c.in-Err-run_given.ensures.walk; few = tt; flat = tt }
 
 pub run_primitive-returns : goal.run_primitive-returns
-run_primitive-returns t c = record { walk = primitive_ran _ _ _ _ _ _ _ _ c.parameters_of-parameters.ensures c.in-Ok.ensures.ok _ _ (omega (arith, c.if-given-parameters.false)) c.in-Ok-run_given.ensures.walk (known_data _ refl); few = c.in-Ok-run_given.ensures.few; flat = c.in-Ok-run_given.ensures.flat }
+run_primitive-returns t c = record { walk = primitive_ran _ _ _ _ _ _ _ _ c.parameters_of-parameters.ensures c.in-Ok.ensures.ok _ _ (omega (arith, c.if-given-parameters.false)) c.in-Ok-run_given.ensures.walk c.known_data.ensures; few = c.in-Ok-run_given.ensures.few; flat = c.in-Ok-run_given.ensures.flat }
 
 pub run_with_data-returns-in-Err : goal.run_with_data-returns-in-Err
-run_with_data-returns-in-Err t c = record { walk = function_fail _ _ _ _ _ _ _ _ _ c.loop-left-test.true c.loop-left.invariant.0 (known_data _ refl) c.in-Err.ensures.walk; few = tt; flat = tt }
+run_with_data-returns-in-Err t c = record { walk = function_fail _ _ _ _ _ _ _ _ _ c.loop-left-test.true c.loop-left.invariant.0 c.known_data.ensures c.in-Err.ensures.walk; few = tt; flat = tt }
 
 pub run_with_data-returns-then-is_data : goal.run_with_data-returns-then-is_data
 run_with_data-returns-then-is_data t c = record { walk = function_data _ _ _ _ _ _ _ c.loop-left-test.false c.loop-left.invariant.0 (sym c.if-is_data.true ∙ c.is_data.ensures); few = c.loop-left.invariant.1; flat = c.loop-left.invariant.2 }
@@ -115,17 +119,17 @@ walk_form-returns-in-Strict t c = record { walk = form_strict _ _ _ _ _ _ _ _ _ 
 pub walk_form-returns-in-Lets : goal.walk_form-returns-in-Lets
 walk_form-returns-in-Lets t c = record { walk = c.walk_lets.ensures.walk; few = c.walk_lets.ensures.few; flat = c.walk_lets.ensures.flat }
 
-pub walk_form-returns-in-Some : goal.walk_form-returns-in-Some
-walk_form-returns-in-Some t c = record { walk = form_use _ _ _ _ _ _ _ _ c.in-Use.is c.in-Some.ensures; few = omega (arith, c.requires.spent); flat = omega (arith, c.requires.level) }
-
-pub walk_form-returns-in-None : goal.walk_form-returns-in-None
-walk_form-returns-in-None t c = record { walk = form_unknown _ _ _ _ _ _ _ c.in-Use.is c.in-None.ensures; few = tt; flat = tt }
-
 pub walk_form-returns-in-Ok : goal.walk_form-returns-in-Ok
-walk_form-returns-in-Ok t c = record { walk = form_lambda _ _ _ _ _ _ _ _ c.in-Lambda.is c.in-Ok.ensures.ok; few = omega (arith, c.requires.spent); flat = omega (arith, c.requires.level) }
+walk_form-returns-in-Ok t c = record { walk = form_use _ _ _ _ _ _ _ _ c.in-Use.is (known_gives c.in-Ok.ensures); few = omega (arith, c.requires.spent); flat = omega (arith, c.requires.level) }
 
 pub walk_form-returns-in-Err : goal.walk_form-returns-in-Err
-walk_form-returns-in-Err t c = record { walk = walk_memory _ c.in-Err.ensures.err; few = tt; flat = tt }
+walk_form-returns-in-Err t c = record { walk = form_unknown _ _ _ _ _ _ _ _ c.in-Use.is c.in-Err.ensures; few = tt; flat = tt }
+
+pub walk_form-returns-in-Ok-captured : goal.walk_form-returns-in-Ok-captured
+walk_form-returns-in-Ok-captured t c = record { walk = form_lambda _ _ _ _ _ _ _ _ c.in-Lambda.is c.in-Ok-captured.ensures.ok; few = omega (arith, c.requires.spent); flat = omega (arith, c.requires.level) }
+
+pub walk_form-returns-in-Err-captured : goal.walk_form-returns-in-Err-captured
+walk_form-returns-in-Err-captured t c = record { walk = walk_memory _ c.in-Err-captured.ensures.err; few = tt; flat = tt }
 
 pub walk_if-returns-in-Err : goal.walk_if-returns-in-Err
 walk_if-returns-in-Err t c = record { walk = if_test _ _ _ _ _ _ _ _ c.in-Err.ensures.walk; few = tt; flat = tt }
@@ -137,7 +141,7 @@ pub walk_if-returns-in-Err-walk_data-2 : goal.walk_if-returns-in-Err-walk_data-2
 walk_if-returns-in-Err-walk_data-2 t c = record { walk = if_no _ _ _ _ _ _ _ _ _ _ c.in-Ok.ensures.walk c.in-Ok-walk_data.ensures.walk c.in-Err-walk_data-2.ensures.walk; few = tt; flat = tt }
 
 pub walk_if-returns : goal.walk_if-returns
-walk_if-returns t c = rw c.max-2.ensures (rw c.max.ensures (record { walk = if_ok _ _ _ _ _ _ _ _ _ _ _ (known_data _ refl) c.in-Ok.ensures.walk c.in-Ok-walk_data.ensures.walk c.in-Ok-walk_data-2.ensures.walk; few = omega (arith, c.in-Ok-walk_data-2.ensures.few); flat = omega (arith, c.in-Ok.ensures.flat, c.in-Ok-walk_data.ensures.flat, c.in-Ok-walk_data-2.ensures.flat) }))
+walk_if-returns t c = rw c.max-2.ensures (rw c.max.ensures (record { walk = if_ok _ _ _ _ _ _ _ _ _ _ _ c.known_data.ensures c.in-Ok.ensures.walk c.in-Ok-walk_data.ensures.walk c.in-Ok-walk_data-2.ensures.walk; few = omega (arith, c.in-Ok-walk_data-2.ensures.few); flat = omega (arith, c.in-Ok.ensures.flat, c.in-Ok-walk_data.ensures.flat, c.in-Ok-walk_data-2.ensures.flat) }))
 
 pub walk_let-returns-in-Err : goal.walk_let-returns-in-Err
 walk_let-returns-in-Err t c = record { walk = let_value _ _ _ _ _ _ _ _ c.in-Err.ensures.walk; few = tt; flat = tt }
@@ -164,7 +168,7 @@ pub walk_loop-returns-in-Err-walk_data : goal.walk_loop-returns-in-Err-walk_data
 walk_loop-returns-in-Err-walk_data t c = record { walk = loop_as _ _ (loop_body _ _ _ _ _ _ _ _ _ _ _ _ c.in-Ok-bind_data.ensures.ok _ _ c.in-Ok.ensures.walk c.in-Ok-walk_turns.ensures.walk c.in-Err-walk_data.ensures.walk); few = tt; flat = tt }
 
 pub walk_loop-returns : goal.walk_loop-returns
-walk_loop-returns t c = rw c.max-2.ensures (rw c.max.ensures (record { walk = loop_as _ _ (loop_ok _ _ _ _ _ _ _ _ _ _ _ _ c.in-Ok-bind_data.ensures.ok _ _ _ (known_data _ refl) c.in-Ok.ensures.walk c.in-Ok-walk_turns.ensures.walk c.in-Ok-walk_data.ensures.walk); few = omega (arith, c.in-Ok-walk_data.ensures.few); flat = omega (arith, c.in-Ok.ensures.flat, c.in-Ok-walk_turns.ensures.flat, c.in-Ok-walk_data.ensures.flat) }))
+walk_loop-returns t c = rw c.max-2.ensures (rw c.max.ensures (record { walk = loop_as _ _ (loop_ok _ _ _ _ _ _ _ _ _ _ _ _ c.in-Ok-bind_data.ensures.ok _ _ _ c.known_data.ensures c.in-Ok.ensures.walk c.in-Ok-walk_turns.ensures.walk c.in-Ok-walk_data.ensures.walk); few = omega (arith, c.in-Ok-walk_data.ensures.few); flat = omega (arith, c.in-Ok.ensures.flat, c.in-Ok-walk_turns.ensures.flat, c.in-Ok-walk_data.ensures.flat) }))
 
 pub walk_parts-returns-in-Err : goal.walk_parts-returns-in-Err
 walk_parts-returns-in-Err t c = record { walk = parts_fail _ _ _ _ _ _ _ _ _ _ _ c.loop-exp-test.true c.loop-exp.invariant.0 c.in-Err.ensures.walk; few = tt; flat = tt }
@@ -197,7 +201,7 @@ pub walk_turns-returns-in-Err-bound : goal.walk_turns-returns-in-Err-bound
 walk_turns-returns-in-Err-bound t c = record { walk = turned_memory _ c.in-Err-bound.ensures.err; few = tt; flat = tt }
 
 pub walk_turns-returns-in-Ok-bound : goal.walk_turns-returns-in-Ok-bound
-walk_turns-returns-in-Ok-bound t c = record { walk = counted_ok _ _ _ _ _ _ _ _ c.in-For.is _ _ _ c.in-Ok.ensures.walk c.in-Ok-bound.ensures.ok (known_data _ refl); few = c.in-Ok.ensures.few; flat = c.in-Ok.ensures.flat }
+walk_turns-returns-in-Ok-bound t c = record { walk = counted_ok _ _ _ _ _ _ _ _ c.in-For.is _ _ _ c.in-Ok.ensures.walk c.in-Ok-bound.ensures.ok c.known_data.ensures; few = c.in-Ok.ensures.few; flat = c.in-Ok.ensures.flat }
 
 pub walk_turns-returns-in-Err-walk_data : goal.walk_turns-returns-in-Err-walk_data
 walk_turns-returns-in-Err-walk_data t c = record { walk = over_stopped _ _ _ _ _ _ _ _ c.in-ForIn.is _ c.in-Err-walk_data.ensures.walk; few = tt; flat = tt }
@@ -243,13 +247,13 @@ pub run_given-loop-known-init : goal.run_given-loop-known-init
 run_given-loop-known-init t c = (given_start, refl, omega (arith, c.requires.spent), omega (arith, c.requires.level))
 
 pub run_given-loop-known-preserved : goal.run_given-loop-known-preserved
-run_given-loop-known-preserved t c = rw c.max.ensures (given_more _ _ _ _ _ _ _ _ _ _ _ (omega (arith, c.if-at-parameters.false)) c.loop-known-test.true c.loop-known.invariant.0 c.in-Ok.ensures.walk, omega (arith, c.loop-known.invariant.1), omega (arith, c.in-Ok.ensures.few), omega (arith, c.in-Ok.ensures.flat, c.loop-known.invariant.3))
+run_given-loop-known-preserved t c = rw c.max.ensures (given_more _ _ _ _ _ _ _ _ _ _ _ (omega (arith, c.if-at-parameters.false)) c.loop-known-test.true c.loop-known.invariant.0 (function_at c.known-item.is c.in-Ok.ensures.walk), omega (arith, c.loop-known.invariant.1), omega (arith, c.in-Ok.ensures.few), omega (arith, c.in-Ok.ensures.flat, c.loop-known.invariant.3))
 
 pub run_with_data-loop-left-init : goal.run_with_data-loop-left-init
 run_with_data-loop-left-init t c = (function_start, omega (arith, c.requires.spent), omega (arith, c.requires.level))
 
 pub run_with_data-loop-left-preserved : goal.run_with_data-loop-left-preserved
-run_with_data-loop-left-preserved t c = rw c.max.ensures (function_more _ _ _ _ _ _ _ _ _ c.loop-left-test.true c.loop-left.invariant.0 (known_data _ refl) c.in-Ok.ensures.walk, omega (arith, c.in-Ok.ensures.few), omega (arith, c.in-Ok.ensures.flat, c.loop-left.invariant.2))
+run_with_data-loop-left-preserved t c = rw c.max.ensures (function_more _ _ _ _ _ _ _ _ _ c.loop-left-test.true c.loop-left.invariant.0 c.known_data.ensures c.in-Ok.ensures.walk, omega (arith, c.in-Ok.ensures.few), omega (arith, c.in-Ok.ensures.flat, c.loop-left.invariant.2))
 
 pub walk_lets-loop-rest-init : goal.walk_lets-loop-rest-init
 walk_lets-loop-rest-init t c = (leads_start, omega (arith, c.requires.spent), omega (arith, c.requires.level))
