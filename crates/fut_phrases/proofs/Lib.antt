@@ -1,2 +1,1 @@
-pub mod ArrowLaws
 pub mod ReadLaws

@@ -1,7 +1,6 @@
 -- What a reader answers where one of its parts fails or where its node was made, and rows whose phrases stand between two symbols.
 use Rattle.std.proofs.Common.{◌≡◌, ◌≤◌, ◌<◌, nat_lt, ℕ, suc, true, false, Bool, List, ◌∷◌, [], length, Result, Ok, Err, refl, sym, ap, arith, rules}
 use Rattle.std.specs.Result.{IfOk}
-use Rattle.std.specs.Borrow.{Bor}
 use Rattle.fut_token.specs.declared.token.Fixed.{Fixed}
 use Rattle.fut_token.specs.declared.token.Token.{Token}
 use Rattle.fut_ast.specs.Parts.{Sign, Commas, Word}
