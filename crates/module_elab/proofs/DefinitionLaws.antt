@@ -19,7 +19,7 @@ use Rattle.fut_tree.specs.Pats.{heads_of}
 use Rattle.fut_flat.specs.declared.exp.Exp.{Exp as FlatExp}
 use Rattle.fut_flat.specs.declared.program.Definition.{Definition}
 use Rattle.fut_flat.specs.Terms.{Parameter}
-use Rattle.fut_flat.specs.Erased.{FlatTerm, parameters, term_of}
+use Rattle.fut_flat.specs.Erased.{FlatTerm, parameters}
 use Rattle.fut_flat.specs.Sources.{SourceTerm}
 use Rattle.module_scopes.specs.declared.refusal.Refusal.TheVariants as held
 use Rattle.module_scopes.specs.declared.refusal.Stop.{Stop}
@@ -31,13 +31,14 @@ use Rattle.module_scopes.specs.Scopes.{Scope, a_value, enter}
 use Rattle.module_scopes.specs.Resolve.{Bound, Numbered, after, next, resolve, with_text}
 use Rattle.module_scopes.specs.Programs.{FlatDefinition, Seen, behind, define, definition_term, has_text, is_entry_named, resolve_dec, resolve_dec_form}
 use Rattle.module_scopes.specs.Table.{entries_of, made_of, outside, scope_of}
-use Rattle.module_scopes.specs.Answers.{Went, no_memory, refusal_of, refused, went}
+use Rattle.module_scopes.specs.Answers.{Went, no_memory, refused, went}
+use Rattle.module_nodes.specs.Held.{held_term}
 use Rattle.module_types.specs.declared.binds.Heads.{Heads}
 use Rattle.module_types.specs.Bindings.{Brings, bound_heads_of, brings, brings_not, heads_numbered}
+use Rattle.module_exps.proofs.Above.{back, enter_above}
 use Rattle.module_elab.specs.declared.definitions.Written.{Written}
 use Rattle.module_elab.specs.Elaborated.{definition_of}
 use Rattle.module_elab.specs.Walks.{Gives, define_once, define_written, gives, gives_nothing, gives_refusal, seen_of}
-use Rattle.module_elab.proofs.ValueLaws.{entered_over, left_over}
 
 -- ---- a definition
 
@@ -70,18 +71,18 @@ module _ (file : ℕ) (w : Written) where
       ∙ (λ j. after (resolve value (enter (entries_of h.names.now) (sym still j)) (made_of u)) (λ x more. Ok (finished b (parameters h.heads.now) x, more)))
       ∙ (λ j. after (resolve value (sym sc j) (sym made j)) (λ x more. Ok (finished b (parameters h.heads.now) x, more)))
 
-  pub define_made : (s t u v x y : Names) (b : BindId) (h : Heads) (i : Unit {0}) (e : FlatExp) (d : Definition)
+  pub define_made : (s t u v x y : Names) (b : BindId) (h : Heads) (i : Unit {0}) (e : Bor FlatExp) (d : Definition)
       → b ≡ next (made_of s) → made_of t ≡ with_text (made_of s) w.label.name.now → scope_of t ≡ scope_of s
-      → Went bound_heads_of (heads_numbered heads) t u (Ok h) → Brings h.names.now u v (Ok i) → Went term_of (resolve value) v x (Ok e)
+      → Went bound_heads_of (heads_numbered heads) t u (Ok h) → Brings h.names.now u v (Ok i) → Went held_term (resolve value) v x (Ok e)
       → scope_of y ≡ outside (length (scope_of u)) (scope_of x) → made_of y ≡ made_of x
-      → d.bind ≡ b → d.heads ≡ h.heads → d.value.now ≡ e → d.is_entry ≡ (w.is_entry || bytes_eq w.label.name.now (codes "main")) → d.file ≡ file
+      → d.bind ≡ b → d.heads ≡ h.heads → d.value ≡ e → d.is_entry ≡ (w.is_entry || bytes_eq w.label.name.now (codes "main")) → d.file ≡ file
       → Went definition_of (define_written file w) s y (Ok d)
   unfolding after
   define_made s t u v x y b h i e d is mk same (went g still) (brings sc made) (went gave kept) left more db dh dv de df = went (
       up_to_value s t u v b h i is mk same (went g still) (brings sc made)
       ∙ ap (λ r. after r (λ x more. Ok (finished b (parameters h.heads.now) x, more))) gave
-      ∙ λ j. Ok (record { bind = sym db j; parameters = parameters (sym dh j).now; value = term_of (sym dv j); is_entry = sym de j; file = sym df j }, sym more j))
-      (left ∙ ap (outside (length (scope_of u))) (kept ∙ sc) ∙ left_over (scope_of u) (enter (entries_of h.names.now) (scope_of u)) (entered_over (entries_of h.names.now) (scope_of u)) ∙ still ∙ same)
+      ∙ λ j. Ok (record { bind = sym db j; parameters = parameters (sym dh j).now; value = held_term (sym dv j); is_entry = sym de j; file = sym df j }, sym more j))
+      (left ∙ ap (outside (length (scope_of u))) (kept ∙ sc) ∙ back (enter_above (entries_of h.names.now) (scope_of u)) ∙ still ∙ same)
 
   pub heads_stop : (s t u : Names) (b : BindId) (x : Stop) → Went bound_heads_of (heads_numbered heads) t u (Err x) → b ≡ next (made_of s) → made_of t ≡ with_text (made_of s) w.label.name.now → scope_of t ≡ scope_of s → Went definition_of (define_written file w) s u (Err x)
   unfolding after
@@ -95,15 +96,12 @@ module _ (file : ℕ) (w : Written) where
   bring_stops es s u v _ brings_not = no_memory
 
   pub value_stops : (s t u v x : Names) (b : BindId) (h : Heads) (i : Unit {0}) (e : Stop) → b ≡ next (made_of s) → made_of t ≡ with_text (made_of s) w.label.name.now → scope_of t ≡ scope_of s
-      → Went bound_heads_of (heads_numbered heads) t u (Ok h) → Brings h.names.now u v (Ok i) → Went term_of (resolve value) v x (Err e) → Went definition_of (define_written file w) s x (Err e)
+      → Went bound_heads_of (heads_numbered heads) t u (Ok h) → Brings h.names.now u v (Ok i) → Went held_term (resolve value) v x (Err e) → Went definition_of (define_written file w) s x (Err e)
   unfolding after
   value_stops s t u v x b h i _ is mk same p q (refused gave) = refused (up_to_value s t u v b h i is mk same p q ∙ ap (λ r. after r (λ x more. Ok (finished b (parameters h.heads.now) x, more))) gave)
   value_stops s t u v x b h i _ is mk same p q no_memory = no_memory
 
-  pub not_held : (s t : Names) (x : Stop) → x ≡ stop.Memory → Went definition_of (define_written file w) s t (Err x)
-  not_held s t x is = subst (λ z. Went definition_of (define_written file w) s t (Err z)) (sym is) no_memory
-
-pub ruleset define_rules = (define_made, heads_stop, bring_stops, value_stops, not_held, no_memory)
+pub ruleset define_rules = (define_made, heads_stop, bring_stops, value_stops, no_memory)
 
 -- ---- behind a definition
 

@@ -12,7 +12,6 @@ use crate::values::definition_value;
 use bumpalo::Bump;
 use fut_flat as flat;
 use fut_tree::{Dec, DecForm, Exp, Head, Held, Label, Pat, TypeExp};
-use module_nodes::exps;
 use module_scopes::{Entry, Names, Refusal, Stop, Texts};
 use module_types::{bring, numbered_heads};
 
@@ -49,7 +48,7 @@ fn defined<'a>(
     Ok(flat::Definition {
         bind,
         heads: heads.heads,
-        value: exps::held(bump, value)?,
+        value,
         is_entry: written.is_entry || written.label.name == "main",
         file,
     })

@@ -20,11 +20,12 @@ use Rattle.module_scopes.specs.declared.refusal.Stop.{Stop}
 use Rattle.module_scopes.specs.declared.table.Names.{Names}
 use Rattle.module_scopes.specs.Resolve.{Numbered, after, resolve, resolve_parameters, resolve_type, stands_behind}
 use Rattle.module_scopes.specs.Scopes.{Scope, value_of}
-use Rattle.module_scopes.specs.Answers.{Went, no_memory, Entered}
+use Rattle.module_scopes.specs.Answers.{Went, went, refused, no_memory, Entered}
 use Rattle.module_scopes.specs.Table.{scope_of, made_of, outside}
 use Rattle.module_scopes.specs.Walks.{Doing, each}
 use Rattle.module_scopes.proofs.Walking.{doing_start, doing_next, doing_stops}
 use Rattle.module_nodes.specs.Built.{Built2, Built3}
+use Rattle.module_nodes.specs.Held.{held_term}
 use Rattle.module_nodes.proofs.Steps.{of_two, of_three}
 use Rattle.module_types.specs.Bindings.{parameters_of}
 use Rattle.module_exps.specs.Lists.{Put, put, no_item, no_room}
@@ -68,62 +69,67 @@ application f e behind is = (λ i sc made. cond (standing_is (is_before e.place 
     (after (standing_same (is_before e.place f.place) f.term i sc made) (λ g made. after (resolve e.term sc made) (λ x made. Ok (Apply g x, made)))))
     ∙ (λ i sc made. cond (is i) (turned f.term e.term sc made) (in_order f.term e.term sc made))
 
-pub apply_went : (f e : SourceExp) (s t u : Names) (a b c : Result Flat Stop) → is_turned f e ≡ false → Went term_of (resolve (source_of f)) s t a → Went term_of (resolve (source_of e)) t u b
-    → Built2 (λ f e x. term_of x ≡ Apply (term_of f) (term_of e)) a b c → Went term_of (resolve (applied_to (placed f) (placed e))) s u c
+pub apply_went : (f e : SourceExp) (s t u : Names) (a b c : Result (Bor Flat) Stop) → is_turned f e ≡ false → Went held_term (resolve (source_of f)) s t a → Went held_term (resolve (source_of e)) t u b
+    → Built2 (λ f e x. held_term x ≡ Apply (held_term f) (held_term e)) a b c → Went held_term (resolve (applied_to (placed f) (placed e))) s u c
 unfolding source_of is_named is_turned
-apply_went f e s t u a b c is p q w = subst (λ does. Went term_of does s u c) (sym (application (placed f) (placed e) false is)) (of_two Apply p q w)
+apply_went f e s t u a b c is p q w = subst (λ does. Went held_term does s u c) (sym (application (placed f) (placed e) false is)) (of_two Apply p q w)
 
-pub behind_went : (f e : SourceExp) (s t u : Names) (a b c : Result Flat Stop) → is_turned f e ≡ true → Went term_of (resolve (source_of e)) s t a → Went term_of (resolve (source_of f)) t u b
-    → Built2 (λ e f x. term_of x ≡ Apply (term_of f) (term_of e)) a b c → Went term_of (resolve (applied_to (placed f) (placed e))) s u c
+pub behind_went : (f e : SourceExp) (s t u : Names) (a b c : Result (Bor Flat) Stop) → is_turned f e ≡ true → Went held_term (resolve (source_of e)) s t a → Went held_term (resolve (source_of f)) t u b
+    → Built2 (λ e f x. held_term x ≡ Apply (held_term f) (held_term e)) a b c → Went held_term (resolve (applied_to (placed f) (placed e))) s u c
 unfolding source_of is_named is_turned
-behind_went f e s t u a b c is p q w = subst (λ does. Went term_of does s u c) (sym (application (placed f) (placed e) true is)) (of_two (λ x g. Apply g x) p q w)
+behind_went f e s t u a b c is p q w = subst (λ does. Went held_term does s u c) (sym (application (placed f) (placed e) true is)) (of_two (λ x g. Apply g x) p q w)
 
 pub turned_alike : (f g a b : Bor SourceExp) → held_form.Apply f a ≡ held_form.Apply g b → is_turned f.now a.now ≡ false → is_turned g.now b.now ≡ false
 turned_alike f g a b same is = cc
 
-pub choice_went : (c a b : SourceTerm) (s t u v : Names) (x y z d : Result Flat Stop) → Went term_of (resolve c) s t x → Went term_of (resolve a) t u y → Went term_of (resolve b) u v z
-    → Built3 (λ c a b w. term_of w ≡ If (term_of c) (term_of a) (term_of b)) x y z d → Went term_of (resolve (If c a b)) s v d
+pub choice_went : (c a b : SourceTerm) (s t u v : Names) (x y z d : Result (Bor Flat) Stop) → Went held_term (resolve c) s t x → Went held_term (resolve a) t u y → Went held_term (resolve b) u v z
+    → Built3 (λ c a b w. held_term w ≡ If (held_term c) (held_term a) (held_term b)) x y z d → Went held_term (resolve (If c a b)) s v d
 unfolding resolve
 choice_went c a b s t u v x y z d p q r w = of_three If p q r w
 
-pub lambda_went : (ps : List SourcePat) (e : SourceTerm) (s s1 s2 u : Names) (h : ℕ) (a : Result (Bor (List Pat)) Stop) (b d : Result Flat Stop)
-    → Entered (λ (ps : Bor (List Pat)). parameters_of ps.now) (resolve_parameters (source.patterns (map source_pattern ps)) (scope_of s) (made_of s)) s1 a → Went term_of (resolve e) s1 s2 b
+pub lambda_went : (ps : List SourcePat) (e : SourceTerm) (s s1 s2 u : Names) (h : ℕ) (a : Result (Bor (List Pat)) Stop) (b d : Result (Bor Flat) Stop)
+    → Entered (λ (ps : Bor (List Pat)). parameters_of ps.now) (resolve_parameters (source.patterns (map source_pattern ps)) (scope_of s) (made_of s)) s1 a → Went held_term (resolve e) s1 s2 b
     → h ≡ length (scope_of s) → scope_of u ≡ outside h (scope_of s2) → made_of u ≡ made_of s2
-    → Built2 (λ (ps : Bor (List Pat)) e x. term_of x ≡ Lambda (patterns (map pattern_of ps.now)) (term_of e)) a b d → Went term_of (resolve (Lambda (source.patterns (map source_pattern ps)) e)) s u d
+    → Built2 (λ (ps : Bor (List Pat)) e x. held_term x ≡ Lambda (patterns (map pattern_of ps.now)) (held_term e)) a b d → Went held_term (resolve (Lambda (source.patterns (map source_pattern ps)) e)) s u d
 unfolding resolve
 lambda_went ps e s s1 s2 u h a b d params w hs out mk q =
     scoped (resolve_parameters (source.patterns (map source_pattern ps))) (resolve e) Lambda s s1 s2 u h a b d hs (parameters_rise (source.patterns (map source_pattern ps)) (scope_of s) (made_of s)) params w out mk q
 
 -- an expression goes as its form does
-pub exp_went : {s t : Names} {c : Result Flat Stop} (e : Inside) (v : SourceExp) (f : Form) → exp_of e ≡ v → e.form ≡ f → Went term_of (resolve (held_layer f e.place e.mark)) s t c → Went term_of (resolve (source_of v)) s t c
-exp_went {s = s} {t = t} {c = c} e v f stands is w = subst (λ x. Went term_of (resolve (source_of x)) s t c) stands (subst (λ x. Went term_of (resolve x) s t c) (sym (exp_held e)) (subst (λ g. Went term_of (resolve (held_layer g e.place e.mark)) s t c) (sym is) w))
+pub exp_went : {s t : Names} {c : Result (Bor Flat) Stop} (e : Inside) (v : SourceExp) (f : Form) → exp_of e ≡ v → e.form ≡ f → Went held_term (resolve (held_layer f e.place e.mark)) s t c → Went held_term (resolve (source_of v)) s t c
+exp_went {s = s} {t = t} {c = c} e v f stands is w = subst (λ x. Went held_term (resolve (source_of x)) s t c) stands (subst (λ x. Went held_term (resolve x) s t c) (sym (exp_held e)) (subst (λ g. Went held_term (resolve (held_layer g e.place e.mark)) s t c) (sym is) w))
 
 -- ---- bodies with a declared type
 
-pub plain_body : (e : SourceExp) (s t : Names) (c : Result Flat Stop) → Went term_of (resolve (source_of e)) s t c → Went term_of (resolve (declared None (placed e))) s t c
+pub plain_body : (e : SourceExp) (s t : Names) (c : Result (Bor Flat) Stop) → Went held_term (resolve (source_of e)) s t c → Went held_term (resolve (declared None (placed e))) s t c
 unfolding source_of
 plain_body e s t c w = w
 
-pub typed_body : (e : SourceExp) (y : SourceType) (at : Place) (s t u : Names) (a : Result Flat Stop) (b : Result (Bor FlatTy) Stop) (c : Result Flat Stop) → (placed e).place ≡ at
-    → Built2 (λ (t : Bor FlatTy) e z. term_of z ≡ Strict (Declared (type_of t.now)) at (term_and (term_of e) no_term)) b a c
-    → Went (λ (t : Bor FlatTy). type_of t.now) (resolve_type (source_type y)) s t b → Went term_of (resolve (source_of e)) t u a → Went term_of (resolve (declared (Some y) (placed e))) s u c
+pub typed_body : (e : SourceExp) (y : SourceType) (at : Place) (s t u : Names) (a : Result (Bor Flat) Stop) (b : Result (Bor FlatTy) Stop) (c : Result (Bor Flat) Stop) → (placed e).place ≡ at
+    → Built2 (λ (t : Bor FlatTy) e z. held_term z ≡ Strict (Declared (type_of t.now)) at (term_and (held_term e) no_term)) b a c
+    → Went (λ (t : Bor FlatTy). type_of t.now) (resolve_type (source_type y)) s t b → Went held_term (resolve (source_of e)) t u a → Went held_term (resolve (declared (Some y) (placed e))) s u c
 unfolding source_of
-typed_body e y at s t u a b c is q w1 w2 = subst (λ p. Went term_of (resolve (Strict (Declared (source_type y)) p (term_and ((placed e).term) no_term))) s u c) (sym is) (declared_went (source_type y) ((placed e).term) at s t u a b c q w1 w2)
+typed_body e y at s t u a b c is q w1 w2 = subst (λ p. Went held_term (resolve (Strict (Declared (source_type y)) p (term_and ((placed e).term) no_term))) s u c) (sym is) (declared_went (source_type y) ((placed e).term) at s t u a b c q w1 w2)
 
 -- ---- lists
 
-part_went : (h : Held SourceExp) (s t : Names) (r : Result Flat Stop) → Went term_of (resolve (source_of h.at.now)) s t r → Went term_of (exp_part h) s t r
+part_went : (h : Held SourceExp) (s t : Names) (a : Bor Flat) → Went held_term (resolve (source_of h.at.now)) s t (Ok a) → Went term_of (exp_part h) s t (Ok a.now)
 unfolding exp_part
-part_went h s t r w = w
+part_went h s t a (went gives same) = went gives same
+
+part_stops : (h : Held SourceExp) (s t : Names) (e : Stop) → Went held_term (resolve (source_of h.at.now)) s t (Err e) → Went term_of (exp_part h) s t (Err e)
+unfolding exp_part
+part_stops h s t _ (refused gives) = refused gives
+part_stops h s t _ no_memory = no_memory
 
 -- what a walk over one gave
-pub part_put : (xs : List (Held SourceExp)) (s t u : Names) (i : ℕ) (h : Held SourceExp) (done more : List Flat) (r : Result Flat Stop) (w : Unit {0}) → i < length xs → h ≡ get_or xs i h → Went term_of (resolve (source_of h.at.now)) t u r → Put r done more (Ok w)
+pub part_put : (xs : List (Held SourceExp)) (s t u : Names) (i : ℕ) (h : Held SourceExp) (done more : List Flat) (r : Result (Bor Flat) Stop) (w : Unit {0}) → i < length xs → h ≡ get_or xs i h → Went held_term (resolve (source_of h.at.now)) t u r → Put (λ (e : Bor Flat). e.now) r done more (Ok w)
     → Doing made_of term_of exp_part xs s (drop i xs) done t → Doing made_of term_of exp_part xs s (drop (i + 1) xs) more u
-part_put xs s t u i h done more _ w k is p (put {x = a} so) d = subst (λ l. Doing made_of term_of exp_part xs s (drop (i + 1) xs) l u) (sym so) (doing_next xs s t u i h done a k is (part_went h t u (Ok a) p) d)
+part_put xs s t u i h done more _ w k is p (put {x = a} so) d = subst (λ l. Doing made_of term_of exp_part xs s (drop (i + 1) xs) l u) (sym so) (doing_next xs s t u i h done a.now k is (part_went h t u a p) d)
 
-pub part_put_stops : {Q : Type 0} {show : Q → List FlatTerm} (xs : List (Held SourceExp)) (s t u : Names) (i : ℕ) (h : Held SourceExp) (done more : List Flat) (r : Result Flat Stop) (e : Stop) → i < length xs → h ≡ get_or xs i h → Went term_of (resolve (source_of h.at.now)) t u r → Put r done more (Err e)
+pub part_put_stops : {Q : Type 0} {show : Q → List FlatTerm} (xs : List (Held SourceExp)) (s t u : Names) (i : ℕ) (h : Held SourceExp) (done more : List Flat) (r : Result (Bor Flat) Stop) (e : Stop) → i < length xs → h ≡ get_or xs i h → Went held_term (resolve (source_of h.at.now)) t u r → Put (λ (e : Bor Flat). e.now) r done more (Err e)
     → Doing made_of term_of exp_part xs s (drop i xs) done t → Went show (each exp_part xs) s u (Err e)
-part_put_stops xs s t u i h done more _ e k is p no_item d = doing_stops xs s t u i h done e k is (part_went h t u (Err e) p) d
+part_put_stops xs s t u i h done more _ e k is p no_item d = doing_stops xs s t u i h done e k is (part_stops h t u e p) d
 part_put_stops xs s t u i h done more r _ k is p no_room d = no_memory
 
 pub ruleset start_rules = (doing_start, rows_start)

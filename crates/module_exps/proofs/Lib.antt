@@ -8,6 +8,7 @@ pub mod HeadLaws
 pub mod RowLaws
 pub mod TurnLaws
 pub mod ComposedLaws
+pub mod Gathering
 pub mod ListItems
 pub mod ListSizes
 pub mod OperationLaws

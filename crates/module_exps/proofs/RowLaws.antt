@@ -16,7 +16,7 @@ use Rattle.fut_flat.specs.declared.exp.Let.{Let as LetTree}
 use Rattle.fut_flat.specs.declared.pat.Head.{Head as FlatHead}
 use Rattle.fut_flat.specs.declared.prim.Ref.{Ref}
 use Rattle.fut_flat.specs.Terms.{Parameter, Binding, Let}
-use Rattle.fut_flat.specs.Erased.{FlatPattern, FlatTerm, Row, lets, parameters, term_of}
+use Rattle.fut_flat.specs.Erased.{FlatPattern, FlatTerm, Row, lets, parameters}
 use Rattle.fut_flat.specs.Sources as source
 use Rattle.fut_flat.specs.Sources.{SourceTerm, labels, source_parameters, source_pattern, source_term}
 use Rattle.fut_flat.proofs.ErasedForms.{row_of, row_is}
@@ -29,6 +29,7 @@ use Rattle.module_scopes.specs.Answers.{Went, went, refused, no_memory, Entered,
 use Rattle.module_scopes.specs.Table.{scope_of, made_of, outside}
 use Rattle.module_scopes.proofs.Walking.{from_here, after_assoc}
 use Rattle.module_nodes.specs.Built.{Built2, Built3, built3, first_of_three, second_of_three, third_of_three, no_memory3}
+use Rattle.module_nodes.specs.Held.{held_term}
 use Rattle.module_nodes.proofs.Steps.{by_same}
 use Rattle.module_types.specs.declared.binds.Heads.{Heads}
 use Rattle.module_types.specs.Bindings.{Brings, bound_heads_of, heads_numbered, sizes_numbered}
@@ -41,16 +42,16 @@ use Rattle.module_exps.proofs.HeadLaws.{within, within_second}
 
 -- ---- values with their parameters
 
-pub value_made : (hs : List (PlainHead Text)) (v : SourceTerm) (s s1 s2 s3 u : Names) (h : ℕ) (z : Heads) (w : Unit {0}) (x : Flat) → h ≡ length (scope_of s)
-    → Went bound_heads_of (heads_numbered hs) s s1 (Ok z) → Brings z.names.now s1 s2 (Ok w) → Went term_of (resolve v) s2 s3 (Ok x) → scope_of u ≡ outside h (scope_of s3) → made_of u ≡ made_of s3
+pub value_made : (hs : List (PlainHead Text)) (v : SourceTerm) (s s1 s2 s3 u : Names) (h : ℕ) (z : Heads) (w : Unit {0}) (x : Bor Flat) → h ≡ length (scope_of s)
+    → Went bound_heads_of (heads_numbered hs) s s1 (Ok z) → Brings z.names.now s1 s2 (Ok w) → Went held_term (resolve v) s2 s3 (Ok x) → scope_of u ≡ outside h (scope_of s3) → made_of u ≡ made_of s3
     → Went valued_of (headed_value hs v) s u (Ok (z.heads, x))
 unfolding headed_value valued_of
-value_made hs v s s1 s2 s3 u h z w x n ws bs wv out mk = within {vx = bound_heads_of} {vy = term_of} {vz = λ (v : Valued). (parameters v.0.now, term_of v.1)} (heads_numbered hs) (resolve v) (λ h v. (h.0, v)) s s1 s2 s3 u h z z.names.now w x (z.heads, x) n ws refl bs wv out mk refl
+value_made hs v s s1 s2 s3 u h z w x n ws bs wv out mk = within {vx = bound_heads_of} {vy = held_term} {vz = λ (v : Valued). (parameters v.0.now, held_term v.1)} (heads_numbered hs) (resolve v) (λ h v. (h.0, v)) s s1 s2 s3 u h z z.names.now w x (z.heads, x) n ws refl bs wv out mk refl
 
-pub value_second : (hs : List (PlainHead Text)) (v : SourceTerm) (s s1 s2 s3 : Names) (z : Heads) (w : Unit {0}) (e : Stop) → Went bound_heads_of (heads_numbered hs) s s1 (Ok z) → Brings z.names.now s1 s2 (Ok w) → Went term_of (resolve v) s2 s3 (Err e)
+pub value_second : (hs : List (PlainHead Text)) (v : SourceTerm) (s s1 s2 s3 : Names) (z : Heads) (w : Unit {0}) (e : Stop) → Went bound_heads_of (heads_numbered hs) s s1 (Ok z) → Brings z.names.now s1 s2 (Ok w) → Went held_term (resolve v) s2 s3 (Err e)
     → Went valued_of (headed_value hs v) s s3 (Err e)
 unfolding headed_value
-value_second hs v s s1 s2 s3 z w e ws bs wv = within_second {vx = bound_heads_of} {vy = term_of} (heads_numbered hs) (resolve v) (λ h v. (h.0, v)) s s1 s2 s3 z z.names.now w e ws refl bs wv
+value_second hs v s s1 s2 s3 z w e ws bs wv = within_second {vx = bound_heads_of} {vy = held_term} (heads_numbered hs) (resolve v) (λ h v. (h.0, v)) s s1 s2 s3 z z.names.now w e ws refl bs wv
 
 -- ---- one row
 
@@ -59,13 +60,13 @@ row_after b sc h v m = Ok (((record { sizes = h.0.0; parameters = v.0; is_functi
 
 pub row_made : (b : Bind) (s s1 s2 s3 : Names) (h : Head) (v : Valued) (w : Unit {0}) → Went head_of (sized_pattern (names b.sizes.now) (source_pattern b.pat.now)) s s1 (Ok h)
     → Went valued_of (headed_value (heads_of b.heads.now) (source_of b.value.now)) s1 s2 (Ok v) → Behind (head_of h) s2 s3 (Ok w)
-    → Entered row_of (row_part b (scope_of s) (made_of s)) s3 (Ok (record { sizes = h.sizes.binds; heads = v.0; is_function = b.is_function; pat = h.pat.pat; value = v.1 }))
+    → Entered row_of (row_part b (scope_of s) (made_of s)) s3 (Ok (record { sizes = h.sizes.binds; heads = v.0; is_function = b.is_function; pat = h.pat.pat; value = v.1.now }))
 unfolding row_part after row_after head_of valued_of
 row_made b s s1 s2 s3 h v w (went gh sh) (went gv sv) (now_behind sb mb) = entered (
     ap (λ r. after r (λ h m. after (headed_value (heads_of b.heads.now) (source_of b.value.now) (scope_of s) m) (λ v m. row_after b (scope_of s) h v m))) gh
     ∙ (λ i. after (headed_value (heads_of b.heads.now) (source_of b.value.now) (sym sh i) (made_of s1)) (λ v m. row_after b (scope_of s) (head_of h) v m))
     ∙ ap (λ r. after r (λ v m. row_after b (scope_of s) (head_of h) v m)) gv
-    ∙ (λ i. Ok ((sym (row_is (record { sizes = h.sizes.binds; heads = v.0; is_function = b.is_function; pat = h.pat.pat; value = v.1 })) i, place i), sym mb i)))
+    ∙ (λ i. Ok ((sym (row_is (record { sizes = h.sizes.binds; heads = v.0; is_function = b.is_function; pat = h.pat.pat; value = v.1.now })) i, place i), sym mb i)))
   where
     place : behind (head_of h) (scope_of s) ≡ scope_of s3
     place = (λ i. behind (head_of h) (sym (sv ∙ sh) i)) ∙ sym sb
@@ -89,10 +90,10 @@ entered_any (not_entered g) = not_entered g
 entered_any no_memory_entered = no_memory_entered
 
 -- of the answers for its parts
-pub row_entered : (b : Bind) (s s1 s2 s3 u t : Names) (n : ℕ) (hd hd2 : Result Head Stop) (hs : Result (Bor (List FlatHead)) Stop) (v : Result Flat Stop) (r : Result LetTree Stop)
-    → Went head_of (sized_pattern (names b.sizes.now) (source_pattern b.pat.now)) s s1 hd → n ≡ length (scope_of s1) → Brought_heads (heads_of b.heads.now) s1 s2 hs → Went term_of (resolve (source_of b.value.now)) s2 s3 v
+pub row_entered : (b : Bind) (s s1 s2 s3 u t : Names) (n : ℕ) (hd hd2 : Result Head Stop) (hs : Result (Bor (List FlatHead)) Stop) (v : Result (Bor Flat) Stop) (r : Result LetTree Stop)
+    → Went head_of (sized_pattern (names b.sizes.now) (source_pattern b.pat.now)) s s1 hd → n ≡ length (scope_of s1) → Brought_heads (heads_of b.heads.now) s1 s2 hs → Went held_term (resolve (source_of b.value.now)) s2 s3 v
     → scope_of u ≡ outside n (scope_of s3) → made_of u ≡ made_of s3 → Brought_head hd u t hd2
-    → Built3 (λ (h : Head) (hs : Bor (List FlatHead)) (v : Flat) (l : LetTree). l ≡ record { sizes = h.sizes.binds; heads = hs; is_function = b.is_function; pat = h.pat.pat; value = v }) hd2 hs v r → Entered row_of (row_part b (scope_of s) (made_of s)) t r
+    → Built3 (λ (h : Head) (hs : Bor (List FlatHead)) (v : Bor Flat) (l : LetTree). l ≡ record { sizes = h.sizes.binds; heads = hs; is_function = b.is_function; pat = h.pat.pat; value = v.now }) hd2 hs v r → Entered row_of (row_part b (scope_of s) (made_of s)) t r
 row_entered b s s1 s2 s3 u t n _ _ _ _ _ p ns (brought_heads {u = k} {z = z} {w = w} hw bs) wv out mk (brought_head {h = h} {w = x} behind) (built3 {c = y} is) =
     subst (λ l. Entered row_of (row_part b (scope_of s) (made_of s)) t (Ok l)) (sym is) (row_made b s s1 u t h (z.heads, y) x p (value_made (heads_of b.heads.now) (source_of b.value.now) s1 k s2 s3 u n z w y ns hw bs wv out mk) behind)
 row_entered b s s1 s2 s3 u t n _ _ hs v _ p ns m wv out mk no_head first_of_three = entered_any (row_first b s s1 _ p)
@@ -146,11 +147,11 @@ rows_end bs s t i done r k is (doing_rows so) = entered (
     ∙ λ j. Ok (((append-nil (map row_of done) ∙ ap (map row_of) (sym is)) j, scope_of t), made_of t))
 
 -- what a walk over one gave
-pub rows_put : (bs : List Bind) (s t u : Names) (i : ℕ) (b : Bind) (done more : List LetTree) (r : Result LetTree Stop) (w : Unit {0}) → i < length bs → b ≡ get_or bs i b → Entered row_of (row_part b (scope_of t) (made_of t)) u r → Put r done more (Ok w)
+pub rows_put : (bs : List Bind) (s t u : Names) (i : ℕ) (b : Bind) (done more : List LetTree) (r : Result LetTree Stop) (w : Unit {0}) → i < length bs → b ≡ get_or bs i b → Entered row_of (row_part b (scope_of t) (made_of t)) u r → Put (λ l. l) r done more (Ok w)
     → Doing_rows bs s (drop i bs) done t → Doing_rows bs s (drop (i + 1) bs) more u
 rows_put bs s t u i b done more _ w k is p (put {x = l} so) d = subst (λ ls. Doing_rows bs s (drop (i + 1) bs) ls u) (sym so) (rows_next bs s t u i b done l k is p d)
 
-pub rows_put_stops : {Q : Type 0} {view : Q → List Row} (bs : List Bind) (s t u : Names) (i : ℕ) (b : Bind) (done more : List LetTree) (r : Result LetTree Stop) (e : Stop) → i < length bs → b ≡ get_or bs i b → Entered row_of (row_part b (scope_of t) (made_of t)) u r → Put r done more (Err e)
+pub rows_put_stops : {Q : Type 0} {view : Q → List Row} (bs : List Bind) (s t u : Names) (i : ℕ) (b : Bind) (done more : List LetTree) (r : Result LetTree Stop) (e : Stop) → i < length bs → b ≡ get_or bs i b → Entered row_of (row_part b (scope_of t) (made_of t)) u r → Put (λ l. l) r done more (Err e)
     → Doing_rows bs s (drop i bs) done t → Entered view (each_row bs (scope_of s) (made_of s)) u (Err e)
 rows_put_stops bs s t u i b done more _ e k is p no_item d = rows_stop bs s t u i b done e k is p d
 rows_put_stops bs s t u i b done more r _ k is p no_room d = no_memory_entered
@@ -233,7 +234,7 @@ unfolding each_row
 rows_rise [] sc m = rises (same_scope sc)
 rows_rise (b ∷ bs) sc m = rises_then (λ r m. after (each_row bs r.1 m) (λ rs m. Ok ((r.0 ∷ rs.0, rs.1), m))) (row_rises b sc m) (λ r t m up. higher (λ (rs : List Row). r ∷ rs) up (rows_rise bs t m))
 
-pub lets_went : (bs : List Bind) (e : SourceTerm) (s s1 s2 u : Names) (h : ℕ) (a : Result (Bor (List LetTree)) Stop) (b : Result Flat Stop) (d : Result Flat Stop)
-    → Entered (λ (ls : Bor (List LetTree)). map row_of ls.now) (each_row bs (scope_of s) (made_of s)) s1 a → Went term_of (resolve e) s1 s2 b → h ≡ length (scope_of s) → scope_of u ≡ outside h (scope_of s2) → made_of u ≡ made_of s2
-    → Built2 (λ (ls : Bor (List LetTree)) e x. term_of x ≡ lets (map row_of ls.now) (term_of e)) a b d → Went term_of (resolve (source.lets (map sources.row_of (binds_of bs)) e)) s u d
+pub lets_went : (bs : List Bind) (e : SourceTerm) (s s1 s2 u : Names) (h : ℕ) (a : Result (Bor (List LetTree)) Stop) (b : Result (Bor Flat) Stop) (d : Result (Bor Flat) Stop)
+    → Entered (λ (ls : Bor (List LetTree)). map row_of ls.now) (each_row bs (scope_of s) (made_of s)) s1 a → Went held_term (resolve e) s1 s2 b → h ≡ length (scope_of s) → scope_of u ≡ outside h (scope_of s2) → made_of u ≡ made_of s2
+    → Built2 (λ (ls : Bor (List LetTree)) e x. held_term x ≡ lets (map row_of ls.now) (held_term e)) a b d → Went held_term (resolve (source.lets (map sources.row_of (binds_of bs)) e)) s u d
 lets_went bs e s s1 s2 u h a b d rows w hs out mk q = by_same (lets_each bs e) (scoped (each_row bs) (resolve e) lets s s1 s2 u h a b d hs (rows_rise bs (scope_of s) (made_of s)) rows w out mk q)

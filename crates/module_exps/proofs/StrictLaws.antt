@@ -27,6 +27,7 @@ use Rattle.module_scopes.specs.Answers.{Went}
 use Rattle.module_scopes.specs.Walks.{each}
 use Rattle.module_scopes.proofs.Walking.{after_assoc}
 use Rattle.module_nodes.specs.Built.{Built1, Built2, built2, first_of_two, second_of_two, no_memory2}
+use Rattle.module_nodes.specs.Held.{held_term}
 use Rattle.module_nodes.proofs.Steps.{Does, by_same, of_one, of_two}
 use Rattle.module_types.proofs.TypeLists.{one_more}
 use Rattle.module_exps.specs.Plain.{Plain, plain_integer, plain_truth, plain_tuple, plain_record, plain_array, plain_binary, plain_negate, plain_complement, plain_index, plain_project, plain_update, plain_replace, plain_assert, plain_range}
@@ -57,10 +58,10 @@ plain_is plain_assert mark ts sc m = refl
 plain_is plain_range mark ts sc m = refl
 
 -- what a walk over the parts gives, and the operation on it
-strict_went : {D : Many} (o : Operation Spelled Label) (p : Operation Ref BindId) (mark : Place) (ts : SourceTerms) (s t : Names) (b : Result (Bor (List Flat)) Stop) (c : Result Flat Stop)
+strict_went : {D : Many} (o : Operation Spelled Label) (p : Operation Ref BindId) (mark : Place) (ts : SourceTerms) (s t : Names) (b : Result (Bor (List Flat)) Stop) (c : Result (Bor Flat) Stop)
     → Plain o p → ((sc : Scope) (m : List Text) → resolve_all ts sc m ≡ after (D sc m) (λ ys m. Ok (terms ys, m)))
-    → Went (λ (es : Bor (List Flat)). map term_of es.now) D s t b → Built1 (λ (es : Bor (List Flat)) x. term_of x ≡ Strict p mark (terms (map term_of es.now))) b c
-    → Went term_of (resolve (Strict o mark ts)) s t c
+    → Went (λ (es : Bor (List Flat)). map term_of es.now) D s t b → Built1 (λ (es : Bor (List Flat)) x. held_term x ≡ Strict p mark (terms (map term_of es.now))) b c
+    → Went held_term (resolve (Strict o mark ts)) s t c
 unfolding after
 strict_went {D = D} o p mark ts s t b c plain all w q = by_same same (of_one (λ ys. Strict p mark (terms ys)) w q)
   where
@@ -94,15 +95,15 @@ two_same x y sc m =
     one_more terms term_and (λ y ys. refl) (resolve x sc m) (resolve_all (one y) sc) (one_part y sc) (one_same y sc)
     ∙ ap (λ r. after r (λ ys m. Ok (terms ys, m))) (λ i. after (resolve x sc m) (λ a m. after_assoc (resolve y sc m) (λ b m. Ok (b ∷ [], m)) (λ ys m. Ok (a ∷ ys, m)) i))
 
-pub two_went : (o : Operation Spelled Label) (p : Operation Ref BindId) (mark : Place) (x y : SourceTerm) (s t u : Names) (r1 r2 : Result Flat Stop) (b : Result (Bor (List Flat)) Stop) (c : Result Flat Stop)
-    → Built1 (λ (es : Bor (List Flat)) x. term_of x ≡ Strict p mark (terms (map term_of es.now))) b c → Built2 (λ e f (es : Bor (List Flat)). es.now ≡ e ∷ f ∷ []) r1 r2 b
-    → Went term_of (resolve x) s t r1 → Went term_of (resolve y) t u r2 → Plain o p → Went term_of (resolve (Strict o mark (term_and x (term_and y no_term)))) s u c
+pub two_went : (o : Operation Spelled Label) (p : Operation Ref BindId) (mark : Place) (x y : SourceTerm) (s t u : Names) (r1 r2 : Result (Bor Flat) Stop) (b : Result (Bor (List Flat)) Stop) (c : Result (Bor Flat) Stop)
+    → Built1 (λ (es : Bor (List Flat)) x. held_term x ≡ Strict p mark (terms (map term_of es.now))) b c → Built2 (λ e f (es : Bor (List Flat)). es.now ≡ e.now ∷ f.now ∷ []) r1 r2 b
+    → Went held_term (resolve x) s t r1 → Went held_term (resolve y) t u r2 → Plain o p → Went held_term (resolve (Strict o mark (term_and x (term_and y no_term)))) s u c
 two_went o p mark x y s t u r1 r2 b c q l w1 w2 plain = strict_went o p mark (two x y) s u b c plain (two_same x y) (of_two (λ a b. a ∷ b ∷ []) w1 w2 (built2_as (λ a b c is. ap (map term_of) is) l)) q
 
-pub binary_went : (op : Oper) (b : BinOp) (mark : Place) (x y : SourceTerm) (s t u : Names) (r1 r2 : Result Flat Stop) (l : Result (Bor (List Flat)) Stop) (c : Result Flat Stop)
-    → Some b ≡ operation_in op → Built1 (λ (es : Bor (List Flat)) x. term_of x ≡ Strict (Binary b) mark (terms (map term_of es.now))) l c → Built2 (λ e f (es : Bor (List Flat)). es.now ≡ e ∷ f ∷ []) r1 r2 l
-    → Went term_of (resolve x) s t r1 → Went term_of (resolve y) t u r2 → Went term_of (resolve (joined op mark x y)) s u c
-binary_went op b mark x y s t u r1 r2 l c is q p w1 w2 = subst (λ z. Went term_of (resolve z) s u c) (sym (as_binary op is)) (two_went (Binary b) (Binary b) mark x y s t u r1 r2 l c q p w1 w2 plain_binary)
+pub binary_went : (op : Oper) (b : BinOp) (mark : Place) (x y : SourceTerm) (s t u : Names) (r1 r2 : Result (Bor Flat) Stop) (l : Result (Bor (List Flat)) Stop) (c : Result (Bor Flat) Stop)
+    → Some b ≡ operation_in op → Built1 (λ (es : Bor (List Flat)) x. held_term x ≡ Strict (Binary b) mark (terms (map term_of es.now))) l c → Built2 (λ e f (es : Bor (List Flat)). es.now ≡ e.now ∷ f.now ∷ []) r1 r2 l
+    → Went held_term (resolve x) s t r1 → Went held_term (resolve y) t u r2 → Went held_term (resolve (joined op mark x y)) s u c
+binary_went op b mark x y s t u r1 r2 l c is q p w1 w2 = subst (λ z. Went held_term (resolve z) s u c) (sym (as_binary op is)) (two_went (Binary b) (Binary b) mark x y s t u r1 r2 l c q p w1 w2 plain_binary)
   where
     as_binary : (op : Oper) → Some b ≡ operation_in op → joined op mark x y ≡ Strict (Binary b) mark (two x y)
     as_binary (oper.Bin d) is = cc
@@ -118,10 +119,10 @@ unfolding resolve_all each terms source.terms after exp_part source_of
 exps_each [] sc m = refl
 exps_each (h ∷ hs) sc m = one_more terms term_and (λ y ys. refl) (exp_part h sc m) (resolve_all (source.terms (map placed (all hs))) sc) (each exp_part hs sc) (exps_each hs sc)
 
-pub listed_went : (o : Operation Spelled Label) (p : Operation Ref BindId) (mark : Place) (xs : List SourceExp) (hs : List (Held SourceExp)) (s t : Names) (b : Result (Bor (List Flat)) Stop) (c : Result Flat Stop)
-    → Built1 (λ (es : Bor (List Flat)) x. term_of x ≡ Strict p mark (terms (map term_of es.now))) b c → Went (λ (es : Bor (List Flat)). map term_of es.now) (each exp_part hs) s t b
-    → all hs ≡ xs → Plain o p → Went term_of (resolve (Strict o mark (source.terms (map placed xs)))) s t c
-listed_went o p mark xs hs s t b c q w is plain = subst (λ l. Went term_of (resolve (Strict o mark (source.terms (map placed l)))) s t c) is (strict_went o p mark (source.terms (map placed (all hs))) s t b c plain (exps_each hs) w q)
+pub listed_went : (o : Operation Spelled Label) (p : Operation Ref BindId) (mark : Place) (xs : List SourceExp) (hs : List (Held SourceExp)) (s t : Names) (b : Result (Bor (List Flat)) Stop) (c : Result (Bor Flat) Stop)
+    → Built1 (λ (es : Bor (List Flat)) x. held_term x ≡ Strict p mark (terms (map term_of es.now))) b c → Went (λ (es : Bor (List Flat)). map term_of es.now) (each exp_part hs) s t b
+    → all hs ≡ xs → Plain o p → Went held_term (resolve (Strict o mark (source.terms (map placed xs)))) s t c
+listed_went o p mark xs hs s t b c q w is plain = subst (λ l. Went held_term (resolve (Strict o mark (source.terms (map placed l)))) s t c) is (strict_went o p mark (source.terms (map placed (all hs))) s t b c plain (exps_each hs) w q)
 
 -- the names of a record's fields
 pub record_names : (fs : List ExpField) (ns : List (Bor Text)) → ns ≡ map (λ (f : ExpField). f.name) fs → texts ns ≡ map (λ (f : ExpField). f.name.now) fs
@@ -147,19 +148,19 @@ declared_same y x mark sc m =
     after_assoc (resolve_type y sc m) (λ t m. Ok (Declared t, m)) (λ o m. after (after (resolve x sc m) (λ a m. Ok (term_and a no_term, m))) (λ ts m. Ok (Strict o mark ts, m)))
     ∙ (λ i. after (resolve_type y sc m) (λ t m. after_assoc (resolve x sc m) (λ a m. Ok (term_and a no_term, m)) (λ ts m. Ok (Strict (Declared t) mark ts, m)) i))
 
-pub ascribed_went : (y : WrittenType) (x : SourceTerm) (mark : Place) (s t u : Names) (a : Result Flat Stop) (b : Result (Bor FlatTy) Stop) (c : Result Flat Stop)
-    → Built2 (λ e (t : Bor FlatTy) z. term_of z ≡ Strict (Ascribe (type_of t.now)) mark (term_and (term_of e) no_term)) a b c
-    → Went term_of (resolve x) s t a → Went (λ (t : Bor FlatTy). type_of t.now) (resolve_type y) t u b → Went term_of (resolve (Strict (Ascribe y) mark (term_and x no_term))) s u c
+pub ascribed_went : (y : WrittenType) (x : SourceTerm) (mark : Place) (s t u : Names) (a : Result (Bor Flat) Stop) (b : Result (Bor FlatTy) Stop) (c : Result (Bor Flat) Stop)
+    → Built2 (λ e (t : Bor FlatTy) z. held_term z ≡ Strict (Ascribe (type_of t.now)) mark (term_and (held_term e) no_term)) a b c
+    → Went held_term (resolve x) s t a → Went (λ (t : Bor FlatTy). type_of t.now) (resolve_type y) t u b → Went held_term (resolve (Strict (Ascribe y) mark (term_and x no_term))) s u c
 ascribed_went y x mark s t u a b c q w1 w2 = by_same (ascribed_same y x mark) (of_two (λ a t. Strict (Ascribe t) mark (term_and a no_term)) w1 w2 q)
 
-pub coerced_went : (y : WrittenType) (x : SourceTerm) (mark : Place) (s t u : Names) (a : Result Flat Stop) (b : Result (Bor FlatTy) Stop) (c : Result Flat Stop)
-    → Built2 (λ e (t : Bor FlatTy) z. term_of z ≡ Strict (Coerce (type_of t.now)) mark (term_and (term_of e) no_term)) a b c
-    → Went term_of (resolve x) s t a → Went (λ (t : Bor FlatTy). type_of t.now) (resolve_type y) t u b → Went term_of (resolve (Strict (Coerce y) mark (term_and x no_term))) s u c
+pub coerced_went : (y : WrittenType) (x : SourceTerm) (mark : Place) (s t u : Names) (a : Result (Bor Flat) Stop) (b : Result (Bor FlatTy) Stop) (c : Result (Bor Flat) Stop)
+    → Built2 (λ e (t : Bor FlatTy) z. held_term z ≡ Strict (Coerce (type_of t.now)) mark (term_and (held_term e) no_term)) a b c
+    → Went held_term (resolve x) s t a → Went (λ (t : Bor FlatTy). type_of t.now) (resolve_type y) t u b → Went held_term (resolve (Strict (Coerce y) mark (term_and x no_term))) s u c
 coerced_went y x mark s t u a b c q w1 w2 = by_same (coerced_same y x mark) (of_two (λ a t. Strict (Coerce t) mark (term_and a no_term)) w1 w2 q)
 
-pub declared_went : (y : WrittenType) (x : SourceTerm) (mark : Place) (s t u : Names) (a : Result Flat Stop) (b : Result (Bor FlatTy) Stop) (c : Result Flat Stop)
-    → Built2 (λ (t : Bor FlatTy) e z. term_of z ≡ Strict (Declared (type_of t.now)) mark (term_and (term_of e) no_term)) b a c
-    → Went (λ (t : Bor FlatTy). type_of t.now) (resolve_type y) s t b → Went term_of (resolve x) t u a → Went term_of (resolve (Strict (Declared y) mark (term_and x no_term))) s u c
+pub declared_went : (y : WrittenType) (x : SourceTerm) (mark : Place) (s t u : Names) (a : Result (Bor Flat) Stop) (b : Result (Bor FlatTy) Stop) (c : Result (Bor Flat) Stop)
+    → Built2 (λ (t : Bor FlatTy) e z. held_term z ≡ Strict (Declared (type_of t.now)) mark (term_and (held_term e) no_term)) b a c
+    → Went (λ (t : Bor FlatTy). type_of t.now) (resolve_type y) s t b → Went held_term (resolve x) t u a → Went held_term (resolve (Strict (Declared y) mark (term_and x no_term))) s u c
 declared_went y x mark s t u a b c q w1 w2 = by_same (declared_same y x mark) (of_two (λ t a. Strict (Declared t) mark (term_and a no_term)) w1 w2 q)
 
 pub ruleset plain_rules = (plain_integer, plain_truth, plain_tuple, plain_record, plain_array, plain_binary, plain_negate, plain_complement, plain_index, plain_project, plain_update, plain_replace, plain_assert, plain_range)

@@ -5,6 +5,7 @@ ghost use Rattle.fut_flat.specs.Sources.{declared, placed};
 ghost use Rattle.fut_flat.proofs.ErasedForms.{row_of, turns_of};
 ghost use Rattle.fut_tree.specs.Names.{maybe};
 ghost use Rattle.module_nodes.specs.Built.{Built0};
+ghost use Rattle.module_nodes.specs.Held.{held_term};
 ghost use Rattle.module_nodes.specs.declared.rows.Turning.{Turning};
 ghost use Rattle.module_scopes.specs.Answers.{Entered, Went};
 ghost use Rattle.module_scopes.specs.Resolve.{resolve};
@@ -24,7 +25,7 @@ use crate::heads::{
     sized_pattern,
 };
 use crate::leaves::{is_behind, operator, used};
-use crate::lists::put;
+use crate::lists::{put, put_exp};
 use crate::operations::{Operation, gathered, operation_of};
 use bumpalo::Bump;
 use bumpalo::collections::into_bump_slice;
@@ -38,12 +39,12 @@ use module_types::{in_scope, numbered, resolved_parameters, resolved_type};
 /// An expression with its names resolved.
 #[cycle(exps)]
 #[tactic(auto)]
-pub fn walked<'a>(
+fn walked<'a>(
     exp: &'a Exp<'a>,
     bump: &'a Bump,
     names: &mut Names<'a>,
-) -> Result<flat::Exp<'a>, Stop<'a>>
-    ensures { Went term_of (resolve (source_of exp.now)) names.old names.new result }
+) -> Result<&'a flat::Exp<'a>, Stop<'a>>
+    ensures { Went held_term (resolve (source_of exp.now)) names.old names.new result }
 {
     match taken_by(exp) {
         Group::Applying => walked_applying(exp, bump, names),
@@ -64,9 +65,9 @@ fn walked_applying<'a>(
     exp: &'a Exp<'a>,
     bump: &'a Bump,
     names: &mut Names<'a>,
-) -> Result<flat::Exp<'a>, Stop<'a>>
+) -> Result<&'a flat::Exp<'a>, Stop<'a>>
     requires { group_of exp.now ≡ group.Applying }
-    ensures { Went term_of (resolve (source_of exp.now)) names.old names.new result }
+    ensures { Went held_term (resolve (source_of exp.now)) names.old names.new result }
 {
     match exp.form {
         Form::Path(path) => used(path, exp.place, bump, names),
@@ -97,9 +98,9 @@ fn walked_choosing<'a>(
     exp: &'a Exp<'a>,
     bump: &'a Bump,
     names: &mut Names<'a>,
-) -> Result<flat::Exp<'a>, Stop<'a>>
+) -> Result<&'a flat::Exp<'a>, Stop<'a>>
     requires { group_of exp.now ≡ group.Choosing }
-    ensures { Went term_of (resolve (source_of exp.now)) names.old names.new result }
+    ensures { Went held_term (resolve (source_of exp.now)) names.old names.new result }
 {
     match exp.form {
         Form::If(test, yes, no) => {
@@ -122,9 +123,9 @@ fn walked_binding<'a>(
     exp: &'a Exp<'a>,
     bump: &'a Bump,
     names: &mut Names<'a>,
-) -> Result<flat::Exp<'a>, Stop<'a>>
+) -> Result<&'a flat::Exp<'a>, Stop<'a>>
     requires { group_of exp.now ≡ group.Binding }
-    ensures { Went term_of (resolve (source_of exp.now)) names.old names.new result }
+    ensures { Went held_term (resolve (source_of exp.now)) names.old names.new result }
 {
     let height = names.height();
     match exp.form {
@@ -151,15 +152,15 @@ fn walked_joining<'a>(
     exp: &'a Exp<'a>,
     bump: &'a Bump,
     names: &mut Names<'a>,
-) -> Result<flat::Exp<'a>, Stop<'a>>
+) -> Result<&'a flat::Exp<'a>, Stop<'a>>
     requires { group_of exp.now ≡ group.Joining }
-    ensures { Went term_of (resolve (source_of exp.now)) names.old names.new result }
+    ensures { Went held_term (resolve (source_of exp.now)) names.old names.new result }
 {
     match exp.form {
         Form::Binary(op, left, right) => match operator(op) {
             Some(op) => {
                 let parts = nodes::two(bump, walked(left, bump, names), walked(right, bump, names));
-                nodes::strict(exp.place, exp.mark, Act::Binary(op), parts)
+                nodes::strict(bump, exp.place, exp.mark, Act::Binary(op), parts)
             }
             None => {
                 let height = names.height();
@@ -185,9 +186,9 @@ fn walked_looping<'a>(
     exp: &'a Exp<'a>,
     bump: &'a Bump,
     names: &mut Names<'a>,
-) -> Result<flat::Exp<'a>, Stop<'a>>
+) -> Result<&'a flat::Exp<'a>, Stop<'a>>
     requires { group_of exp.now ≡ group.Looping }
-    ensures { Went term_of (resolve (source_of exp.now)) names.old names.new result }
+    ensures { Went held_term (resolve (source_of exp.now)) names.old names.new result }
 {
     match exp.form {
         Form::Loop(sizes, pat, first, turns, body) => {
@@ -218,9 +219,9 @@ fn walked_typed<'a>(
     exp: &'a Exp<'a>,
     bump: &'a Bump,
     names: &mut Names<'a>,
-) -> Result<flat::Exp<'a>, Stop<'a>>
+) -> Result<&'a flat::Exp<'a>, Stop<'a>>
     requires { group_of exp.now ≡ group.Typed }
-    ensures { Went term_of (resolve (source_of exp.now)) names.old names.new result }
+    ensures { Went held_term (resolve (source_of exp.now)) names.old names.new result }
 {
     match exp.form {
         Form::Ascribe(part, ty) => {
@@ -253,14 +254,14 @@ fn walked_operation<'a>(
     of: Result<Operation<'a>, Stop<'a>>,
     bump: &'a Bump,
     names: &mut Names<'a>,
-) -> Result<flat::Exp<'a>, Stop<'a>>
+) -> Result<&'a flat::Exp<'a>, Stop<'a>>
     requires { Built0 (Operates exp.now) of }
-    ensures { Went term_of (resolve (source_of exp.now)) names.old names.new result }
+    ensures { Went held_term (resolve (source_of exp.now)) names.old names.new result }
 {
     match of {
         Ok(of) => {
             let parts = walked_parts(of.parts, bump, names);
-            nodes::strict(exp.place, exp.mark, of.act, parts)
+            nodes::strict(bump, exp.place, exp.mark, of.act, parts)
         }
         Err(stop) => Err(stop),
     }
@@ -277,7 +278,7 @@ fn walked_parts<'a>(
 {
     let mut made = Vec::new(bump);
     for part in parts {
-        put(walked(part.at, bump, names), &mut made)?;
+        put_exp(walked(part.at, bump, names), &mut made)?;
     }
     Ok(into_bump_slice(made))
 }
@@ -285,13 +286,13 @@ fn walked_parts<'a>(
 /// A function's body, with the declared type of its result.
 #[cycle(exps)]
 #[tactic(auto)]
-fn walked_body<'a>(
+pub fn walked_body<'a>(
     body: &'a Exp<'a>,
     ty: Option<&'a TypeExp<'a>>,
     bump: &'a Bump,
     names: &mut Names<'a>,
-) -> Result<flat::Exp<'a>, Stop<'a>>
-    ensures { Went term_of (resolve (declared (maybe ty.entry) (placed body.now))) names.old names.new result }
+) -> Result<&'a flat::Exp<'a>, Stop<'a>>
+    ensures { Went held_term (resolve (declared (maybe ty.entry) (placed body.now))) names.old names.new result }
 {
     match ty {
         None => walked(body, bump, names),

@@ -1,9 +1,10 @@
 // Names that are used, and operators.
 ghost use Rattle.std.specs.Prelude.{◌≡◌};
-ghost use Rattle.fut_flat.specs.Erased.{operation_of, term_of};
+ghost use Rattle.fut_flat.specs.Erased.{operation_of};
 ghost use Rattle.fut_flat.specs.Sources.{is_before, names_before, negated, spelled};
 ghost use Rattle.fut_flat.specs.Terms.{Use};
 ghost use Rattle.fut_tree.specs.Names.{names as texts_of};
+ghost use Rattle.module_nodes.specs.Held.{held_term};
 ghost use Rattle.module_scopes.specs.Answers.{Went};
 ghost use Rattle.module_scopes.specs.Resolve.{resolve};
 ghost use Rattle.module_exps.specs.Lists.{operation_in};
@@ -25,8 +26,8 @@ pub fn used<'a>(
     at: Place,
     bump: &'a Bump,
     names: &Names<'a>,
-) -> Result<Exp<'a>, Stop<'a>>
-    ensures { Went term_of (resolve (Use (spelled (texts_of path.now) at) at (names_before (texts_of path.now)))) names.now names.now result }
+) -> Result<&'a Exp<'a>, Stop<'a>>
+    ensures { Went held_term (resolve (Use (spelled (texts_of path.now) at) at (names_before (texts_of path.now)))) names.now names.now result }
 {
     match value_of(names, path, at) {
         Ok(found) => uses::path(bump, at, found.names, found.modules, found.fields),

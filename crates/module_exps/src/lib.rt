@@ -2,8 +2,9 @@
 //! the definition, `fut_flat/specs/Sources.antt` says which sugar a tree has.
 #![tactic(auto)]
 
-ghost use Rattle.fut_flat.specs.Erased.{term_of};
-ghost use Rattle.fut_flat.specs.Sources.{source_term};
+ghost use Rattle.fut_flat.specs.Sources.{declared, placed};
+ghost use Rattle.fut_tree.specs.Names.{maybe};
+ghost use Rattle.module_nodes.specs.Held.{held_term};
 ghost use Rattle.module_scopes.specs.Answers.{Went};
 ghost use Rattle.module_scopes.specs.Resolve.{resolve};
 
@@ -18,18 +19,19 @@ mod operations;
 
 use bumpalo::Bump;
 use fut_flat as flat;
-use fut_tree::Exp;
+use fut_tree::{Exp, TypeExp};
 use module_scopes::{Names, Stop};
 
-/// An expression with its names resolved and its sugar opened. The names in scope are as before. The first name that is
-/// refused, in order of text, is the answer, or memory ran out.
-#[tactic(auto, unfolding(crate::specs::Parts::source_of))]
-pub fn resolved_exp<'a>(
-    exp: &'a Exp<'a>,
+/// A body with its names resolved and its sugar opened, held by the arena, and the declared type of its result, where one
+/// is written. The names in scope are as before. The first name that is refused, in order of text, is the answer, or memory
+/// ran out.
+pub fn resolved_body<'a>(
+    body: &'a Exp<'a>,
+    ty: Option<&'a TypeExp<'a>>,
     bump: &'a Bump,
     names: &mut Names<'a>,
-) -> Result<flat::Exp<'a>, Stop<'a>>
-    ensures { Went term_of (resolve (source_term exp.now)) names.old names.new result }
+) -> Result<&'a flat::Exp<'a>, Stop<'a>>
+    ensures { Went held_term (resolve (declared (maybe ty.entry) (placed body.now))) names.old names.new result }
 {
-    exps::walked(exp, bump, names)
+    exps::walked_body(body, ty, bump, names)
 }

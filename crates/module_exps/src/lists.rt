@@ -9,6 +9,7 @@ ghost use Rattle.module_exps.specs.Lists.{Put, all_exps, exps_of, maybe_exp, par
 
 use bumpalo::Bump;
 use bumpalo::collections::into_bump_slice;
+use fut_flat as flat;
 use fut_flat::Part;
 use fut_tree::{Exp, ExpField, Held, Ix};
 use module_scopes::Stop;
@@ -18,10 +19,26 @@ pub fn put<'a, T: Copy>(
     next: Result<T, Stop<'a>>,
     made: &mut Vec<T, &'a Bump>,
 ) -> Result<(), Stop<'a>>
-    ensures { Put next.entry made.old.items made.new.items result }
+    ensures { Put (λ x. x) next.entry made.old.items made.new.items result }
 {
     match next {
         Ok(next) => match made.push(next) {
+            Ok(()) => Ok(()),
+            Err(_) => Err(Stop::Memory),
+        },
+        Err(stop) => Err(stop),
+    }
+}
+
+/// The same of an expression that the arena holds, which is copied.
+pub fn put_exp<'a>(
+    next: Result<&'a flat::Exp<'a>, Stop<'a>>,
+    made: &mut Vec<flat::Exp<'a>, &'a Bump>,
+) -> Result<(), Stop<'a>>
+    ensures { Put (λ e. e.now) next.entry made.old.items made.new.items result }
+{
+    match next {
+        Ok(next) => match made.push(*next) {
             Ok(()) => Ok(()),
             Err(_) => Err(Stop::Memory),
         },

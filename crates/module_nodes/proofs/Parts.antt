@@ -1,5 +1,5 @@
 -- Nodes that are made of other builders' nodes.
-use Rattle.std.proofs.Common.{◌≡◌, ℕ, ◌+◌, ◌<◌, ◌≤◌, List, [], ◌∷◌, map, length, drop, get_or, Bool, true, false, sym, ◌∙◌, ap, Result, Ok}
+use Rattle.std.proofs.Common.{◌≡◌, ℕ, ◌+◌, ◌<◌, ◌≤◌, List, [], ◌∷◌, map, length, drop, get_or, Bool, true, false, refl, sym, ◌∙◌, ap, Result, Ok}
 use Rattle.std.proofs.Math.ListN.{drop_of_length-le}
 use Rattle.std.proofs.lemmas.List.{drop_more}
 use Rattle.std.specs.Borrow.{Bor}
@@ -25,16 +25,16 @@ use Rattle.module_nodes.specs.Composed.{composition, name_alone, ordered, twice_
 use Rattle.module_nodes.specs.declared.rows.Functions.{Functions}
 use Rattle.module_nodes.specs.Paths.{Projects, projects, projects_not}
 
-strict_one : (a : Act) (mark : Place) (e x : Exp) (es : Bor (List Exp)) → es.now ≡ e ∷ [] → term_of x ≡ Strict (operation_of a) mark (terms (map term_of es.now)) → term_of x ≡ Strict (operation_of a) mark (term_and (term_of e) no_term)
+strict_one : (a : Act) (mark : Place) (e x : Bor Exp) (es : Bor (List Exp)) → es.now ≡ e.now ∷ [] → term_of x.now ≡ Strict (operation_of a) mark (terms (map term_of es.now)) → term_of x.now ≡ Strict (operation_of a) mark (term_and (term_of e.now) no_term)
 unfolding terms
 strict_one a mark e x es is at = at ∙ ap (λ l. Strict (operation_of a) mark (terms (map term_of l))) is
 
 -- ---- operations on one part
 
-pub part_made : (a : Act) (mark : Place) (r : Result Exp Stop) (b : Result (Bor (List Exp)) Stop) (c : Result Exp Stop)
-    → Built1 (λ e es. es.now ≡ e ∷ []) r b → Built1 (λ es x. term_of x ≡ Strict (operation_of a) mark (terms (map term_of es.now))) b c
-    → Built1 (λ e x. term_of x ≡ Strict (operation_of a) mark (term_and (term_of e) no_term)) r c
-part_made a mark _ _ _ (built1 {c = es} is) (built1 eq) = built1 (strict_one a mark _ _ es is eq)
+pub part_made : (a : Act) (mark : Place) (r : Result (Bor Exp) Stop) (b : Result (Bor (List Exp)) Stop) (c : Result (Bor Exp) Stop)
+    → Built1 (λ e es. es.now ≡ e.now ∷ []) r b → Built1 (λ es x. term_of x.now ≡ Strict (operation_of a) mark (terms (map term_of es.now))) b c
+    → Built1 (λ e x. term_of x.now ≡ Strict (operation_of a) mark (term_and (term_of e.now) no_term)) r c
+part_made a mark _ _ _ (built1 {a = e} {c = es} is) (built1 {c = x} eq) = built1 (strict_one a mark e x es is eq)
 part_made a mark _ _ _ (built1 is) no_memory1 = no_memory1
 part_made a mark _ _ _ stops1 stops1 = stops1
 part_made a mark _ _ _ stops1 no_memory1 = no_memory1
@@ -43,61 +43,64 @@ part_made a mark _ _ _ no_memory1 no_memory1 = no_memory1
 
 -- ---- paths
 
-pub path_start : (at : Place) (fs : List (Bor Text)) (e : Exp) (r : Ref) (k : ℕ) → e.place ≡ at → e.form ≡ form.Use r k → Projects at (projected at (Use r at k) (texts fs)) fs (Ok e)
-path_start at fs e r k p is = projects (ap (λ t. projected at t (texts fs)) (term_use e r k is ∙ ap (λ p. Use r p k) p))
+pub path_start : (at : Place) (fs : List (Bor Text)) (r : Ref) (k : ℕ) (c : Result (Bor Exp) Stop) → Built0 (λ x. x.now ≡ record { place = at; form = form.Use r k }) c → Projects at (projected at (Use r at k) (texts fs)) fs c
+path_start at fs r k _ (built0 is) = projects (ap (λ t. projected at t (texts fs)) (ap term_of is ∙ term_use _ r k refl))
+path_start at fs r k _ no_memory0 = projects_not
 
-pub path_next : (at : Place) (all : FlatTerm) (fs : List (Bor Text)) (i : ℕ) (f : Bor Text) (r c : Result Exp Stop) → i < length fs → f ≡ get_or fs i f → Projects at all (drop i fs) r
-    → Built1 (λ e x. term_of x ≡ Strict (Project f.now) at (term_and (term_of e) no_term)) r c → Projects at all (drop (i + 1) fs) c
+pub path_next : (at : Place) (all : FlatTerm) (fs : List (Bor Text)) (i : ℕ) (f : Bor Text) (r c : Result (Bor Exp) Stop) → i < length fs → f ≡ get_or fs i f → Projects at all (drop i fs) r
+    → Built1 (λ e x. term_of x.now ≡ Strict (Project f.now) at (term_and (term_of e.now) no_term)) r c → Projects at all (drop (i + 1) fs) c
 unfolding projected
-path_next at all fs i f _ _ k is (projects {x = x} so) (built1 eq) = projects (ap (λ t. projected at t (texts (drop (i + 1) fs))) eq ∙ sym (ap (λ l. projected at (term_of x) (texts l)) (from_here fs i f k is)) ∙ so)
+path_next at all fs i f _ _ k is (projects {x = x} so) (built1 eq) = projects (ap (λ t. projected at t (texts (drop (i + 1) fs))) eq ∙ sym (ap (λ l. projected at (term_of x.now) (texts l)) (from_here fs i f k is)) ∙ so)
 path_next at all fs i f _ _ k is (projects so) no_memory1 = projects_not
 path_next at all fs i f _ _ k is projects_not stops1 = projects_not
 path_next at all fs i f _ _ k is projects_not no_memory1 = projects_not
 
-pub path_next_at : (at : Place) (all : FlatTerm) (fs : List (Bor Text)) (i : ℕ) (d : Bor Text) (r c : Result Exp Stop) → i < length fs → Projects at all (drop i fs) r
-    → Built1 (λ e x. term_of x ≡ Strict (Project ((get_or fs i d).now)) at (term_and (term_of e) no_term)) r c → Projects at all (drop (i + 1) fs) c
+pub path_next_at : (at : Place) (all : FlatTerm) (fs : List (Bor Text)) (i : ℕ) (d : Bor Text) (r c : Result (Bor Exp) Stop) → i < length fs → Projects at all (drop i fs) r
+    → Built1 (λ e x. term_of x.now ≡ Strict (Project ((get_or fs i d).now)) at (term_and (term_of e.now) no_term)) r c → Projects at all (drop (i + 1) fs) c
 path_next_at at all fs i d r c k p b = path_next at all fs i (get_or fs i d) r c k (ap (λ l. get_or l 0 d) (sym (drop_more fs i d k) ∙ drop_more fs i (get_or fs i d) k)) p b
 
-pub path_end : (at : Place) (all : FlatTerm) (fs : List (Bor Text)) (i : ℕ) (r : Result Exp Stop) → length fs ≤ i → Projects at all (drop i fs) r → Built0 (λ x. term_of x ≡ all) r
+pub path_end : (at : Place) (all : FlatTerm) (fs : List (Bor Text)) (i : ℕ) (r : Result (Bor Exp) Stop) → length fs ≤ i → Projects at all (drop i fs) r → Built0 (λ x. term_of x.now ≡ all) r
 unfolding projected
-path_end at all fs i _ k (projects {x = x} so) = built0 (sym (ap (λ l. projected at (term_of x) (texts l)) (drop_of_length-le fs k)) ∙ so)
+path_end at all fs i _ k (projects {x = x} so) = built0 (sym (ap (λ l. projected at (term_of x.now) (texts l)) (drop_of_length-le fs k)) ∙ so)
 path_end at all fs i _ k projects_not = no_memory0
 
 pub ruleset paths = (path_start, path_next, path_next_at, path_end)
 
 -- ---- compositions
 
-pub twice_made : (at : Place) (outer inner x : BindId) (o i a : Exp) (r c : Result Exp Stop)
-    → Built2 (λ f e y. term_of y ≡ Apply (term_of f) (term_of e)) (Ok o) r c → Built2 (λ f e y. term_of y ≡ Apply (term_of f) (term_of e)) (Ok i) (Ok a) r
-    → term_of o ≡ use_at at outer → term_of i ≡ use_at at inner → term_of a ≡ use_at at x → Built0 (λ y. term_of y ≡ twice_applied at outer inner x) c
-twice_made at outer inner x o i a _ _ (built2 q) (built2 p) oo ii aa = built0 (q ∙ λ j. Apply (oo j) ((p ∙ λ k. Apply (ii k) (aa k)) j))
-twice_made at outer inner x o i a _ _ no_memory2 (built2 p) oo ii aa = no_memory0
-twice_made at outer inner x o i a _ _ second_of_two no_memory2 oo ii aa = no_memory0
-twice_made at outer inner x o i a _ _ no_memory2 no_memory2 oo ii aa = no_memory0
+pub twice_made : (at : Place) (outer inner x : BindId) (o i a r c : Result (Bor Exp) Stop)
+    → Built2 (λ f e y. term_of y.now ≡ Apply (term_of f.now) (term_of e.now)) o r c → Built2 (λ f e y. term_of y.now ≡ Apply (term_of f.now) (term_of e.now)) i a r
+    → Built0 (λ y. term_of y.now ≡ use_at at outer) o → Built0 (λ y. term_of y.now ≡ use_at at inner) i → Built0 (λ y. term_of y.now ≡ use_at at x) a → Built0 (λ y. term_of y.now ≡ twice_applied at outer inner x) c
+twice_made at outer inner x _ _ _ _ _ (built2 q) (built2 p) (built0 oo) (built0 ii) (built0 aa) = built0 (q ∙ λ j. Apply (oo j) ((p ∙ λ k. Apply (ii k) (aa k)) j))
+twice_made at outer inner x _ i a r _ first_of_two p no_memory0 ii aa = no_memory0
+twice_made at outer inner x _ _ a _ _ second_of_two first_of_two oo no_memory0 aa = no_memory0
+twice_made at outer inner x _ _ _ _ _ second_of_two second_of_two oo ii no_memory0 = no_memory0
+twice_made at outer inner x _ i a _ _ second_of_two no_memory2 oo ii aa = no_memory0
+twice_made at outer inner x o i a r _ no_memory2 p oo ii aa = no_memory0
 
-pub left_first_made : (at : Place) (left_first : Bool) (left right x : BindId) (c : Result Exp Stop) → left_first ≡ true → Built0 (λ y. term_of y ≡ twice_applied at right left x) c → Built0 (λ y. term_of y ≡ ordered at left_first left right x) c
+pub left_first_made : (at : Place) (left_first : Bool) (left right x : BindId) (c : Result (Bor Exp) Stop) → left_first ≡ true → Built0 (λ y. term_of y.now ≡ twice_applied at right left x) c → Built0 (λ y. term_of y.now ≡ ordered at left_first left right x) c
 left_first_made at left_first left right x c is b = rw is b
 
-pub right_first_made : (at : Place) (left_first : Bool) (left right x : BindId) (c : Result Exp Stop) → left_first ≡ false → Built0 (λ y. term_of y ≡ twice_applied at left right x) c → Built0 (λ y. term_of y ≡ ordered at left_first left right x) c
+pub right_first_made : (at : Place) (left_first : Bool) (left right x : BindId) (c : Result (Bor Exp) Stop) → left_first ≡ false → Built0 (λ y. term_of y.now ≡ twice_applied at left right x) c → Built0 (λ y. term_of y.now ≡ ordered at left_first left right x) c
 right_first_made at left_first left right x c is b = rw is b
 
-pub name_made : (at : Place) (b : BindId) (ps : Bor (List Pat)) (p : Pat) (r c : Result Exp Stop) → ps.now ≡ p ∷ [] → p.form ≡ pat_form.Bound b
-    → Built2 (λ (ps : Bor (List Pat)) e x. term_of x ≡ Lambda (patterns (map pattern_of ps.now)) (term_of e)) (Ok ps) r c
-    → Built1 (λ e x. term_of x ≡ Lambda (pattern_and (Bound_pattern b) no_pattern) (term_of e)) r c
+pub name_made : (at : Place) (b : BindId) (ps : Bor (List Pat)) (p : Pat) (r c : Result (Bor Exp) Stop) → ps.now ≡ p ∷ [] → p.form ≡ pat_form.Bound b
+    → Built2 (λ (ps : Bor (List Pat)) e x. term_of x.now ≡ Lambda (patterns (map pattern_of ps.now)) (term_of e.now)) (Ok ps) r c
+    → Built1 (λ e x. term_of x.now ≡ Lambda (pattern_and (Bound_pattern b) no_pattern) (term_of e.now)) r c
 unfolding patterns
-name_made at b ps p _ _ is form (built2 {b = e} eq) = built1 (eq ∙ ap (λ l. Lambda (patterns (map pattern_of l)) (term_of e)) is ∙ ap (λ q. Lambda (pattern_and q no_pattern) (term_of e)) (pattern_bound p b form))
+name_made at b ps p _ _ is form (built2 {b = e} eq) = built1 (eq ∙ ap (λ l. Lambda (patterns (map pattern_of l)) (term_of e.now)) is ∙ ap (λ q. Lambda (pattern_and q no_pattern) (term_of e.now)) (pattern_bound p b form))
 name_made at b ps p _ _ is form second_of_two = stops1
 name_made at b ps p _ _ is form no_memory2 = no_memory1
 
 pub value_made : (l : LetTree) (b : BindId) → l.sizes.now ≡ [] → l.heads.now ≡ [] → l.is_function ≡ false → l.pat.form ≡ pat_form.Bound b → row_of l ≡ (name_alone b, term_of l.value)
 value_made l b none no_heads plain is = row_is l ∙ λ i. (record { sizes = none i; parameters = parameters (no_heads i); is_function = plain i; pattern = pattern_bound l.pat b is i }, term_of l.value)
 
-pub composed_made : (at : Place) (left_first : Bool) (F : Functions) (a b c : Result Exp Stop) (ls : Result (Bor (List LetTree)) Stop) (l m : LetTree)
-    → Built0 (λ y. term_of y ≡ ordered at left_first F.left F.right F.argument) a
-    → Built1 (λ e y. term_of y ≡ Lambda (pattern_and (Bound_pattern F.argument) no_pattern) (term_of e)) a b
-    → row_of l ≡ (name_alone F.left, term_of F.left_function) → row_of m ≡ (name_alone F.right, term_of F.right_function) → Built0 (λ ls. ls.now ≡ l ∷ m ∷ []) ls
-    → Built2 (λ (ls : Bor (List LetTree)) e x. term_of x ≡ lets (map row_of ls.now) (term_of e)) ls b c
-    → Built1 (λ (f : Functions) y. term_of y ≡ composition at left_first f.left (term_of f.left_function) f.right (term_of f.right_function) f.argument) (Ok F) c
+pub composed_made : (at : Place) (left_first : Bool) (F : Functions) (a b c : Result (Bor Exp) Stop) (ls : Result (Bor (List LetTree)) Stop) (l m : LetTree)
+    → Built0 (λ y. term_of y.now ≡ ordered at left_first F.left F.right F.argument) a
+    → Built1 (λ e y. term_of y.now ≡ Lambda (pattern_and (Bound_pattern F.argument) no_pattern) (term_of e.now)) a b
+    → row_of l ≡ (name_alone F.left, term_of F.left_function.now) → row_of m ≡ (name_alone F.right, term_of F.right_function.now) → Built0 (λ ls. ls.now ≡ l ∷ m ∷ []) ls
+    → Built2 (λ (ls : Bor (List LetTree)) e x. term_of x.now ≡ lets (map row_of ls.now) (term_of e.now)) ls b c
+    → Built1 (λ (f : Functions) y. term_of y.now ≡ composition at left_first f.left (term_of f.left_function.now) f.right (term_of f.right_function.now) f.argument) (Ok F) c
 unfolding lets
 composed_made at left_first F _ _ _ _ l m (built0 o) (built1 p) fl gl (built0 is) (built2 q) =
     built1 (q ∙ (λ j. lets (map row_of (is j)) ((p ∙ ap (λ t. Lambda (pattern_and (Bound_pattern F.argument) no_pattern) t) o) j)) ∙ λ j. lets (fl j ∷ gl j ∷ []) (Lambda (pattern_and (Bound_pattern F.argument) no_pattern) (ordered at left_first F.left F.right F.argument)))

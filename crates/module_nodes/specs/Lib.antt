@@ -1,3 +1,4 @@
 pub mod Built
 pub mod Composed
+pub mod Held
 pub mod Paths

@@ -10,6 +10,6 @@ use Rattle.module_scopes.specs.declared.refusal.Stop.TheVariants as stop
 use Rattle.module_scopes.specs.Resolve.{projected}
 
 -- with these fields left
-pub data Projects (at : Place) (all : FlatTerm) (rest : List (Bor Text)) : Result Exp Stop → Type 0 where
-  projects : {x : Exp} → projected at (term_of x) (texts rest) ≡ all → Projects at all rest (Ok x)
+pub data Projects (at : Place) (all : FlatTerm) (rest : List (Bor Text)) : Result (Bor Exp) Stop → Type 0 where
+  projects : {x : Bor Exp} → projected at (term_of x.now) (texts rest) ≡ all → Projects at all rest (Ok x)
   projects_not : Projects at all rest (Err stop.Memory)

@@ -2,7 +2,7 @@
 //! forms has no early exits.
 #![tactic(auto)]
 
-mod both;
+pub mod both;
 pub mod exps;
 pub mod pats;
 pub mod rows;

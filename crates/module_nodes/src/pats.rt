@@ -12,19 +12,6 @@ use fut_flat::{Pat, PatField, PatForm, TypeExp};
 use fut_scalar::{BindId, Place};
 use module_scopes::Stop;
 
-/// What a walk gave, held by the arena.
-fn held_part<'a>(bump: &'a Bump, part: Result<Pat<'a>, Stop<'a>>) -> Result<&'a Pat<'a>, Stop<'a>>
-    ensures { Built1 (λ q x. x.now ≡ q) part.entry result }
-{
-    match part {
-        Ok(part) => match bump.try_alloc(part) {
-            Ok(made) => Ok(made),
-            Err(_) => Err(Stop::Memory),
-        },
-        Err(stop) => Err(stop),
-    }
-}
-
 /// A name.
 pub fn bound<'a>(place: Place, bind: Result<BindId, Stop<'a>>) -> Result<Pat<'a>, Stop<'a>>
     ensures { Built1 (λ b p. pattern_of p ≡ Bound_pattern b) bind.entry result }
@@ -76,11 +63,14 @@ pub fn typed<'a>(
 ) -> Result<Pat<'a>, Stop<'a>>
     ensures { Built2 (λ q t p. pattern_of p ≡ Typed_pattern (pattern_of q) (type_of t.now)) inside.entry ty.entry result }
 {
-    match both(held_part(bump, inside), ty) {
-        Ok((inside, ty)) => Ok(Pat {
-            place,
-            form: PatForm::Typed(inside, ty),
-        }),
+    match both(inside, ty) {
+        Ok((inside, ty)) => match bump.try_alloc(inside) {
+            Ok(inside) => Ok(Pat {
+                place,
+                form: PatForm::Typed(inside, ty),
+            }),
+            Err(_) => Err(Stop::Memory),
+        },
         Err(stop) => Err(stop),
     }
 }

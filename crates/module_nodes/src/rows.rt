@@ -7,7 +7,7 @@ ghost use Rattle.module_nodes.specs.Built.{Built0, Built1, Built2, Built4};
 ghost use Rattle.module_nodes.specs.Composed.{composition, name_alone, ordered, twice_applied, use_at};
 
 use crate::both::both;
-use crate::exps::{applied, held_part, lambda};
+use crate::exps::{applied, lambda, node};
 use bumpalo::Bump;
 use fut_flat as flat;
 use fut_flat::{Exp, Form, Let, LoopForm, Pat, PatForm, Ref};
@@ -19,15 +19,12 @@ pub fn rowed<'a>(
     bump: &'a Bump,
     place: Place,
     rows: Result<&'a [Let<'a>], Stop<'a>>,
-    body: Result<Exp<'a>, Stop<'a>>,
-) -> Result<Exp<'a>, Stop<'a>>
-    ensures { Built2 (λ ls e x. term_of x ≡ lets (map row_of ls.now) (term_of e)) rows.entry body.entry result }
+    body: Result<&'a Exp<'a>, Stop<'a>>,
+) -> Result<&'a Exp<'a>, Stop<'a>>
+    ensures { Built2 (λ ls e x. term_of x.now ≡ lets (map row_of ls.now) (term_of e.now)) rows.entry body.entry result }
 {
-    match both(rows, held_part(bump, body)) {
-        Ok((rows, body)) => Ok(Exp {
-            place,
-            form: Form::Lets(rows, body),
-        }),
+    match both(rows, body) {
+        Ok((rows, body)) => node(bump, place, Form::Lets(rows, body)),
         Err(stop) => Err(stop),
     }
 }
@@ -50,23 +47,20 @@ fn loop_at<'a>(
     bump: &'a Bump,
     place: Place,
     mark: Place,
-    start: (Bound<'a>, Exp<'a>),
-    rest: (Turning<'a>, Exp<'a>),
-) -> Result<Exp<'a>, Stop<'a>>
-    ensures { Built0 (λ x. term_of x ≡ Loop mark start.entry.0.sizes.now (pattern_of start.entry.0.pat) (term_of start.entry.1) (turns_of rest.entry.0.form) (term_of rest.entry.1)) result }
+    start: (Bound<'a>, &'a Exp<'a>),
+    rest: (Turning<'a>, &'a Exp<'a>),
+) -> Result<&'a Exp<'a>, Stop<'a>>
+    ensures { Built0 (λ x. term_of x.now ≡ Loop mark start.entry.0.sizes.now (pattern_of start.entry.0.pat) (term_of start.entry.1.now) (turns_of rest.entry.0.form) (term_of rest.entry.1.now)) result }
 {
     match bump.try_alloc(flat::Loop {
         mark,
         sizes: start.0.sizes,
         pat: start.0.pat,
-        first: start.1,
+        first: *start.1,
         form: rest.0.form,
-        body: rest.1,
+        body: *rest.1,
     }) {
-        Ok(parts) => Ok(Exp {
-            place,
-            form: Form::Loop(parts),
-        }),
+        Ok(parts) => node(bump, place, Form::Loop(parts)),
         Err(_) => Err(Stop::Memory),
     }
 }
@@ -77,11 +71,11 @@ pub fn looped<'a>(
     place: Place,
     mark: Place,
     bound: Result<Bound<'a>, Stop<'a>>,
-    first: Result<Exp<'a>, Stop<'a>>,
+    first: Result<&'a Exp<'a>, Stop<'a>>,
     turns: Result<Turning<'a>, Stop<'a>>,
-    body: Result<Exp<'a>, Stop<'a>>,
-) -> Result<Exp<'a>, Stop<'a>>
-    ensures { Built4 (λ b e t f x. term_of x ≡ Loop mark b.sizes.now (pattern_of b.pat) (term_of e) (turns_of t.form) (term_of f)) bound.entry first.entry turns.entry body.entry result }
+    body: Result<&'a Exp<'a>, Stop<'a>>,
+) -> Result<&'a Exp<'a>, Stop<'a>>
+    ensures { Built4 (λ b e t f x. term_of x.now ≡ Loop mark b.sizes.now (pattern_of b.pat) (term_of e.now) (turns_of t.form) (term_of f.now)) bound.entry first.entry turns.entry body.entry result }
 {
     match both(bound, first) {
         Ok(start) => match both(turns, body) {
@@ -98,19 +92,16 @@ pub fn looped<'a>(
 #[derive(Clone, Copy)]
 pub struct Functions<'a> {
     pub left: BindId,
-    pub left_function: Exp<'a>,
+    pub left_function: &'a Exp<'a>,
     pub right: BindId,
-    pub right_function: Exp<'a>,
+    pub right_function: &'a Exp<'a>,
     pub argument: BindId,
 }
 
-fn used<'a>(at: Place, bind: BindId) -> Exp<'a>
-    ensures { term_of result ≡ use_at at bind }
+fn used<'a>(bump: &'a Bump, at: Place, bind: BindId) -> Result<&'a Exp<'a>, Stop<'a>>
+    ensures { Built0 (λ x. term_of x.now ≡ use_at at bind) result }
 {
-    Exp {
-        place: at,
-        form: Form::Use(Ref::Bound(bind), 0),
-    }
+    node(bump, at, Form::Use(Ref::Bound(bind), 0))
 }
 
 /// The outer function applied to what the inner one gives.
@@ -120,11 +111,11 @@ fn both_applied<'a>(
     outer: BindId,
     inner: BindId,
     argument: BindId,
-) -> Result<Exp<'a>, Stop<'a>>
-    ensures { Built0 (λ x. term_of x ≡ twice_applied at outer inner argument) result }
+) -> Result<&'a Exp<'a>, Stop<'a>>
+    ensures { Built0 (λ x. term_of x.now ≡ twice_applied at outer inner argument) result }
 {
-    let given = applied(bump, at, Ok(used(at, inner)), Ok(used(at, argument)));
-    applied(bump, at, Ok(used(at, outer)), given)
+    let given = applied(bump, at, used(bump, at, inner), used(bump, at, argument));
+    applied(bump, at, used(bump, at, outer), given)
 }
 
 fn in_order<'a>(
@@ -134,8 +125,8 @@ fn in_order<'a>(
     left: BindId,
     right: BindId,
     argument: BindId,
-) -> Result<Exp<'a>, Stop<'a>>
-    ensures { Built0 (λ x. term_of x ≡ ordered at left_first left right argument) result }
+) -> Result<&'a Exp<'a>, Stop<'a>>
+    ensures { Built0 (λ x. term_of x.now ≡ ordered at left_first left right argument) result }
 {
     if left_first {
         both_applied(bump, at, right, left, argument)
@@ -149,9 +140,9 @@ fn of_name<'a>(
     bump: &'a Bump,
     at: Place,
     name: BindId,
-    body: Result<Exp<'a>, Stop<'a>>,
-) -> Result<Exp<'a>, Stop<'a>>
-    ensures { Built1 (λ e x. term_of x ≡ Lambda (pattern_and (Bound_pattern name) no_pattern) (term_of e)) body.entry result }
+    body: Result<&'a Exp<'a>, Stop<'a>>,
+) -> Result<&'a Exp<'a>, Stop<'a>>
+    ensures { Built1 (λ e x. term_of x.now ≡ Lambda (pattern_and (Bound_pattern name) no_pattern) (term_of e.now)) body.entry result }
 {
     let params = [Pat {
         place: at,
@@ -164,8 +155,8 @@ fn of_name<'a>(
 }
 
 /// A let of one name.
-fn named_value<'a>(at: Place, name: BindId, value: Exp<'a>) -> Let<'a>
-    ensures { row_of result ≡ (name_alone name, term_of value.entry) }
+fn named_value<'a>(at: Place, name: BindId, value: &'a Exp<'a>) -> Let<'a>
+    ensures { row_of result ≡ (name_alone name, term_of value.now) }
 {
     Let {
         sizes: &[],
@@ -175,7 +166,7 @@ fn named_value<'a>(at: Place, name: BindId, value: Exp<'a>) -> Let<'a>
             place: at,
             form: PatForm::Bound(name),
         },
-        value,
+        value: *value,
     }
 }
 
@@ -194,8 +185,8 @@ pub fn composed<'a>(
     at: Place,
     left_first: bool,
     functions: Result<Functions<'a>, Stop<'a>>,
-) -> Result<Exp<'a>, Stop<'a>>
-    ensures { Built1 (λ f x. term_of x ≡ composition at left_first f.left (term_of f.left_function) f.right (term_of f.right_function) f.argument) functions.entry result }
+) -> Result<&'a Exp<'a>, Stop<'a>>
+    ensures { Built1 (λ f x. term_of x.now ≡ composition at left_first f.left (term_of f.left_function.now) f.right (term_of f.right_function.now) f.argument) functions.entry result }
 {
     match functions {
         Ok(of) => {

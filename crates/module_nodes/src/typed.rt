@@ -16,10 +16,10 @@ pub fn ascribed<'a>(
     bump: &'a Bump,
     place: Place,
     mark: Place,
-    part: Result<Exp<'a>, Stop<'a>>,
+    part: Result<&'a Exp<'a>, Stop<'a>>,
     ty: Result<&'a TypeExp<'a>, Stop<'a>>,
-) -> Result<Exp<'a>, Stop<'a>>
-    ensures { Built2 (λ e t x. term_of x ≡ Strict (Ascribe (type_of t.now)) mark (term_and (term_of e) no_term)) part.entry ty.entry result }
+) -> Result<&'a Exp<'a>, Stop<'a>>
+    ensures { Built2 (λ e t x. term_of x.now ≡ Strict (Ascribe (type_of t.now)) mark (term_and (term_of e.now) no_term)) part.entry ty.entry result }
 {
     match both(part, ty) {
         Ok((part, ty)) => on_part(bump, place, mark, Act::Ascribe(ty), Ok(part)),
@@ -32,10 +32,10 @@ pub fn coerced<'a>(
     bump: &'a Bump,
     place: Place,
     mark: Place,
-    part: Result<Exp<'a>, Stop<'a>>,
+    part: Result<&'a Exp<'a>, Stop<'a>>,
     ty: Result<&'a TypeExp<'a>, Stop<'a>>,
-) -> Result<Exp<'a>, Stop<'a>>
-    ensures { Built2 (λ e t x. term_of x ≡ Strict (Coerce (type_of t.now)) mark (term_and (term_of e) no_term)) part.entry ty.entry result }
+) -> Result<&'a Exp<'a>, Stop<'a>>
+    ensures { Built2 (λ e t x. term_of x.now ≡ Strict (Coerce (type_of t.now)) mark (term_and (term_of e.now) no_term)) part.entry ty.entry result }
 {
     match both(part, ty) {
         Ok((part, ty)) => on_part(bump, place, mark, Act::Coerce(ty), Ok(part)),
@@ -48,9 +48,9 @@ pub fn declared<'a>(
     bump: &'a Bump,
     place: Place,
     ty: Result<&'a TypeExp<'a>, Stop<'a>>,
-    body: Result<Exp<'a>, Stop<'a>>,
-) -> Result<Exp<'a>, Stop<'a>>
-    ensures { Built2 (λ t e x. term_of x ≡ Strict (Declared (type_of t.now)) place (term_and (term_of e) no_term)) ty.entry body.entry result }
+    body: Result<&'a Exp<'a>, Stop<'a>>,
+) -> Result<&'a Exp<'a>, Stop<'a>>
+    ensures { Built2 (λ t e x. term_of x.now ≡ Strict (Declared (type_of t.now)) place (term_and (term_of e.now) no_term)) ty.entry body.entry result }
 {
     match both(ty, body) {
         Ok((ty, body)) => on_part(bump, place, place, Act::Declared(ty), Ok(body)),

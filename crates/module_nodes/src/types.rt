@@ -125,19 +125,16 @@ pub fn named_arrow<'a>(
 ) -> Result<&'a TypeExp<'a>, Stop<'a>>
     ensures { Built3 (λ b t u x. type_of x.now ≡ Arrow_type (Some b) (type_of t.now) (type_of u.now)) bind.entry from.entry to.entry result }
 {
-    match bind {
-        Ok(bind) => match both(from, to) {
-            Ok((from, to)) => {
-                held(
-                    bump,
-                    TypeExp {
-                        place,
-                        form: TypeForm::Arrow(Some(bind), from, to),
-                    },
-                )
-            }
-            Err(stop) => Err(stop),
-        },
+    match both(bind, both(from, to)) {
+        Ok((bind, (from, to))) => {
+            held(
+                bump,
+                TypeExp {
+                    place,
+                    form: TypeForm::Arrow(Some(bind), from, to),
+                },
+            )
+        }
         Err(stop) => Err(stop),
     }
 }

@@ -5,7 +5,7 @@ ghost use Rattle.fut_flat.specs.Terms.{Project, Strict, Use, no_term, term_and};
 ghost use Rattle.module_nodes.specs.Built.{Built0, Built1};
 ghost use Rattle.module_scopes.specs.Resolve.{projected};
 
-use crate::exps::on_part;
+use crate::exps::{node, on_part};
 use bumpalo::Bump;
 use fut_flat::{Act, Exp, Form, Ref};
 use fut_scalar::Place;
@@ -15,10 +15,10 @@ use module_scopes::Stop;
 pub fn field<'a>(
     bump: &'a Bump,
     at: Place,
-    part: Result<Exp<'a>, Stop<'a>>,
+    part: Result<&'a Exp<'a>, Stop<'a>>,
     name: &'a str,
-) -> Result<Exp<'a>, Stop<'a>>
-    ensures { Built1 (λ e x. term_of x ≡ Strict (Project name.now) at (term_and (term_of e) no_term)) part.entry result }
+) -> Result<&'a Exp<'a>, Stop<'a>>
+    ensures { Built1 (λ e x. term_of x.now ≡ Strict (Project name.now) at (term_and (term_of e.now) no_term)) part.entry result }
 {
     on_part(bump, at, at, Act::Project(name), part)
 }
@@ -31,13 +31,10 @@ pub fn path<'a>(
     of: Ref,
     modules: u32,
     fields: &'a [&'a str],
-) -> Result<Exp<'a>, Stop<'a>>
-    ensures { Built0 (λ x. term_of x ≡ projected at (Use of at modules) (texts fields.now)) result }
+) -> Result<&'a Exp<'a>, Stop<'a>>
+    ensures { Built0 (λ x. term_of x.now ≡ projected at (Use of at modules) (texts fields.now)) result }
 {
-    let mut made = Ok(Exp {
-        place: at,
-        form: Form::Use(of, modules),
-    });
+    let mut made = node(bump, at, Form::Use(of, modules));
     for name in fields {
         made = field(bump, at, made, *name);
     }

@@ -65,12 +65,12 @@ pub walked_operation-returns-in-Err : goal.walked_operation-returns-in-Err
 walked_operation-returns-in-Err t c = operation_stops (subst (Built0 (Operates c.args.exp.now)) c.in-Err.is c.requires)
 
 pub walked_parts-loop-part-preserved : goal.walked_parts-loop-part-preserved
-walked_parts-loop-part-preserved t c = part_put _ _ _ _ _ c.part-item.result _ _ _ _ c.loop-part-test.true c.part-item.is c.walked.ensures c.in_ok-put.ensures c.loop-part.invariant
+walked_parts-loop-part-preserved t c = part_put _ _ _ _ _ c.part-item.result _ _ _ _ c.loop-part-test.true c.part-item.is c.walked.ensures c.in_ok-put_exp.ensures c.loop-part.invariant
 
-pub walked_parts-returns-in_err-put : goal.walked_parts-returns-in_err-put
-walked_parts-returns-in_err-put t c =
+pub walked_parts-returns-in_err-put_exp : goal.walked_parts-returns-in_err-put_exp
+walked_parts-returns-in_err-put_exp t c =
     let p = err_from_is_err_and c.from_residual.result c.from_residual.ensures.1 in
-    rw (p.1, p.2) (part_put_stops _ _ _ _ _ c.part-item.result _ _ _ _ c.loop-part-test.true c.part-item.is c.walked.ensures c.in_err-put.ensures c.loop-part.invariant)
+    rw (p.1, p.2) (part_put_stops _ _ _ _ _ c.part-item.result _ _ _ _ c.loop-part-test.true c.part-item.is c.walked.ensures c.in_err-put_exp.ensures c.loop-part.invariant)
 
 pub walked_parts-returns : goal.walked_parts-returns
 walked_parts-returns t c = doing_end _ _ _ _ _ _ c.loop-part-test.false (ap (map term_of) c.into_bump_slice.ensures) c.loop-part.invariant

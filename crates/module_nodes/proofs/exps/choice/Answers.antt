@@ -1,16 +1,15 @@
-use Rattle.std.proofs.Common.{◌∙◌, refl}
-use Rattle.fut_flat.specs.Terms.{If}
+use Rattle.std.proofs.Common.{◌∙◌, refl, ap}
 use Rattle.fut_flat.specs.Erased.{term_of}
 use Rattle.fut_flat.proofs.ErasedForms.{term_if}
-use Rattle.module_nodes.specs.Built.{built0}
-use Rattle.module_nodes.proofs.Joined.{two_then, two_stop, and_two, first_stop}
+use Rattle.module_nodes.specs.Built.{first_of_three}
+use Rattle.module_nodes.proofs.Joined.{and_two, two_then, two_stop}
 use Rattle.module_nodes.proofs.exps.choice.Goals as goal
 
 pub returns-in-Ok-both : goal.returns-in-Ok-both
-returns-in-Ok-both c = and_two c.in-Ok.ensures (λ t is. two_then c.in-Ok-both.ensures c.held_part-in-Ok.ensures c.held_part-in-Ok-2.ensures (built0 (term_if _ _ _ _ refl)) (λ a b x p q s. s ∙ λ i. If (term_of (is i)) (term_of (p i)) (term_of (q i))))
+returns-in-Ok-both c = rw c.in-Ok.is (and_two (two_then c.in-Ok-both.ensures (λ x s. ap term_of s ∙ term_if _ _ _ _ refl) c.node.ensures))
 
 pub returns-in-Err-both : goal.returns-in-Err-both
-returns-in-Err-both c = and_two c.in-Ok.ensures (λ t is. two_stop c.in-Err-both.ensures c.held_part-in-Ok.ensures c.held_part-in-Ok-2.ensures)
+returns-in-Err-both c = rw c.in-Ok.is (and_two (two_stop c.in-Err-both.ensures))
 
 pub returns-in-Err : goal.returns-in-Err
-returns-in-Err c = first_stop c.in-Err.ensures
+returns-in-Err c = rw c.in-Err.is first_of_three

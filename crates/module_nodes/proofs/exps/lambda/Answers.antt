@@ -1,13 +1,11 @@
-use Rattle.std.proofs.Common.{◌∙◌, refl, map}
-use Rattle.fut_flat.specs.Terms.{Lambda}
-use Rattle.fut_flat.specs.Erased.{patterns, pattern_of, term_of}
+use Rattle.std.proofs.Common.{◌∙◌, refl, ap}
+use Rattle.fut_flat.specs.Erased.{term_of}
 use Rattle.fut_flat.proofs.ErasedForms.{term_lambda}
-use Rattle.module_nodes.specs.Built.{built0}
-use Rattle.module_nodes.proofs.Joined.{as_it_is, two_then, two_stop}
+use Rattle.module_nodes.proofs.Joined.{two_then, two_stop}
 use Rattle.module_nodes.proofs.exps.lambda.Goals as goal
 
 pub returns-in-Ok : goal.returns-in-Ok
-returns-in-Ok c = two_then c.in-Ok.ensures (as_it_is _) c.held_part.ensures (built0 (term_lambda _ _ _ refl)) (λ ps e x p q s. s ∙ λ i. Lambda (patterns (map pattern_of (p i).now)) (term_of (q i)))
+returns-in-Ok c = two_then c.in-Ok.ensures (λ x s. ap term_of s ∙ term_lambda _ _ _ refl) c.node.ensures
 
 pub returns-in-Err : goal.returns-in-Err
-returns-in-Err c = two_stop c.in-Err.ensures (as_it_is _) c.held_part.ensures
+returns-in-Err c = two_stop c.in-Err.ensures
