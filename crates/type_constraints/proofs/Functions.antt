@@ -178,6 +178,9 @@ module _ (places : Kind) (base d lo from : ℕ) (ps : Patterns Ref BindId) (e : 
           (opened_then places base d (1 + lo) from (Parameters_claim places ps (1 + lo)) (Term_claim places e from) inside params_homes (Term_homes d e from) (Term_homes d (Lambda ps e) lo) (env_patterns ps (1 + lo)) i0 i1 i2 split homes at_from
           (from + numbers e) (omega arith) (depends_term places e from (from + numbers e) refl) join body) back)
 
+      pub lambda_safe : Safe base i3
+      lambda_safe = both.later.safe
+
       abbrev of_type : List ℕ → Claim
       of_type begins N scope K a = a lo ≡ arrows (types_of a begins) (a from)
 

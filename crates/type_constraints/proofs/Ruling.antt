@@ -1,5 +1,5 @@
 -- The rules of operations.
-use Rattle.std.proofs.Common.{◌≡◌, ℕ, Bool, true, false, List, [], ◌∷◌, length, slice_index_or, Option, Some, None, refl, sym, ◌∙◌, ap, subst, arith}
+use Rattle.std.proofs.Common.{◌≡◌, ◌<◌, ℕ, zero, suc, Bool, true, false, List, [], ◌∷◌, length, slice_index_or, Option, Some, None, refl, sym, ◌∙◌, ap, subst, arith}
 use Rattle.fut_ast.specs.Sorts.{Text}
 use Rattle.fut_ast.specs.declared.node.End.{End}
 use Rattle.fut_scalar.specs.declared.operator.BinOp.{BinOp}
@@ -16,6 +16,7 @@ use Rattle.fut_typing.specs.Scopes.{Denotes}
 use Rattle.fut_typing.specs.Rules.{Rule, Written}
 use Rattle.fut_typing.specs.Homes.{Env, scope_of}
 use Rattle.fut_typing.specs.Typing.{operand}
+use Rattle.type_graph.specs.Graph.{Each}
 use Rattle.type_claims.specs.Claims.{types_of}
 use Rattle.type_rules.specs.declared.demand.Demand.{Demand}
 use Rattle.type_rules.specs.Demands.{All_met, All_allow, Always_allowed}
@@ -75,6 +76,12 @@ three_parts (x ∷ []) e = absurd (omega arith)
 three_parts (x ∷ y ∷ []) e = absurd (omega arith)
 three_parts (x ∷ y ∷ z ∷ []) e = refl
 three_parts (x ∷ y ∷ z ∷ w ∷ l) e = absurd (omega arith)
+
+-- a part of an operation
+pub part_below : (base : ℕ) (l : List ℕ) (i d : ℕ) → Each (λ part. part < base) l → i < length l → slice_index_or l i d < base
+part_below base [] i d h lt = absurd (omega arith)
+part_below base (x ∷ l) zero d h lt = h.0
+part_below base (x ∷ l) (suc i) d h lt = part_below base l i d h.1 (omega arith)
 
 -- their types
 pub types_one : (a : Sub) (l : List ℕ) → length l ≡ 1 → types_of a l ≡ more (a (slice_index_or l 0 0)) none

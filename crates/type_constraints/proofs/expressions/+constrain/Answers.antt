@@ -14,7 +14,7 @@ use Rattle.type_constraints.proofs.Rows.{gone_none, gone_more, gone_refused, fal
 use Rattle.fut_flat.specs.declared.exp.Exp.{Exp}
 use Rattle.type_graph.specs.Graph.{Each}
 use Rattle.type_constraints.specs.Parts.{starts, pattern_starts, Terms_claim, Terms_homes}
-use Rattle.type_constraints.proofs.Functions.{lambda_ok, lambda_err1, lambda_err2, lambda_err3, starts_below as pattern_starts_below}
+use Rattle.type_constraints.proofs.Functions.{lambda_ok, lambda_safe, lambda_err1, lambda_err2, lambda_err3, starts_below as pattern_starts_below}
 use Rattle.fut_flat.specs.Numbers.{all_pattern_numbers}
 use Rattle.fut_flat.specs.Erased.{Row, pattern_of, patterns}
 use Rattle.fut_flat.proofs.ErasedForms.{row_of}
@@ -144,6 +144,12 @@ constrain_lambda-constrain-requires t c = (omega arith, (c.in-Ok.ensures.ok.late
 
 pub constrain_lambda-returns-in-Err-constrain : goal.constrain_lambda-returns-in-Err-constrain
 constrain_lambda-returns-in-Err-constrain t c = record { next = tt; ok = tt; err = tells c.in-Err-constrain.error (lambda_err2 c.args.setting.places c.args.setting.base c.args.setting.depth c.args.lo c.in-Ok.next (patterns (map pattern_of c.args.params.now)) (term_of c.args.body.now) c.in-Ok.ensures.next c.args.inference.now c.constrain_parameters.new.inference c.in-Ok.ensures.ok c.constrain.new.inference) c.in-Err-constrain.ensures.err }
+
+pub constrain_lambda-constrain_arrows-requires-clause-safe : goal.constrain_lambda-constrain_arrows-requires-clause-safe
+constrain_lambda-constrain_arrows-requires-clause-safe t c = lambda_safe c.args.setting.places c.args.setting.base c.args.setting.depth c.args.lo c.in-Ok.next (patterns (map pattern_of c.args.params.now)) (term_of c.args.body.now) c.in-Ok.ensures.next c.args.inference.now c.constrain_parameters.new.inference c.in-Ok.ensures.ok c.constrain.new.inference c.take_back.new.inference c.requires.safe c.in-Ok-constrain.ensures.ok (λ before added e l. c.take_back.ensures before added e (l ∙ sym c.mark_of-mark.ensures))
+
+pub constrain_lambda-constrain_arrows-requires-clause-number : goal.constrain_lambda-constrain_arrows-requires-clause-number
+constrain_lambda-constrain_arrows-requires-clause-number t c = omega (arith, c.requires.room)
 
 pub constrain_lambda-constrain_arrows-requires-clause-params : goal.constrain_lambda-constrain_arrows-requires-clause-params
 constrain_lambda-constrain_arrows-requires-clause-params t c = subst (λ l. Each (λ n. n < c.args.setting.base) l) (sym (c.as_slice.ensures ∙ c.in-Ok.ensures.begins ∙ ap (λ l. l ++ pattern_starts (patterns (map pattern_of c.args.params.now)) (1 + c.args.lo)) c.new-begins.ensures)) (pattern_starts_below c.args.setting.base (patterns (map pattern_of c.args.params.now)) (1 + c.args.lo) (omega (arith, c.requires.room)))

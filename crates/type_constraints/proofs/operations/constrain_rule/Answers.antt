@@ -1,10 +1,11 @@
 use Rattle.std.proofs.Common.{◌≡◌, true, false, length, ◌∙◌, ap, arith}
 use Rattle.fut_flat.specs.declared.act.Act.TheVariants as act
 use Rattle.fut_flat.specs.Terms.{Record_of, Integer, Truth, Negate, Complement, Binary, Assert, Range, Ascribe, Coerce, Declared}
+use Rattle.fut_flat.specs.Numbers.{own_numbers}
 use Rattle.fut_flat.specs.Erased.{operation_of, texts, type_of}
 use Rattle.fut_typing.proofs.Ranges.{own_some}
 use Rattle.type_rules.proofs.Adding.{on_ok, if_err}
-use Rattle.type_constraints.proofs.Ruling.{has_parts, refused_count, rule_ok, rule_err, say_none, say_one, say_two, say_three, demanded_ok, demanded_err, never_err, written_ok, written_err, ascribe_is, coerce_is, declared_is}
+use Rattle.type_constraints.proofs.Ruling.{has_parts, part_below, refused_count, rule_ok, rule_err, say_none, say_one, say_two, say_three, demanded_ok, demanded_err, never_err, written_ok, written_err, ascribe_is, coerce_is, declared_is}
 use Rattle.type_constraints.proofs.operations.constrain_rule.Goals as goal
 
 pub returns-then-not-works_on-clause-err : goal.returns-then-not-works_on-clause-err
@@ -159,3 +160,42 @@ constrain_ascription-requires-in-Declared-clause-number c = omega (arith, c.requ
 
 pub constrain_fields-requires-clause-number : goal.constrain_fields-requires-clause-number
 constrain_fields-requires-clause-number c = omega (arith, c.requires.room, own_some (operation_of c.args.act.now))
+
+pub constrain_ascription-requires-clause-part : goal.constrain_ascription-requires-clause-part
+constrain_ascription-requires-clause-part c = let few : length c.args.parts.now ≡ 1 = has_parts c.args.act.now (act.Ascribe c.in-Ascribe.ty) (length c.args.parts.now) c.in-Ascribe.is (c.works_on.ensures.0 c.if-not-works_on.false) in part_below c.args.base c.args.parts.now 0 _ c.requires.parts (omega (arith, few))
+
+pub constrain_ascription-requires-in-Coerce-clause-part : goal.constrain_ascription-requires-in-Coerce-clause-part
+constrain_ascription-requires-in-Coerce-clause-part c = let few : length c.args.parts.now ≡ 1 = has_parts c.args.act.now (act.Coerce c.in-Coerce.ty) (length c.args.parts.now) c.in-Coerce.is (c.works_on.ensures.0 c.if-not-works_on.false) in part_below c.args.base c.args.parts.now 0 _ c.requires.parts (omega (arith, few))
+
+pub constrain_ascription-requires-in-Declared-clause-part : goal.constrain_ascription-requires-in-Declared-clause-part
+constrain_ascription-requires-in-Declared-clause-part c = let few : length c.args.parts.now ≡ 1 = has_parts c.args.act.now (act.Declared c.in-Declared.ty) (length c.args.parts.now) c.in-Declared.is (c.works_on.ensures.0 c.if-not-works_on.false) in part_below c.args.base c.args.parts.now 0 _ c.requires.parts (omega (arith, few))
+
+pub demand-requires-clause-within : goal.demand-requires-clause-within
+demand-requires-clause-within c = c.literal.ensures.within _ c.args.base (omega (arith, c.requires.room, own_some (operation_of c.args.act.now)), tt)
+
+pub demand-requires-in-Truth-clause-within : goal.demand-requires-in-Truth-clause-within
+demand-requires-in-Truth-clause-within c = c.truth.ensures.within _ c.args.base (omega (arith, c.requires.room, own_some (operation_of c.args.act.now)), tt)
+
+pub demand-requires-in-Negate-clause-within : goal.demand-requires-in-Negate-clause-within
+demand-requires-in-Negate-clause-within c = let few : length c.args.parts.now ≡ 1 = has_parts c.args.act.now (act.Negate) (length c.args.parts.now) c.in-Negate.is (c.works_on.ensures.0 c.if-not-works_on.false) in c.negation.ensures.within _ c.args.base (omega (arith, c.requires.room, own_some (operation_of c.args.act.now)), (part_below c.args.base c.args.parts.now 0 _ c.requires.parts (omega (arith, few)), tt))
+
+pub demand-requires-in-Complement-clause-within : goal.demand-requires-in-Complement-clause-within
+demand-requires-in-Complement-clause-within c = let few : length c.args.parts.now ≡ 1 = has_parts c.args.act.now (act.Complement) (length c.args.parts.now) c.in-Complement.is (c.works_on.ensures.0 c.if-not-works_on.false) in c.complement.ensures.within _ c.args.base (omega (arith, c.requires.room, own_some (operation_of c.args.act.now)), (part_below c.args.base c.args.parts.now 0 _ c.requires.parts (omega (arith, few)), tt))
+
+pub demand-requires-in-Binary-clause-within : goal.demand-requires-in-Binary-clause-within
+demand-requires-in-Binary-clause-within c = let few : length c.args.parts.now ≡ 2 = has_parts c.args.act.now (act.Binary c.in-Binary.op) (length c.args.parts.now) c.in-Binary.is (c.works_on.ensures.0 c.if-not-works_on.false) in let two : own_numbers (operation_of c.args.act.now) ≡ 2 = ap (λ x. own_numbers (operation_of x)) c.in-Binary.is in c.binary-rule.ensures.within _ c.args.base (omega (arith, c.requires.room, own_some (operation_of c.args.act.now)), (omega (arith, c.requires.room, two), (part_below c.args.base c.args.parts.now 0 _ c.requires.parts (omega (arith, few)), (part_below c.args.base c.args.parts.now 1 _ c.requires.parts (omega (arith, few)), tt))))
+
+pub demand-requires-in-Assert-clause-within : goal.demand-requires-in-Assert-clause-within
+demand-requires-in-Assert-clause-within c = let few : length c.args.parts.now ≡ 2 = has_parts c.args.act.now (act.Assert) (length c.args.parts.now) c.in-Assert.is (c.works_on.ensures.0 c.if-not-works_on.false) in c.assertion.ensures.within _ c.args.base (omega (arith, c.requires.room, own_some (operation_of c.args.act.now)), (part_below c.args.base c.args.parts.now 0 _ c.requires.parts (omega (arith, few)), (part_below c.args.base c.args.parts.now 1 _ c.requires.parts (omega (arith, few)), tt)))
+
+pub demand-requires-then-stepped-clause-within : goal.demand-requires-then-stepped-clause-within
+demand-requires-then-stepped-clause-within c = let few : length c.args.parts.now ≡ 3 = has_parts c.args.act.now (act.Range true c.in-Range.end) (length c.args.parts.now) (c.in-Range.is ∙ ap (λ b. act.Range b c.in-Range.end) c.if-stepped.true) (c.works_on.ensures.0 c.if-not-works_on.false) in c.range_by-rule.ensures.within _ c.args.base (omega (arith, c.requires.room, own_some (operation_of c.args.act.now)), (part_below c.args.base c.args.parts.now 0 _ c.requires.parts (omega (arith, few)), (part_below c.args.base c.args.parts.now 1 _ c.requires.parts (omega (arith, few)), (part_below c.args.base c.args.parts.now 2 _ c.requires.parts (omega (arith, few)), tt))))
+
+pub demand-requires-in-Range-clause-within : goal.demand-requires-in-Range-clause-within
+demand-requires-in-Range-clause-within c = let few : length c.args.parts.now ≡ 2 = has_parts c.args.act.now (act.Range false c.in-Range.end) (length c.args.parts.now) (c.in-Range.is ∙ ap (λ b. act.Range b c.in-Range.end) c.if-stepped.false) (c.works_on.ensures.0 c.if-not-works_on.false) in c.range.ensures.within _ c.args.base (omega (arith, c.requires.room, own_some (operation_of c.args.act.now)), (part_below c.args.base c.args.parts.now 0 _ c.requires.parts (omega (arith, few)), (part_below c.args.base c.args.parts.now 1 _ c.requires.parts (omega (arith, few)), tt)))
+
+pub constrain_project-requires-clause-room : goal.constrain_project-requires-clause-room
+constrain_project-requires-clause-room c = let two : own_numbers (operation_of c.args.act.now) ≡ 2 = ap (λ x. own_numbers (operation_of x)) c.in-Project.is in omega (arith, c.requires.room, two)
+
+pub constrain_replace-requires-clause-room : goal.constrain_replace-requires-clause-room
+constrain_replace-requires-clause-room c = omega (arith, c.requires.room, own_some (operation_of c.args.act.now))
