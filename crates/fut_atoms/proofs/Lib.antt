@@ -1,3 +1,4 @@
+pub mod BehindLaws
 pub mod Heights
 pub mod ItemLaws
 pub mod PartLaws

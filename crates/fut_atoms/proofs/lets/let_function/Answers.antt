@@ -1,0 +1,28 @@
+-- What stops a part stops the production.
+use Rattle.std.proofs.Common.{refl}
+use Rattle.fut_token.specs.declared.token.Fixed.TheVariants as fixed
+use Rattle.fut_ast.specs.Sorts.{Whole}
+use Rattle.fut_grammar.specs.Phrases.{items, read_at}
+use Rattle.fut_grammar.specs.Reading.{expect, has_at, parts_at, row_at, sub_at}
+use Rattle.fut_atoms.proofs.BehindLaws.{behind_fails, fails_as}
+use Rattle.fut_atoms.proofs.lets.let_function.Goals as goal
+
+pub returns-in-Err : goal.returns-in-Err
+unfolding row_at parts_at has_at expect sub_at items
+returns-in-Err g c = record { exact = fails_as c.in-Err.stop c.in-Err.ensures (λ f read. rw (c.requires.form, read) refl); low = tt }
+
+pub returns-in-Err-heads_inside : goal.returns-in-Err-heads_inside
+unfolding row_at parts_at has_at expect sub_at items
+returns-in-Err-heads_inside g c = record { exact = fails_as c.in-Err-heads_inside.stop c.in-Err-heads_inside.ensures.exact (λ f read. rw (c.requires.form, c.in-Ok.ensures, read) refl); low = tt }
+
+pub returns-in-Err-several_patterns_inside : goal.returns-in-Err-several_patterns_inside
+unfolding row_at parts_at has_at expect sub_at items
+returns-in-Err-several_patterns_inside g c = record { exact = fails_as c.in-Err-several_patterns_inside.stop c.in-Err-several_patterns_inside.ensures.exact (λ f read. rw (c.requires.form, c.in-Ok.ensures, c.in-Ok-heads_inside.ensures.exact, read) refl); low = tt }
+
+pub returns-in-Err-maybe_type_inside : goal.returns-in-Err-maybe_type_inside
+unfolding row_at parts_at has_at expect sub_at items
+returns-in-Err-maybe_type_inside g c = record { exact = fails_as c.in-Err-maybe_type_inside.stop c.in-Err-maybe_type_inside.ensures.exact (λ f read. rw (c.requires.form, c.in-Ok.ensures, c.in-Ok-heads_inside.ensures.exact, c.in-Ok-several_patterns_inside.ensures.exact, read) refl); low = tt }
+
+pub returns-in-Err-read_behind : goal.returns-in-Err-read_behind
+unfolding row_at parts_at has_at expect sub_at items
+returns-in-Err-read_behind g c = record { exact = behind_fails c.in-Err-read_behind.stop fixed.Equal (read_at c.args.inner Whole) c.in-Ok-maybe_type_inside.ty.rest.now c.in-Err-read_behind.ensures.exact (λ sign f read. rw (c.requires.form, c.in-Ok.ensures, c.in-Ok-heads_inside.ensures.exact, c.in-Ok-several_patterns_inside.ensures.exact, c.in-Ok-maybe_type_inside.ensures.exact, sign, read) refl) (λ none. rw (c.requires.form, c.in-Ok.ensures, c.in-Ok-heads_inside.ensures.exact, c.in-Ok-several_patterns_inside.ensures.exact, c.in-Ok-maybe_type_inside.ensures.exact, none) refl); low = tt }
