@@ -1,5 +1,5 @@
 -- What is known of values that are made.
-use Rattle.std.proofs.Common.{◌≡◌, List, map, Option, Some, None, Ok, Err, sym, ap, ◌∙◌, subst}
+use Rattle.std.proofs.Common.{◌≡◌, List, map, Option, Some, Ok, Err, sym, ap, ◌∙◌, subst}
 use Rattle.std.specs.Prelude.{Result, IfOk, IfErr}
 use Rattle.std.specs.Borrow.{Bor}
 use Rattle.fut_flat.specs.declared.prim.Primitive.{Primitive}
