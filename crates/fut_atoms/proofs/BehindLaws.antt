@@ -1,20 +1,13 @@
 -- What stops the reading of a part stops that of the production.
-use Rattle.std.proofs.Common.{◌≡◌, ◌≤◌, ℕ, true, false, Bool, List, Result, Ok, Err, cond, refl}
-use Rattle.std.specs.Result.{IfOk}
+use Rattle.std.proofs.Common.{◌≡◌, ℕ, true, false, Bool, List, Result, Err, cond, refl}
 use Rattle.fut_token.specs.declared.token.Fixed.{Fixed}
 use Rattle.fut_token.specs.declared.token.Token.{Token}
 use Rattle.fut_ast.specs.Tokens.{starts, tail}
 use Rattle.fut_atoms.specs.Tie.{behind}
 use Rattle.fut_grammar.specs.declared.fault.Fault.{Fault}
 use Rattle.fut_grammar.specs.declared.fault.Stop.{Stop}
-use Rattle.fut_grammar.specs.declared.fault.Stop.TheVariants as stop
 use Rattle.fut_grammar.specs.Reading.{◌>>=◌, Fails, Read, refuse}
-use Rattle.fut_phrases.specs.declared.found.Found.{Found}
-
--- one reading fails as another does, where its faults are that one's
-pub fails_as : {A B : Type 0} (e : Stop) {r : Result A Fault} {q : Result B Fault} → Fails e r → ((f : Fault) → r ≡ Err f → q ≡ Err f) → Fails e q
-fails_as stop.Memory failed same = tt
-fails_as (stop.Fault f) failed same = same f failed
+use Rattle.fut_phrases.proofs.ReadLaws.{fails_as}
 
 bind_fails : {A B : Type 0} (e : Stop) (r : Result A Fault) (f : A → Result B Fault) → Fails e r → Fails e (r >>= f)
 bind_fails e r f failed = fails_as e failed (λ x same. rw same refl)
@@ -30,8 +23,3 @@ behind_fails {A = A} {B = B} {q = q} e sign read ts failed reads none = go (star
     go : (b : Bool) → (b ≡ true → (f : Fault) → read (tail ts) ≡ Err f → q ≡ Err f) → (b ≡ false → q ≡ Err (refuse ts)) → Fails e (cond {A = Read A} b (read (tail ts)) (Err (refuse ts))) → Fails e q
     go true k l h = fails_as e h (λ f r. k refl f r)
     go false k l h = rw (l refl) (fault_fails (A × ℕ × List Token) B e (refuse ts) h)
-
--- a height that is known is low enough
-pub low_as : {X : Type 0} (r : Result (Found X) Stop) {h k : ℕ} → IfOk r (λ x. x.height ≡ h) → h ≤ k → IfOk r (λ x. x.height ≤ k)
-low_as (Ok x) same le = rw same le
-low_as (Err e) same le = tt

@@ -1,5 +1,5 @@
 -- A field, and a part of the index of what is written, are read in one way for all their productions.
-use Rattle.std.proofs.Common.{◌≡◌, ℕ, max, Bool, true, false, cond, not, List, [], ◌∷◌, Result, Some, Ok, Err, refl, length}
+use Rattle.std.proofs.Common.{◌≡◌, ℕ, max, Bool, true, false, cond, not, List, [], ◌∷◌, Result, Ok, Err, refl, length}
 use Rattle.std.proofs.Math.Nat.{zero-max}
 use Rattle.fut_token.specs.declared.token.Fixed.TheVariants as fixed
 use Rattle.fut_token.specs.declared.token.Token.{Token}
@@ -7,15 +7,14 @@ use Rattle.fut_token.specs.declared.token.TokenKind.{TokenKind}
 use Rattle.fut_token.specs.declared.token.TokenKind.TheVariants as kind
 use Rattle.fut_ast.specs.Behind.{begins_operand}
 use Rattle.fut_ast.specs.LeftOut.{begins_left_out}
-use Rattle.fut_ast.specs.Nodes.{use_of}
 use Rattle.fut_ast.specs.Parts.{without}
 use Rattle.fut_ast.specs.Sorts.{Sort, Tree, Text, SourceExp, Exp_field, Written_item, Operands, Whole}
-use Rattle.fut_ast.specs.Tokens.{spot, spot_of, starts, tail}
+use Rattle.fut_ast.specs.Tokens.{starts, tail}
 use Rattle.fut_ast.specs.declared.node.What.TheVariants as what
 use Rattle.fut_grammar.specs.declared.fault.Fault.{Fault}
 use Rattle.fut_grammar.specs.declared.fault.Fault.TheVariants.{LeftOut}
 use Rattle.fut_grammar.specs.Phrases.{bounded, ended, exp_field_at, flat_at, items, nodes, phrases, read_at}
-use Rattle.fut_grammar.specs.Reading.{◌>>=◌, Read, commas_at, expect, has_at, look_at, parts_at, refuse, refuse_form, refuse_sort, row_at, sub_at, word_at}
+use Rattle.fut_grammar.specs.Reading.{◌>>=◌, Read, commas_at, expect, has_at, look_at, parts_at, refuse, refuse_sort, row_at, sub_at, word_at}
 use Rattle.fut_grammar.proofs.Same.{same_written}
 use Rattle.fut_grammar.proofs.Turns.{commas_same}
 use Rattle.fut_atoms.specs.Parts.{field_at, target_at}

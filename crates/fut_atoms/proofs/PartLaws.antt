@@ -1,5 +1,5 @@
 -- A part of an index, plain or in a section, is one that is written so.
-use Rattle.std.proofs.Common.{◌≡◌, Bool, true, false, cond, ◌&&◌, ◌||◌, List, [], Some, None, Option, Ok, Err, Result, refl}
+use Rattle.std.proofs.Common.{◌≡◌, Bool, true, false, cond, ◌&&◌, ◌||◌, List, Some, None, Ok, Err, Result, refl}
 use Rattle.fut_token.specs.declared.token.Fixed.TheVariants as fixed
 use Rattle.fut_token.specs.declared.token.Token.{Token}
 use Rattle.fut_ast.specs.Behind.{begins_operand}
@@ -8,7 +8,6 @@ use Rattle.fut_ast.specs.Parts.{going_back, without}
 use Rattle.fut_ast.specs.Rows.{of_exp}
 use Rattle.fut_ast.specs.Sorts.{Sort, Tree, Index_item, Named_item, Operands}
 use Rattle.fut_ast.specs.Tokens.{spot_of, starts, tail}
-use Rattle.fut_ast.specs.declared.exp.Ix.TheVariants as ix
 use Rattle.fut_ast.specs.declared.node.What.TheVariants as what
 use Rattle.fut_exp_parts.specs.Parts.{Written, plain_part, section_part}
 use Rattle.fut_grammar.specs.declared.fault.Fault.{Fault}

@@ -1,5 +1,5 @@
 -- The parts of atoms, as they are read and found.
-use Rattle.std.specs.Prelude.{ℕ, List, ◌&&◌, ◌||◌, Option, Some, None, Result, Ok, Err, max, if◌then◌else◌}
+use Rattle.std.specs.Prelude.{ℕ, List, ◌&&◌, ◌||◌, Option, None, Result, Ok, Err, if◌then◌else◌}
 use Rattle.std.specs.Borrow.{Bor}
 use Rattle.fut_token.specs.declared.token.Fixed.TheVariants as fixed
 use Rattle.fut_token.specs.declared.token.Token.{Token}

@@ -1,6 +1,5 @@
 -- What stops the reading of a part stops that of the production.
-use Rattle.std.proofs.Common.{◌≡◌, ℕ, ◌≤◌, Bool, true, false, List, Result, Ok, Err, if◌then◌else◌, refl}
-use Rattle.std.specs.Prelude.{IfOk}
+use Rattle.std.proofs.Common.{◌≡◌, Bool, true, false, List, Result, Ok, Err, if◌then◌else◌, refl}
 use Rattle.fut_token.specs.declared.token.Fixed.{Fixed}
 use Rattle.fut_token.specs.declared.token.Token.{Token}
 use Rattle.fut_ast.specs.Tokens.{starts, tail}
@@ -8,7 +7,6 @@ use Rattle.fut_grammar.specs.declared.fault.Fault.{Fault}
 use Rattle.fut_grammar.specs.declared.fault.Stop.{Stop}
 use Rattle.fut_grammar.specs.declared.fault.Stop.TheVariants as stop
 use Rattle.fut_grammar.specs.Reading.{◌>>=◌, Fails, expect, refuse}
-use Rattle.fut_phrases.specs.declared.found.Found.{Found}
 
 pub stopped : {A B : Type 0} (e : Stop) (r : Result A Fault) (f : A → Result B Fault) → Fails e r → Fails e (r >>= f)
 stopped stop.Memory r f h = tt
@@ -37,8 +35,3 @@ taken f ts h = rw h refl
 pub missing : (f : Fixed) (ts : List Token) → starts f ts ≡ false → expect f ts ≡ Err (refuse ts)
 unfolding expect
 missing f ts h = rw h refl
-
--- a height that is known is low enough
-pub low_enough : {X : Type 0} {h m : ℕ} (r : Result (Found X) Stop) → h ≤ m → IfOk r (λ x. x.height ≡ h) → IfOk r (λ x. x.height ≤ m)
-low_enough (Ok x) l e = rw e l
-low_enough (Err e) l u = tt

@@ -5,7 +5,8 @@ use Rattle.fut_ast.specs.declared.node.Spot.{Spot}
 use Rattle.fut_ast.specs.Sorts.{Last, Whole}
 use Rattle.fut_grammar.specs.Phrases.{phrases, read_at}
 use Rattle.fut_grammar.specs.Reading.{expect, has_at, parts_at, row_at, sub_at}
-use Rattle.fut_atoms.proofs.BehindLaws.{behind_fails, fails_as, low_as}
+use Rattle.fut_atoms.proofs.BehindLaws.{behind_fails}
+use Rattle.fut_phrases.proofs.ReadLaws.{fails_as, low_as}
 use Rattle.fut_atoms.proofs.forms.if_else.Goals as goal
 
 pub returns-in-Err : goal.returns-in-Err

@@ -5,7 +5,8 @@ use Rattle.fut_ast.specs.Behind.{is_function_let, is_update_let}
 use Rattle.fut_ast.specs.Sorts.{Whole}
 use Rattle.fut_grammar.specs.Phrases.{items, read_at}
 use Rattle.fut_grammar.specs.Reading.{expect, has_at, parts_at, row_at, sub_at}
-use Rattle.fut_atoms.proofs.BehindLaws.{behind_fails, fails_as}
+use Rattle.fut_atoms.proofs.BehindLaws.{behind_fails}
+use Rattle.fut_phrases.proofs.ReadLaws.{fails_as}
 use Rattle.fut_atoms.proofs.lets.let_pattern.Goals as goal
 
 neither : (a b : Bool) → a ≡ false → b ≡ false → (not a && not b) ≡ true

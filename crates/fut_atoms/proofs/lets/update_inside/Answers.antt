@@ -4,7 +4,8 @@ use Rattle.fut_token.specs.declared.token.Fixed.TheVariants as fixed
 use Rattle.fut_ast.specs.Sorts.{Whole}
 use Rattle.fut_grammar.specs.Phrases.{items, read_at}
 use Rattle.fut_grammar.specs.Reading.{expect, has_at, parts_at, sub_at}
-use Rattle.fut_atoms.proofs.BehindLaws.{behind_fails, fails_as}
+use Rattle.fut_atoms.proofs.BehindLaws.{behind_fails}
+use Rattle.fut_phrases.proofs.ReadLaws.{fails_as}
 use Rattle.fut_atoms.proofs.lets.update_inside.Goals as goal
 
 pub returns-in-Err : goal.returns-in-Err

@@ -1,5 +1,5 @@
 -- A module type begins here, and no `with` stands behind it.
-use Rattle.std.proofs.Common.{sym, ◌∙◌, refl, arith}
+use Rattle.std.proofs.Common.{sym, ◌∙◌, refl}
 use Rattle.fut_grammar.specs.Phrases.{bounded, ended, read_at, step}
 use Rattle.fut_grammar.specs.Reading.{refuse_sort}
 use Rattle.fut_module_types.proofs.Stops.{stopped}

@@ -1,6 +1,5 @@
 -- The parts of the production, one after the other.
 use Rattle.std.proofs.Common.{◌≡◌, ◌+◌, suc, sym, ap, refl, arith}
-use Rattle.std.proofs.Math.Nat.{zero-max}
 use Rattle.fut_token.specs.declared.token.Fixed.TheVariants as fixed
 use Rattle.fut_ast.specs.declared.node.Spot.{Spot}
 use Rattle.fut_grammar.specs.Phrases.{phrases}

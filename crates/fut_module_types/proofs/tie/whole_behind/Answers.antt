@@ -1,5 +1,5 @@
 -- The sign stands there or it does not.
-use Rattle.std.proofs.Common.{◌≡◌, true, Result, Ok, Err, sym, ◌∙◌}
+use Rattle.std.proofs.Common.{Result, Ok, Err, sym, ◌∙◌}
 use Rattle.std.specs.Prelude.{IfOk}
 use Rattle.fut_module_types.proofs.tie.whole_behind.Goals as goal
 

@@ -7,7 +7,8 @@ use Rattle.fut_ast.specs.Sorts.{Whole_mtype}
 use Rattle.fut_ast.specs.Tokens.{starts, tail}
 use Rattle.fut_grammar.specs.Phrases.{phrases, read_at}
 use Rattle.fut_grammar.specs.Reading.{has_at, parts_at, refuse, row_at, sub_at}
-use Rattle.fut_module_types.proofs.Stops.{behind, fault_stopped, low_enough, missing, part_stopped, taken}
+use Rattle.fut_module_types.proofs.Stops.{behind, fault_stopped, missing, part_stopped, taken}
+use Rattle.fut_phrases.proofs.ReadLaws.{low_as}
 use Rattle.fut_module_types.proofs.types.arrow.Goals as goal
 
 pub returns-in-Err : goal.returns-in-Err
@@ -29,4 +30,4 @@ returns g c =
     let read = rw c.in-Ok-whole_behind.ensures.sign at c.in-Ok-whole_behind.ensures.exact in
     let one : suc c.greater.result ≡ c.greater.result + 1 = omega arith in
     let high : c.greater.result + 1 ≤ c.args.inner + 1 = omega (arith, c.greater.ensures, c.in-Ok.ensures.low, c.in-Ok-whole_behind.ensures.low) in
-    record { exact = rw (c.in-Ok.ensures.exact, sign, read, zero-max c.in-Ok.param.height, sym c.greater.ensures, at, one) c.made.ensures.exact; low = low_enough c.made.result high c.made.ensures.low }
+    record { exact = rw (c.in-Ok.ensures.exact, sign, read, zero-max c.in-Ok.param.height, sym c.greater.ensures, at, one) c.made.ensures.exact; low = low_as c.made.result c.made.ensures.low high }

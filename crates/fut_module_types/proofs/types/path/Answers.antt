@@ -1,6 +1,4 @@
 -- The names are all of it.
-use Rattle.std.proofs.Common.{sym, ap}
-use Rattle.fut_ast.specs.declared.node.Spot.{Spot}
 use Rattle.fut_grammar.specs.Reading.{has_at, parts_at, row_at}
 use Rattle.fut_module_types.proofs.Stops.{part_stopped}
 use Rattle.fut_module_types.proofs.types.path.Goals as goal

@@ -1,8 +1,9 @@
 -- One `with` or more, or none.
-use Rattle.std.proofs.Common.{◌≡◌, ◌+◌, ◌≤◌, ◌<◌, suc, true, false, sym, ap, ◌∙◌, refl, nat_lt, arith, rules}
+use Rattle.std.proofs.Common.{◌≡◌, ◌+◌, ◌≤◌, ◌<◌, suc, true, sym, ◌∙◌, refl, nat_lt, arith, rules}
 use Rattle.fut_grammar.specs.Phrases.{once_at}
 use Rattle.fut_grammar.specs.Reading.{has_at, parts_at, suffix_at}
-use Rattle.fut_module_types.proofs.Stops.{low_enough, stopped}
+use Rattle.fut_module_types.proofs.Stops.{stopped}
+use Rattle.fut_phrases.proofs.ReadLaws.{low_as}
 use Rattle.fut_module_types.proofs.types.withs_behind.Goals as goal
 
 pub returns-then-not-starts_with : goal.returns-then-not-starts_with
@@ -23,4 +24,4 @@ returns c =
     let lt : nat_lt c.args.first_height (suc c.args.inner) ≡ true = search (arith, rules, low) in
     let one : suc c.in-Ok.withs.height ≡ c.in-Ok.withs.height + 1 = omega arith in
     let high : c.in-Ok.withs.height + 1 ≤ c.args.inner + 1 = omega (arith, c.in-Ok.ensures.low) in
-    record { exact = rw (sym c.starts_with.ensures ∙ c.if-not-starts_with.false, lt, c.in-Ok.ensures.exact, one) c.made.ensures.exact; low = low_enough c.made.result high c.made.ensures.low }
+    record { exact = rw (sym c.starts_with.ensures ∙ c.if-not-starts_with.false, lt, c.in-Ok.ensures.exact, one) c.made.ensures.exact; low = low_as c.made.result c.made.ensures.low high }
