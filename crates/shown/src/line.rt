@@ -137,6 +137,30 @@ impl Shown {
         self.number(u64::from(place.column));
     }
 
+    /// A number behind a text.
+    pub fn numbered(&mut self, before: &str, value: u64) {
+        self.push(before);
+        self.number(value);
+    }
+
+    /// An integer and its suffix behind a text.
+    pub fn written(&mut self, before: &str, value: u64, suffix: Option<IntType>) {
+        self.push(before);
+        self.integer(value, suffix);
+    }
+
+    /// A place behind a text.
+    pub fn placed(&mut self, before: &str, place: Place) {
+        self.push(before);
+        self.place(place);
+    }
+
+    /// Bytes that are text, behind another.
+    pub fn bytes_behind(&mut self, before: &str, bytes: &[u8]) {
+        self.push(before);
+        self.bytes(bytes);
+    }
+
     /// Where a form stands, where this is wanted: the place, and the mark if it is another one.
     pub fn stands(&mut self, place: Place, mark: Place) {
         if !self.with_places {

@@ -6,8 +6,6 @@ use crate::runs::stage_of;
 use crate::stage::Stage;
 use crate::tally::Tally;
 use crate::texts::Text;
-use fut_io::MemLoader;
-use fut_scalar::{List, Name, NoMemory};
 use shown::Shown;
 use std::alloc::Global;
 
@@ -73,6 +71,9 @@ pub struct Draws {
     alloc: Global,
     draw: Option<Draw>,
     text: Text,
+    /// The check of a text as a row of a run, in which nothing is wrong.
+    row: Text,
+    tally: Tally,
 }
 
 impl Draws {
@@ -81,17 +82,30 @@ impl Draws {
             alloc,
             draw: None,
             text: Text::new(alloc),
+            row: Text::new(alloc),
+            tally: Tally::new(alloc),
         }
     }
 
     /// Checks a text, and says whether it is answered.
     fn is_answered(&mut self, shown: &mut Shown) -> bool {
-        let Some(mut stage) = check_of(self.alloc, self.text.bytes.as_slice()) else {
-            return false;
+        self.row.bytes.clear();
+        self.row.add(b"run check t.fut\nfile t.fut\n> ");
+        add_escaped(&mut self.row, self.text.bytes.as_slice());
+        let row = Row {
+            first: 1,
+            text: self.row.bytes.as_slice(),
         };
-        let status = stage.play(self.alloc);
-        stage.show(status, shown);
-        !self.text.is_spent && is_told(shown.text.as_str())
+        let is_told_well = match stage_of(self.alloc, row, &mut self.tally) {
+            Ok(mut stage) => is_played(self.alloc, &mut stage, shown),
+            Err(_) => false,
+        };
+        is_told_well && self.is_whole()
+    }
+
+    /// Whether the text and its row are written as they should be.
+    fn is_whole(&self) -> bool {
+        !self.text.is_spent && !self.row.is_spent && self.tally.fault.is_none()
     }
 
     /// How many texts are answered before the first that is not.
@@ -134,37 +148,37 @@ impl Answers for Draws {
             Some(draw) => self.drawn(text, draw, shown),
         };
         shown.begin(false);
-        shown.push("= ");
-        shown.number(count);
+        shown.numbered("= ", count);
         shown.push(" texts are answered");
         (b"", b"")
     }
 }
 
-/// The file `t.fut` of these bytes.
-fn loader_of(alloc: Global, text: &[u8]) -> Result<MemLoader, NoMemory> {
-    let name = Name::new(alloc, "t.fut")?;
-    let mut files = List::new(alloc);
-    files.push((name, List::from_slice(alloc, text)?))?;
-    Ok(MemLoader::new(files, List::new(alloc)))
-}
-
-/// A check of a file of these bytes.
-fn check_of(alloc: Global, text: &[u8]) -> Option<Stage> {
-    let row = Row {
-        first: 1,
-        text: b"run check t.fut",
-    };
-    match (
-        stage_of(alloc, row, &mut Tally::new(alloc)),
-        loader_of(alloc, text),
-    ) {
-        (Some(stage), Ok(loader)) => Some(Stage { loader, ..stage }),
-        _ => None,
+/// Puts bytes behind others, each as its escape.
+fn add_escaped(into: &mut Text, bytes: &[u8]) {
+    for byte in bytes {
+        into.add(b"@x");
+        into.push(digit_of(*byte / 16));
+        into.push(digit_of(*byte % 16));
     }
 }
 
-/// Whether what a check told is a status with the line of that status.
+/// A hexadecimal digit.
+fn digit_of(value: u8) -> u8 {
+    match value {
+        0..=9 => b'0' + value,
+        10..=15 => b'a' + (value - 10),
+        _ => b'?',
+    }
+}
+
+/// Plays a check, and says whether it told a status with the line of that status.
+fn is_played(alloc: Global, stage: &mut Stage, shown: &mut Shown) -> bool {
+    let status = stage.play(alloc);
+    stage.show(status, shown);
+    is_told(shown.text.as_str())
+}
+
 fn is_told(told: &str) -> bool {
     if told == "status 0; out: accepted\n; err: " {
         return true;

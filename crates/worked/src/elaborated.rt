@@ -13,7 +13,7 @@ use shown::{Shown, show_flat, show_types};
 use std::alloc::Global;
 
 /// Answers a text with its flat program, or with the types of its definitions.
-#[derive(Drop)]
+#[derive(Clone, Copy)]
 pub struct Elaborated {
     alloc: Global,
     has_prelude: bool,
@@ -26,6 +26,59 @@ impl Elaborated {
             alloc,
             has_prelude: false,
             shows_types,
+        }
+    }
+
+    /// Shows what is made of a text, or why nothing is.
+    fn show_text(&self, text: &[u8], shown: &mut Shown) {
+        let before = if self.has_prelude { PRELUDE } else { "" };
+        if text.len() > MOST_BYTES || before.len() > MOST_BYTES {
+            return shown.push("! too many bytes");
+        }
+        match lex(self.alloc, 0, before.as_bytes()) {
+            Ok(tokens) => self.show_behind(tokens.as_slice(), text, shown),
+            Err(_) => shown.push("! no prelude"),
+        }
+    }
+
+    /// The same of a text behind the tokens of the prelude.
+    fn show_behind(&self, prelude: &[Token], text: &[u8], shown: &mut Shown) {
+        match lex(self.alloc, 1, text) {
+            Ok(tokens) => {
+                let bump = Bump::new(self.alloc);
+                self.show_tokens(&bump, prelude, tokens.as_slice(), shown);
+            }
+            Err(_) => shown.push("! no tokens"),
+        }
+    }
+
+    fn show_tokens<'a>(
+        &self,
+        bump: &'a Bump,
+        first: &'a [Token],
+        second: &'a [Token],
+        shown: &mut Shown,
+    ) {
+        let Some(prelude) = tree(bump, 0, first) else {
+            return shown.push("! no prelude");
+        };
+        let Some(program) = tree(bump, 1, second) else {
+            return shown.push("! no tree");
+        };
+        match source_set(bump, prelude, program) {
+            Some(set) => self.show_elaborated(bump, &set, shown),
+            None => shown.push("! memory"),
+        }
+    }
+
+    fn show_elaborated<'a>(&self, bump: &'a Bump, set: &SourceSet<'a>, shown: &mut Shown) {
+        match elaborate(self.alloc, bump, set) {
+            Ok(flat) if self.shows_types => show_types(self.alloc, &flat, shown),
+            Ok(flat) => {
+                shown.push("=");
+                show_flat(&flat, shown);
+            }
+            Err(refusal) => show_refusal(&refusal, shown),
         }
     }
 }
@@ -42,33 +95,8 @@ impl Answers for Elaborated {
 
     fn answer(&mut self, text: &[u8], shown: &mut Shown) -> (&'static [u8], &'static [u8]) {
         shown.begin(false);
-        let before = if self.has_prelude { PRELUDE } else { "" };
-        show_text(self.alloc, self.shows_types, before.as_bytes(), text, shown);
+        self.show_text(text, shown);
         (b"", b"")
-    }
-}
-
-/// Shows the flat program of a text, or why there is none.
-fn show_text(alloc: Global, shows_types: bool, before: &[u8], text: &[u8], shown: &mut Shown) {
-    if text.len() > MOST_BYTES || before.len() > MOST_BYTES {
-        return shown.push("! too many bytes");
-    }
-    let Ok(first) = lex(alloc, 0, before) else {
-        return shown.push("! no prelude");
-    };
-    match lex(alloc, 1, text) {
-        Err(_) => shown.push("! no tokens"),
-        Ok(second) => {
-            let bump = Bump::new(alloc);
-            show_tokens(
-                alloc,
-                &bump,
-                shows_types,
-                first.as_slice(),
-                second.as_slice(),
-                shown,
-            )
-        }
     }
 }
 
@@ -101,48 +129,9 @@ fn source_set<'a>(
     }
 }
 
-fn show_tokens<'a>(
-    alloc: Global,
-    bump: &'a Bump,
-    shows_types: bool,
-    first: &'a [Token],
-    second: &'a [Token],
-    shown: &mut Shown,
-) {
-    let Some(prelude) = tree(bump, 0, first) else {
-        return shown.push("! no prelude");
-    };
-    let Some(program) = tree(bump, 1, second) else {
-        return shown.push("! no tree");
-    };
-    match source_set(bump, prelude, program) {
-        Some(set) => show_elaborated(alloc, bump, shows_types, &set, shown),
-        None => shown.push("! memory"),
-    }
-}
-
-fn show_elaborated<'a>(
-    alloc: Global,
-    bump: &'a Bump,
-    shows_types: bool,
-    set: &SourceSet<'a>,
-    shown: &mut Shown,
-) {
-    match elaborate(alloc, bump, set) {
-        Ok(flat) if shows_types => show_types(alloc, &flat, shown),
-        Ok(flat) => {
-            shown.push("=");
-            show_flat(&flat, shown);
-        }
-        Err(refusal) => show_refusal(&refusal, shown),
-    }
-}
-
-fn show_named(kind: &str, name: &str, at: Place, shown: &mut Shown) {
-    shown.push(kind);
-    shown.push(name);
-    shown.push(" ");
-    shown.place(at);
+fn show_named(before: &str, name: &str, at: Place, shown: &mut Shown) {
+    shown.named(before, name);
+    shown.placed(" ", at);
 }
 
 fn show_refusal(refusal: &ModErr<'_>, shown: &mut Shown) {
@@ -150,7 +139,7 @@ fn show_refusal(refusal: &ModErr<'_>, shown: &mut Shown) {
         ModErr::Unbound { name, at } => show_named("! unbound ", *name, *at, shown),
         ModErr::Twice { name, at } => show_named("! twice ", *name, *at, shown),
         ModErr::NoMember { name, at } => show_named("! no member ", *name, *at, shown),
-        ModErr::NotYet { at } => show_named("! not yet", "", *at, shown),
+        ModErr::NotYet { at } => shown.placed("! not yet ", *at),
         ModErr::Memory => shown.push("! memory"),
     }
 }

@@ -21,7 +21,7 @@ use crate::draws::Draws;
 use crate::elaborated::Elaborated;
 use crate::fault::{Fault, Wrong};
 use crate::parts::cut;
-use crate::rows::Rows;
+use crate::rows::{Answers, Rows};
 use crate::runs::check_runs;
 use crate::scalars::Scalars;
 use crate::tally::Tally;
@@ -32,18 +32,23 @@ use std::alloc::Global;
 use std::process::ExitCode;
 use std::{env, fs, io, str};
 
+/// Goes through the rows of a text by what answers them.
+fn check_by<A: Answers + Drop>(alloc: Global, answers: A, text: &[u8], tally: &mut Tally) {
+    let mut answers = answers;
+    Rows::new(alloc).check(&mut answers, text, tally);
+}
+
 /// Goes through the rows of a file's text. Its first line says what they are.
 fn check_rows(alloc: Global, text: &[u8], tally: &mut Tally) {
     let (head, rest) = cut(text, b'\n').unwrap_or((text, b""));
-    let mut rows = Rows::new(alloc);
     match str::from_utf8(head).unwrap_or("") {
         "rows of runs" => check_runs(alloc, rest, tally),
-        "rows of trees" => rows.check(&mut Trees::new(alloc), rest, tally),
-        "rows of names" => rows.check(&mut Elaborated::new(alloc, false), rest, tally),
-        "rows of types" => rows.check(&mut Elaborated::new(alloc, true), rest, tally),
-        "rows of tokens" => rows.check(&mut Tokens::new(alloc), rest, tally),
-        "rows of scalars" => rows.check(&mut Scalars, rest, tally),
-        "rows of draws" => rows.check(&mut Draws::new(alloc), rest, tally),
+        "rows of trees" => check_by(alloc, Trees::new(alloc), rest, tally),
+        "rows of names" => check_by(alloc, Elaborated::new(alloc, false), rest, tally),
+        "rows of types" => check_by(alloc, Elaborated::new(alloc, true), rest, tally),
+        "rows of tokens" => check_by(alloc, Tokens::new(alloc), rest, tally),
+        "rows of scalars" => check_by(alloc, Scalars, rest, tally),
+        "rows of draws" => check_by(alloc, Draws::new(alloc), rest, tally),
         _ => tally.refuse(1, Wrong::Kind),
     }
 }
@@ -51,31 +56,29 @@ fn check_rows(alloc: Global, text: &[u8], tally: &mut Tally) {
 /// Tells of a file what came of its rows.
 fn tell(tally: &Tally, shown: &mut Shown) {
     match tally.fault {
-        Some(Fault::Memory) => return shown.push(": memory ran out"),
+        Some(Fault::Memory) => shown.push(": memory ran out"),
         Some(Fault::Malformed { line, wrong }) => {
-            shown.push(":");
-            shown.number(line);
-            shown.push(": ");
-            return shown.push(wrong.text());
+            shown.numbered(":", line);
+            shown.named(": ", wrong.text());
         }
-        None => {}
+        None => tell_rows(tally, shown),
     }
-    shown.push(": ");
-    shown.number(tally.rows);
-    shown.push(" rows");
-    if tally.differing == 0 {
-        return shown.push(if tally.rows == 0 { "" } else { " hold" });
-    }
-    shown.push(", of which ");
-    shown.number(tally.differing);
-    shown.push(" differ, the first in line ");
-    shown.number(tally.line);
-    shown.push(", where came ");
-    shown.push(tally.came.as_str());
 }
 
-/// Goes through a file, and says whether all its rows hold.
-fn check_file(rt: &HostRuntime, name: &str) -> io::Result<bool> {
+fn tell_rows(tally: &Tally, shown: &mut Shown) {
+    shown.numbered(": ", tally.rows);
+    shown.push(" rows");
+    if tally.differing > 0 {
+        shown.numbered(", of which ", tally.differing);
+        shown.numbered(" differ, the first in line ", tally.line);
+        shown.named(", where came ", tally.came.as_str());
+    } else if tally.rows > 0 {
+        shown.push(" hold");
+    }
+}
+
+/// Goes through a file, tells what came of it, and says whether all its rows hold.
+fn check_file(rt: &HostRuntime, name: &str) -> bool {
     let mut shown = Shown::new(rt.alloc());
     let mut tally = Tally::new(rt.alloc());
     shown.push(name);
@@ -84,23 +87,21 @@ fn check_file(rt: &HostRuntime, name: &str) -> io::Result<bool> {
         Err(_) => shown.push(" cannot be read"),
     }
     tell(&tally, &mut shown);
-    rt.println(shown.text.as_str())?;
-    Ok(tally.rows > 0 && tally.differing == 0 && tally.fault.is_none() && !shown.is_spent)
+    let is_told = rt.println(shown.text.as_str()).is_ok();
+    is_told && tally.all_hold() && !shown.is_spent
 }
 
 fn main(rt: HostRuntime) -> io::Result<ExitCode> {
-    let mut files = 0u64;
-    let mut holding = 0u64;
+    let mut is_used = false;
+    let mut all_hold = true;
     for name in env::args(&rt)?.skip(1) {
-        files = files.saturating_add(1);
-        if check_file(&rt, name.as_str())? {
-            holding = holding.saturating_add(1);
-        }
+        is_used = true;
+        all_hold = check_file(&rt, name.as_str()) && all_hold;
     }
-    if files == 0 {
+    if !is_used {
         println!(rt; "usage: worked FILE.rows ..")?;
     }
-    Ok(if files > 0 && files == holding {
+    Ok(if is_used && all_hold {
         ExitCode::SUCCESS
     } else {
         ExitCode::FAILURE

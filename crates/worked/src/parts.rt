@@ -19,8 +19,12 @@ pub fn count(bytes: &[u8], wanted: u8) -> u64 {
 pub fn cut(bytes: &[u8], separator: u8) -> Option<(&[u8], &[u8])>
     ensures { IfSome result (λ parts. length parts.1.now < length bytes.now) }
 {
-    let place = bytes.iter().position(|byte| *byte == separator)?;
-    Some((&bytes[..place], &bytes[place + 1..]))
+    for place in 0..bytes.len() {
+        if bytes[place] == separator {
+            return Some((&bytes[..place], &bytes[place + 1..]));
+        }
+    }
+    None
 }
 
 /// The parts of bytes between separators. Behind a last separator there is none.

@@ -52,28 +52,33 @@ impl Rows {
     }
 
     fn take<A: Answers>(&mut self, answers: &mut A, number: u64, line: &[u8], tally: &mut Tally) {
-        if is_text(line) {
-            self.has_text = true;
-            if !add_text(&mut self.text, line) {
-                tally.refuse(number, Wrong::Escape);
-            }
-        } else if is_answer(line) {
-            self.compare(answers, number, line, tally);
-        } else if self.has_text {
-            tally.refuse(number, Wrong::NoAnswer);
+        if is_answer(line) {
+            self.expect(number, line, tally);
+            let around = answers.answer(self.text.bytes.as_slice(), &mut self.shown);
+            self.compare(number, around, tally);
+        } else if self.is_of_text(line) {
+            self.add_text(number, line, tally);
         } else if !answers.takes_heading(line) {
             tally.refuse(number, Wrong::Line);
         }
     }
 
-    /// Compares the answer for the text with the wanted one.
-    fn compare<A: Answers>(
-        &mut self,
-        answers: &mut A,
-        number: u64,
-        wanted: &[u8],
-        tally: &mut Tally,
-    ) {
+    /// Whether a line belongs to a text: it is one of text, or it stands where an answer should.
+    fn is_of_text(&self, line: &[u8]) -> bool {
+        self.has_text || is_text(line)
+    }
+
+    fn add_text(&mut self, number: u64, line: &[u8], tally: &mut Tally) {
+        self.has_text = true;
+        if !is_text(line) {
+            tally.refuse(number, Wrong::NoAnswer);
+        } else if !add_text(&mut self.text, line) {
+            tally.refuse(number, Wrong::Escape);
+        }
+    }
+
+    /// Keeps the answer that is wanted for the text.
+    fn expect(&mut self, number: u64, wanted: &[u8], tally: &mut Tally) {
         if !self.has_text {
             tally.refuse(number, Wrong::NoText);
         }
@@ -81,7 +86,10 @@ impl Rows {
         if !expand(&mut self.wanted, wanted) {
             tally.refuse(number, Wrong::Escape);
         }
-        let around = answers.answer(self.text.bytes.as_slice(), &mut self.shown);
+    }
+
+    /// Compares the answer that came for the text with the wanted one.
+    fn compare(&mut self, number: u64, around: (&[u8], &[u8]), tally: &mut Tally) {
         if self.text.is_spent || self.wanted.is_spent || self.shown.is_spent {
             tally.spend();
         }

@@ -4,10 +4,11 @@ pub mod row;
 
 use crate::fault::Wrong;
 use crate::parts::{Parts, count};
-use crate::runs::given::{err_of, loader_of, out_of, source_of, words_of};
+use crate::runs::given::{loader_of, sinks_of, source_of, words_of};
 use crate::runs::row::Row;
 use crate::stage::Stage;
 use crate::tally::Tally;
+use fut_scalar::NoMemory;
 use shown::Shown;
 use std::alloc::Global;
 
@@ -25,7 +26,6 @@ fn row_length(text: &[u8]) -> usize {
 
 /// Goes through the rows of a text, which stand between blank lines. The text begins in line 2 of its file.
 pub fn check_runs(alloc: Global, text: &[u8], tally: &mut Tally) {
-    let mut shown = Shown::new(alloc);
     let mut first = 2u64;
     let mut rest = text;
     for _ in 0..text.len() {
@@ -34,7 +34,7 @@ pub fn check_runs(alloc: Global, text: &[u8], tally: &mut Tally) {
             .unwrap_or((rest, b""));
         let row = Row { first, text };
         if !row.is_empty() {
-            check_row(alloc, row, &mut shown, tally);
+            check_row(alloc, row, tally);
         }
         first = first.saturating_add(count(text, b'\n')).saturating_add(1);
         let [_, rows @ ..] = behind else {
@@ -45,29 +45,33 @@ pub fn check_runs(alloc: Global, text: &[u8], tally: &mut Tally) {
 }
 
 /// What a row gives to a call.
-pub fn stage_of(alloc: Global, row: Row<'_>, tally: &mut Tally) -> Option<Stage> {
-    let (Ok(out), Ok(err)) = (out_of(alloc, row, tally), err_of(alloc, row, tally)) else {
-        return None;
-    };
-    Some(Stage {
-        words: words_of(alloc, row, tally),
-        loader: loader_of(alloc, row, tally),
-        input: source_of(alloc, row, tally),
-        out,
-        err,
-    })
+pub fn stage_of(alloc: Global, row: Row<'_>, tally: &mut Tally) -> Result<Stage, NoMemory> {
+    match sinks_of(alloc, row, tally) {
+        Ok((out, err)) => Ok(Stage {
+            words: words_of(alloc, row, tally),
+            loader: loader_of(alloc, row, tally),
+            input: source_of(alloc, row, tally),
+            out,
+            err,
+        }),
+        Err(error) => Err(error),
+    }
 }
 
 /// Plays a row, and compares what comes with what is wanted.
-fn check_row(alloc: Global, row: Row<'_>, shown: &mut Shown, tally: &mut Tally) {
+fn check_row(alloc: Global, row: Row<'_>, tally: &mut Tally) {
     row.refuse_strangers(tally);
-    let Some(mut stage) = stage_of(alloc, row, tally) else {
-        return tally.spend();
-    };
+    match stage_of(alloc, row, tally) {
+        Ok(mut stage) => play_row(alloc, row, &mut stage, tally),
+        Err(_) => tally.spend(),
+    }
+}
+
+fn play_row(alloc: Global, row: Row<'_>, stage: &mut Stage, tally: &mut Tally) {
+    let mut shown = Shown::new(alloc);
     let status = stage.play(alloc);
-    stage.show(status, shown);
-    let wanted = wanted_status(row, tally);
-    let holds = wanted == u64::from(status)
+    stage.show(status, &mut shown);
+    let holds = wanted_status(row, tally) == u64::from(status)
         && is_text(alloc, row, b"out", stage.out.held(), tally)
         && is_text(alloc, row, b"err", stage.err.held(), tally);
     tally.add(row.first, holds, shown.text.as_str());

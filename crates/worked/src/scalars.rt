@@ -18,10 +18,7 @@ impl Answers for Scalars {
     fn answer(&mut self, text: &[u8], shown: &mut Shown) -> (&'static [u8], &'static [u8]) {
         shown.begin(false);
         match result_of(text) {
-            Some(Ok(Scalar::Int { ty: _, bits })) => {
-                shown.push("= ");
-                shown.number(bits);
-            }
+            Some(Ok(Scalar::Int { ty: _, bits })) => shown.numbered("= ", bits),
             Some(Ok(Scalar::Bool(true))) => shown.push("= true"),
             Some(Ok(Scalar::Bool(false))) => shown.push("= false"),
             Some(Err(ScalarFault::Division)) => shown.push("! division by zero"),

@@ -32,11 +32,8 @@ impl Stage {
     /// Shows a status and what came on out and on err.
     pub fn show(&self, status: u8, shown: &mut Shown) {
         shown.begin(false);
-        shown.push("status ");
-        shown.number(u64::from(status));
-        shown.push("; out: ");
-        shown.bytes(self.out.held());
-        shown.push("; err: ");
-        shown.bytes(self.err.held());
+        shown.numbered("status ", u64::from(status));
+        shown.bytes_behind("; out: ", self.out.held());
+        shown.bytes_behind("; err: ", self.err.held());
     }
 }

@@ -41,6 +41,11 @@ impl Tally {
         }
     }
 
+    /// Whether there are rows and all of them hold.
+    pub fn all_hold(&self) -> bool {
+        self.rows > 0 && self.differing == 0 && self.fault.is_none()
+    }
+
     /// Tells that a line is written wrong.
     pub fn refuse(&mut self, line: u64, wrong: Wrong) {
         if self.fault.is_none() {

@@ -2,7 +2,7 @@
 use crate::rows::Answers;
 use fut_lexer::{LexErr, Token, TokenKind, lex};
 use fut_token::{Lift, fixed_text};
-use shown::{Shown, suffix_text};
+use shown::Shown;
 use std::alloc::Global;
 
 /// The most bytes of a text that is cut into tokens.
@@ -39,64 +39,46 @@ fn show_text(alloc: Global, text: &[u8], shown: &mut Shown) {
 }
 
 fn show_refusal(refusal: LexErr, shown: &mut Shown) {
-    let (kind, at) = match refusal {
-        LexErr::NotUtf8 { at } => ("! not UTF-8 ", at),
-        LexErr::BadToken { at } => ("! bad token ", at),
-        LexErr::Float { at } => ("! float ", at),
-        LexErr::Memory => return shown.push("! memory"),
-    };
-    shown.push(kind);
-    shown.place(at);
+    match refusal {
+        LexErr::NotUtf8 { at } => shown.placed("! not UTF-8 ", at),
+        LexErr::BadToken { at } => shown.placed("! bad token ", at),
+        LexErr::Float { at } => shown.placed("! float ", at),
+        LexErr::Memory => shown.push("! memory"),
+    }
 }
 
 fn show_tokens(tokens: &[Token], shown: &mut Shown) {
     shown.push("=");
-    let mut is_first = true;
+    let mut before = " ";
     for token in tokens {
-        shown.push(if is_first { " " } else { "; " });
-        is_first = false;
+        shown.push(before);
+        before = "; ";
         show_token(token, shown);
     }
 }
 
 fn show_token(token: &Token, shown: &mut Shown) {
     show_kind(&token.kind, shown);
-    shown.push(" ");
-    shown.number(token.start);
-    shown.push("-");
-    shown.number(token.end);
-    shown.push(" ");
-    shown.place(token.place);
-    if token.tight {
-        shown.push(" tight");
-    }
+    shown.numbered(" ", token.start);
+    shown.numbered("-", token.end);
+    shown.placed(" ", token.place);
+    shown.push(if token.tight { " tight" } else { "" });
 }
 
 fn show_kind(kind: &TokenKind, shown: &mut Shown) {
     match kind {
         TokenKind::Fixed(fixed) => shown.push(fixed_text(*fixed)),
-        TokenKind::Name(name) => show_named("name ", name.as_str(), shown),
-        TokenKind::Int { value, suffix } => {
-            shown.push("int ");
-            shown.number(*value);
-            shown.push(suffix_text(*suffix));
+        TokenKind::Int { value, suffix } => shown.written("int ", *value, *suffix),
+        TokenKind::Char(character) => {
+            shown.push("char ");
+            shown.character(*character);
         }
-        TokenKind::TypeVar { lift, name } => show_named(lift_text(*lift), name.as_str(), shown),
-        TokenKind::Char(character) => show_char(*character, shown),
-        TokenKind::Text(inside) => show_named("text ", inside.as_str(), shown),
-        TokenKind::Field(digits) => show_named("field ", digits.as_str(), shown),
-        TokenKind::Constructor(name) => show_named("constructor ", name.as_str(), shown),
+        TokenKind::Name(name) => shown.named("name ", name.as_str()),
+        TokenKind::TypeVar { lift, name } => shown.named(lift_text(*lift), name.as_str()),
+        TokenKind::Text(inside) => shown.named("text ", inside.as_str()),
+        TokenKind::Field(digits) => shown.named("field ", digits.as_str()),
+        TokenKind::Constructor(name) => shown.named("constructor ", name.as_str()),
     }
-}
-
-fn show_named(kind: &str, name: &str, shown: &mut Shown) {
-    shown.push(kind);
-    shown.push(name);
-}
-
-fn show_char(character: char, shown: &mut Shown) {
-    shown.push("char ");
-    shown.character(character);
 }
 
 fn lift_text(lift: Lift) -> &'static str {

@@ -4,10 +4,9 @@ use crate::rows::Answers;
 use crate::texts::Text;
 use crate::tokens::MOST_BYTES;
 use bumpalo::Bump;
-use fut_ast::What;
+use fut_ast::form_name;
 use fut_lexer::{Token, lex};
 use fut_parser::{ParseErr, parse};
-use fut_scalar::Place;
 use shown::{Shown, show_program};
 use std::alloc::Global;
 use std::str;
@@ -86,18 +85,23 @@ impl Trees {
             program: Text::new(alloc),
         }
     }
+
+    /// Takes the name of a frame, and says whether it is one.
+    fn takes_frame(&mut self, name: &str) -> bool {
+        match Frame::named(name) {
+            Some(frame) => self.frame = frame,
+            None => return false,
+        }
+        true
+    }
 }
 
 impl Answers for Trees {
     fn takes_heading(&mut self, line: &[u8]) -> bool {
-        let Some(name) = behind_word(line, b"frame") else {
-            return false;
-        };
-        let Some(frame) = Frame::named(str::from_utf8(name).unwrap_or("")) else {
-            return false;
-        };
-        self.frame = frame;
-        true
+        match behind_word(line, b"frame") {
+            Some(name) => self.takes_frame(str::from_utf8(name).unwrap_or("")),
+            None => false,
+        }
     }
 
     fn answer(&mut self, text: &[u8], shown: &mut Shown) -> (&'static [u8], &'static [u8]) {
@@ -107,9 +111,11 @@ impl Answers for Trees {
         self.program.add(text);
         self.program.add(behind);
         shown.begin(matches!(self.frame, Frame::Places));
-        if self.program.is_spent {
-            shown.push("! memory; ");
-        }
+        shown.push(if self.program.is_spent {
+            "! memory; "
+        } else {
+            ""
+        });
         show_text(self.alloc, self.program.bytes.as_slice(), shown);
         self.frame.around_tree()
     }
@@ -137,34 +143,14 @@ fn show_tree(alloc: Global, tokens: &[Token], shown: &mut Shown) {
     }
 }
 
-fn what_text(what: What) -> &'static str {
-    match what {
-        What::Character => " character",
-        What::Text => " text",
-        What::SumType => " sum type",
-        What::SizeExpression => " size expression",
-        What::LiftedType => " lifted type",
-        What::ExistentialSize => " existential size",
-        What::OperatorDefinition => " operator definition",
-        What::LocalOpen => " local open",
-        What::Stride => " stride",
-        What::SliceUpdate => " slice update",
-    }
-}
-
 fn show_refusal(refusal: &ParseErr, shown: &mut Shown) {
     match refusal {
-        ParseErr::Syntax { at } => show_at("! syntax ", *at, shown),
-        ParseErr::TooDeep { at } => show_at("! too deep ", *at, shown),
+        ParseErr::Syntax { at } => shown.placed("! syntax ", *at),
+        ParseErr::TooDeep { at } => shown.placed("! too deep ", *at),
         ParseErr::LeftOut { at, what } => {
-            show_at("! left out ", *at, shown);
-            shown.push(what_text(*what));
+            shown.placed("! left out ", *at);
+            shown.named(" ", form_name(*what));
         }
         ParseErr::Memory => shown.push("! memory"),
     }
-}
-
-fn show_at(kind: &str, at: Place, shown: &mut Shown) {
-    shown.push(kind);
-    shown.place(at);
 }

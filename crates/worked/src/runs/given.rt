@@ -100,16 +100,26 @@ pub fn source_of(alloc: Global, row: Row<'_>, tally: &mut Tally) -> MemSource {
     MemSource::new(input, given.max(1), fails)
 }
 
-/// What out takes, and the writes that fail.
-pub fn out_of(alloc: Global, row: Row<'_>, tally: &mut Tally) -> Result<MemSink, NoMemory> {
-    let room = row.number(b"room out", tally).unwrap_or(ROOM);
-    let fails = row.calls(alloc, b"fails out", tally);
-    MemSink::new(alloc, room, TAKEN, fails)
+/// Out and err.
+pub fn sinks_of(
+    alloc: Global,
+    row: Row<'_>,
+    tally: &mut Tally,
+) -> Result<(MemSink, MemSink), NoMemory> {
+    let out = sink_of(alloc, row, b"room out", b"fails out", tally)?;
+    let err = sink_of(alloc, row, b"room err", b"fails err", tally)?;
+    Ok((out, err))
 }
 
-/// What err takes, and the writes that fail.
-pub fn err_of(alloc: Global, row: Row<'_>, tally: &mut Tally) -> Result<MemSink, NoMemory> {
-    let room = row.number(b"room err", tally).unwrap_or(ROOM);
-    let fails = row.calls(alloc, b"fails err", tally);
+/// What one of them takes in all, by the word of its room, and the writes that fail.
+fn sink_of(
+    alloc: Global,
+    row: Row<'_>,
+    room: &[u8],
+    fails: &[u8],
+    tally: &mut Tally,
+) -> Result<MemSink, NoMemory> {
+    let room = row.number(room, tally).unwrap_or(ROOM);
+    let fails = row.calls(alloc, fails, tally);
     MemSink::new(alloc, room, TAKEN, fails)
 }
