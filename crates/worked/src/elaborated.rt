@@ -32,8 +32,8 @@ impl Elaborated {
     /// Shows what is made of a text, or why nothing is.
     fn show_text(&self, text: &[u8], shown: &mut Shown) {
         let before = if self.has_prelude { PRELUDE } else { "" };
-        if text.len() > MOST_BYTES || before.len() > MOST_BYTES {
-            return shown.push("! too many bytes");
+        if before.len() > MOST_BYTES {
+            return shown.push("! no prelude");
         }
         match lex(self.alloc, 0, before.as_bytes()) {
             Ok(tokens) => self.show_behind(tokens.as_slice(), text, shown),
@@ -43,6 +43,9 @@ impl Elaborated {
 
     /// The same of a text behind the tokens of the prelude.
     fn show_behind(&self, prelude: &[Token], text: &[u8], shown: &mut Shown) {
+        if text.len() > MOST_BYTES {
+            return shown.push("! too many bytes");
+        }
         match lex(self.alloc, 1, text) {
             Ok(tokens) => {
                 let bump = Bump::new(self.alloc);
