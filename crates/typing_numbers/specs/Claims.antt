@@ -1,0 +1,24 @@
+-- Whether a program has a typing, and which answer there is to the question for its types, does not hang on how names and
+-- records are numbered: what holds under one numbering holds under each. Two numberings may also differ in the order of a
+-- record's parts.
+use Rattle.std.specs.Prelude.{List}
+use Rattle.fut_types.specs.declared.Kind.{Kind}
+use Rattle.fut_typing.specs.Names.{Names, AreNames}
+use Rattle.fut_typing.specs.Program.{Defined}
+use Rattle.fut_typing.specs.Answers.{Typable, NoType, FunctionPlace}
+
+-- what holds of a program under one numbering holds of it under each
+abbrev pub Hangs_on_no_numbering : (Names → List Defined → Type 0) → Type 0
+Hangs_on_no_numbering P = (M N : Names) → AreNames M → AreNames N → (ds : List Defined) → P M ds → P N ds
+
+-- it has a typing where places hold these types
+abbrev pub TypableIsOne : Type 0
+TypableIsOne = (places : Kind) → Hangs_on_no_numbering (λ N ds. Typable N ds places)
+
+-- it has no typing, even if functions may stand everywhere
+abbrev pub NoTypeIsOne : Type 0
+NoTypeIsOne = Hangs_on_no_numbering NoType
+
+-- it has one only if functions may stand everywhere
+abbrev pub FunctionPlaceIsOne : Type 0
+FunctionPlaceIsOne = Hangs_on_no_numbering FunctionPlace

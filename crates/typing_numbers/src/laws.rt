@@ -1,0 +1,13 @@
+// The laws of programs under two numberings, each carried by a call.
+ghost use Rattle.typing_numbers.specs.Claims.{FunctionPlaceIsOne, NoTypeIsOne, TypableIsOne};
+
+/// The law that a program that has a typing under one numbering of names and records has one under each.
+pub fn typings_hang_on_no_numbering()
+    ensures { TypableIsOne }
+{}
+
+/// The law that a program that lacks a typing under one numbering lacks it in the same way under each.
+pub fn refusals_hang_on_no_numbering()
+    ensures no_type { NoTypeIsOne }
+    ensures function_place { FunctionPlaceIsOne }
+{}
