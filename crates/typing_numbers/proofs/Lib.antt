@@ -6,3 +6,5 @@ pub mod Lists
 pub mod Arranged
 pub mod Turns
 pub mod Programs
+pub mod Back
+pub mod Principal

@@ -16,15 +16,14 @@ use Rattle.typing_numbers.proofs.Turns.{Rest, Fair, other, other_faithful}
 abbrev pub bare : Rest
 bare r ts = none
 
-bare_fair : (M : Names) → Fair M bare
+pub bare_fair : (M : Names) → Fair M bare
 bare_fair M = record { full = λ r ts e. refl; high = λ K r ts. let z : least K none ≡ 4 = least_none K in omega arith }
 
 module _ (M N : Names) (m : AreNames M) (n : AreNames N) where
-  pub twins : Turn
+  abbrev pub twins : Turn
   twins = other M N m n bare
 
   pub twins_faithful : Faithful M N twins
-  unfolding twins
   twins_faithful = other_faithful M N m n bare (bare_fair M)
 
 pub typable_is_one : TypableIsOne

@@ -29,37 +29,42 @@ unfolding moved
 count_moved turn none = refl
 count_moved turn (more t ts) = ap (λ n. 1 + n) (count_moved turn ts)
 
+-- a record becomes a type of at least its kinds
+abbrev pub Rises : Turn → Type 0
+Rises turn = (K : Kinds) (r : ℕ) (ts : Tys) (k : ℕ) → k ≤ min 2 (least K ts) → k ≤ rank K (turn r ts)
+
+module _ (turn : Turn) (rises : Rises turn) (K : Kinds) where
+  mutual
+    unfolding rank moved
+
+    pub moved_rank : (t : Ty) → rank K t ≤ rank K (moved turn t)
+    moved_rank (Var v) = omega arith
+    moved_rank (Made (head.Record r) ts) = let z : least K ts ≤ least K (all_moved turn ts) = all_moved_rank ts in rises K r (all_moved turn ts) (min 2 (least K ts)) (omega arith)
+    moved_rank (Made (head.Scalar s) ts) = let z : least K ts ≤ least K (all_moved turn ts) = all_moved_rank ts in omega arith
+    moved_rank (Made head.Array ts) = let z : least K ts ≤ least K (all_moved turn ts) = all_moved_rank ts in omega arith
+    moved_rank (Made head.Tuple ts) = let z : least K ts ≤ least K (all_moved turn ts) = all_moved_rank ts in omega arith
+    moved_rank (Made head.Fun ts) = let z : least K ts ≤ least K (all_moved turn ts) = all_moved_rank ts in omega arith
+    moved_rank (Made (head.Rigid r k) ts) = let z : least K ts ≤ least K (all_moved turn ts) = all_moved_rank ts in omega arith
+    moved_rank (Made (head.Abstract r d) ts) = let z : least K ts ≤ least K (all_moved turn ts) = all_moved_rank ts in omega arith
+
+    all_moved_rank : (ts : Tys) → least K ts ≤ least K (all_moved turn ts)
+    all_moved_rank none = omega arith
+    all_moved_rank (more t ts) = let p : rank K t ≤ rank K (moved turn t) = moved_rank t in let q : least K ts ≤ least K (all_moved turn ts) = all_moved_rank ts in omega arith
+
 module _ (M N : Names) (m : AreNames M) (n : AreNames N) (rest : Rest) where
   -- the parts of the record of the same names
-  pub renamed : ℕ → Tys → Tys
+  unfoldable pub renamed : ℕ → Tys → Tys
   renamed r ts = behind (arranged M.label (names M m r) ts (names N n (twin M N m n r))) (rest r ts)
 
-  pub other : Turn
+  unfoldable pub other : Turn
   other r ts = Made (head.Record (twin M N m n r)) (renamed r ts)
 
   module _ (fair : Fair M rest) where
     -- ---- kinds
-    other_rank : (K : Kinds) (r : ℕ) (ts : Tys) (k : ℕ) → k ≤ min 2 (least K ts) → k ≤ rank K (other r ts)
+    pub other_rises : Rises other
     unfolding rank other renamed
-    other_rank K r ts k le = let z : min 2 (least K ts) ≤ least K (rest r ts) = fair.high K r ts in
+    other_rises K r ts k le = let z : min 2 (least K ts) ≤ least K (rest r ts) = fair.high K r ts in
         let y : k ≤ least K (behind (arranged M.label (names M m r) ts (names N n (twin M N m n r))) (rest r ts)) = arranged_least M.label K (names M m r) ts (rest r ts) (names N n (twin M N m n r)) k (omega arith) (omega arith) in omega arith
-
-    mutual
-      unfolding rank moved
-
-      moved_rank : (K : Kinds) (t : Ty) → rank K t ≤ rank K (moved other t)
-      moved_rank K (Var v) = omega arith
-      moved_rank K (Made (head.Record r) ts) = let z : least K ts ≤ least K (all_moved other ts) = all_moved_rank K ts in other_rank K r (all_moved other ts) (min 2 (least K ts)) (omega arith)
-      moved_rank K (Made (head.Scalar s) ts) = let z : least K ts ≤ least K (all_moved other ts) = all_moved_rank K ts in omega arith
-      moved_rank K (Made head.Array ts) = let z : least K ts ≤ least K (all_moved other ts) = all_moved_rank K ts in omega arith
-      moved_rank K (Made head.Tuple ts) = let z : least K ts ≤ least K (all_moved other ts) = all_moved_rank K ts in omega arith
-      moved_rank K (Made head.Fun ts) = let z : least K ts ≤ least K (all_moved other ts) = all_moved_rank K ts in omega arith
-      moved_rank K (Made (head.Rigid r k) ts) = let z : least K ts ≤ least K (all_moved other ts) = all_moved_rank K ts in omega arith
-      moved_rank K (Made (head.Abstract r d) ts) = let z : least K ts ≤ least K (all_moved other ts) = all_moved_rank K ts in omega arith
-
-      all_moved_rank : (K : Kinds) (ts : Tys) → least K ts ≤ least K (all_moved other ts)
-      all_moved_rank K none = omega arith
-      all_moved_rank K (more t ts) = let p : rank K t ≤ rank K (moved other t) = moved_rank K t in let q : least K ts ≤ least K (all_moved other ts) = all_moved_rank K ts in omega arith
 
     -- ---- parts
     part_moved : (ts : Tys) (o : Option ℕ) (u : Ty) → part_at o ts ≡ Some u → part_at o (all_moved other ts) ≡ Some (moved other u)
@@ -134,7 +139,7 @@ module _ (M N : Names) (m : AreNames M) (n : AreNames N) (rest : Rest) where
     pub other_faithful : Faithful M N other
     unfolding moved other
     other_faithful = record {
-      kind = λ K k t h. let z : rank K t ≤ rank K (moved other t) = moved_rank K t in omega arith;
+      kind = λ K k t h. let z : rank K t ≤ rank K (moved other t) = moved_rank other other_rises K t in omega arith;
       part = has_part;
       row = λ fs t us is.
           (let full : count is.parts ≡ length (M.shapes.fields is.number) = is.all ∙ sym is.fields in

@@ -3,9 +3,10 @@
 -- record's parts.
 use Rattle.std.specs.Prelude.{List}
 use Rattle.fut_types.specs.declared.Kind.{Kind}
+use Rattle.fut_types.specs.Types.{Sub}
 use Rattle.fut_typing.specs.Names.{Names, AreNames}
 use Rattle.fut_typing.specs.Program.{Defined}
-use Rattle.fut_typing.specs.Answers.{Typable, NoType, FunctionPlace}
+use Rattle.fut_typing.specs.Answers.{Typing_is, Typable, NoType, FunctionPlace}
 
 -- what holds of a program under one numbering holds of it under each
 abbrev pub Hangs_on_no_numbering : (Names → List Defined → Type 0) → Type 0
@@ -22,3 +23,7 @@ NoTypeIsOne = Hangs_on_no_numbering NoType
 -- it has one only if functions may stand everywhere
 abbrev pub FunctionPlaceIsOne : Type 0
 FunctionPlaceIsOne = Hangs_on_no_numbering FunctionPlace
+
+-- it has a typing to go on with: the principal one, in which nothing is left open or ambiguous
+abbrev pub TypingIsOne : Type 0
+TypingIsOne = Hangs_on_no_numbering (λ N ds. (types : Sub) × Typing_is N ds types)
