@@ -12,10 +12,11 @@ use Rattle.fut_types.specs.Types.{Sub}
 use Rattle.fut_typing.specs.Names.{Names, AreNames}
 use Rattle.fut_typing.specs.Program.{Defined}
 use Rattle.fut_typing.specs.Answers.{Typing_is, NoType, FunctionPlace, Ambiguous}
+use Rattle.typing_numbers.proofs.Principal.{typing_is_one}
 use Rattle.module_scopes.specs.Names.{Refusal}
 use Rattle.module_scopes.specs.Programs.{FlatProgram, resolve_program}
 use Rattle.module_elab.specs.declared.prelude.TheConstants.{PRELUDE}
-use Rattle.front.specs.Acceptance.{IsParsed, IsPrelude, IsResolved, IsSurelyAcceptable, IsUntyped, Resolves, Unaccepted, Unspelled, definitions_of, prelude_file}
+use Rattle.front.specs.Acceptance.{IsAcceptable, IsParsed, IsPrelude, IsResolved, IsUntyped, Resolves, Unaccepted, Unspelled, definitions_of, prelude_file}
 use Rattle.front.specs.declared.refusals.NameErr.TheVariants as names
 use Rattle.front_types.specs.declared.typed.TypeErr.TheVariants as types
 use Rattle.front.specs.declared.refusals.Refused.{Refused}
@@ -48,7 +49,7 @@ resolved_once tokens x y a b =
     let same = parsed_once tokens a.program b.program a.spelled.parsed b.spelled.parsed in
     resolves_once b.program x y (subst (λ p. Resolves p x) same a.resolves) b.resolves
 
-module _ (tokens : List Token) (flat : FlatProgram) (sure : IsSurelyAcceptable tokens flat) where
+module _ (tokens : List Token) (flat : FlatProgram) (sure : IsAcceptable tokens flat) where
   spelled : (err : ParseErr) → Unspelled tokens err → ⊥
   spelled (parse.Syntax place) u = u.none sure.resolved.program sure.resolved.spelled.parsed.height sure.resolved.spelled.parsed.spelled
   spelled (parse.LeftOut place what) u = u.none sure.resolved.program sure.resolved.spelled.parsed.height sure.resolved.spelled.parsed.spelled
@@ -65,7 +66,7 @@ module _ (tokens : List Token) (flat : FlatProgram) (sure : IsSurelyAcceptable t
   typed Lacks excludes u =
       let same = resolved_once tokens (Ok u.flat) (Ok flat) u.resolved sure.resolved in
       let N = u.lacks.0 in
-      let typing = sure.typed N u.lacks.1 in
+      let typing = typing_is_one sure.typed.0 N sure.typed.1 u.lacks.1 (definitions_of flat) sure.typed.2 in
       excludes N u.lacks.1 (definitions_of flat) typing.0 typing.1 (subst (λ f. Lacks N (definitions_of f)) (same_ok same) u.lacks.2)
 
   pub refuted : (refused : Refused) → Unaccepted tokens refused → ⊥

@@ -12,7 +12,7 @@ use Rattle.fut_parser.specs.declared.programs.ParseErr.{ParseErr}
 use Rattle.fut_parser.specs.declared.programs.ParseErr.TheVariants as parse
 use Rattle.fut_flat.specs.Terms.{Bound_pattern}
 use Rattle.fut_types.specs.Types.{Sub}
-use Rattle.fut_typing.specs.Names.{Names, AreNames}
+use Rattle.fut_typing.specs.Names.{Names}
 use Rattle.fut_typing.specs.Program.{Defined}
 use Rattle.fut_typing.specs.Answers.{Typing_is, NoType, FunctionPlace, Ambiguous}
 use Rattle.module_scopes.specs.Names.{Refusal}
@@ -112,11 +112,6 @@ pub record IsResolved (tokens : List Token) (answer : Result FlatProgram Refusal
 pub record IsAcceptable (tokens : List Token) (flat : FlatProgram) : Type 0 where
   pub resolved : IsResolved tokens (Ok flat)
   pub typed : Some_numbering (λ N. Typable N (definitions_of flat))
-
--- the same, and it has one however they are numbered
-pub record IsSurelyAcceptable (tokens : List Token) (flat : FlatProgram) : Type 0 where
-  pub resolved : IsResolved tokens (Ok flat)
-  pub typed : (N : Names) → AreNames N → Typable N (definitions_of flat)
 
 -- what is answered of tokens that are accepted
 pub record Is_accepted (tokens : List Token) (accepted : Accepted) : Type 0 where

@@ -17,7 +17,6 @@ use Rattle.value_text.specs.Reading.{Reads, Explains}
 use Rattle.value_text.specs.declared.reading.TextErr.{TextErr}
 use Rattle.value_text.specs.declared.reading.TextErr.TheVariants as text
 use Rattle.command_words.specs.CommandLine.{Command}
-use Rattle.futhark_status.specs.declared.status.Status.TheVariants.{Memory}
 use Rattle.futhark_core.specs.Acceptance.{Source}
 use Rattle.futhark_core.specs.Meaning.{Entered, Gives, Fails}
 use Rattle.futhark_core.specs.Private.Stages.{Runs_for, kind_status, failed_status, input_status}

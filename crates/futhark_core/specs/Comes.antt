@@ -1,7 +1,7 @@
 -- What a run comes to, from its words, its files and its input alone: where nothing outside fails and memory is there.
 --
 -- A run goes by stages, one after another. Each gives something to the next, or ends the run with a status. What is said of
--- types is said of each way to number names and records; what is said of an entry, of each typing that shows it.
+-- types holds for some way to number names and records, and so for each; what is said of an entry, of each typing that shows it.
 use Rattle.std.specs.Prelude.{◌≡◌, ◌≤◌, ◌<◌, ◌⊎◌, ℕ, List, length, Option, Some, None, Result, Ok, Err}
 use Rattle.fut_scalar.specs.declared.place.Place.{Place}
 use Rattle.fut_scalar.specs.declared.report.Report.{Report}
@@ -15,7 +15,7 @@ use Rattle.fut_ast.specs.Grammar.{Derives}
 use Rattle.fut_ast.specs.Sorts.{Text as Name}
 use Rattle.fut_ast.specs.declared.module.Program.{Program}
 use Rattle.fut_parser.specs.declared.programs.ParseErr.{ParseErr}
-use Rattle.fut_typing.specs.Names.{Names as Numbering, AreNames}
+use Rattle.fut_typing.specs.Names.{Names as Numbering}
 use Rattle.fut_typing.specs.Program.{Defined}
 use Rattle.fut_typing.specs.Answers.{NoType, FunctionPlace, Ambiguous}
 use Rattle.module_scopes.specs.Names as refusal
@@ -26,6 +26,7 @@ use Rattle.front.specs.Acceptance.{Resolves, Typable, definitions_of, named_file
 use Rattle.front.specs.Entries.{HasEntry, HasNoEntry}
 use Rattle.front.specs.declared.refusals.NameErr.{NameErr}
 use Rattle.front.specs.declared.refusals.NameErr.TheVariants as names
+use Rattle.front_types.specs.Mistyped.{Some_numbering}
 use Rattle.front_types.specs.declared.typed.TypeErr.{TypeErr}
 use Rattle.front_types.specs.declared.typed.TypeErr.TheVariants as types
 use Rattle.command_words.specs.CommandLine.{Command, command_of}
@@ -108,8 +109,8 @@ Lacks types.Memory N ds = ⊥
 
 -- the flat program has a typing, or lacks one
 abbrev pub Typed : Name → FlatProgram → Stage FlatProgram
-Typed file flat (Ok same) = ((N : Numbering) → AreNames N → Typable N (definitions_of flat)) × (same ≡ flat)
-Typed file flat (Err status) = (err : TypeErr) × ((N : Numbering) → AreNames N → Lacks err N (definitions_of flat)) × (status ≡ status_for (why.Types err) file)
+Typed file flat (Ok same) = Some_numbering (λ N. Typable N (definitions_of flat)) × (same ≡ flat)
+Typed file flat (Err status) = (err : TypeErr) × Some_numbering (λ N. Lacks err N (definitions_of flat)) × (status ≡ status_for (why.Types err) file)
 
 -- the file's text is accepted
 abbrev pub Accepted : Option (List (List ℕ × List ℕ)) → Name → Stage FlatProgram
