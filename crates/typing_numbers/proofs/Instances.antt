@@ -1,12 +1,11 @@
 -- What is said of a definition under one numbering is said of it under the other. Where it is to have a typing there for other
 -- types of its parameters, types are chosen for these here that stand nowhere, and are read there as the others.
-use Rattle.std.proofs.Common.{◌≡◌, ℕ, ◌+◌, ◌≤◌, ◌<◌, refl, sym, ◌∙◌, ap, subst, arith, Bool, true, false, List, [], ◌∷◌}
-use mathlib.Core.Logic.{◌⊎◌, inl, inr}
+use Rattle.std.proofs.Common.{◌≡◌, ℕ, ◌+◌, ◌≤◌, ◌<◌, refl, sym, ◌∙◌, ap, arith, Bool, true, List, [], ◌∷◌}
+use mathlib.Core.Logic.{inl, inr}
 use Rattle.fut_scalar.specs.declared.place.BindId.{BindId}
 use Rattle.fut_flat.specs.Terms.{Parameter, Size_parameter, Type_parameter}
 use Rattle.fut_types.specs.declared.Kind.{Kind}
-use Rattle.fut_types.specs.declared.Head.TheVariants as head
-use Rattle.fut_types.specs.Types.{Made, none, Sub, Kinds, HasKind}
+use Rattle.fut_types.specs.Types.{Sub, Kinds}
 use Rattle.fut_typing.specs.Names.{Names}
 use Rattle.fut_typing.specs.Free.{is_within}
 use Rattle.fut_typing.specs.Declared.{Is_parameter}

@@ -18,7 +18,7 @@ use Rattle.fut_typing.specs.Free.{is_within, has_types, is_free}
 use Rattle.fut_typing.specs.Generalised.{own_types, Scheme, Reused, Generalised}
 use Rattle.fut_typing.specs.Typing.{term_types, operand, Function_name, with_turns, let_scheme, Let_typed, let_uses, with_let, Typed, All_typed, Turns_typed}
 use Rattle.fut_typing.specs.Program.{Defined, definition_scheme, Definitions_typed, Program_typed}
-use Rattle.fut_typing.specs.Declared.{Is_parameter, Declares, Some_declare, Turns_declare, Declared_in, Parameter_in}
+use Rattle.fut_typing.specs.Declared.{Is_parameter, Declares, Some_declare, Turns_declare, Parameter_in}
 use Rattle.fut_typing.proofs.Local.{AllLocal, local_parameters, local_all_ones}
 use Rattle.fut_typing.proofs.Programs.{definition_depends, program_same}
 use Rattle.fut_typing.proofs.Locals.{up_to, let_depends, body_local, carried_local, turned_local}
