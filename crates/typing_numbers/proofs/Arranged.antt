@@ -70,13 +70,7 @@ part_behind none us (suc i) e = absurd (omega arith)
 part_behind (more t ts) us zero e = absurd (omega arith)
 part_behind (more t ts) us (suc i) e = part_behind ts us i (omega arith)
 
-pub part_past : (ts : Tys) (i : ℕ) → count ts ≤ i → part_at (Some i) ts ≡ None
-unfolding part_at
-part_past none i le = refl
-part_past (more t ts) zero le = absurd (omega arith)
-part_past (more t ts) (suc i) le = part_past ts i (omega arith)
-
-pub least_most : (K : Kinds) (ts : Tys) → least K ts ≤ 4
+least_most : (K : Kinds) (ts : Tys) → least K ts ≤ 4
 unfolding rank
 least_most K none = omega arith
 least_most K (more t ts) = let z : least K ts ≤ 4 = least_most K ts in omega arith
@@ -98,7 +92,7 @@ module _ (label : Text → ℕ) where
   count_arranged fs ts (g ∷ gs) = let z : count (arranged fs ts gs) ≡ length gs = count_arranged fs ts gs in omega arith
 
   -- what is found under a name
-  pub found_is : (fs : List Text) (ts : Tys) (s : Text) (u : Ty) → part_under (map label fs) (label s) ts ≡ Some u → found fs ts s ≡ u
+  found_is : (fs : List Text) (ts : Tys) (s : Text) (u : Ty) → part_under (map label fs) (label s) ts ≡ Some u → found fs ts s ≡ u
   found_is [] ts s u e = absurd (no_place ts u (sym (ap (λ o. part_at o ts) (place_none 0 (label s))) ∙ e))
   found_is (f ∷ fs) none s u e = absurd (under_nothing (place_from 0 (label s) (map label (f ∷ fs))) u e)
   found_is (f ∷ fs) (more t ts) s u e = elim (ℕ_discrete (label f) (label s)) as (λ d. (elim d as (λ d. Ty) [ yes e ↦ t | no ne ↦ found fs ts s ]) ≡ u) [
@@ -107,7 +101,7 @@ module _ (label : Text → ℕ) where
   ]
 
   -- ---- what is said of all parts is said of those that are found
-  pub found_rank : (K : Kinds) (fs : List Text) (ts : Tys) (s : Text) → least K ts ≤ rank K (found fs ts s)
+  found_rank : (K : Kinds) (fs : List Text) (ts : Tys) (s : Text) → least K ts ≤ rank K (found fs ts s)
   unfolding rank
   found_rank K [] ts s = let z : least K ts ≤ 4 = least_most K ts in omega arith
   found_rank K (f ∷ fs) none s = omega arith

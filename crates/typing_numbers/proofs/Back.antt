@@ -15,23 +15,23 @@ unfoldable use Rattle.typing_numbers.proofs.Exchange.{parts, written}
 
 -- ---- types whose records have at most b parts
 module _ (M N : Names) (m : AreNames M) (n : AreNames N) (b : ℕ) (allowed : ℕ → Tys → Bool) where
-  abbrev X : Turn
-  X = exchange M N m n b allowed
+  abbrev turn : Turn
+  turn = exchange M N m n b allowed
 
-  few_parts : (r : ℕ) (ts us : Tys) → count ts ≤ b → count us ≡ count ts → X r us ≡ written M N m n b r us
+  few_parts : (r : ℕ) (ts us : Tys) → count ts ≤ b → count us ≡ count ts → turn r us ≡ written M N m n b r us
   few_parts r ts us le e = exchange_written M N m n b allowed r us (λ c. omega arith)
 
   mutual
     unfolding applied moved
 
     -- an instance of one becomes an instance of what it becomes
-    pub few_applied : (by : Sub) (t : Ty) → width t ≤ b → moved X (applied by t) ≡ applied (λ v. moved X (by v)) (moved X t)
+    few_applied : (by : Sub) (t : Ty) → width t ≤ b → moved turn (applied by t) ≡ applied (λ v. moved turn (by v)) (moved turn t)
     few_applied by (Var v) le = refl
     few_applied by (Made (head.Record r) ts) le =
-        let e : all_moved X (all_applied by ts) ≡ all_applied (λ v. moved X (by v)) (all_moved X ts) = all_few_applied by ts (omega arith) in
-        few_parts r ts (all_moved X (all_applied by ts)) (omega arith) (count_moved X (all_applied by ts) ∙ count_applied by ts)
-        ∙ ap (written M N m n b r) e ∙ written_applied M N m n b (λ v. moved X (by v)) r (all_moved X ts)
-        ∙ ap (applied (λ v. moved X (by v))) (sym (few_parts r ts (all_moved X ts) (omega arith) (count_moved X ts)))
+        let e : all_moved turn (all_applied by ts) ≡ all_applied (λ v. moved turn (by v)) (all_moved turn ts) = all_few_applied by ts (omega arith) in
+        few_parts r ts (all_moved turn (all_applied by ts)) (omega arith) (count_moved turn (all_applied by ts) ∙ count_applied by ts)
+        ∙ ap (written M N m n b r) e ∙ written_applied M N m n b (λ v. moved turn (by v)) r (all_moved turn ts)
+        ∙ ap (applied (λ v. moved turn (by v))) (sym (few_parts r ts (all_moved turn ts) (omega arith) (count_moved turn ts)))
     few_applied by (Made (head.Scalar x) ts) le = ap (Made (head.Scalar x)) (all_few_applied by ts (omega arith))
     few_applied by (Made head.Array ts) le = ap (Made head.Array) (all_few_applied by ts (omega arith))
     few_applied by (Made head.Tuple ts) le = ap (Made head.Tuple) (all_few_applied by ts (omega arith))
@@ -39,11 +39,11 @@ module _ (M N : Names) (m : AreNames M) (n : AreNames N) (b : ℕ) (allowed : �
     few_applied by (Made (head.Rigid r k) ts) le = ap (Made (head.Rigid r k)) (all_few_applied by ts (omega arith))
     few_applied by (Made (head.Abstract r d) ts) le = ap (Made (head.Abstract r d)) (all_few_applied by ts (omega arith))
 
-    all_few_applied : (by : Sub) (ts : Tys) → widths ts ≤ b → all_moved X (all_applied by ts) ≡ all_applied (λ v. moved X (by v)) (all_moved X ts)
+    all_few_applied : (by : Sub) (ts : Tys) → widths ts ≤ b → all_moved turn (all_applied by ts) ≡ all_applied (λ v. moved turn (by v)) (all_moved turn ts)
     all_few_applied by none le = refl
     all_few_applied by (more t ts) le = λ i. more (few_applied by t (omega arith) i) (all_few_applied by ts (omega arith) i)
 
-  record_stands : (r : ℕ) (ts us : Tys) (v : ℕ) → count ts ≤ b → count us ≡ count ts → Stands v (X r us) ↔ Stands_in v us
+  record_stands : (r : ℕ) (ts us : Tys) (v : ℕ) → count ts ≤ b → count us ≡ count ts → Stands v (turn r us) ↔ Stands_in v us
   unfolding written
   record_stands r ts us v le e = (
     λ s. parts_stand M N m n b r us v (subst (Stands v) (few_parts r ts us le e) s),
@@ -54,10 +54,10 @@ module _ (M N : Names) (m : AreNames M) (n : AreNames N) (b : ℕ) (allowed : �
   mutual
     unfolding moved
 
-    pub few_stand : (t : Ty) (v : ℕ) → width t ≤ b → Stands v (moved X t) ↔ Stands v t
+    few_stand : (t : Ty) (v : ℕ) → width t ≤ b → Stands v (moved turn t) ↔ Stands v t
     few_stand (Var w) v le = (λ s. s, λ s. s)
     few_stand (Made (head.Record r) ts) v le =
-        let a = record_stands r ts (all_moved X ts) v (omega arith) (count_moved X ts) in
+        let a = record_stands r ts (all_moved turn ts) v (omega arith) (count_moved turn ts) in
         let c = all_few_stand ts v (omega arith) in (λ s. c.0 (a.0 s), λ s. a.1 (c.1 s))
     few_stand (Made (head.Scalar x) ts) v le = all_few_stand ts v (omega arith)
     few_stand (Made head.Array ts) v le = all_few_stand ts v (omega arith)
@@ -66,7 +66,7 @@ module _ (M N : Names) (m : AreNames M) (n : AreNames N) (b : ℕ) (allowed : �
     few_stand (Made (head.Rigid r k) ts) v le = all_few_stand ts v (omega arith)
     few_stand (Made (head.Abstract r d) ts) v le = all_few_stand ts v (omega arith)
 
-    all_few_stand : (ts : Tys) (v : ℕ) → widths ts ≤ b → Stands_in v (all_moved X ts) ↔ Stands_in v ts
+    all_few_stand : (ts : Tys) (v : ℕ) → widths ts ≤ b → Stands_in v (all_moved turn ts) ↔ Stands_in v ts
     all_few_stand none v le = (λ s. s, λ s. s)
     all_few_stand (more t ts) v le =
         let a = few_stand t v (omega arith) in

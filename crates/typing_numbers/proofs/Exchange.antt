@@ -75,11 +75,11 @@ module _ (M N : Names) (m : AreNames M) (n : AreNames N) (b : ℕ) where
   row_long r ts q = count_arranged M.label (names M m r) ts (names N n q) ∙ sym (names_long N n q)
 
   -- how many parts it has
-  pub whole_count : (r : ℕ) (ts : Tys) → is_whole r ts ≡ true → count (parts r ts) ≡ length (N.shapes.fields (number M N m n r ts))
+  whole_count : (r : ℕ) (ts : Tys) → is_whole r ts ≡ true → count (parts r ts) ≡ length (N.shapes.fields (number M N m n r ts))
   unfolding parts
   whole_count r ts e = ap (λ x. count (behind (row r ts (number M N m n r ts)) (mark x r ts))) e ∙ ap count (behind_none (row r ts (number M N m n r ts))) ∙ row_long r ts (number M N m n r ts)
 
-  pub marked_count : (r : ℕ) (ts : Tys) → is_whole r ts ≡ false → count (parts r ts) ≡ length (N.shapes.fields (number M N m n r ts)) + (1 + b)
+  marked_count : (r : ℕ) (ts : Tys) → is_whole r ts ≡ false → count (parts r ts) ≡ length (N.shapes.fields (number M N m n r ts)) + (1 + b)
   unfolding parts
   marked_count r ts e =
       let z : count (parts r ts) ≡ count (behind (row r ts (number M N m n r ts)) (mark false r ts)) = ap (λ x. count (behind (row r ts (number M N m n r ts)) (mark x r ts))) e in
@@ -114,7 +114,7 @@ module _ (M N : Names) (m : AreNames M) (n : AreNames N) (b : ℕ) where
       ∙ (λ i. behind (arranged_moved turn M.label (names M m r) ts (names N n q) i) (mark_moved turn (is_whole r ts) r ts i))
       ∙ (λ i. behind (row r us (number_same M N m n r ts us same i)) (mark (is_number (same i) (length (M.shapes.fields r))) r us))
 
-  pub parts_applied : (by : Sub) (r : ℕ) (ts : Tys) → all_applied by (parts r ts) ≡ parts r (all_applied by ts)
+  parts_applied : (by : Sub) (r : ℕ) (ts : Tys) → all_applied by (parts r ts) ≡ parts r (all_applied by ts)
   unfolding parts
   parts_applied by r ts =
       let q : ℕ = number M N m n r ts in
@@ -130,7 +130,7 @@ module _ (M N : Names) (m : AreNames M) (n : AreNames N) (b : ℕ) where
   mark_least K true r ts k le four = four
   mark_least K false r ts k le four = let z : least K (padding b) ≡ 4 = padding_least K b in omega arith
 
-  pub written_rises : (K : Kinds) (r : ℕ) (ts : Tys) (k : ℕ) → k ≤ min 2 (least K ts) → k ≤ rank K (written r ts)
+  written_rises : (K : Kinds) (r : ℕ) (ts : Tys) (k : ℕ) → k ≤ min 2 (least K ts) → k ≤ rank K (written r ts)
   unfolding rank written parts
   written_rises K r ts k le =
       let z : k ≤ least K (parts r ts) = arranged_least M.label K (names M m r) ts (mark (is_whole r ts) r ts) (names N n (number M N m n r ts)) k (omega arith) (mark_least K (is_whole r ts) r ts k (omega arith) (omega arith)) in omega arith
@@ -141,7 +141,7 @@ module _ (M N : Names) (m : AreNames M) (n : AreNames N) (b : ℕ) where
   under_mark K none us t = omega arith
   under_mark K (more u ts) us t = let z : least K (behind ts (more t us)) ≤ rank K t = under_mark K ts us t in omega arith
 
-  pub marked_least : (K : Kinds) (r : ℕ) (ts : Tys) → is_whole r ts ≡ false → least K (parts r ts) ≤ least K ts
+  marked_least : (K : Kinds) (r : ℕ) (ts : Tys) → is_whole r ts ≡ false → least K (parts r ts) ≤ least K ts
   unfolding rank parts
   marked_least K r ts e =
       let q : ℕ = number M N m n r ts in
@@ -159,13 +159,13 @@ module _ (M N : Names) (m : AreNames M) (n : AreNames N) (b : ℕ) where
   here_row : (r : ℕ) (ts : Tys) (s : Text) → In (M.label s) (map M.label (present M N m n r ts)) → part_under (M.shapes.fields r) (M.label s) ts ≡ Some (found M.label (names M m r) ts s)
   here_row r ts s i = ap (λ ls. part_under ls (M.label s) ts) (sym (names_are M m r)) ∙ present_part M.label (names M m r) ts s i
 
-  pub written_part : (r : ℕ) (ts : Tys) (s : Text) (u : Ty) → part_under (M.shapes.fields r) (M.label s) ts ≡ Some u → HasPart N.shapes (N.label s) (written r ts) u
+  written_part : (r : ℕ) (ts : Tys) (s : Text) (u : Ty) → part_under (M.shapes.fields r) (M.label s) ts ≡ Some u → HasPart N.shapes (N.label s) (written r ts) u
   unfolding part_named place written
   written_part r ts s u e =
       let i : In (M.label s) (map M.label (present M N m n r ts)) = part_present M.label (names M m r) ts s u (ap (λ ls. part_under ls (M.label s) ts) (names_are M m r) ∙ e) in
       under_row r ts s (number_has M N m n r ts (N.label s) (relabelled M N m (present M N m n r ts) s i)) ∙ sym (here_row r ts s i) ∙ e
 
-  pub part_written : (r : ℕ) (ts : Tys) (s : Text) (u : Ty) → part_under (N.shapes.fields (number M N m n r ts)) (N.label s) (parts r ts) ≡ Some u → HasPart M.shapes (M.label s) (Made (head.Record r) ts) u
+  part_written : (r : ℕ) (ts : Tys) (s : Text) (u : Ty) → part_under (N.shapes.fields (number M N m n r ts)) (N.label s) (parts r ts) ≡ Some u → HasPart M.shapes (M.label s) (Made (head.Record r) ts) u
   unfolding part_named place
   part_written r ts s u e =
       let i : In (N.label s) (N.shapes.fields (number M N m n r ts)) = under_in (N.label s) (N.shapes.fields (number M N m n r ts)) (parts r ts) u e in
@@ -184,14 +184,13 @@ module _ (M N : Names) (m : AreNames M) (n : AreNames N) (b : ℕ) where
     | inr c ↦ mark_stands (is_whole r ts) r ts v c
   ]
 
+  whole_parts : (r : ℕ) (ts : Tys) → is_whole r ts ≡ true → parts r ts ≡ row r ts (number M N m n r ts)
+  unfolding parts
+  whole_parts r ts e = ap (λ x. behind (row r ts (number M N m n r ts)) (mark x r ts)) e ∙ behind_none (row r ts (number M N m n r ts))
+
 -- ---- a record that is whole, there and back
 module _ (M N : Names) (m : AreNames M) (n : AreNames N) (b : ℕ) where
-  whole_parts : (r : ℕ) (ts : Tys) → is_whole M N m n b r ts ≡ true → parts M N m n b r ts ≡ arranged M.label (names M m r) ts (names N n (number M N m n r ts))
-  unfolding parts
-  whole_parts r ts e = ap (λ x. behind (row M N m n b r ts (number M N m n r ts)) (mark M N m n b x r ts)) e ∙ behind_none (row M N m n b r ts (number M N m n r ts))
-
-module _ (M N : Names) (m : AreNames M) (n : AreNames N) (b : ℕ) where
-  pub whole_back : (r : ℕ) (ts : Tys) → is_whole M N m n b r ts ≡ true → written N M n m b (number M N m n r ts) (parts M N m n b r ts) ≡ Made (head.Record r) ts
+  whole_back : (r : ℕ) (ts : Tys) → is_whole M N m n b r ts ≡ true → written N M n m b (number M N m n r ts) (parts M N m n b r ts) ≡ Made (head.Record r) ts
   unfolding written
   whole_back r ts e =
       let q : ℕ = number M N m n r ts in
@@ -202,10 +201,10 @@ module _ (M N : Names) (m : AreNames M) (n : AreNames N) (b : ℕ) where
       let one : number N M n m q us ≡ r = number_back M N m n r ts us full long in
       ap (Made (head.Record (number N M n m q us))) (whole_parts N M n m b q us again)
       ∙ (λ i. Made (head.Record (one i)) (arranged N.label (names N n q) (whole_parts M N m n b r ts e i) (names M m (one i))))
-      ∙ ap (Made (head.Record r)) (arranged_back M.label N.label n.one_label (names M m r) ts (names N n q) (has q full) (names_apart M m r) (full ∙ names_long M m r))
+      ∙ ap (Made (head.Record r)) (arranged_back M.label N.label n.one_label (names M m r) ts (names N n q) (has full) (names_apart M m r) (full ∙ names_long M m r))
     where
-      has : (q : ℕ) → count ts ≡ length (M.shapes.fields r) → (s : Text) → In (M.label s) (map M.label (names M m r)) → In (N.label s) (map N.label (names N n (number M N m n r ts)))
-      has q full s i = subst (In (N.label s)) (sym (names_are N n (number M N m n r ts))) (whole_has M N m n r ts s full (subst (In (M.label s)) (names_are M m r) i))
+      has : count ts ≡ length (M.shapes.fields r) → (s : Text) → In (M.label s) (map M.label (names M m r)) → In (N.label s) (map N.label (names N n (number M N m n r ts)))
+      has full s i = subst (In (N.label s)) (sym (names_are N n (number M N m n r ts))) (whole_has M N m n r ts s full (subst (In (M.label s)) (names_are M m r) i))
 
   -- ---- what stood in the parts stands in it
   pub parts_hold : (r : ℕ) (ts : Tys) (v : ℕ) → Stands_in v ts → Stands_in v (parts M N m n b r ts)

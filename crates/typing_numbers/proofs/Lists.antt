@@ -7,7 +7,7 @@ use Rattle.fut_types.specs.Types.{Tys, none, more}
 use Rattle.fut_typing.specs.Names.{Names, AreNames, Once, count}
 use Rattle.fut_typing.proofs.Members.{In, in_list, list_in}
 
-pub long_map : (f : Text → ℕ) (fs : List Text) → length (map f fs) ≡ length fs
+long_map : (f : Text → ℕ) (fs : List Text) → length (map f fs) ≡ length fs
 long_map f [] = refl
 long_map f (x ∷ fs) = ap suc (long_map f fs)
 
@@ -17,7 +17,7 @@ map_at f (x ∷ fs) zero d = refl
 map_at f (x ∷ fs) (suc i) d = map_at f fs i d
 
 -- names whose labels are apart are apart
-pub once_back : (f : Text → ℕ) (fs : List Text) → Once (map f fs) → Once fs
+once_back : (f : Text → ℕ) (fs : List Text) → Once (map f fs) → Once fs
 once_back f fs once i j d lt within e = once i j (f d) lt (let z : length (map f fs) ≡ length fs = long_map f fs in omega arith) (map_at f fs i d ∙ ap f e ∙ sym (map_at f fs j d))
 
 -- ---- by recursion
@@ -25,7 +25,7 @@ abbrev pub Apart : List ℕ → Type 0
 Apart [] = Unit {0}
 Apart (x ∷ xs) = (In x xs → ⊥) × Apart xs
 
-pub apart_once : (xs : List ℕ) → Once xs → Apart xs
+apart_once : (xs : List ℕ) → Once xs → Apart xs
 apart_once [] o = tt
 apart_once (x ∷ xs) o = ((λ i. let r = list_in xs x i in let lt : r.0 < length xs = r.1 in o 0 (suc r.0) x (omega arith) (omega arith) (sym r.2)), apart_once xs (λ i j d lt l. o (suc i) (suc j) d (omega arith) (omega arith)))
 
@@ -34,7 +34,7 @@ at_in [] i d lt = absurd (omega arith)
 at_in (x ∷ xs) zero d lt = inl refl
 at_in (x ∷ xs) (suc i) d lt = inr (at_in xs i d (omega arith))
 
-pub once_apart : (xs : List ℕ) → Apart xs → Once xs
+once_apart : (xs : List ℕ) → Apart xs → Once xs
 once_apart [] a i j d lt within = absurd (omega arith)
 once_apart (x ∷ xs) a i zero d lt within = absurd (omega arith)
 once_apart (x ∷ xs) a zero (suc j) d lt within = λ e. a.0 (subst (λ y. In y xs) (sym e) (at_in xs j d (omega arith)))
@@ -50,7 +50,7 @@ without x (y ∷ ys) (inr i) = let r = without x ys i in (
 )
 
 -- a part of a list is no longer
-pub fewer : (xs ys : List ℕ) → Apart xs → ((x : ℕ) → In x xs → In x ys) → length xs ≤ length ys
+fewer : (xs ys : List ℕ) → Apart xs → ((x : ℕ) → In x xs → In x ys) → length xs ≤ length ys
 fewer [] ys a sub = omega arith
 fewer (x ∷ xs) ys a sub =
     let r = without x ys (sub x (inl refl)) in
@@ -63,12 +63,7 @@ relabelled M N are [] s i = absurd i
 relabelled M N are (f ∷ fs) s (inl e) = inl (ap N.label (are.one_label s f e))
 relabelled M N are (f ∷ fs) s (inr i) = inr (relabelled M N are fs s i)
 
-pub labelled : (f : Text → ℕ) (fs : List Text) (l : ℕ) → In l (map f fs) → (s : Text) × (l ≡ f s)
-labelled f [] l i = absurd i
-labelled f (x ∷ fs) l (inl e) = (x, e)
-labelled f (x ∷ fs) l (inr i) = labelled f fs l i
-
-pub relabelled_apart : (M N : Names) → AreNames M → AreNames N → (fs : List Text) → Apart (map M.label fs) → Apart (map N.label fs)
+relabelled_apart : (M N : Names) → AreNames M → AreNames N → (fs : List Text) → Apart (map M.label fs) → Apart (map N.label fs)
 relabelled_apart M N m n [] a = tt
 relabelled_apart M N m n (f ∷ fs) a = ((λ i. a.0 (relabelled N M n fs f i)), relabelled_apart M N m n fs a.1)
 
@@ -89,9 +84,6 @@ module _ (N : Names) (are : AreNames N) where
   unfolding names
   names_are n = (spelled_record n).1
 
-  pub names_once : (n : ℕ) → Once (names n)
-  names_once n = once_back N.label (names n) (subst Once (sym (names_are n)) (are.once n))
-
   pub names_apart : (n : ℕ) → Apart (map N.label (names n))
   names_apart n = apart_once (map N.label (names n)) (subst Once (sym (names_are n)) (are.once n))
 
@@ -104,14 +96,14 @@ cut [] ts = []
 cut (f ∷ fs) none = []
 cut (f ∷ fs) (more t ts) = f ∷ cut fs ts
 
-pub cut_same : (fs : List Text) (ts us : Tys) → count ts ≡ count us → cut fs ts ≡ cut fs us
+cut_same : (fs : List Text) (ts us : Tys) → count ts ≡ count us → cut fs ts ≡ cut fs us
 cut_same [] ts us e = refl
 cut_same (f ∷ fs) none none e = refl
 cut_same (f ∷ fs) none (more u us) e = absurd (let z : 0 ≡ 1 + count us = e in omega arith)
 cut_same (f ∷ fs) (more t ts) none e = absurd (let z : 1 + count ts ≡ 0 = e in omega arith)
 cut_same (f ∷ fs) (more t ts) (more u us) e = ap (λ gs. f ∷ gs) (cut_same fs ts us (let z : 1 + count ts ≡ 1 + count us = e in omega arith))
 
-pub cut_all : (fs : List Text) (ts : Tys) → count ts ≡ length fs → cut fs ts ≡ fs
+cut_all : (fs : List Text) (ts : Tys) → count ts ≡ length fs → cut fs ts ≡ fs
 cut_all [] ts e = refl
 cut_all (f ∷ fs) none e = absurd (let z : 0 ≡ suc (length fs) = e in omega arith)
 cut_all (f ∷ fs) (more t ts) e = ap (λ gs. f ∷ gs) (cut_all fs ts (let z : 1 + count ts ≡ suc (length fs) = e in omega arith))
@@ -122,7 +114,7 @@ cut_in label (f ∷ fs) none l i = absurd i
 cut_in label (f ∷ fs) (more t ts) l (inl e) = inl e
 cut_in label (f ∷ fs) (more t ts) l (inr i) = inr (cut_in label fs ts l i)
 
-pub cut_apart : (label : Text → ℕ) (fs : List Text) (ts : Tys) → Apart (map label fs) → Apart (map label (cut fs ts))
+cut_apart : (label : Text → ℕ) (fs : List Text) (ts : Tys) → Apart (map label fs) → Apart (map label (cut fs ts))
 cut_apart label [] ts a = tt
 cut_apart label (f ∷ fs) none a = tt
 cut_apart label (f ∷ fs) (more t ts) a = ((λ i. a.0 (cut_in label fs ts (label f) i)), cut_apart label fs ts a.1)
@@ -153,7 +145,7 @@ module _ (M N : Names) (m : AreNames M) (n : AreNames N) where
       step : (ts us : Tys) → count ts ≡ count us → (l : ℕ) → Contains (N.shapes.fields (number r ts)) l → Contains (N.shapes.fields (number r us)) l
       step ts us e l c = list_in (N.shapes.fields (number r us)) l (number_has r us l (subst (λ fs. In l (map N.label fs)) (cut_same (names M m r) ts us e) (number_only r ts l (in_list (N.shapes.fields (number r ts)) l c))))
 
-  pub number_long : (r : ℕ) (ts : Tys) → length (N.shapes.fields (number r ts)) ≡ length (present r ts)
+  number_long : (r : ℕ) (ts : Tys) → length (N.shapes.fields (number r ts)) ≡ length (present r ts)
   number_long r ts =
       let q : ℕ = number r ts in
       let here : length (map N.label (present r ts)) ≡ length (present r ts) = long_map N.label (present r ts) in
@@ -168,7 +160,7 @@ module _ (M N : Names) (m : AreNames M) (n : AreNames N) where
   pub whole_has : (r : ℕ) (ts : Tys) (s : Text) → count ts ≡ length (M.shapes.fields r) → In (M.label s) (M.shapes.fields r) → In (N.label s) (N.shapes.fields (number r ts))
   whole_has r ts s e i = number_has r ts (N.label s) (relabelled M N m (present r ts) s (subst (In (M.label s)) (sym (names_are M m r) ∙ ap (map M.label) (sym (cut_all (names M m r) ts (e ∙ names_long M m r)))) i))
 
-  pub whole_only : (r : ℕ) (ts : Tys) (s : Text) → count ts ≡ length (M.shapes.fields r) → In (N.label s) (N.shapes.fields (number r ts)) → In (M.label s) (M.shapes.fields r)
+  whole_only : (r : ℕ) (ts : Tys) (s : Text) → count ts ≡ length (M.shapes.fields r) → In (N.label s) (N.shapes.fields (number r ts)) → In (M.label s) (M.shapes.fields r)
   whole_only r ts s e i = subst (In (M.label s)) (ap (map M.label) (cut_all (names M m r) ts (e ∙ names_long M m r)) ∙ names_are M m r) (relabelled N M n (present r ts) s (number_only r ts (N.label s) i))
 
 pub number_back : (M N : Names) (m : AreNames M) (n : AreNames N) (r : ℕ) (ts us : Tys) → count ts ≡ length (M.shapes.fields r) → count us ≡ length (N.shapes.fields (number M N m n r ts)) → number N M n m (number M N m n r ts) us ≡ r

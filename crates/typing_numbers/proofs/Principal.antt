@@ -64,7 +64,7 @@ module _ (M N : Names) (m : AreNames M) (n : AreNames N) (b : ℕ) where
       (All-from_recursion (Apart (other_open o h.0.0)) (other_opens os h.1) (others_apart o h.0.0 h.0.1 os h.1 (recursion_from_All (Apart o) os (λ k d lt. once 0 (suc k) d (omega arith) (omega arith)))))
       (others_once os h.1 (λ i j d lt within. once (suc i) (suc j) d (omega arith) (omega arith)))
 
-  pub met_there : (by : Sub) (os : List Open) (h : AllByRecursion Spelled os) → widest_part os ≤ b → AllByRecursion (Met M.shapes by) os → AllByRecursion (Met N.shapes (λ v. moved (to M N m n b) (by v))) (other_opens os h)
+  met_there : (by : Sub) (os : List Open) (h : AllByRecursion Spelled os) → widest_part os ≤ b → AllByRecursion (Met M.shapes by) os → AllByRecursion (Met N.shapes (λ v. moved (to M N m n b) (by v))) (other_opens os h)
   met_there by [] h le met = tt
   met_there by (o ∷ os) h le met =
       let faithful = to_faithful M N m n b in
@@ -73,7 +73,7 @@ module _ (M N : Names) (m : AreNames M) (n : AreNames N) (b : ℕ) where
         met_there by os h.1 (omega arith) met.1,
       )
 
-  pub met_back : (by : Sub) (os : List Open) (h : AllByRecursion Spelled os) → widest_part os ≤ b → AllByRecursion (Met N.shapes by) (other_opens os h) → AllByRecursion (Met M.shapes (λ v. moved (from M N m n b) (by v))) os
+  met_back : (by : Sub) (os : List Open) (h : AllByRecursion Spelled os) → widest_part os ≤ b → AllByRecursion (Met N.shapes by) (other_opens os h) → AllByRecursion (Met M.shapes (λ v. moved (from M N m n b) (by v))) os
   met_back by [] h le met = tt
   met_back by (o ∷ os) h le met =
       let faithful = from_faithful M N m n b in
