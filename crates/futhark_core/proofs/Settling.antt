@@ -13,7 +13,8 @@ use Rattle.fut_typing.specs.Names.{Names as Numbering, AreNames}
 use Rattle.fut_typing.specs.Program.{Defined}
 use Rattle.fut_typing.proofs.Programs.{no_type_or_typing, no_type_or_place, no_type_or_ambiguous, place_or_typing, place_or_ambiguous}
 use Rattle.fut_typing.proofs.Exclude.{typing_or_ambiguous}
-use Rattle.typing_numbers.proofs.Programs.{no_type_is_one, function_place_is_one}
+use Rattle.typing_numbers.specs.Claims.{Hangs_on_no_numbering}
+use Rattle.typing_numbers.proofs.Programs.{no_type_is_one, function_place_is_one, ambiguous_is_one}
 use Rattle.typing_numbers.proofs.Principal.{typing_is_one}
 use Rattle.module_scopes.specs.Names.{Refusal}
 use Rattle.module_scopes.specs.Names as refusal
@@ -172,15 +173,11 @@ module _ (N : Numbering) (are : AreNames N) (ds : List Defined) where
   alike (types.Ambiguous at) types.Memory l m = m
   alike types.Memory other l m = absurd l
 
--- two refusals of one program are alike, however names and records are numbered for each
-alike_numbered : (ds : List Defined) (err other : TypeErr) → Some_numbering (λ N. Lacks err N ds) → Some_numbering (λ N. Lacks other N ds) → AlikeTypes err other
-alike_numbered ds (types.NoType at) other l m = alike m.0 m.1 ds (types.NoType at) other (no_type_is_one l.0 m.0 l.1 m.1 ds l.2) m.2
-alike_numbered ds (types.FunctionPlace at) other l m = alike m.0 m.1 ds (types.FunctionPlace at) other (function_place_is_one l.0 m.0 l.1 m.1 ds l.2) m.2
-alike_numbered ds (types.Ambiguous at) (types.NoType place) l m = alike l.0 l.1 ds (types.Ambiguous at) (types.NoType place) l.2 (no_type_is_one m.0 l.0 m.1 l.1 ds m.2)
-alike_numbered ds (types.Ambiguous at) (types.FunctionPlace place) l m = alike l.0 l.1 ds (types.Ambiguous at) (types.FunctionPlace place) l.2 (function_place_is_one m.0 l.0 m.1 l.1 ds m.2)
-alike_numbered ds (types.Ambiguous at) (types.Ambiguous place) l m = tt
-alike_numbered ds (types.Ambiguous at) types.Memory l m = m.2
-alike_numbered ds types.Memory other l m = absurd l.2
+lacks_is_one : (err : TypeErr) → Hangs_on_no_numbering (Lacks err)
+lacks_is_one (types.NoType at) = no_type_is_one
+lacks_is_one (types.FunctionPlace at) = function_place_is_one
+lacks_is_one (types.Ambiguous at) = ambiguous_is_one
+lacks_is_one types.Memory = λ M N are_names also ds lacks. lacks
 
 -- a refusal of types like this one
 abbrev pub TypesRefusal : List ℕ → TypeErr → Status → Type 0
@@ -193,4 +190,4 @@ module _ (file : List ℕ) (flat : FlatProgram) where
 
   pub typed_err : (err : TypeErr) → Some_numbering (λ N. Lacks err N (definitions_of flat)) → Holds (Typed file flat) (EndsAs (TypesRefusal file err))
   typed_err err some (Ok same) p = absurd (lacks_or_typing some.0 some.1 (definitions_of flat) err some.2 (typing_is_one p.0.0 some.0 p.0.1 some.1 (definitions_of flat) p.0.2))
-  typed_err err some (Err status) p = (p.0, alike_numbered (definitions_of flat) err p.0 some p.1, p.2)
+  typed_err err some (Err status) p = (p.0, alike p.1.0 p.1.1 (definitions_of flat) err p.0 (lacks_is_one err some.0 p.1.0 some.1 p.1.1 (definitions_of flat) some.2) p.1.2, p.2)

@@ -1,16 +1,19 @@
 -- Parts in the order of other names.
-use Rattle.std.proofs.Common.{◌≡◌, ◌≢◌, ℕ, zero, suc, ◌+◌, ◌≤◌, ◌<◌, min, refl, sym, ◌∙◌, ap, subst, arith, List, [], ◌∷◌, length, map, Option, Some, None, if◌then◌else◌, ◌==◌, cond, ne_eqb, eq-eqb}
+use Rattle.std.proofs.Common.{◌≡◌, ◌≢◌, ℕ, zero, suc, ◌+◌, ◌≤◌, min, refl, sym, ◌∙◌, ap, subst, arith, List, [], ◌∷◌, length, map, Option, Some, None, if◌then◌else◌, ◌==◌, ne_eqb, eq-eqb}
 use Rattle.std.proofs.lemmas.Option.{none-some, same_Some}
 use mathlib.Core.Logic.{◌⊎◌, inl, inr}
 use native.Mathlib.Decide.{ℕ_discrete}
 use Rattle.fut_ast.specs.Sorts.{Text}
-use Rattle.fut_types.specs.Types.{Ty, Tys, none, more, Sub, Kinds, level, rank, least, applied, all_applied}
+use Rattle.fut_types.specs.Types.{Ty, Tys, none, more, Sub, Kinds, rank, least, applied, all_applied}
 use Rattle.fut_types.specs.Shapes.{place_from, part_at}
-use Rattle.fut_types.proofs.ShapeLaws.{place_none, place_step}
+use Rattle.fut_types.proofs.ShapeLaws.{place_none}
 use Rattle.fut_typing.specs.Names.{count}
 use Rattle.fut_typing.specs.Primitives.{i64_ty}
-use Rattle.fut_typing.proofs.Members.{In}
-use Rattle.typing_numbers.proofs.Lists.{Apart}
+use Rattle.fut_typing.specs.Answers.{Stands, Stands_in}
+use Rattle.fut_typing.proofs.Members.{In, placed_in}
+use Rattle.typing_numbers.proofs.Moved.{Turn}
+unfoldable use Rattle.typing_numbers.proofs.Moved.{moved, all_moved}
+use Rattle.typing_numbers.proofs.Lists.{Apart, cut}
 
 -- ---- the part that a label names, in parts that stand in the order of labels
 abbrev pub part_under : List ℕ → ℕ → Tys → Option Ty
@@ -67,13 +70,7 @@ part_behind none us (suc i) e = absurd (omega arith)
 part_behind (more t ts) us zero e = absurd (omega arith)
 part_behind (more t ts) us (suc i) e = part_behind ts us i (omega arith)
 
-pub part_past : (ts : Tys) (i : ℕ) → count ts ≤ i → part_at (Some i) ts ≡ None
-unfolding part_at
-part_past none i le = refl
-part_past (more t ts) zero le = absurd (omega arith)
-part_past (more t ts) (suc i) le = part_past ts i (omega arith)
-
-pub least_most : (K : Kinds) (ts : Tys) → least K ts ≤ 4
+least_most : (K : Kinds) (ts : Tys) → least K ts ≤ 4
 unfolding rank
 least_most K none = omega arith
 least_most K (more t ts) = let z : least K ts ≤ 4 = least_most K ts in omega arith
@@ -95,7 +92,7 @@ module _ (label : Text → ℕ) where
   count_arranged fs ts (g ∷ gs) = let z : count (arranged fs ts gs) ≡ length gs = count_arranged fs ts gs in omega arith
 
   -- what is found under a name
-  pub found_is : (fs : List Text) (ts : Tys) (s : Text) (u : Ty) → part_under (map label fs) (label s) ts ≡ Some u → found fs ts s ≡ u
+  found_is : (fs : List Text) (ts : Tys) (s : Text) (u : Ty) → part_under (map label fs) (label s) ts ≡ Some u → found fs ts s ≡ u
   found_is [] ts s u e = absurd (no_place ts u (sym (ap (λ o. part_at o ts) (place_none 0 (label s))) ∙ e))
   found_is (f ∷ fs) none s u e = absurd (under_nothing (place_from 0 (label s) (map label (f ∷ fs))) u e)
   found_is (f ∷ fs) (more t ts) s u e = elim (ℕ_discrete (label f) (label s)) as (λ d. (elim d as (λ d. Ty) [ yes e ↦ t | no ne ↦ found fs ts s ]) ≡ u) [
@@ -104,7 +101,7 @@ module _ (label : Text → ℕ) where
   ]
 
   -- ---- what is said of all parts is said of those that are found
-  pub found_rank : (K : Kinds) (fs : List Text) (ts : Tys) (s : Text) → least K ts ≤ rank K (found fs ts s)
+  found_rank : (K : Kinds) (fs : List Text) (ts : Tys) (s : Text) → least K ts ≤ rank K (found fs ts s)
   unfolding rank
   found_rank K [] ts s = let z : least K ts ≤ 4 = least_most K ts in omega arith
   found_rank K (f ∷ fs) none s = omega arith
@@ -181,3 +178,94 @@ arranged_self label (f ∷ fs) (more t ts) a e = λ i. more (here i) ((arranged_
 pub arranged_back : (label other : Text → ℕ) → ((s t : Text) → other s ≡ other t → s ≡ t) → (fs : List Text) (ts : Tys) (gs : List Text) → ((s : Text) → In (label s) (map label fs) → In (other s) (map other gs)) → Apart (map label fs) → count ts ≡ length fs
     → arranged other gs (arranged label fs ts gs) fs ≡ ts
 arranged_back label other one fs ts gs all a e = arranged_again label other one fs ts gs fs all ∙ arranged_self label fs ts a e
+
+-- ---- a name has a part if it is one of those of which there are parts
+module _ (label : Text → ℕ) where
+  pub part_present : (fs : List Text) (ts : Tys) (s : Text) (u : Ty) → part_under (map label fs) (label s) ts ≡ Some u → In (label s) (map label (cut fs ts))
+  part_present [] ts s u e = absurd (no_place ts u (sym (ap (λ o. part_at o ts) (place_none 0 (label s))) ∙ e))
+  part_present (f ∷ fs) none s u e = absurd (under_nothing (place_from 0 (label s) (map label (f ∷ fs))) u e)
+  part_present (f ∷ fs) (more t ts) s u e = elim (ℕ_discrete (label f) (label s)) as (λ d. In (label s) (map label (cut (f ∷ fs) (more t ts)))) [
+    | yes same ↦ inl (sym same)
+    | no ne ↦ inr (part_present fs ts s u (sym (under_rest (label s) (label f) (map label fs) t ts ne) ∙ e))
+  ]
+
+  pub present_part : (fs : List Text) (ts : Tys) (s : Text) → In (label s) (map label (cut fs ts)) → part_under (map label fs) (label s) ts ≡ Some (found label fs ts s)
+  present_part [] ts s i = absurd i
+  present_part (f ∷ fs) none s i = absurd i
+  present_part (f ∷ fs) (more t ts) s i = elim (ℕ_discrete (label f) (label s)) as (λ d. part_under (map label (f ∷ fs)) (label s) (more t ts) ≡ Some (elim d as (λ d. Ty) [ yes e ↦ t | no ne ↦ found label fs ts s ])) [
+    | yes same ↦ under_first (label s) (label f) (map label fs) t ts same
+    | no ne ↦ under_rest (label s) (label f) (map label fs) t ts ne ∙ present_part fs ts s (rest ne i)
+  ]
+    where
+      rest : (label f ≢ label s) → In (label s) (map label (cut (f ∷ fs) (more t ts))) → In (label s) (map label (cut fs ts))
+      rest ne (inl e) = absurd (ne (sym e))
+      rest ne (inr i) = i
+
+-- the label of a part is one of the labels
+pub under_in : (l : ℕ) (ls : List ℕ) (ts : Tys) (u : Ty) → part_under ls l ts ≡ Some u → In l ls
+under_in l ls ts u e = known (place_from 0 l ls) refl e
+  where
+    known : (o : Option ℕ) → place_from 0 l ls ≡ o → part_at o ts ≡ Some u → In l ls
+    known None is h = absurd (no_place ts u h)
+    known (Some i) is h = placed_in 0 l ls i is
+
+-- ---- the parts of records become others
+module _ (turn : Turn) where
+  pub count_moved : (ts : Tys) → count (all_moved turn ts) ≡ count ts
+  unfolding moved
+  count_moved none = refl
+  count_moved (more t ts) = ap (λ n. 1 + n) (count_moved ts)
+
+  pub behind_moved : (ts us : Tys) → all_moved turn (behind ts us) ≡ behind (all_moved turn ts) (all_moved turn us)
+  unfolding moved
+  behind_moved none us = refl
+  behind_moved (more t ts) us = ap (more (moved turn t)) (behind_moved ts us)
+
+  found_moved : (label : Text → ℕ) (fs : List Text) (ts : Tys) (s : Text) → moved turn (found label fs ts s) ≡ found label fs (all_moved turn ts) s
+  unfolding moved
+  found_moved label [] ts s = refl
+  found_moved label (f ∷ fs) none s = refl
+  found_moved label (f ∷ fs) (more t ts) s = elim (ℕ_discrete (label f) (label s)) as (λ d. moved turn (elim d as (λ d. Ty) [ yes e ↦ t | no ne ↦ found label fs ts s ]) ≡ elim d as (λ d. Ty) [ yes e ↦ moved turn t | no ne ↦ found label fs (all_moved turn ts) s ]) [
+    | yes e ↦ refl
+    | no ne ↦ found_moved label fs ts s
+  ]
+
+  pub arranged_moved : (label : Text → ℕ) (fs : List Text) (ts : Tys) (gs : List Text) → all_moved turn (arranged label fs ts gs) ≡ arranged label fs (all_moved turn ts) gs
+  unfolding moved
+  arranged_moved label fs ts [] = refl
+  arranged_moved label fs ts (g ∷ gs) = λ i. more (found_moved label fs ts g i) (arranged_moved label fs ts gs i)
+
+pub count_applied : (by : Sub) (ts : Tys) → count (all_applied by ts) ≡ count ts
+unfolding applied
+count_applied by none = refl
+count_applied by (more t ts) = ap (λ n. 1 + n) (count_applied by ts)
+
+pub behind_applied : (by : Sub) (ts us : Tys) → all_applied by (behind ts us) ≡ behind (all_applied by ts) (all_applied by us)
+unfolding applied
+behind_applied by none us = refl
+behind_applied by (more t ts) us = ap (more (applied by t)) (behind_applied by ts us)
+
+pub behind_none : (ts : Tys) → behind ts none ≡ ts
+behind_none none = refl
+behind_none (more t ts) = ap (more t) (behind_none ts)
+
+-- ---- what stands in parts
+pub stands_behind : (ts us : Tys) (v : ℕ) → Stands_in v us → Stands_in v (behind ts us)
+stands_behind none us v s = s
+stands_behind (more t ts) us v s = inr (stands_behind ts us v s)
+
+pub behind_stands : (ts us : Tys) (v : ℕ) → Stands_in v (behind ts us) → Stands_in v ts ⊎ Stands_in v us
+behind_stands none us v s = inr s
+behind_stands (more t ts) us v (inl s) = inl (inl s)
+behind_stands (more t ts) us v (inr s) = elim (behind_stands ts us v s) as (λ d. Stands_in v (more t ts) ⊎ Stands_in v us) [ inl a ↦ inl (inr a) | inr b ↦ inr b ]
+
+module _ (label : Text → ℕ) where
+  stands_found : (fs : List Text) (ts : Tys) (s : Text) (v : ℕ) → Stands v (found label fs ts s) → Stands_in v ts
+  stands_found [] ts s v = λ h. absurd h
+  stands_found (f ∷ fs) none s v = λ h. absurd h
+  stands_found (f ∷ fs) (more t ts) s v = elim (ℕ_discrete (label f) (label s)) as (λ d. Stands v (elim d as (λ d. Ty) [ yes e ↦ t | no ne ↦ found label fs ts s ]) → Stands_in v (more t ts)) [ yes e ↦ λ h. inl h | no ne ↦ λ h. inr (stands_found fs ts s v h) ]
+
+  pub stands_arranged : (fs : List Text) (ts : Tys) (gs : List Text) (v : ℕ) → Stands_in v (arranged label fs ts gs) → Stands_in v ts
+  stands_arranged fs ts [] v h = absurd h
+  stands_arranged fs ts (g ∷ gs) v (inl h) = stands_found fs ts g v h
+  stands_arranged fs ts (g ∷ gs) v (inr h) = stands_arranged fs ts gs v h

@@ -28,13 +28,14 @@ use Rattle.fut_typing.specs.Patterns.{pattern_types, arrows, with_pattern, with_
 use Rattle.fut_typing.specs.Typing.{with_turns}
 use Rattle.fut_typing.specs.Declared.{Is_parameter}
 use Rattle.fut_typing.proofs.Readings.{Reading, Suited, read_kind, read_part, Extends, extends_more, extends_self, limit, read_same}
-unfoldable use Rattle.fut_typing.proofs.Readings.{read, read_all}
+unfoldable use Rattle.fut_typing.proofs.Readings.{read}
 use Rattle.fut_typing.proofs.Follows.{read_record}
 use Rattle.typing_numbers.proofs.Moved.{Turn, sent, all_sent, sent_types, Faithful}
 unfoldable use Rattle.typing_numbers.proofs.Moved.{moved, all_moved}
 
 module _ (turn : Turn) (K K' : Kinds) where
-  -- what a name means, it means of instances, and of those of any reading that differs for parameters from F on alone
+  -- what a name means under one numbering it means under the other of what the types become, by any reading that differs for
+  -- parameters from F on alone
   abbrev pub Uses_follow : Reading → ℕ → Uses → Uses → Type 0
   Uses_follow I F u u' = (J : Reading) → Suited K K' J → Extends F I J → (a : Sub) (t : Ty) → u K a t → u' K' (sent_types turn J a) (sent turn J t)
 
@@ -46,13 +47,13 @@ module _ (turn : Turn) (K K' : Kinds) where
   follows_more I J F G s s' le e f = record { uses = λ b L su x. f.uses b L su (extends_more F G I J L le e x); types = λ b L su x. f.types b L su (extends_more F G I J L le e x) }
 
   module _ (I : Reading) (F : ℕ) where
-    pub follows_uses : (b : ℕ) (u u' : Uses) (s s' : Scope) → Uses_follow I F u u' → Follows I F s s' → Follows I F (with_uses b u s) (with_uses b u' s')
+    follows_uses : (b : ℕ) (u u' : Uses) (s s' : Scope) → Uses_follow I F u u' → Follows I F s s' → Follows I F (with_uses b u s) (with_uses b u' s')
     follows_uses b u u' s s' h f = record {
       uses = λ n J su e a t. elim (ℕ_discrete n b) as (λ d. (elim d as (λ d. Uses) [ yes e ↦ u | no ne ↦ s.uses n ]) K a t → (elim d as (λ d. Uses) [ yes e ↦ u' | no ne ↦ s'.uses n ]) K' (sent_types turn J a) (sent turn J t)) [ yes q ↦ h J su e a t | no ne ↦ f.uses n J su e a t ];
       types = f.types;
     }
 
-    pub follows_type : (b : ℕ) (c c' : Ty) (s s' : Scope) → ((J : Reading) → Extends F I J → sent turn J c ≡ c') → Follows I F s s' → Follows I F (with_type b c s) (with_type b c' s')
+    follows_type : (b : ℕ) (c c' : Ty) (s s' : Scope) → ((J : Reading) → Extends F I J → sent turn J c ≡ c') → Follows I F s s' → Follows I F (with_type b c s) (with_type b c' s')
     follows_type b c c' s s' h f = record {
       uses = f.uses;
       types = λ n J su e t. elim (ℕ_discrete n b) as (λ d. (elim d as (λ d. Ty → Type 0) [ yes e ↦ λ u. u ≡ c | no ne ↦ s.types n ]) t → (elim d as (λ d. Ty → Type 0) [ yes e ↦ λ u. u ≡ c' | no ne ↦ s'.types n ]) (sent turn J t)) [ yes q ↦ λ is. ap (sent turn J) is ∙ h J e | no ne ↦ f.types n J su e t ];
@@ -82,7 +83,7 @@ module _ (turn : Turn) (K K' : Kinds) where
       follows_pattern u u' (Record_pattern fs ps) lo s s' h f = follows_patterns u u' ps (1 + lo) s s' (λ n p q. h n (omega arith) (omega arith)) f
       follows_pattern u u' (Typed_pattern p t) lo s s' h f = follows_pattern u u' p lo s s' h f
 
-      pub follows_patterns : (u u' : ℕ → Uses) (ps : Patterns Ref BindId) (lo : ℕ) (s s' : Scope) → ((n : ℕ) → lo ≤ n → n < lo + all_pattern_numbers ps → Uses_follow I F (u n) (u' n)) → Follows I F s s' → Follows I F (with_patterns u ps lo s) (with_patterns u' ps lo s')
+      follows_patterns : (u u' : ℕ → Uses) (ps : Patterns Ref BindId) (lo : ℕ) (s s' : Scope) → ((n : ℕ) → lo ≤ n → n < lo + all_pattern_numbers ps → Uses_follow I F (u n) (u' n)) → Follows I F s s' → Follows I F (with_patterns u ps lo s) (with_patterns u' ps lo s')
       follows_patterns u u' no_pattern lo s s' h f = f
       follows_patterns u u' (pattern_and p ps) lo s s' h f = follows_patterns u u' ps (lo + pattern_numbers p) (with_pattern u p lo s) (with_pattern u' p lo s') (λ n x y. h n (omega arith) (omega arith)) (follows_pattern u u' p lo s s' (λ n x y. h n (omega arith) (omega arith)) f)
 
@@ -98,7 +99,7 @@ module _ (turn : Turn) (K K' : Kinds) where
     follows_turns (While c) lo s s' f = f
 
     -- the parameter of a function type, whose name is a size in the result
-    pub follows_argument : (b : Option BindId) (x : Ty) (s s' : Scope) → limit (moved turn x) ≤ F → Follows I F s s' → Follows I F (with_argument b x s) (with_argument b (sent turn I x) s')
+    follows_argument : (b : Option BindId) (x : Ty) (s s' : Scope) → limit (moved turn x) ≤ F → Follows I F s s' → Follows I F (with_argument b x s) (with_argument b (sent turn I x) s')
     follows_argument None x s s' le f = f
     follows_argument (Some b) x s s' le f = follows_uses b.0 (this_type x) (this_type (sent turn I x)) s s' (λ J su e a t is. ap (sent turn J) is ∙ read_same F I J e (moved turn x) le) f
 
@@ -119,7 +120,7 @@ module _ (turn : Turn) (I : Reading) where
   sent_count (more t ts) = ap (λ n. 1 + n) (sent_count ts)
 
   -- the types of primitives have no records, and no parameters of their own
-  pub sent_prim : (given : Sub) (p : Prim) → sent turn I (applied given (prim_type p)) ≡ applied (sent_types turn I given) (prim_type p)
+  sent_prim : (given : Sub) (p : Prim) → sent turn I (applied given (prim_type p)) ≡ applied (sent_types turn I given) (prim_type p)
   unfolding read moved applied
   sent_prim given prim.Map = refl
   sent_prim given prim.Map2 = refl
@@ -195,7 +196,7 @@ module _ (M N : Names) (turn : Turn) (faithful : Faithful M N turn) (places : Ki
   mutual
     unfolding read moved
 
-    pub denotes_follows : (F : ℕ) (e : FlatType) (s s' : Scope) → Follows turn K K' I F s s' → (a : Sub) (t : Ty) → Denotes M places K a e s t → Denotes N places K' (sent_types turn I a) e s' (sent turn I t)
+    denotes_follows : (F : ℕ) (e : FlatType) (s s' : Scope) → Follows turn K K' I F s s' → (a : Sub) (t : Ty) → Denotes M places K a e s t → Denotes N places K' (sent_types turn I a) e s' (sent turn I t)
     denotes_follows F (Type_use (ref.Bound b) no_arg) s s' f a t h = f.types b.0 I suited (extends_self F I) t h
     denotes_follows F (Type_use (ref.Prim p) no_arg) s s' f a t h = h
     denotes_follows F (Type_use (ref.Scalar q) no_arg) s s' f a t h = ap (sent turn I) h

@@ -1,12 +1,11 @@
 -- What is said of a definition under one numbering is said of it under the other. Where it is to have a typing there for other
 -- types of its parameters, types are chosen for these here that stand nowhere, and are read there as the others.
-use Rattle.std.proofs.Common.{◌≡◌, ℕ, ◌+◌, ◌≤◌, ◌<◌, refl, sym, ◌∙◌, ap, subst, arith, Bool, true, false, List, [], ◌∷◌}
-use mathlib.Core.Logic.{◌⊎◌, inl, inr}
+use Rattle.std.proofs.Common.{◌≡◌, ℕ, ◌+◌, ◌≤◌, ◌<◌, refl, sym, ◌∙◌, ap, arith, Bool, true, List, [], ◌∷◌}
+use mathlib.Core.Logic.{inl, inr}
 use Rattle.fut_scalar.specs.declared.place.BindId.{BindId}
 use Rattle.fut_flat.specs.Terms.{Parameter, Size_parameter, Type_parameter}
 use Rattle.fut_types.specs.declared.Kind.{Kind}
-use Rattle.fut_types.specs.declared.Head.TheVariants as head
-use Rattle.fut_types.specs.Types.{Made, none, Sub, Kinds, HasKind}
+use Rattle.fut_types.specs.Types.{Sub, Kinds}
 use Rattle.fut_typing.specs.Names.{Names}
 use Rattle.fut_typing.specs.Free.{is_within}
 use Rattle.fut_typing.specs.Declared.{Is_parameter}
@@ -14,11 +13,11 @@ use Rattle.fut_typing.specs.Generalised.{parameter_kind, Suits, own_types, Schem
 use Rattle.fut_typing.proofs.Ranges.{within_yes}
 use Rattle.fut_typing.proofs.Cong.{mixed, mixed_free, mixed_outside, Depends, within_no}
 use Rattle.fut_typing.proofs.Readings.{Reading, Suited, Extends, extends_self, limit, read_same}
-unfoldable use Rattle.fut_typing.proofs.Readings.{read, read_all}
+unfoldable use Rattle.fut_typing.proofs.Readings.{read}
 use Rattle.fut_typing.proofs.Instances.{limit_below, below_limit, parameter_limit, chosen_limit, parameter_below, chosen_below, own_rigid, new_suit, raised, raised_suited, raised_extends, new_read, Good, good_more, Chosen}
 unfoldable use Rattle.fut_typing.proofs.Instances.{new_types}
 use Rattle.typing_numbers.proofs.Moved.{Turn, sent, sent_types, Faithful}
-unfoldable use Rattle.typing_numbers.proofs.Moved.{moved, all_moved}
+unfoldable use Rattle.typing_numbers.proofs.Moved.{moved}
 use Rattle.typing_numbers.proofs.Follows.{Uses_follow, sent_kind}
 
 suits_sent : (M N : Names) (turn : Turn) → Faithful M N turn → (places : Kind) (K K' : Kinds) (I : Reading) → Suited K K' I → (c : Sub) (ps : List (Parameter BindId)) → Suits places K c ps → Suits places K' (sent_types turn I c) ps

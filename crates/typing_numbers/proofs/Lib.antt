@@ -4,7 +4,8 @@ pub mod Instances
 pub mod Typings
 pub mod Lists
 pub mod Arranged
-pub mod Turns
-pub mod Programs
+pub mod Records
+pub mod Exchange
 pub mod Back
 pub mod Principal
+pub mod Programs

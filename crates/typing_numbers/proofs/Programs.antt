@@ -1,33 +1,23 @@
--- A program that has a typing under one numbering has one under each, and so one that has none.
-use Rattle.std.proofs.Common.{◌≡◌, ◌≤◌, refl, arith, List, min}
+-- What is said of the typings of a program under one numbering is said of them under each.
+use Rattle.std.proofs.Common.{◌≡◌, ◌↔◌, ℕ, ◌+◌, ◌≤◌, ◌<◌, refl, ◌∙◌, arith, List, [], ◌∷◌}
+use Rattle.std.specs.List.{AllByRecursion, Contains}
+use Rattle.std.proofs.lemmas.List.Elements.{recursion_from_All}
+use mathlib.Core.Logic.{◌⊎◌, inl, inr}
 use Rattle.fut_types.specs.declared.Kind.{Kind}
 use Rattle.fut_types.specs.declared.Kind.TheVariants as kind
-use Rattle.fut_types.specs.Types.{none, least}
-use Rattle.fut_types.proofs.TyLaws.{least_none}
+use Rattle.fut_types.specs.Types.{applied}
 use Rattle.fut_typing.specs.Names.{Names, AreNames}
-use Rattle.fut_typing.specs.Program.{Defined}
-use Rattle.fut_typing.specs.Answers.{Typable, Untyped, NoType, FunctionPlace}
-use Rattle.typing_numbers.specs.Claims.{Hangs_on_no_numbering, TypableIsOne, NoTypeIsOne, FunctionPlaceIsOne}
-use Rattle.typing_numbers.proofs.Moved.{Turn, Faithful, moved}
+use Rattle.fut_typing.specs.Program.{Defined, program_numbers, Program_typed}
+use Rattle.fut_typing.specs.Answers.{Open, Met, Principal, Stands, IsWanted, default, Typing_is, Typable, Untyped, Ambiguous}
+use Rattle.typing_numbers.specs.Claims.{Hangs_on_no_numbering, TypableIsOne, PrincipalIsOne, TypingIsOne, NoTypeIsOne, FunctionPlaceIsOne, AmbiguousIsOne}
+use Rattle.typing_numbers.proofs.Moved.{moved}
 use Rattle.typing_numbers.proofs.Typings.{program_moves}
-use Rattle.typing_numbers.proofs.Turns.{Rest, Fair, other, other_faithful}
-
--- nothing stands behind the parts of a record
-abbrev pub bare : Rest
-bare r ts = none
-
-pub bare_fair : (M : Names) → Fair M bare
-bare_fair M = record { full = λ r ts e. refl; high = λ K r ts. let z : least K none ≡ 4 = least_none K in omega arith }
-
-module _ (M N : Names) (m : AreNames M) (n : AreNames N) where
-  abbrev pub twins : Turn
-  twins = other M N m n bare
-
-  pub twins_faithful : Faithful M N twins
-  twins_faithful = other_faithful M N m n bare (bare_fair M)
+use Rattle.typing_numbers.proofs.Exchange.{width}
+use Rattle.typing_numbers.proofs.Back.{to, to_faithful, to_stands}
+use Rattle.typing_numbers.proofs.Principal.{widest_type, widest_part, type_width, Spelled, other_opens, others_have, other_principal, open_spelled, none_open}
 
 pub typable_is_one : TypableIsOne
-typable_is_one places M N m n ds t = (t.0, (λ i. moved (twins M N m n) (t.1 i)), program_moves M N (twins M N m n) (twins_faithful M N m n) places ds t.0 t.1 t.2)
+typable_is_one places M N m n ds t = (t.0, (λ i. moved (to M N m n 0) (t.1 i)), program_moves M N (to M N m n 0) (to_faithful M N m n 0) places ds t.0 t.1 t.2)
 
 untyped_is_one : (places : Kind) → Hangs_on_no_numbering (λ N ds. Untyped N ds places)
 untyped_is_one places M N m n ds lacks K a t = let w = typable_is_one places N M n m ds (K, a, t) in lacks w.0 w.1 w.2
@@ -37,3 +27,64 @@ no_type_is_one M N m n ds h = (untyped_is_one kind.Data M N m n ds h.0, untyped_
 
 pub function_place_is_one : FunctionPlaceIsOne
 function_place_is_one M N m n ds h = (untyped_is_one kind.Data M N m n ds h.0, typable_is_one kind.Any M N m n ds h.1)
+
+module _ (M N : Names) (m : AreNames M) (n : AreNames N) (places : Kind) (ds : List Defined) (p : Principal M.shapes (program_numbers ds) (Program_typed M places ds)) where
+  -- no record in it has more parts
+  abbrev wide : ℕ
+  wide = widest_type p.types (program_numbers ds) + widest_part p.opens
+
+  abbrev Named_opens : Type 0
+  Named_opens = AllByRecursion (Spelled M N m n wide) p.opens
+
+  principal_of : Named_opens → Principal N.shapes (program_numbers ds) (Program_typed N places ds)
+  principal_of = other_principal M N m n wide places ds p (omega arith) (omega arith)
+
+  named_opens : Typable M ds places → Named_opens
+  named_opens t = let w = p.instance t.0 t.1 t.2 in open_spelled M N m n wide w.0 p.opens (recursion_from_All (Met M.shapes w.0) p.opens w.2)
+
+  same_stands : (v w : ℕ) → v < program_numbers ds → Stands w (moved (to M N m n wide) (p.types v)) ↔ Stands w (p.types v)
+  same_stands v w lt = let z : width (p.types v) ≤ widest_type p.types (program_numbers ds) = type_width p.types (program_numbers ds) v lt in to_stands M N m n wide (p.types v) w (omega arith)
+
+pub principal_is_one : PrincipalIsOne
+principal_is_one places M N m n ds h = (typable_is_one places M N m n ds h.0, principal_of M N m n places ds h.1 (named_opens M N m n places ds h.1 h.0))
+
+pub typing_is_one : TypingIsOne
+unfolding principal_of
+typing_is_one M N m n ds w =
+    let t : Typing_is M ds w.0 = w.1 in
+    let p : Principal M.shapes (program_numbers ds) (Program_typed M kind.Data ds) = t.principal in
+    let spelled : Named_opens M N m n kind.Data ds p = closed_named p t.closed in
+    let q = principal_of M N m n kind.Data ds p spelled in (
+      λ i. applied (default q.kinds) (q.types i),
+      record {
+        principal = q;
+        closed = none_open M N m n (wide M N m n kind.Data ds p) p.opens spelled t.closed;
+        settled = λ i v lt stands wanted. t.settled i v lt ((same_stands M N m n kind.Data ds p i v lt).0 stands) wanted;
+        is = λ i lt. refl;
+      },
+    )
+  where
+    closed_named : (p : Principal M.shapes (program_numbers ds) (Program_typed M kind.Data ds)) → p.opens ≡ [] → Named_opens M N m n kind.Data ds p
+    closed_named p e = none_named p.opens e
+      where
+        none_named : (os : List Open) → os ≡ [] → AllByRecursion (Spelled M N m n (wide M N m n kind.Data ds p)) os
+        none_named [] e = tt
+        none_named (o ∷ os) e = absurd cc
+
+pub ambiguous_is_one : AmbiguousIsOne
+unfolding principal_of
+ambiguous_is_one M N m n ds h =
+    let a : Ambiguous M ds = h in
+    let p : Principal M.shapes (program_numbers ds) (Program_typed M kind.Data ds) = a.principal in
+    let spelled : Named_opens M N m n kind.Data ds p = named_opens M N m n kind.Data ds p a.typable in record {
+      typable = typable_is_one kind.Data M N m n ds a.typable;
+      principal = principal_of M N m n kind.Data ds p spelled;
+      number = a.number;
+      variable = a.variable;
+      within = a.within;
+      stands = (same_stands M N m n kind.Data ds p a.number a.variable a.within).1 a.stands;
+      left = elim a.left as (λ d. IsWanted (p.kinds a.variable) ⊎ ((o : Open) × Contains (other_opens M N m n (wide M N m n kind.Data ds p) p.opens spelled) o × (o.variable ≡ a.variable))) [
+        | inl wanted ↦ inl wanted
+        | inr o ↦ (let r = others_have M N m n (wide M N m n kind.Data ds p) p.opens spelled o.1.0 o.0 o.1.1 o.1.2 in inr (r.0, r.1, r.2 ∙ o.2))
+      ];
+    }

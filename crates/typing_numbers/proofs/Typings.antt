@@ -18,17 +18,17 @@ use Rattle.fut_typing.specs.Free.{is_within, has_types, is_free}
 use Rattle.fut_typing.specs.Generalised.{own_types, Scheme, Reused, Generalised}
 use Rattle.fut_typing.specs.Typing.{term_types, operand, Function_name, with_turns, let_scheme, Let_typed, let_uses, with_let, Typed, All_typed, Turns_typed}
 use Rattle.fut_typing.specs.Program.{Defined, definition_scheme, Definitions_typed, Program_typed}
-use Rattle.fut_typing.specs.Declared.{Is_parameter, Declares, Some_declare, Turns_declare, Declared_in, Parameter_in}
+use Rattle.fut_typing.specs.Declared.{Is_parameter, Declares, Some_declare, Turns_declare, Parameter_in}
 use Rattle.fut_typing.proofs.Local.{AllLocal, local_parameters, local_all_ones}
 use Rattle.fut_typing.proofs.Programs.{definition_depends, program_same}
 use Rattle.fut_typing.proofs.Locals.{up_to, let_depends, body_local, carried_local, turned_local}
 use Rattle.fut_typing.proofs.Exact.{behind_local}
 use Rattle.fut_typing.proofs.Readings.{Reading, Extends, extends_self, plain, plain_read, plain_suited}
-unfoldable use Rattle.fut_typing.proofs.Readings.{read, read_all}
+unfoldable use Rattle.fut_typing.proofs.Readings.{read}
 use Rattle.fut_typing.proofs.Below.{program_below}
 use Rattle.fut_typing.proofs.Instances.{Good, Chosen}
 use Rattle.typing_numbers.proofs.Moved.{Turn, sent, all_sent, sent_types, Faithful}
-unfoldable use Rattle.typing_numbers.proofs.Moved.{moved, all_moved}
+unfoldable use Rattle.typing_numbers.proofs.Moved.{moved}
 use Rattle.typing_numbers.proofs.Follows.{Uses_follow, Follows, follows_more, follows_sizes, follows_parameters, follows_pattern, follows_ones, follows_all_ones, follows_turns, one_follows, sent_arrows, sent_patterns, sent_kind, sent_array, used_follows, pattern_follows, parameters_follow, rule_follows, written_follows}
 use Rattle.typing_numbers.proofs.Instances.{chosen_own, reused_follows, generalised_follows}
 
@@ -50,7 +50,7 @@ module _ (M N : Names) (turn : Turn) (faithful : Faithful M N turn) (places : Ki
   mutual
     unfolding read moved
 
-    pub typing_moves : (t : FlatTerm) (lo : ℕ) (I : Reading) (F : ℕ) → Good places K K' D F0 low I F → ((n : ℕ) → Declares t n → D n) → (scope scope' : Scope) → AllLocal (λ n. n < lo) scope' → Follows turn K K' I F scope scope' → (a : Sub) → Typed M places t lo scope K a → Typed N places t lo scope' K' (sent_types turn I a)
+    typing_moves : (t : FlatTerm) (lo : ℕ) (I : Reading) (F : ℕ) → Good places K K' D F0 low I F → ((n : ℕ) → Declares t n → D n) → (scope scope' : Scope) → AllLocal (λ n. n < lo) scope' → Follows turn K K' I F scope scope' → (a : Sub) → Typed M places t lo scope K a → Typed N places t lo scope' K' (sent_types turn I a)
     typing_moves (Use r at k) lo I F good few scope scope' local f a h = used_follows M N turn faithful places K K' I good.suited F scope scope' f a r (a lo) h
     typing_moves (Strict o mark ts) lo I F good few scope scope' local f a h = (
       typings_move ts (lo + own_numbers o) I F good few scope scope' (up_to N places lo (lo + own_numbers o) scope' (omega arith) local) f a h.0,
@@ -160,7 +160,7 @@ module _ (M N : Names) (turn : Turn) (faithful : Faithful M N turn) (places : Ki
     turns_move (While c) lo I F good few scope scope' inner inner' local locali f fi a h = (typing_moves c lo I F good few inner inner' locali fi a h.0, ap (sent turn I) h.1)
 
   -- ---- definitions
-  pub definition_moves : (I : Reading) (F : ℕ) (d : Defined) (lo : ℕ) (scope scope' : Scope) → ((n : ℕ) → Declares d.value n → D n) → AllLocal (λ n. n < lo) scope' → Follows turn K K' I F scope scope'
+  definition_moves : (I : Reading) (F : ℕ) (d : Defined) (lo : ℕ) (scope scope' : Scope) → ((n : ℕ) → Declares d.value n → D n) → AllLocal (λ n. n < lo) scope' → Follows turn K K' I F scope scope'
       → (c c' : Sub) (J : Reading) (G : ℕ) → Good places K K' D F0 low J G → F ≤ G → Extends F I J → Chosen places K K' D F0 low d.parameters (λ n. moved turn (c n)) c' J G → (x : Sub)
       → (definition_scheme M places d lo scope).typed c K x → (definition_scheme N places d lo scope').typed c' K' (sent_types turn J x)
   definition_moves I F d lo scope scope' few local f c c' J G good le ext chosen x t = let at : ℕ = lo + pattern_numbers d.name in let further : Follows turn K K' J G scope scope' = follows_more turn K K' I J F G scope scope' le ext f in (
@@ -172,7 +172,7 @@ module _ (M N : Names) (turn : Turn) (faithful : Faithful M N turn) (places : Ki
     ap (sent turn J) t.1,
   )
 
-  pub definitions_move : (ds : List Defined) (lo : ℕ) (I : Reading) (F : ℕ) → Good places K K' D F0 low I F → ((n : ℕ) → Parameter_in ds n → D n) → (scope scope' : Scope) → AllLocal (λ n. n < lo) scope' → Follows turn K K' I F scope scope' → (a : Sub)
+  definitions_move : (ds : List Defined) (lo : ℕ) (I : Reading) (F : ℕ) → Good places K K' D F0 low I F → ((n : ℕ) → Parameter_in ds n → D n) → (scope scope' : Scope) → AllLocal (λ n. n < lo) scope' → Follows turn K K' I F scope scope' → (a : Sub)
       → Definitions_typed M places ds lo scope K a → Definitions_typed N places ds lo scope' K' (sent_types turn I a)
   definitions_move [] lo I F good few scope scope' local f a h = h
   definitions_move (d ∷ ds) lo I F good few scope scope' local f a h =
@@ -189,7 +189,7 @@ module _ (M N : Names) (turn : Turn) (faithful : Faithful M N turn) (places : Ki
 mutual
   unfolding applied
 
-  pub self_applied : (t : Ty) → applied (λ n. Var n) t ≡ t
+  self_applied : (t : Ty) → applied (λ n. Var n) t ≡ t
   self_applied (Var n) = refl
   self_applied (Made h ts) = ap (Made h) (all_self_applied ts)
 
@@ -197,7 +197,7 @@ mutual
   all_self_applied none = refl
   all_self_applied (more t ts) = λ i. more (self_applied t i) (all_self_applied ts i)
 
-pub variable_kind : (K : Kinds) (v : ℕ) → HasKind K (K v) (Var v)
+variable_kind : (K : Kinds) (v : ℕ) → HasKind K (K v) (Var v)
 variable_kind K v = let e : rank K (Var v) ≡ level (K v) = rank_var K v in omega arith
 
 pub program_moves : (M N : Names) (turn : Turn) → Faithful M N turn → (places : Kind) (ds : List Defined) (K : Kinds) (a : Sub) → Program_typed M places ds K a → Program_typed N places ds K (λ n. moved turn (a n))

@@ -5,16 +5,24 @@ use Rattle.std.specs.Prelude.{List}
 use Rattle.fut_types.specs.declared.Kind.{Kind}
 use Rattle.fut_types.specs.Types.{Sub}
 use Rattle.fut_typing.specs.Names.{Names, AreNames}
-use Rattle.fut_typing.specs.Program.{Defined}
-use Rattle.fut_typing.specs.Answers.{Typing_is, Typable, NoType, FunctionPlace}
+use Rattle.fut_typing.specs.Program.{Defined, program_numbers, Program_typed}
+use Rattle.fut_typing.specs.Answers.{Principal, Typing_is, Typable, NoType, FunctionPlace, Ambiguous}
 
 -- what holds of a program under one numbering holds of it under each
 abbrev pub Hangs_on_no_numbering : (Names → List Defined → Type 0) → Type 0
 Hangs_on_no_numbering P = (M N : Names) → AreNames M → AreNames N → (ds : List Defined) → P M ds → P N ds
 
--- it has a typing where places hold these types
+-- it has a typing where places hold such types
 abbrev pub TypableIsOne : Type 0
 TypableIsOne = (places : Kind) → Hangs_on_no_numbering (λ N ds. Typable N ds places)
+
+-- it has a typing, and one of which all are the instances
+abbrev pub PrincipalIsOne : Type 0
+PrincipalIsOne = (places : Kind) → Hangs_on_no_numbering (λ N ds. Typable N ds places × Principal N.shapes (program_numbers ds) (Program_typed N places ds))
+
+-- it has a typing to go on with: the principal one, in which nothing is left open or ambiguous
+abbrev pub TypingIsOne : Type 0
+TypingIsOne = Hangs_on_no_numbering (λ N ds. (types : Sub) × Typing_is N ds types)
 
 -- it has no typing, even if functions may stand everywhere
 abbrev pub NoTypeIsOne : Type 0
@@ -24,6 +32,6 @@ NoTypeIsOne = Hangs_on_no_numbering NoType
 abbrev pub FunctionPlaceIsOne : Type 0
 FunctionPlaceIsOne = Hangs_on_no_numbering FunctionPlace
 
--- it has a typing to go on with: the principal one, in which nothing is left open or ambiguous
-abbrev pub TypingIsOne : Type 0
-TypingIsOne = Hangs_on_no_numbering (λ N ds. (types : Sub) × Typing_is N ds types)
+-- it has typings, and the principal one is ambiguous
+abbrev pub AmbiguousIsOne : Type 0
+AmbiguousIsOne = Hangs_on_no_numbering Ambiguous

@@ -1,9 +1,11 @@
-use Rattle.typing_numbers.proofs.Programs.{typable_is_one}
-use Rattle.typing_numbers.proofs.Principal.{typing_is_one}
+use Rattle.typing_numbers.proofs.Programs.{typable_is_one, principal_is_one, typing_is_one}
 use Rattle.typing_numbers.proofs.laws.typings_hang_on_no_numbering.Goals as goal
 
 pub returns-clause-typable : goal.returns-clause-typable
 returns-clause-typable c = typable_is_one
+
+pub returns-clause-principal : goal.returns-clause-principal
+returns-clause-principal c = principal_is_one
 
 pub returns-clause-typing : goal.returns-clause-typing
 returns-clause-typing c = typing_is_one
