@@ -1,0 +1,5 @@
+pub mod Filled
+pub mod Parts
+pub mod Terms
+pub mod Programs
+pub mod Alone
