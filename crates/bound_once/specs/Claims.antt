@@ -1,7 +1,7 @@
 -- What is proved of the numbers that elaboration gives: each is bound at one place. So the type parameters of a definition are
 -- its own, and generalisation is exact for each definition of a program that elaboration makes.
-use Rattle.std.specs.Prelude.{◌≡◌, ◌↔◌, List, ◌∷◌, ◌++◌, map, flat_map, length, IsPermutation, Ok}
-use Rattle.std.specs.List.{range_with_len}
+use Rattle.std.specs.Prelude.{◌≡◌, ◌↔◌, List, ◌∷◌, ◌++◌, map, flat_map, length, eqb, IsPermutation, Ok}
+use Rattle.std.specs.List.{range_with_len, IsDistinct}
 use Rattle.fut_ast.specs.declared.module.Program.{Program}
 use Rattle.fut_flat.specs.Terms.{Bound_pattern}
 use Rattle.fut_types.specs.declared.Kind.{Kind}
@@ -14,6 +14,7 @@ use Rattle.fut_typing.specs.Exact.{scheme_behind}
 use Rattle.module_scopes.specs.Programs.{FlatDefinition, FlatProgram, resolve_program}
 use Rattle.type_generalisation.specs.Claims.{Alone, Chosen_instance}
 use Rattle.bound_once.specs.Binders.{definition_binders}
+use Rattle.bound_once.specs.Parameters.{definition_parameters}
 
 -- a definition as typing speaks of it
 abbrev pub defined_of : FlatDefinition → Defined
@@ -27,6 +28,12 @@ abbrev pub EachIsBoundOnce : Type 0
 EachIsBoundOnce =
     (ps : List Program) (flat : FlatProgram) → resolve_program ps ≡ Ok flat
     → IsPermutation (range_with_len 0 (length flat.names)) (flat_map definition_binders (definitions_of flat))
+
+-- No two type parameters of the program, of definitions or of local ones, have one number.
+abbrev pub ParametersDiffer : Type 0
+ParametersDiffer =
+    (ps : List Program) (flat : FlatProgram) → resolve_program ps ≡ Ok flat
+    → IsDistinct eqb (flat_map definition_parameters (definitions_of flat))
 
 -- No other definition of the program, and no local one, has one of a definition's type parameters.
 abbrev pub ParametersAreAlone : Type 0
