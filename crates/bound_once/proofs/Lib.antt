@@ -1,0 +1,7 @@
+pub mod Filled
+pub mod Parts
+pub mod Terms
+pub mod Programs
+pub mod Times
+pub mod Parameters
+pub mod Alone

@@ -1,0 +1,8 @@
+use Rattle.bound_once.proofs.Alone.{parameters_are_alone, parameters_differ}
+use Rattle.bound_once.proofs.laws.type_parameters_are_apart.Goals as goal
+
+pub returns-clause-differ : goal.returns-clause-differ
+returns-clause-differ c = parameters_differ
+
+pub returns-clause-alone : goal.returns-clause-alone
+returns-clause-alone c = parameters_are_alone
