@@ -1,6 +1,6 @@
--- Generalisation is exact whatever parameters are written: the uses of a definition are exactly the instances of its principal
--- type, with types chosen for its parameters; and those of a function are exactly the instances of the type that another name
--- for it has in a principal typing.
+-- Generalisation is exact whatever parameters are written: the uses of a definition, and those of a local function, are exactly
+-- the instances of its principal type, with types chosen for its parameters; and those of a function are exactly the instances
+-- of the type that another name for it has in a principal typing.
 use Rattle.std.specs.Prelude.{◌≡◌, ◌↔◌, ℕ, ◌<◌, List, [], ◌∷◌, ◌++◌}
 use Rattle.std.specs.List.{All}
 use mathlib.Core.Logic.{◌⊎◌}
@@ -18,7 +18,7 @@ use Rattle.fut_typing.specs.Answers.{Open, Principal}
 use Rattle.fut_typing.specs.Exact.{Way, scheme_behind, local_behind, Fixed, Instance}
 use Rattle.fut_typing.specs.Declared.{Is_parameter, Declares, Parameter_in}
 use Rattle.type_generalisation.specs.Parameters.{replaced}
-use Rattle.type_generalisation.specs.Ways.{Ends_at, and_body, Renamed_let}
+use Rattle.type_generalisation.specs.Ways.{Ends_at, and_body, Renamed_let, Written_let, Declares_beside}
 
 -- a part that is left open is there, where types stand for variables and for parameters
 abbrev pub Chosen_met : Shapes → Kind → List (Parameter BindId) → Sub → Sub → Open → Type 0
@@ -68,3 +68,16 @@ LocalUsesAreExact =
     → (p : Principal N.shapes (program_numbers (before ++ d ∷ after)) (Program_typed N places (before ++ d ∷ after))) (K : Kinds) (a : Sub) → Program_typed N places (before ++ d ∷ after) K a
     → (t : Ty) → Reused places (local_behind N places before d w) (local_behind N places before d w).first K a t
     ↔ Instance N.shapes (program_numbers (before ++ d ∷ after)) (Program_typed N places (before ++ d ∷ after)) p (local_behind N places before d (and_body w)) K a t
+
+-- nothing in the program has one of these parameters but the local function to which the way in the definition leads: no other
+-- definition, not the one around it, and no other local one
+abbrev pub Alone_within : List Defined → Defined → List Defined → Way → List (Parameter BindId) → Type 0
+Alone_within before d after w ps = (n : ℕ) → Is_parameter ps n → (Parameter_in before n ⊎ (Is_parameter d.parameters n ⊎ (Declares_beside d.value w n ⊎ Parameter_in after n))) → ⊥
+
+-- Generalisation is exact for a local function with written type parameters.
+abbrev pub LocalWrittenIsExact : Type 0
+LocalWrittenIsExact =
+    (N : Names) → AreNames N → (places : Kind) (before after : List Defined) (d : Defined) (w : Way) (ps : List (Parameter BindId)) → Ends_at (Written_let ps) d.value w → Alone_within before d after w ps
+    → (p : Principal N.shapes (program_numbers (before ++ d ∷ after)) (Program_typed N places (before ++ d ∷ after))) (K : Kinds) (a : Sub) → Program_typed N places (before ++ d ∷ after) K a
+    → (t : Ty) → Reused places (local_behind N places before d w) (local_behind N places before d w).first K a t
+    ↔ Chosen_instance N.shapes (program_numbers (before ++ d ∷ after)) (Program_typed N places (before ++ d ∷ after)) p places (local_behind N places before d w) K a t
