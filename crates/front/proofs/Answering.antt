@@ -12,7 +12,7 @@ use Rattle.fut_types.specs.Types.{Sub}
 use Rattle.fut_typing.specs.Names.{Names, AreNames}
 use Rattle.fut_typing.specs.Program.{Defined}
 use Rattle.fut_typing.specs.Answers.{Typing_is, NoType, FunctionPlace, Ambiguous}
-use Rattle.typing_numbers.proofs.Principal.{typing_is_one}
+use Rattle.typing_numbers.proofs.Programs.{typing_is_one}
 use Rattle.module_scopes.specs.Names.{Refusal}
 use Rattle.module_scopes.specs.Programs.{FlatProgram, resolve_program}
 use Rattle.module_elab.specs.declared.prelude.TheConstants.{PRELUDE}

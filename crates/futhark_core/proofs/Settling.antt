@@ -14,8 +14,7 @@ use Rattle.fut_typing.specs.Program.{Defined}
 use Rattle.fut_typing.proofs.Programs.{no_type_or_typing, no_type_or_place, no_type_or_ambiguous, place_or_typing, place_or_ambiguous}
 use Rattle.fut_typing.proofs.Exclude.{typing_or_ambiguous}
 use Rattle.typing_numbers.specs.Claims.{Hangs_on_no_numbering}
-use Rattle.typing_numbers.proofs.Programs.{no_type_is_one, function_place_is_one, ambiguous_is_one}
-use Rattle.typing_numbers.proofs.Principal.{typing_is_one}
+use Rattle.typing_numbers.proofs.Programs.{typing_is_one, no_type_is_one, function_place_is_one, ambiguous_is_one}
 use Rattle.module_scopes.specs.Names.{Refusal}
 use Rattle.module_scopes.specs.Names as refusal
 use Rattle.module_scopes.specs.Programs.{FlatProgram}
