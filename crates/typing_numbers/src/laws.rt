@@ -2,7 +2,7 @@
 ghost use Rattle.typing_numbers.specs.Claims.{AmbiguousIsOne, FunctionPlaceIsOne, NoTypeIsOne, PrincipalIsOne, TypableIsOne, TypingIsOne};
 
 /// The law that a program that has a typing, a principal one, or one to go on with under one numbering of names and records
-/// has such a one under each.
+/// has such a one under each; types of the last two without records are the same.
 pub fn typings_hang_on_no_numbering()
     ensures typable { TypableIsOne }
     ensures principal { PrincipalIsOne }
