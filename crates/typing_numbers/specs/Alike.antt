@@ -18,3 +18,14 @@ abbrev mutual
 pub record Alike (t u : Ty) : Type 0 where
   pub there : Plain t → u ≡ t
   pub back : Plain u → t ≡ u
+
+-- neither a variable nor a record stands in it
+abbrev mutual
+  pub Settled : Ty → Type 0
+  Settled (Var v) = ⊥
+  Settled (Made (head.Record r) ts) = ⊥
+  Settled (Made h ts) = All_settled ts
+
+  pub All_settled : Tys → Type 0
+  All_settled none = Unit {0}
+  All_settled (more t ts) = Settled t × All_settled ts
