@@ -1,11 +1,14 @@
 -- Types under one numbering, there and back; and instances of types whose records have few parts.
 use Rattle.std.proofs.Common.{◌≡◌, ◌↔◌, ℕ, ◌+◌, ◌≤◌, refl, sym, ◌∙◌, ap, subst, arith, Bool, true, false, length}
 use mathlib.Core.Logic.{inl, inr}
+use Rattle.fut_types.specs.declared.Kind.{Kind}
+use Rattle.fut_types.specs.declared.Kind.TheVariants as kind
 use Rattle.fut_types.specs.declared.Head.TheVariants as head
-use Rattle.fut_types.specs.Types.{Ty, Var, Made, Tys, none, more, Sub, applied, all_applied}
+use Rattle.fut_types.specs.Types.{Ty, Var, Made, Tys, none, more, Sub, Kinds, applied, all_applied}
 use Rattle.fut_typing.specs.Names.{Names, AreNames, count}
-use Rattle.fut_typing.specs.Answers.{Stands, Stands_in}
+use Rattle.fut_typing.specs.Answers.{Stands, Stands_in, default_at, default}
 use Rattle.type_generalisation.proofs.Same.{is_number, number_is, number_self}
+use Rattle.typing_numbers.specs.Alike.{Plain, All_plain, Alike}
 use Rattle.typing_numbers.proofs.Moved.{Turn, Faithful}
 unfoldable use Rattle.typing_numbers.proofs.Moved.{moved, all_moved}
 use Rattle.typing_numbers.proofs.Lists.{number, number_same}
@@ -181,3 +184,56 @@ module _ (M N : Names) (m : AreNames M) (n : AreNames N) (b : ℕ) where
     all_again_applied : (by : Sub) (ts : Tys) → widths ts ≤ b → all_moved from (all_applied by (all_moved to ts)) ≡ all_applied (λ v. moved from (by v)) ts
     all_again_applied by none le = refl
     all_again_applied by (more t ts) le = λ i. more (again_applied by t (omega arith) i) (all_again_applied by ts (omega arith) i)
+
+  -- ---- what becomes of types without records, and what such types come from
+  never_plain : (r : ℕ) (ts : Tys) → Plain (to r ts) → ⊥
+  unfolding to written
+  never_plain r ts = exchange_cases M N m n b (λ k us. true) (λ t. Plain t → ⊥) r ts (λ h. h) (λ k us o h. h)
+
+  mutual
+    unfolding moved
+
+    plain_there : (t : Ty) → Plain t → moved to t ≡ t
+    plain_there (Var v) h = refl
+    plain_there (Made (head.Record r) ts) h = absurd h
+    plain_there (Made (head.Scalar x) ts) h = ap (Made (head.Scalar x)) (all_plain_there ts h)
+    plain_there (Made head.Array ts) h = ap (Made head.Array) (all_plain_there ts h)
+    plain_there (Made head.Tuple ts) h = ap (Made head.Tuple) (all_plain_there ts h)
+    plain_there (Made head.Fun ts) h = ap (Made head.Fun) (all_plain_there ts h)
+    plain_there (Made (head.Rigid r k) ts) h = ap (Made (head.Rigid r k)) (all_plain_there ts h)
+    plain_there (Made (head.Abstract r d) ts) h = ap (Made (head.Abstract r d)) (all_plain_there ts h)
+
+    all_plain_there : (ts : Tys) → All_plain ts → all_moved to ts ≡ ts
+    all_plain_there none h = refl
+    all_plain_there (more t ts) h = λ i. more (plain_there t h.0 i) (all_plain_there ts h.1 i)
+
+  mutual
+    unfolding moved
+
+    there_plain : (t : Ty) → Plain (moved to t) → Plain t
+    there_plain (Var v) h = h
+    there_plain (Made (head.Record r) ts) h = absurd (never_plain r (all_moved to ts) h)
+    there_plain (Made (head.Scalar x) ts) h = all_there_plain ts h
+    there_plain (Made head.Array ts) h = all_there_plain ts h
+    there_plain (Made head.Tuple ts) h = all_there_plain ts h
+    there_plain (Made head.Fun ts) h = all_there_plain ts h
+    there_plain (Made (head.Rigid r k) ts) h = all_there_plain ts h
+    there_plain (Made (head.Abstract r d) ts) h = all_there_plain ts h
+
+    all_there_plain : (ts : Tys) → All_plain (all_moved to ts) → All_plain ts
+    all_there_plain none h = h
+    all_there_plain (more t ts) h = (there_plain t h.0, all_there_plain ts h.1)
+
+  pub to_alike : (t : Ty) → Alike t (moved to t)
+  to_alike t = record { there = plain_there t; back = λ h. sym (plain_there t (there_plain t h)) }
+
+  -- what is put for undetermined types has no records
+  pub to_default : (K : Kinds) (v : ℕ) → moved to (default K v) ≡ default K v
+  to_default K v = plain_there (default_at v (K v)) (plain_default (K v))
+    where
+      plain_default : (k : Kind) → Plain (default_at v k)
+      plain_default kind.Any = tt
+      plain_default kind.Data = tt
+      plain_default kind.Equal = tt
+      plain_default kind.Scalar = tt
+      plain_default kind.Integer = tt

@@ -9,3 +9,4 @@ pub mod Exchange
 pub mod Back
 pub mod Principal
 pub mod Programs
+pub mod Settled

@@ -1,4 +1,4 @@
--- Lists of numbers without repetition, and the labels of names.
+-- Lists of numbers without repetition, the labels of names under two numberings, and the record of the same names.
 use Rattle.std.proofs.Common.{◌≡◌, ℕ, zero, suc, ◌+◌, ◌≤◌, ◌<◌, refl, sym, ◌∙◌, ap, subst, arith, List, [], ◌∷◌, length, map, slice_index_or}
 use mathlib.Core.Logic.{◌⊎◌, inl, inr}
 use Rattle.std.specs.List.{Contains}

@@ -1,19 +1,20 @@
 -- What is said of the typings of a program under one numbering is said of them under each.
-use Rattle.std.proofs.Common.{◌≡◌, ◌↔◌, ℕ, ◌+◌, ◌≤◌, ◌<◌, refl, ◌∙◌, arith, List, [], ◌∷◌}
+use Rattle.std.proofs.Common.{◌≡◌, ◌↔◌, ℕ, ◌+◌, ◌≤◌, ◌<◌, refl, ◌∙◌, ap, arith, List, [], ◌∷◌}
 use Rattle.std.specs.List.{AllByRecursion, Contains}
 use Rattle.std.proofs.lemmas.List.Elements.{recursion_from_All}
 use mathlib.Core.Logic.{◌⊎◌, inl, inr}
 use Rattle.fut_types.specs.declared.Kind.{Kind}
 use Rattle.fut_types.specs.declared.Kind.TheVariants as kind
-use Rattle.fut_types.specs.Types.{applied}
+use Rattle.fut_types.specs.Types.{Kinds, applied}
 use Rattle.fut_typing.specs.Names.{Names, AreNames}
 use Rattle.fut_typing.specs.Program.{Defined, program_numbers, Program_typed}
-use Rattle.fut_typing.specs.Answers.{Open, Met, Principal, Stands, IsWanted, default, Typing_is, Typable, Untyped, Ambiguous}
+use Rattle.fut_typing.specs.Answers.{Open, Met, Principal, Stands, IsWanted, default, Typable, Untyped, Ambiguous}
+use Rattle.typing_numbers.specs.Alike.{Alike}
 use Rattle.typing_numbers.specs.Claims.{Hangs_on_no_numbering, TypableIsOne, PrincipalIsOne, TypingIsOne, NoTypeIsOne, FunctionPlaceIsOne, AmbiguousIsOne}
 use Rattle.typing_numbers.proofs.Moved.{moved}
 use Rattle.typing_numbers.proofs.Typings.{program_moves}
 use Rattle.typing_numbers.proofs.Exchange.{width}
-use Rattle.typing_numbers.proofs.Back.{to, to_faithful, to_stands}
+use Rattle.typing_numbers.proofs.Back.{to, to_faithful, to_applied, to_stands, to_alike, to_default}
 use Rattle.typing_numbers.proofs.Principal.{widest_type, widest_part, type_width, Spelled, other_opens, others_have, other_principal, open_spelled, none_open}
 
 pub typable_is_one : TypableIsOne
@@ -45,23 +46,37 @@ module _ (M N : Names) (m : AreNames M) (n : AreNames N) (places : Kind) (ds : L
   same_stands : (v w : ℕ) → v < program_numbers ds → Stands w (moved (to M N m n wide) (p.types v)) ↔ Stands w (p.types v)
   same_stands v w lt = let z : width (p.types v) ≤ widest_type p.types (program_numbers ds) = type_width p.types (program_numbers ds) v lt in to_stands M N m n wide (p.types v) w (omega arith)
 
+  same_kinds : (h : Named_opens) (v : ℕ) → (principal_of h).kinds v ≡ p.kinds v
+  unfolding principal_of
+  same_kinds h v = refl
+
+  alike_types : (h : Named_opens) (v : ℕ) → Alike (p.types v) ((principal_of h).types v)
+  unfolding principal_of
+  alike_types h v = to_alike M N m n wide (p.types v)
+
+  -- defaults in it are what the types with defaults become
+  same_default : (K : Kinds) (v : ℕ) → v < program_numbers ds → moved (to M N m n wide) (applied (default K) (p.types v)) ≡ applied (default K) (moved (to M N m n wide) (p.types v))
+  same_default K v lt =
+      let z : width (p.types v) ≤ widest_type p.types (program_numbers ds) = type_width p.types (program_numbers ds) v lt in
+      to_applied M N m n wide (default K) (p.types v) (omega arith) ∙ (λ i. applied (λ x. to_default M N m n wide K x i) (moved (to M N m n wide) (p.types v)))
+
 pub principal_is_one : PrincipalIsOne
-principal_is_one places M N m n ds h = (typable_is_one places M N m n ds h.0, principal_of M N m n places ds h.1 (named_opens M N m n places ds h.1 h.0))
+principal_is_one places M N m n ds t p = let h = named_opens M N m n places ds p t in (principal_of M N m n places ds p h, same_kinds M N m n places ds p h, alike_types M N m n places ds p h)
 
 pub typing_is_one : TypingIsOne
 unfolding principal_of
-typing_is_one M N m n ds w =
-    let t : Typing_is M ds w.0 = w.1 in
+typing_is_one M N m n ds types t =
     let p : Principal M.shapes (program_numbers ds) (Program_typed M kind.Data ds) = t.principal in
     let spelled : Named_opens M N m n kind.Data ds p = closed_named p t.closed in
-    let q = principal_of M N m n kind.Data ds p spelled in (
-      λ i. applied (default q.kinds) (q.types i),
+    let b : ℕ = wide M N m n kind.Data ds p in (
+      λ v. moved (to M N m n b) (types v),
       record {
-        principal = q;
-        closed = none_open M N m n (wide M N m n kind.Data ds p) p.opens spelled t.closed;
+        principal = principal_of M N m n kind.Data ds p spelled;
+        closed = none_open M N m n b p.opens spelled t.closed;
         settled = λ i v lt stands wanted. t.settled i v lt ((same_stands M N m n kind.Data ds p i v lt).0 stands) wanted;
-        is = λ i lt. refl;
+        is = λ v lt. ap (moved (to M N m n b)) (t.is v lt) ∙ same_default M N m n kind.Data ds p p.kinds v lt;
       },
+      λ v. to_alike M N m n b (types v),
     )
   where
     closed_named : (p : Principal M.shapes (program_numbers ds) (Program_typed M kind.Data ds)) → p.opens ≡ [] → Named_opens M N m n kind.Data ds p

@@ -189,7 +189,7 @@ module _ (M N : Names) (turn : Turn) (faithful : Faithful M N turn) (places : Ki
 mutual
   unfolding applied
 
-  self_applied : (t : Ty) → applied (λ n. Var n) t ≡ t
+  pub self_applied : (t : Ty) → applied (λ n. Var n) t ≡ t
   self_applied (Var n) = refl
   self_applied (Made h ts) = ap (Made h) (all_self_applied ts)
 
@@ -197,7 +197,7 @@ mutual
   all_self_applied none = refl
   all_self_applied (more t ts) = λ i. more (self_applied t i) (all_self_applied ts i)
 
-variable_kind : (K : Kinds) (v : ℕ) → HasKind K (K v) (Var v)
+pub variable_kind : (K : Kinds) (v : ℕ) → HasKind K (K v) (Var v)
 variable_kind K v = let e : rank K (Var v) ≡ level (K v) = rank_var K v in omega arith
 
 pub program_moves : (M N : Names) (turn : Turn) → Faithful M N turn → (places : Kind) (ds : List Defined) (K : Kinds) (a : Sub) → Program_typed M places ds K a → Program_typed N places ds K (λ n. moved turn (a n))

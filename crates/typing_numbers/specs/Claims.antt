@@ -1,12 +1,13 @@
 -- Whether a program has a typing, and which answer there is to the question for its types, does not hang on how names and
 -- records are numbered: what holds under one numbering holds under each. Two numberings may also differ in the order of a
 -- record's parts.
-use Rattle.std.specs.Prelude.{List}
+use Rattle.std.specs.Prelude.{◌≡◌, ℕ, ◌<◌, List}
 use Rattle.fut_types.specs.declared.Kind.{Kind}
 use Rattle.fut_types.specs.Types.{Sub}
 use Rattle.fut_typing.specs.Names.{Names, AreNames}
 use Rattle.fut_typing.specs.Program.{Defined, program_numbers, Program_typed}
 use Rattle.fut_typing.specs.Answers.{Principal, Typing_is, Typable, NoType, FunctionPlace, Ambiguous}
+use Rattle.typing_numbers.specs.Alike.{Alike, Settled}
 
 -- what holds of a program under one numbering holds of it under each
 abbrev pub Hangs_on_no_numbering : (Names → List Defined → Type 0) → Type 0
@@ -16,13 +17,19 @@ Hangs_on_no_numbering P = (M N : Names) → AreNames M → AreNames N → (ds : 
 abbrev pub TypableIsOne : Type 0
 TypableIsOne = (places : Kind) → Hangs_on_no_numbering (λ N ds. Typable N ds places)
 
--- it has a typing, and one of which all are the instances
+-- where it has a typing, and one of which all are the instances, it has such a one under each numbering, of the same kinds and
+-- alike types
 abbrev pub PrincipalIsOne : Type 0
-PrincipalIsOne = (places : Kind) → Hangs_on_no_numbering (λ N ds. Typable N ds places × Principal N.shapes (program_numbers ds) (Program_typed N places ds))
+PrincipalIsOne = (places : Kind) (M N : Names) → AreNames M → AreNames N → (ds : List Defined) → Typable M ds places → (p : Principal M.shapes (program_numbers ds) (Program_typed M places ds))
+    → (q : Principal N.shapes (program_numbers ds) (Program_typed N places ds)) × ((v : ℕ) → q.kinds v ≡ p.kinds v) × ((n : ℕ) → Alike (p.types n) (q.types n))
 
--- it has a typing to go on with: the principal one, in which nothing is left open or ambiguous
+-- a typing to go on with, in which nothing is left open or ambiguous, is one of alike types under each
 abbrev pub TypingIsOne : Type 0
-TypingIsOne = Hangs_on_no_numbering (λ N ds. (types : Sub) × Typing_is N ds types)
+TypingIsOne = (M N : Names) → AreNames M → AreNames N → (ds : List Defined) (types : Sub) → Typing_is M ds types → (others : Sub) × Typing_is N ds others × ((n : ℕ) → Alike (types n) (others n))
+
+-- two typings to go on with, under whatever numberings, have the same types where neither a variable nor a record stands in one
+abbrev pub SettledIsOne : Type 0
+SettledIsOne = (M N : Names) → AreNames M → AreNames N → (ds : List Defined) (types others : Sub) → Typing_is M ds types → Typing_is N ds others → (n : ℕ) → n < program_numbers ds → Settled (types n) → others n ≡ types n
 
 -- it has no typing, even if functions may stand everywhere
 abbrev pub NoTypeIsOne : Type 0

@@ -1,4 +1,5 @@
-//! Whether a program has a typing does not hang on how names and records are numbered (`specs/Claims.antt`).
+//! No answer to the question for a program's types hangs on how names and records are numbered (`specs/Claims.antt`). Types
+//! under two numberings are alike (`specs/Alike.antt`): the number of a record and the order of its parts may differ.
 #![tactic(auto)]
 
 mod laws;

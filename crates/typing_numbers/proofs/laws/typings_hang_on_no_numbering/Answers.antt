@@ -1,4 +1,5 @@
 use Rattle.typing_numbers.proofs.Programs.{typable_is_one, principal_is_one, typing_is_one}
+use Rattle.typing_numbers.proofs.Settled.{settled_is_one}
 use Rattle.typing_numbers.proofs.laws.typings_hang_on_no_numbering.Goals as goal
 
 pub returns-clause-typable : goal.returns-clause-typable
@@ -9,3 +10,6 @@ returns-clause-principal c = principal_is_one
 
 pub returns-clause-typing : goal.returns-clause-typing
 returns-clause-typing c = typing_is_one
+
+pub returns-clause-settled : goal.returns-clause-settled
+returns-clause-settled c = settled_is_one
