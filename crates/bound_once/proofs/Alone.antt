@@ -1,21 +1,23 @@
 -- Type parameters differ, since each number is bound once; so they are alone, and generalisation is exact.
-use Rattle.std.proofs.Common.{◌≡◌, ◌↔◌, ℕ, ◌+◌, ◌≤◌, ◌++◌, List, ◌∷◌, Ok, sym, ap, subst, arith, length, flat_map}
+use Rattle.std.proofs.Common.{◌≡◌, ℕ, ◌+◌, ◌≤◌, ◌++◌, List, ◌∷◌, Ok, sym, ap, subst, arith, length, flat_map}
 use Rattle.std.proofs.lemmas.List.Concat.{flat_map-append}
 use mathlib.Core.Logic.{inl, inr}
+use Rattle.fut_scalar.specs.declared.place.BindId.{BindId}
 use Rattle.fut_ast.specs.declared.module.Program.{Program}
-use Rattle.fut_types.specs.Types.{Ty, Sub, Kinds}
-use Rattle.fut_typing.specs.Generalised.{Reused}
-use Rattle.fut_typing.specs.Program.{Defined, program_numbers, Program_typed}
-use Rattle.fut_typing.specs.Answers.{Principal}
-use Rattle.fut_typing.specs.Exact.{scheme_behind}
+use Rattle.fut_flat.specs.Terms.{Parameter}
+use Rattle.fut_typing.specs.Program.{Defined}
+use Rattle.fut_typing.specs.Exact.{Way, scheme_behind, local_behind}
 use Rattle.module_scopes.specs.Programs.{FlatProgram, resolve_program}
-use Rattle.type_generalisation.specs.Claims.{Alone, Chosen_instance}
+use Rattle.type_generalisation.specs.Ways.{Ends_at, Function_let}
+use Rattle.type_generalisation.specs.Claims.{Alone, Alone_within}
 use Rattle.type_generalisation.proofs.Written.{written_is_exact}
+use Rattle.type_generalisation.proofs.WrittenLocals.{local_written_is_exact}
 use Rattle.bound_once.specs.Parameters.{type_parameters, local_parameters, definition_parameters}
-use Rattle.bound_once.specs.Claims.{definitions_of, ParametersDiffer, ParametersAreAlone, ElaboratedIsExact}
+use Rattle.bound_once.specs.Claims.{definitions_of, ParametersDiffer, ParametersAreAlone, LocalParametersAreAlone, Exact_in, ElaboratedIsExact, ElaboratedLocalIsExact}
 use Rattle.bound_once.proofs.Programs.{each_is_bound_once}
 use Rattle.bound_once.proofs.Times.{times, times-append, once, distinct}
 use Rattle.bound_once.proofs.Parameters.{program_among, parameter_stands, local_stands, program_stands}
+use Rattle.bound_once.proofs.Ways.{stands_along}
 
 parameters_once : (ps : List Program) (flat : FlatProgram) → resolve_program ps ≡ Ok flat → (n : ℕ) → times n (flat_map definition_parameters (definitions_of flat)) ≤ 1
 parameters_once ps flat e n = omega (arith, (program_among (definitions_of flat)).most n, once (length flat.names) _ (each_is_bound_once ps flat e) n)
@@ -47,9 +49,26 @@ alone before after d few n i =
 pub parameters_are_alone : ParametersAreAlone
 parameters_are_alone ps flat e before after d same = alone before after d (subst (λ ds. (n : ℕ) → times n (flat_map definition_parameters ds) ≤ 1) same (parameters_once ps flat e))
 
+alone_within : (before after : List Defined) (d : Defined) (w : Way) (own : List (Parameter BindId)) → Ends_at (Function_let own) d.value w → ((n : ℕ) → times n (flat_map definition_parameters (before ++ d ∷ after)) ≤ 1) → Alone_within before d after w own
+alone_within before after d w own ends few n i =
+    let most = few n in
+    let split = split_times before after d n in
+    let there = stands_along own n i d.value w ends in
+    let here = there.some in
+    elim [
+      | inl h ↦ (let s = (program_stands before n h).some in omega (arith, most, split, here, s))
+      | inr (inl h) ↦ (let s = (parameter_stands d.parameters n h).some in omega (arith, most, split, here, s))
+      | inr (inr (inl h)) ↦ (let two = there.twice h in omega (arith, most, split, two))
+      | inr (inr (inr h)) ↦ (let s = (program_stands after n h).some in omega (arith, most, split, here, s))
+    ]
+
+pub local_parameters_are_alone : LocalParametersAreAlone
+local_parameters_are_alone ps flat e before after d same w own ends = alone_within before after d w own ends (subst (λ ds. (n : ℕ) → times n (flat_map definition_parameters ds) ≤ 1) same (parameters_once ps flat e))
+
 pub elaborated_is_exact : ElaboratedIsExact
 elaborated_is_exact ps flat e before after d same N are places =
-    subst (λ ds. (p : Principal N.shapes (program_numbers ds) (Program_typed N places ds)) → (K : Kinds) (a : Sub) → Program_typed N places ds K a
-    → (t : Ty) → Reused places (scheme_behind N places before d) (scheme_behind N places before d).first K a t
-    ↔ Chosen_instance N.shapes (program_numbers ds) (Program_typed N places ds) p places (scheme_behind N places before d) K a t)
-    (sym same) (written_is_exact N are places before after d (parameters_are_alone ps flat e before after d same))
+    subst (λ ds. Exact_in N places ds (scheme_behind N places before d)) (sym same) (written_is_exact N are places before after d (parameters_are_alone ps flat e before after d same))
+
+pub elaborated_local_is_exact : ElaboratedLocalIsExact
+elaborated_local_is_exact ps flat e before after d same w own ends N are places =
+    subst (λ ds. Exact_in N places ds (local_behind N places before d w)) (sym same) (local_written_is_exact N are places before after d w own ends (local_parameters_are_alone ps flat e before after d same w own ends))

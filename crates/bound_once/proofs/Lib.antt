@@ -4,4 +4,5 @@ pub mod Terms
 pub mod Programs
 pub mod Times
 pub mod Parameters
+pub mod Ways
 pub mod Alone

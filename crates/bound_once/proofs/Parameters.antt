@@ -66,12 +66,12 @@ mutual
   local_stands (Loop mark sizes p first turns body) n (inr (inl h)) = stands_second n (local_parameters first) (turns_parameters turns) (local_parameters body) (turns_stand turns n h)
   local_stands (Loop mark sizes p first turns body) n (inr (inr h)) = stands_third n (local_parameters first) (turns_parameters turns) (local_parameters body) (local_stands body n h)
 
-  all_stand : (ts : Terms Ref BindId) (n : ℕ) → Some_declare ts n → Stands n (all_local_parameters ts)
+  pub all_stand : (ts : Terms Ref BindId) (n : ℕ) → Some_declare ts n → Stands n (all_local_parameters ts)
   all_stand no_term n h = absurd h
   all_stand (term_and t ts) n (inl h) = stands_left n (local_parameters t) (all_local_parameters ts) (local_stands t n h)
   all_stand (term_and t ts) n (inr h) = stands_right n (local_parameters t) (all_local_parameters ts) (all_stand ts n h)
 
-  turns_stand : (ts : FlatTurns) (n : ℕ) → Turns_declare ts n → Stands n (turns_parameters ts)
+  pub turns_stand : (ts : FlatTurns) (n : ℕ) → Turns_declare ts n → Stands n (turns_parameters ts)
   turns_stand (Counted b m) n h = local_stands m n h
   turns_stand (Over p e) n h = local_stands e n h
   turns_stand (While c) n h = local_stands c n h

@@ -1,18 +1,20 @@
 -- What is proved of the numbers that elaboration gives: each is bound at one place. So the type parameters of a definition are
--- its own, and generalisation is exact for each definition of a program that elaboration makes.
+-- its own, and generalisation is exact for each definition and each local function of a program that elaboration makes.
 use Rattle.std.specs.Prelude.{◌≡◌, ◌↔◌, List, ◌∷◌, ◌++◌, map, flat_map, length, eqb, IsPermutation, Ok}
 use Rattle.std.specs.List.{range_with_len, IsDistinct}
 use Rattle.fut_ast.specs.declared.module.Program.{Program}
-use Rattle.fut_flat.specs.Terms.{Bound_pattern}
+use Rattle.fut_scalar.specs.declared.place.BindId.{BindId}
+use Rattle.fut_flat.specs.Terms.{Bound_pattern, Parameter}
 use Rattle.fut_types.specs.declared.Kind.{Kind}
 use Rattle.fut_types.specs.Types.{Ty, Sub, Kinds}
 use Rattle.fut_typing.specs.Names.{Names, AreNames}
-use Rattle.fut_typing.specs.Generalised.{Reused}
+use Rattle.fut_typing.specs.Generalised.{Scheme, Reused}
 use Rattle.fut_typing.specs.Program.{Defined, program_numbers, Program_typed}
 use Rattle.fut_typing.specs.Answers.{Principal}
-use Rattle.fut_typing.specs.Exact.{scheme_behind}
+use Rattle.fut_typing.specs.Exact.{Way, scheme_behind, local_behind}
 use Rattle.module_scopes.specs.Programs.{FlatDefinition, FlatProgram, resolve_program}
-use Rattle.type_generalisation.specs.Claims.{Alone, Chosen_instance}
+use Rattle.type_generalisation.specs.Ways.{Ends_at, Function_let}
+use Rattle.type_generalisation.specs.Claims.{Alone, Alone_within, Chosen_instance}
 use Rattle.bound_once.specs.Binders.{definition_binders}
 use Rattle.bound_once.specs.Parameters.{definition_parameters}
 
@@ -41,13 +43,31 @@ ParametersAreAlone =
     (ps : List Program) (flat : FlatProgram) → resolve_program ps ≡ Ok flat
     → (before after : List Defined) (d : Defined) → definitions_of flat ≡ before ++ d ∷ after → Alone before d after
 
+-- No definition of the program, and no other local one, has one of the type parameters of a local function, to which a way in a
+-- definition leads.
+abbrev pub LocalParametersAreAlone : Type 0
+LocalParametersAreAlone =
+    (ps : List Program) (flat : FlatProgram) → resolve_program ps ≡ Ok flat
+    → (before after : List Defined) (d : Defined) → definitions_of flat ≡ before ++ d ∷ after
+    → (w : Way) (own : List (Parameter BindId)) → Ends_at (Function_let own) d.value w → Alone_within before d after w own
+
+-- The uses of the function of this scheme are exactly the instances of its principal type, with types chosen for its parameters.
+abbrev pub Exact_in : Names → Kind → List Defined → Scheme → Type 0
+Exact_in N places ds s =
+    (p : Principal N.shapes (program_numbers ds) (Program_typed N places ds)) (K : Kinds) (a : Sub) → Program_typed N places ds K a
+    → (t : Ty) → Reused places s s.first K a t ↔ Chosen_instance N.shapes (program_numbers ds) (Program_typed N places ds) p places s K a t
+
 -- Generalisation is exact for each definition of the program, whatever type parameters are written.
 abbrev pub ElaboratedIsExact : Type 0
 ElaboratedIsExact =
     (ps : List Program) (flat : FlatProgram) → resolve_program ps ≡ Ok flat
     → (before after : List Defined) (d : Defined) → definitions_of flat ≡ before ++ d ∷ after
-    → (N : Names) → AreNames N → (places : Kind)
-    → (p : Principal N.shapes (program_numbers (definitions_of flat)) (Program_typed N places (definitions_of flat)))
-    → (K : Kinds) (a : Sub) → Program_typed N places (definitions_of flat) K a
-    → (t : Ty) → Reused places (scheme_behind N places before d) (scheme_behind N places before d).first K a t
-    ↔ Chosen_instance N.shapes (program_numbers (definitions_of flat)) (Program_typed N places (definitions_of flat)) p places (scheme_behind N places before d) K a t
+    → (N : Names) → AreNames N → (places : Kind) → Exact_in N places (definitions_of flat) (scheme_behind N places before d)
+
+-- And it is for each local function of the program.
+abbrev pub ElaboratedLocalIsExact : Type 0
+ElaboratedLocalIsExact =
+    (ps : List Program) (flat : FlatProgram) → resolve_program ps ≡ Ok flat
+    → (before after : List Defined) (d : Defined) → definitions_of flat ≡ before ++ d ∷ after
+    → (w : Way) (own : List (Parameter BindId)) → Ends_at (Function_let own) d.value w
+    → (N : Names) → AreNames N → (places : Kind) → Exact_in N places (definitions_of flat) (local_behind N places before d w)
