@@ -66,7 +66,7 @@ module _ (tokens : List Token) (flat : FlatProgram) (sure : IsAcceptable tokens 
   typed Lacks excludes u =
       let same = resolved_once tokens (Ok u.flat) (Ok flat) u.resolved sure.resolved in
       let N = u.lacks.0 in
-      let typing = typing_is_one sure.typed.0 N sure.typed.1 u.lacks.1 (definitions_of flat) sure.typed.2 in
+      let typing = typing_is_one sure.typed.0 N sure.typed.1 u.lacks.1 (definitions_of flat) sure.typed.2.0 sure.typed.2.1 in
       excludes N u.lacks.1 (definitions_of flat) typing.0 typing.1 (subst (λ f. Lacks N (definitions_of f)) (same_ok same) u.lacks.2)
 
   pub refuted : (refused : Refused) → Unaccepted tokens refused → ⊥

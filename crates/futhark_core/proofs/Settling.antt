@@ -185,8 +185,8 @@ TypesRefusal file err status = (other : TypeErr) × AlikeTypes err other × (sta
 module _ (file : List ℕ) (flat : FlatProgram) where
   pub typed_ok : Some_numbering (λ N. Typable N (definitions_of flat)) → Settles (Typed file flat) (Ok flat)
   typed_ok some (Ok same) p = ap Ok p.1
-  typed_ok some (Err status) p = absurd (lacks_or_typing p.1.0 p.1.1 (definitions_of flat) p.0 p.1.2 (typing_is_one some.0 p.1.0 some.1 p.1.1 (definitions_of flat) some.2))
+  typed_ok some (Err status) p = let w = typing_is_one some.0 p.1.0 some.1 p.1.1 (definitions_of flat) some.2.0 some.2.1 in absurd (lacks_or_typing p.1.0 p.1.1 (definitions_of flat) p.0 p.1.2 (w.0, w.1))
 
   pub typed_err : (err : TypeErr) → Some_numbering (λ N. Lacks err N (definitions_of flat)) → Holds (Typed file flat) (EndsAs (TypesRefusal file err))
-  typed_err err some (Ok same) p = absurd (lacks_or_typing some.0 some.1 (definitions_of flat) err some.2 (typing_is_one p.0.0 some.0 p.0.1 some.1 (definitions_of flat) p.0.2))
+  typed_err err some (Ok same) p = let w = typing_is_one p.0.0 some.0 p.0.1 some.1 (definitions_of flat) p.0.2.0 p.0.2.1 in absurd (lacks_or_typing some.0 some.1 (definitions_of flat) err some.2 (w.0, w.1))
   typed_err err some (Err status) p = (p.0, alike p.1.0 p.1.1 (definitions_of flat) err p.0 (lacks_is_one err some.0 p.1.0 some.1 p.1.1 (definitions_of flat) some.2) p.1.2, p.2)
