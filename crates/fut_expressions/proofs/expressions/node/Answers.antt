@@ -1,5 +1,5 @@
 -- The law of a sort, by what was found.
-use Rattle.std.proofs.Common.{Ok, Err, sym, ◌∙◌}
+use Rattle.std.proofs.Common.{Ok, Err, sym, ◌∙◌, refl}
 use Rattle.fut_phrases.specs.Found.{found_as}
 use Rattle.fut_atoms.specs.Tie.{seen}
 use Rattle.fut_expressions.proofs.NodeLaws.{every_sort, not_begun, below_fails, goes_on_behind, read_below}
@@ -8,6 +8,9 @@ use Rattle.fut_expressions.proofs.expressions.node.Goals as goal
 pub returns-then-not-begins_sort : goal.returns-then-not-begins_sort
 returns-then-not-begins_sort g c =
     record { exact = rw c.refused.ensures (not_begun c.args.sort c.args.inner c.args.tokens.now (sym c.begins_sort.ensures ∙ c.if-not-begins_sort.true)); low = tt }
+
+pub below-requires : goal.below-requires
+below-requires g c = λ k. ((refl, tt), (sym c.begins_sort.ensures ∙ c.if-not-begins_sort.false, (c.requires.law, c.requires.room)))
 
 pub returns-in-Err : goal.returns-in-Err
 returns-in-Err g c =

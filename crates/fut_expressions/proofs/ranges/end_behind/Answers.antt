@@ -1,5 +1,5 @@
 -- The end of a range, behind what nothing goes on with.
-use Rattle.std.proofs.Common.{nat_lt, sym, ◌∙◌}
+use Rattle.std.proofs.Common.{nat_lt, sym, ◌∙◌, refl}
 use Rattle.fut_grammar.specs.Phrases.{phrases, read_at}
 use Rattle.fut_expressions.proofs.SuffixLaws.{tested, no_range, range_by_step, range_full, range_to_end}
 use Rattle.fut_expressions.proofs.ranges.end_behind.Goals as goal
@@ -12,6 +12,13 @@ pub returns-then-is_full : goal.returns-then-is_full
 returns-then-is_full g c =
     let full = tested (nat_lt c.args.inner c.args.first.height) c.is_full.ensures.full c.goes_on_chain-goes_on.ensures c.if-is_full.true in
     record { exact = rw (c.too_high.ensures, c.goes_on_chain-goes_on.ensures) (range_full (phrases (read_at c.args.inner)) c.args.inner c.args.at c.args.first.height c.args.first.rest.now (c.args.first.tree.exp.now, c.args.first.tree.ended) (sym c.goes_on_to_range.ensures ∙ c.if-not-goes_on_to_range.false) full); low = tt }
+
+pub end_by-requires : goal.end_by-requires
+end_by-requires g c =
+    λ k. ((refl, tt), (sym c.starts_with.ensures ∙ c.if-starts_with.true, (c.requires.law, (c.requires.room.0, c.is_full.ensures.free c.if-is_full.false))))
+
+pub end_to-requires : goal.end_to-requires
+end_to-requires g c = λ k. ((refl, tt), (c.requires.law, (c.requires.room.0, c.is_full.ensures.free c.if-is_full.false)))
 
 pub returns-then-starts_with : goal.returns-then-starts_with
 returns-then-starts_with g c =
