@@ -1,5 +1,5 @@
 -- By the tokens that stand next.
-use Rattle.std.proofs.Common.{true, false, ◌&&◌, not, sym, ap, ◌∙◌, refl}
+use Rattle.std.proofs.Common.{◌&&◌, not, sym, ap, ◌∙◌, refl}
 use Rattle.fut_token.specs.declared.token.Fixed.TheVariants as fixed
 use Rattle.fut_ast.specs.Tokens.{is_word, starts, tail}
 use Rattle.fut_grammar.specs.Phrases.{read_at}
