@@ -1,4 +1,7 @@
 pub mod BehindLaws
-pub mod Heights
+pub mod ClosingLaws
 pub mod ItemLaws
+pub mod LetLaws
+pub mod LoopLaws
 pub mod PartLaws
+pub mod SuffixLaws

@@ -1,6 +1,7 @@
 -- The parts of atoms, as they are read and found.
 use Rattle.std.specs.Prelude.{ℕ, List, ◌&&◌, ◌||◌, Option, None, Result, Ok, Err, if◌then◌else◌}
 use Rattle.std.specs.Borrow.{Bor}
+use Rattle.fut_token.specs.declared.token.Fixed.{Fixed}
 use Rattle.fut_token.specs.declared.token.Fixed.TheVariants as fixed
 use Rattle.fut_token.specs.declared.token.Token.{Token}
 use Rattle.fut_ast.specs.Behind.{begins_operand}
@@ -61,6 +62,10 @@ maybe_found = found_as maybe
 -- "::-1", and the tokens behind
 unfoldable pub reversal_at : List Token → Result (List Token) Fault
 reversal_at ts = expect fixed.Colon ts >>= λ us. look_at going_back us >>= λ u. expect fixed.Colon us >>= λ vs. expect fixed.Minus vs >>= λ ws. one_at ws
+
+-- an expression, behind which a keyword or symbol ends the production
+abbrev pub ends_with : Fixed → SourceExp → ℕ → List Token → Read SourceExp
+ends_with f e h ts = expect f ts >>= λ us. Ok (e, h, us)
 
 -- the value of a field, behind which no "=" stands
 abbrev pub field_end : Text → Read SourceExp → Read (Text × SourceExp)

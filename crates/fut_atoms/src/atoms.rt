@@ -1,15 +1,16 @@
 // Atoms: expressions of one token or in brackets, with indices and fields behind them.
 ghost use Rattle.std.specs.Prelude.{◌≡◌, true, ◌≤◌, ◌<◌, ◌+◌, suc, IfOk};
 ghost use Rattle.fut_ast.specs.Behind.{behind_atom};
-ghost use Rattle.fut_ast.specs.Tokens.{starts};
-ghost use Rattle.fut_ast.specs.Rows.{field_digits, field_name, indexed};
+ghost use Rattle.fut_ast.specs.Rows.{field_digits, field_name, indexed, suffix_parts, suffix_tree};
+ghost use Rattle.fut_ast.specs.Sorts.{Atom};
+ghost use Rattle.fut_ast.specs.Tokens.{spot_of, starts};
 ghost use Rattle.fut_grammar.specs.Phrases.{again_at, atom_at, atom_suffix, phrases, read_at};
-ghost use Rattle.fut_grammar.specs.Reading.{Gives, suffix_at};
+ghost use Rattle.fut_grammar.specs.Reading.{Gives, parts_at, suffix_at};
 ghost use Rattle.fut_phrases.specs.Found.{tree_found};
 
 use crate::brackets::base_below;
 use crate::indices::index_list;
-use crate::made::made;
+use crate::made::{made, made_before};
 use crate::tie::ReadExp;
 use bumpalo::Bump;
 use fut_ast::{Spot, What};
@@ -59,7 +60,10 @@ fn suffixes_behind<'a, R: ReadExp<'a>>(
             return Err(Stop::Fault(Fault::TooDeep(found.rest.len())));
         }
         turns -= 1;
-        found = suffix_behind(bump, read, inner, at, found)?;
+        found = match suffix_behind(bump, read, inner, at, found) {
+            Ok(longer) => longer,
+            Err(stop) => return Err(stop),
+        };
     }
     Ok(found)
 }
@@ -76,6 +80,9 @@ fn suffix_behind<'a, R: ReadExp<'a>>(
     ensures exact { Gives tree_found result (suffix_at (phrases (read_at inner)) (atom_suffix first.entry.rest.now) (suc inner) at first.entry.tree.now first.entry.height first.entry.rest.now) }
     ensures low { IfOk result (λ x. x.height ≤ inner + 1) }
 {
+    if first.height > inner {
+        return Err(Stop::Fault(Fault::TooDeep(first.rest.len())));
+    }
     if starts_with(first.rest, Fixed::OpenBracket) {
         index_behind(bump, read, inner, at, first)
     } else if starts_with(first.rest, Fixed::Dot) {
@@ -85,7 +92,6 @@ fn suffix_behind<'a, R: ReadExp<'a>>(
     }
 }
 
-#[tactic(auto, unfolding(fut_grammar::specs::Reading::suffix_at, fut_grammar::specs::Reading::parts_at, fut_grammar::specs::Reading::has_at, fut_grammar::specs::Reading::expect))]
 fn index_behind<'a, R: ReadExp<'a>>(
     bump: &'a Bump,
     read: R,
@@ -94,47 +100,37 @@ fn index_behind<'a, R: ReadExp<'a>>(
     first: Found<'a, &'a Exp<'a>>,
 ) -> Result<Found<'a, &'a Exp<'a>>, Stop>
     requires law { R.reads read inner }
-    requires room { (inner < 1000) × (first.height ≤ inner + 1) }
-    ensures exact { Gives tree_found result (suffix_at (phrases (read_at inner)) indexed (suc inner) at first.entry.tree.now first.entry.height first.entry.rest.now) }
+    requires room { (inner < 1000) × (first.height ≤ inner) }
+    ensures exact { Gives tree_found result (parts_at (phrases (read_at inner)) true Atom (suffix_parts indexed) (suffix_tree indexed at (spot_of first.entry.rest.now) first.entry.tree.now) first.entry.height first.entry.rest.now) }
     ensures low { IfOk result (λ x. x.height ≤ inner + 1) }
 {
-    if first.height > inner {
-        return Err(Stop::Fault(Fault::TooDeep(first.rest.len())));
-    }
     if !starts_with_tight(first.rest) {
         return Err(Stop::Fault(refused(first.rest)));
     }
     let bracket = next_spot(first.rest).place;
     match index_list(bump, read, inner, first.height, rest_of(first.rest)) {
-        Ok(parts) => {
-            if !starts_with(parts.rest, Fixed::CloseBracket) {
-                return Err(Stop::Fault(refused(parts.rest)));
-            }
-            made(
-                index(bump, at.place, bracket, first.tree, parts.tree),
-                parts.height + 1,
-                rest_of(parts.rest),
-            )
-        }
+        Ok(parts) => made_before(
+            index(bump, at.place, bracket, first.tree, parts.tree),
+            parts.height + 1,
+            Fixed::CloseBracket,
+            parts.rest,
+        ),
         Err(stop) => Err(stop),
     }
 }
 
-#[tactic(auto, unfolding(fut_grammar::specs::Reading::suffix_at, fut_grammar::specs::Reading::parts_at, fut_grammar::specs::Reading::has_at, fut_grammar::specs::Reading::expect))]
 fn field_behind<'a>(
     bump: &'a Bump,
     inner: u32,
     at: Spot,
     first: Found<'a, &'a Exp<'a>>,
 ) -> Result<Found<'a, &'a Exp<'a>>, Stop>
-    requires first { starts Fixed.Dot first.rest.now ≡ true }
-    requires room { (inner < 1000) × (first.height ≤ inner + 1) }
-    ensures exact { Gives tree_found result (suffix_at (phrases (read_at inner)) field_name (suc inner) at first.entry.tree.now first.entry.height first.entry.rest.now) }
+    requires dot { starts Fixed.Dot first.rest.now ≡ true }
+    requires room { (inner < 1000) × (first.height ≤ inner) }
+    ensures exact { Gives tree_found result (parts_at (phrases (read_at inner)) true Atom (suffix_parts field_name) (suffix_tree field_name at (spot_of first.entry.rest.now) first.entry.tree.now) first.entry.height first.entry.rest.now) }
     ensures low { IfOk result (λ x. x.height ≤ inner + 1) }
 {
-    if first.height > inner {
-        return Err(Stop::Fault(Fault::TooDeep(first.rest.len())));
-    }
+    let _inner = inner;
     match without_form(What::LocalOpen, first.rest) {
         Ok(()) => (),
         Err(stop) => return Err(stop),
@@ -149,20 +145,17 @@ fn field_behind<'a>(
     }
 }
 
-#[tactic(auto, unfolding(fut_grammar::specs::Reading::suffix_at, fut_grammar::specs::Reading::parts_at, fut_grammar::specs::Reading::has_at))]
 fn digits_behind<'a>(
     bump: &'a Bump,
     inner: u32,
     at: Spot,
     first: Found<'a, &'a Exp<'a>>,
 ) -> Result<Found<'a, &'a Exp<'a>>, Stop>
-    requires { (inner < 1000) × (first.height ≤ inner + 1) }
-    ensures exact { Gives tree_found result (suffix_at (phrases (read_at inner)) field_digits (suc inner) at first.entry.tree.now first.entry.height first.entry.rest.now) }
+    requires { (inner < 1000) × (first.height ≤ inner) }
+    ensures exact { Gives tree_found result (parts_at (phrases (read_at inner)) true Atom (suffix_parts field_digits) (suffix_tree field_digits at (spot_of first.entry.rest.now) first.entry.tree.now) first.entry.height first.entry.rest.now) }
     ensures low { IfOk result (λ x. x.height ≤ inner + 1) }
 {
-    if first.height > inner {
-        return Err(Stop::Fault(Fault::TooDeep(first.rest.len())));
-    }
+    let _inner = inner;
     match take_digits(first.rest) {
         Ok((name, rest)) => made(
             field(bump, at.place, first.tree, name),

@@ -11,7 +11,7 @@ ghost use Rattle.fut_phrases.specs.Found.{list_found, tree_found};
 use crate::fields::field_list;
 use crate::items::Items;
 use crate::leaves::{no, no_elements, no_fields, number, path, yes};
-use crate::made::made;
+use crate::made::made_before;
 use crate::parens::paren_below;
 use crate::tie::{ExpSort, ReadExp};
 use bumpalo::Bump;
@@ -27,7 +27,6 @@ use fut_token::{Fixed, Token};
 use fut_tree::{Exp, Held};
 
 /// An expression of one token or in brackets.
-#[tactic(auto, unfolding(fut_grammar::specs::Phrases::base_at))]
 pub fn base_below<'a, R: ReadExp<'a>>(
     bump: &'a Bump,
     read: R,
@@ -54,7 +53,6 @@ pub fn base_below<'a, R: ReadExp<'a>>(
     }
 }
 
-#[tactic(auto, unfolding(fut_grammar::specs::Phrases::bracket_at))]
 fn bracket_below<'a, R: ReadExp<'a>>(
     bump: &'a Bump,
     read: R,
@@ -80,7 +78,6 @@ fn bracket_below<'a, R: ReadExp<'a>>(
     }
 }
 
-#[tactic(auto, unfolding(fut_grammar::specs::Reading::row_at, fut_grammar::specs::Reading::parts_at, fut_grammar::specs::Reading::has_at, fut_grammar::specs::Reading::expect))]
 fn elements<'a, R: ReadExp<'a>>(
     bump: &'a Bump,
     read: R,
@@ -95,21 +92,16 @@ fn elements<'a, R: ReadExp<'a>>(
 {
     let place = next_spot(tokens).place;
     match expressions(bump, read, inner, 0, rest_of(tokens)) {
-        Ok(all) => {
-            if !starts_with(all.rest, Fixed::CloseBracket) {
-                return Err(Stop::Fault(refused(all.rest)));
-            }
-            made(
-                array(bump, place, all.tree),
-                all.height + 1,
-                rest_of(all.rest),
-            )
-        }
+        Ok(all) => made_before(
+            array(bump, place, all.tree),
+            all.height + 1,
+            Fixed::CloseBracket,
+            all.rest,
+        ),
         Err(stop) => Err(stop),
     }
 }
 
-#[tactic(auto, unfolding(fut_grammar::specs::Reading::row_at, fut_grammar::specs::Reading::parts_at, fut_grammar::specs::Reading::has_at, fut_grammar::specs::Reading::expect))]
 fn fields<'a, R: ReadExp<'a>>(
     bump: &'a Bump,
     read: R,
@@ -126,16 +118,12 @@ fn fields<'a, R: ReadExp<'a>>(
         return Err(Stop::Fault(refused(tokens)));
     }
     match field_list(bump, read, inner, rest_of(tokens)) {
-        Ok(all) => {
-            if !starts_with(all.rest, Fixed::CloseBrace) {
-                return Err(Stop::Fault(refused(all.rest)));
-            }
-            made(
-                record(bump, place, all.tree),
-                all.height + 1,
-                rest_of(all.rest),
-            )
-        }
+        Ok(all) => made_before(
+            record(bump, place, all.tree),
+            all.height + 1,
+            Fixed::CloseBrace,
+            all.rest,
+        ),
         Err(stop) => Err(stop),
     }
 }

@@ -41,7 +41,6 @@ impl<'a, R: ReadExp<'a>> ReadItem<'a, ExpField<'a>> for Items<R> {
 
     ghost reads = { λ s d. R.reads s.read d };
 
-    #[tactic(auto, using(crate::proofs::ItemLaws::field_is), unfolding(crate::specs::Parts::field_at))]
     fn item(
         self,
         bump: &'a Bump,

@@ -1,10 +1,10 @@
 // Forms that begin with a keyword and reach far: if, functions, loops.
-ghost use Rattle.std.specs.Prelude.{◌≡◌, true, ◌≤◌, ◌<◌, ◌+◌, suc, length, IfOk};
+ghost use Rattle.std.specs.Prelude.{◌≡◌, true, ◌≤◌, ◌<◌, ◌+◌, ◌&&◌, suc, length, IfOk};
 ghost use Rattle.fut_ast.specs.ExpRows.{count, each, function, if_else, loop, while};
 ghost use Rattle.fut_ast.specs.Rows.{of_exp};
 ghost use Rattle.fut_ast.specs.Behind.{passes};
 ghost use Rattle.fut_ast.specs.Parts.{no_counter};
-ghost use Rattle.fut_ast.specs.Tokens.{starts, tail};
+ghost use Rattle.fut_ast.specs.Tokens.{is_word, starts, tail};
 ghost use Rattle.fut_ast.specs.Sorts.{Loop_item};
 ghost use Rattle.fut_grammar.specs.Phrases.{form_at, items, phrases, read_at};
 ghost use Rattle.fut_grammar.specs.Reading.{Gives, row_at, start_at};
@@ -29,7 +29,6 @@ use fut_token::{Fixed, Token};
 use fut_tree::{Exp, LoopForm, Pat};
 
 /// A form that begins with a keyword other than `let`.
-#[tactic(auto, unfolding(fut_grammar::specs::Phrases::form_at))]
 pub fn form_below<'a, R: ReadExp<'a>>(
     bump: &'a Bump,
     read: R,
@@ -50,7 +49,6 @@ pub fn form_below<'a, R: ReadExp<'a>>(
     }
 }
 
-#[tactic(auto, unfolding(fut_grammar::specs::Reading::row_at, fut_grammar::specs::Reading::parts_at, fut_grammar::specs::Reading::has_at, fut_grammar::specs::Reading::sub_at, fut_grammar::specs::Phrases::phrases, fut_grammar::specs::Reading::expect))]
 fn if_else<'a, R: ReadExp<'a>>(
     bump: &'a Bump,
     read: R,
@@ -82,7 +80,6 @@ fn if_else<'a, R: ReadExp<'a>>(
     }
 }
 
-#[tactic(auto, unfolding(fut_grammar::specs::Reading::row_at, fut_grammar::specs::Reading::parts_at, fut_grammar::specs::Reading::has_at, fut_grammar::specs::Reading::sub_at, fut_grammar::specs::Phrases::phrases, fut_grammar::specs::Reading::expect))]
 fn function_form<'a, R: ReadExp<'a>>(
     bump: &'a Bump,
     read: R,
@@ -117,7 +114,6 @@ fn function_form<'a, R: ReadExp<'a>>(
     }
 }
 
-#[tactic(auto, unfolding(fut_grammar::specs::Reading::row_at, fut_grammar::specs::Reading::parts_at, fut_grammar::specs::Reading::has_at, fut_grammar::specs::Reading::sub_at, fut_grammar::specs::Phrases::phrases, fut_grammar::specs::Reading::expect))]
 fn loop_form<'a, R: ReadExp<'a>>(
     bump: &'a Bump,
     read: R,
@@ -171,7 +167,6 @@ struct Start<'a> {
     value: &'a Exp<'a>,
 }
 
-#[tactic(auto, unfolding(fut_grammar::specs::Reading::start_at, fut_grammar::specs::Phrases::phrases))]
 fn loop_start<'a, R: ReadExp<'a>>(
     bump: &'a Bump,
     read: R,
@@ -218,7 +213,13 @@ fn loop_start<'a, R: ReadExp<'a>>(
     }
 }
 
-#[tactic(auto, unfolding(fut_grammar::specs::Phrases::phrases, fut_grammar::specs::Phrases::bounded, fut_grammar::specs::Phrases::ended, fut_grammar::specs::Phrases::flat_at, fut_grammar::specs::Phrases::loop_item_at, fut_grammar::specs::Reading::refuse_sort))]
+// Whether a name and a sign stand next, behind which a loop's bound stands.
+fn begins_count(tokens: &[Token]) -> bool
+    ensures { result ≡ (is_word tokens.now && starts Fixed.Less (tail tokens.now)) }
+{
+    starts_with_word(tokens) && starts_with(rest_of(tokens), Fixed::Less)
+}
+
 fn loop_item<'a, R: ReadExp<'a>>(
     bump: &'a Bump,
     read: R,
@@ -230,19 +231,17 @@ fn loop_item<'a, R: ReadExp<'a>>(
     ensures exact { Gives (found_as (λ t. loop_of t.now)) result (phrases (read_at inner) Loop_item tokens.now) }
     ensures low { IfOk result (λ x. x.height ≤ inner) }
 {
-    let behind = rest_of(tokens);
     if starts_with(tokens, Fixed::KeyWhile) {
         as_long(bump, read, inner, tokens)
     } else if !starts_with(tokens, Fixed::KeyFor) {
         Err(Stop::Fault(refused(tokens)))
-    } else if starts_with_word(behind) && starts_with(rest_of(behind), Fixed::Less) {
+    } else if begins_count(rest_of(tokens)) {
         counted(bump, read, inner, tokens)
     } else {
         over_elements(bump, read, inner, tokens)
     }
 }
 
-#[tactic(auto, unfolding(fut_grammar::specs::Reading::row_at, fut_grammar::specs::Reading::parts_at, fut_grammar::specs::Reading::has_at, fut_grammar::specs::Reading::sub_at, fut_grammar::specs::Phrases::items, fut_grammar::specs::Reading::expect))]
 fn as_long<'a, R: ReadExp<'a>>(
     bump: &'a Bump,
     read: R,
@@ -261,7 +260,6 @@ fn as_long<'a, R: ReadExp<'a>>(
     }
 }
 
-#[tactic(auto, unfolding(fut_grammar::specs::Reading::row_at, fut_grammar::specs::Reading::parts_at, fut_grammar::specs::Reading::has_at, fut_grammar::specs::Reading::sub_at, fut_grammar::specs::Phrases::items, fut_grammar::specs::Reading::expect))]
 fn counted<'a, R: ReadExp<'a>>(
     bump: &'a Bump,
     read: R,
@@ -288,7 +286,6 @@ fn counted<'a, R: ReadExp<'a>>(
     }
 }
 
-#[tactic(auto, unfolding(fut_grammar::specs::Reading::row_at, fut_grammar::specs::Reading::parts_at, fut_grammar::specs::Reading::has_at, fut_grammar::specs::Reading::sub_at, fut_grammar::specs::Phrases::items, fut_grammar::specs::Reading::expect))]
 fn over_elements<'a, R: ReadExp<'a>>(
     bump: &'a Bump,
     read: R,

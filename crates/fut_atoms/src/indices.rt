@@ -1,6 +1,8 @@
 // The parts of an index, also in a section, where each expression gets a name.
-ghost use Rattle.std.specs.Prelude.{◌≡◌, ◌≤◌, ◌<◌, length, IfOk};
+ghost use Rattle.std.specs.Prelude.{◌≡◌, ◌≤◌, ◌<◌, ◌&&◌, ◌||◌, length, true, IfOk};
+ghost use Rattle.fut_ast.specs.Behind.{begins_operand};
 ghost use Rattle.fut_ast.specs.Sorts.{Index_item, Named_item, Operands};
+ghost use Rattle.fut_ast.specs.Tokens.{starts, tail};
 ghost use Rattle.fut_atoms.specs.Parts.{any_part_at, indices_found, maybe_found, nameds_found, part_at, reversal_at, upto_found, written_found};
 ghost use Rattle.fut_exp_parts.specs.Parts.{named_of};
 ghost use Rattle.fut_grammar.specs.Phrases.{items, phrases, read_at};
@@ -108,8 +110,22 @@ impl<'a, R: ReadExp<'a>> ReadItem<'a, NamedPart<'a>> for Items<R> {
     }
 }
 
+// Whether a part of an index begins here.
+fn begins_part(tokens: &[Token]) -> bool
+    ensures begun { result ≡ (begins_operand tokens.now || starts Fixed.Colon tokens.now) }
+    ensures goes_on { result ≡ (starts Fixed.Colon tokens.now || begins_operand tokens.now) }
+{
+    starts_with(tokens, Fixed::Colon) || begins_exp_operand(tokens)
+}
+
+// Whether two colons stand next.
+fn begins_reversal(tokens: &[Token]) -> bool
+    ensures { result ≡ (starts Fixed.Colon tokens.now && starts Fixed.Colon (tail tokens.now)) }
+{
+    starts_with(tokens, Fixed::Colon) && starts_with(rest_of(tokens), Fixed::Colon)
+}
+
 // A part of an index, as it is written.
-#[tactic(auto, unfolding(crate::specs::Parts::part_at))]
 fn part<'a, R: ReadExp<'a>>(
     read: R,
     inner: u32,
@@ -120,20 +136,19 @@ fn part<'a, R: ReadExp<'a>>(
     ensures exact { Gives written_found result (part_at (items (read_at inner)) tokens.now) }
     ensures low { IfOk result (λ x. x.height ≤ inner) }
 {
-    if !begins_exp_operand(tokens) && !starts_with(tokens, Fixed::Colon) {
+    if !begins_part(tokens) {
         return Err(Stop::Fault(refused(tokens)));
     }
     let found = match any_part(read, inner, tokens) {
         Ok(found) => found,
         Err(stop) => return Err(stop),
     };
-    if starts_with(found.rest, Fixed::Colon) || begins_exp_operand(found.rest) {
+    if begins_part(found.rest) {
         return Err(Stop::Fault(refused(found.rest)));
     }
     Ok(found)
 }
 
-#[tactic(auto, unfolding(crate::specs::Parts::any_part_at))]
 fn any_part<'a, R: ReadExp<'a>>(
     read: R,
     inner: u32,
@@ -145,20 +160,19 @@ fn any_part<'a, R: ReadExp<'a>>(
     ensures low { IfOk result (λ x. x.height ≤ inner) }
 {
     let at = next_spot(tokens);
-    if starts_with(tokens, Fixed::Colon) && starts_with(rest_of(tokens), Fixed::Colon) {
-        let rest = match take_reversal(tokens) {
-            Ok(rest) => rest,
-            Err(stop) => return Err(stop),
+    if begins_reversal(tokens) {
+        return match take_reversal(tokens) {
+            Ok(rest) => Ok(Found {
+                tree: WrittenPart {
+                    at,
+                    first: None,
+                    upto: None,
+                },
+                height: 0,
+                rest,
+            }),
+            Err(stop) => Err(stop),
         };
-        return Ok(Found {
-            tree: WrittenPart {
-                at,
-                first: None,
-                upto: None,
-            },
-            height: 0,
-            rest,
-        });
     }
     let first = match optional(read, inner, 0, tokens) {
         Ok(first) => first,
@@ -183,30 +197,22 @@ fn any_part<'a, R: ReadExp<'a>>(
 }
 
 // `::-1`, and the tokens behind it.
-#[tactic(auto, unfolding(crate::specs::Parts::reversal_at))]
 fn take_reversal(tokens: &[Token]) -> Result<&[Token], Stop>
+    requires begun { (starts Fixed.Colon tokens.now && starts Fixed.Colon (tail tokens.now)) ≡ true }
     ensures { Gives (λ x. x.now) result (reversal_at tokens.now) }
 {
-    let rest = match take(tokens, Fixed::Colon) {
-        Ok(rest) => rest,
-        Err(stop) => return Err(stop),
-    };
+    let rest = rest_of(tokens);
     match without_stride(rest) {
         Ok(()) => (),
         Err(stop) => return Err(stop),
     }
-    let rest = match take(rest, Fixed::Colon) {
-        Ok(rest) => rest,
-        Err(stop) => return Err(stop),
-    };
-    match take(rest, Fixed::Minus) {
+    match take(rest_of(rest), Fixed::Minus) {
         Ok(rest) => take_one(rest),
         Err(stop) => Err(stop),
     }
 }
 
 // What stands behind the first expression of a part.
-#[tactic(auto, unfolding(fut_grammar::specs::Reading::upto_at))]
 fn up_to<'a, R: ReadExp<'a>>(
     read: R,
     inner: u32,
@@ -241,7 +247,6 @@ fn up_to<'a, R: ReadExp<'a>>(
 }
 
 // Operands, or none.
-#[tactic(auto, unfolding(fut_grammar::specs::Reading::optional_at, fut_grammar::specs::Phrases::items))]
 fn optional<'a, R: ReadExp<'a>>(
     read: R,
     inner: u32,

@@ -1,12 +1,12 @@
 // Rows of lets.
-ghost use Rattle.std.specs.Prelude.{◌≡◌, ◌≤◌, ◌<◌, ◌+◌, suc, length, false, true, [], ◌∷◌, IfOk};
-ghost use Rattle.fut_ast.specs.Behind.{is_function_let, is_update_let};
+ghost use Rattle.std.specs.Prelude.{◌≡◌, ◌≤◌, ◌<◌, ◌+◌, ◌||◌, suc, length, false, true, [], ◌∷◌, IfOk};
+ghost use Rattle.fut_ast.specs.Behind.{begins_pat, is_function_let, is_update_let};
 ghost use Rattle.fut_ast.specs.ExpRows.{let_function, let_pattern, let_update};
 ghost use Rattle.fut_ast.specs.Nodes.{bound, let_one, node, use_of};
 ghost use Rattle.fut_ast.specs.Parts.{Commas, Sign, Sub};
 ghost use Rattle.fut_ast.specs.Rows.{of_exp};
 ghost use Rattle.fut_ast.specs.Sorts.{Let_item, Whole, Written_item};
-ghost use Rattle.fut_ast.specs.Tokens.{tail};
+ghost use Rattle.fut_ast.specs.Tokens.{starts, tail};
 ghost use Rattle.fut_ast.specs.declared.exp.Form.TheVariants as form;
 ghost use Rattle.fut_phrases.specs.Found.{found_as};
 ghost use Rattle.fut_grammar.specs.Phrases.{items, let_at, phrases, read_at, row_of_lets};
@@ -49,14 +49,23 @@ pub fn lets<'a, R: ReadExp<'a>>(
     let mut height = 0;
     let mut rest = rest_of(tokens);
     'lets: for _turn in 0..tokens.len() {
-        let item = one_let_item(bump, read, inner, rest)?;
-        all.push(item.tree)?;
+        let item = match one_let_item(bump, read, inner, rest) {
+            Ok(item) => item,
+            Err(stop) => return Err(stop),
+        };
+        match all.push(item.tree) {
+            Ok(()) => (),
+            Err(_) => return Err(Stop::Memory),
+        }
         height = greater(height, item.height);
         if starts_with(item.rest, Fixed::KeyLet) {
             rest = rest_of(item.rest);
             continue;
         }
-        let behind = take(item.rest, Fixed::KeyIn)?;
+        let behind = match take(item.rest, Fixed::KeyIn) {
+            Ok(behind) => behind,
+            Err(stop) => return Err(stop),
+        };
         if !starts_with(behind, Fixed::KeyLet) {
             return Ok(Found {
                 tree: into_bump_slice(all),
@@ -69,7 +78,13 @@ pub fn lets<'a, R: ReadExp<'a>>(
     Err(Stop::Fault(refused(rest)))
 }
 
-#[tactic(auto, unfolding(fut_grammar::specs::Phrases::phrases, fut_grammar::specs::Phrases::bounded, fut_grammar::specs::Phrases::ended, fut_grammar::specs::Phrases::flat_at, fut_grammar::specs::Phrases::let_at, fut_grammar::specs::Reading::refuse_sort))]
+// Whether a let begins here, behind its keyword or another let.
+fn begins_let(tokens: &[Token]) -> bool
+    ensures { result ≡ (begins_pat tokens.now || starts Fixed.OpenBracket tokens.now) }
+{
+    begins_pattern(tokens) || starts_with(tokens, Fixed::OpenBracket)
+}
+
 fn one_let_item<'a, R: ReadExp<'a>>(
     bump: &'a Bump,
     read: R,
@@ -81,7 +96,7 @@ fn one_let_item<'a, R: ReadExp<'a>>(
     ensures exact { Gives (found_as bind_of) result (phrases (read_at inner) Let_item tokens.now) }
     ensures low { IfOk result (λ x. x.height ≤ inner) }
 {
-    if !begins_pattern(tokens) && !starts_with(tokens, Fixed::OpenBracket) {
+    if !begins_let(tokens) {
         Err(Stop::Fault(refused(tokens)))
     } else if begins_update(tokens) {
         let_update(bump, read, inner, tokens)
@@ -130,7 +145,6 @@ fn let_pattern<'a, R: ReadExp<'a>>(
     }
 }
 
-#[tactic(auto, unfolding(fut_grammar::specs::Reading::row_at, fut_grammar::specs::Reading::parts_at, fut_grammar::specs::Reading::has_at, fut_grammar::specs::Reading::sub_at, fut_grammar::specs::Phrases::items, fut_grammar::specs::Reading::expect))]
 fn let_function<'a, R: ReadExp<'a>>(
     bump: &'a Bump,
     read: R,
@@ -178,7 +192,6 @@ fn let_function<'a, R: ReadExp<'a>>(
     }
 }
 
-#[tactic(auto, unfolding(fut_grammar::specs::Reading::row_at, fut_grammar::specs::Reading::parts_at, fut_grammar::specs::Reading::has_at, fut_grammar::specs::Reading::sub_at, fut_grammar::specs::Phrases::items))]
 fn let_update<'a, R: ReadExp<'a>>(
     bump: &'a Bump,
     read: R,
@@ -192,7 +205,10 @@ fn let_update<'a, R: ReadExp<'a>>(
     ensures low { IfOk result (λ x. x.height ≤ inner) }
 {
     let place = next_spot(tokens).place;
-    let (name, rest) = take_word(tokens)?;
+    let (name, rest) = match take_word(tokens) {
+        Ok(word) => word,
+        Err(stop) => return Err(stop),
+    };
     if !starts_with_tight(rest) {
         return Err(Stop::Fault(refused(rest)));
     }
@@ -208,7 +224,6 @@ fn let_update<'a, R: ReadExp<'a>>(
 }
 
 // Behind the bracket of an update, its index and the new value.
-#[tactic(auto, unfolding(fut_grammar::specs::Reading::parts_at, fut_grammar::specs::Reading::has_at, fut_grammar::specs::Reading::sub_at, fut_grammar::specs::Phrases::items, fut_grammar::specs::Reading::expect))]
 fn update_inside<'a, R: ReadExp<'a>>(
     bump: &'a Bump,
     read: R,

@@ -1,6 +1,7 @@
 // What ends a production: a node was made, or there was no memory for it.
 ghost use Rattle.std.specs.Prelude.{◌≡◌, IfOk, Ok};
 ghost use Rattle.fut_ast.specs.Sorts.{Path, SourceExp, Text};
+ghost use Rattle.fut_atoms.specs.Parts.{ends_with};
 ghost use Rattle.fut_atoms.specs.Tie.{ending_found};
 ghost use Rattle.fut_grammar.specs.Reading.{Gives};
 ghost use Rattle.fut_phrases.specs.Found.{found_as, tree_found};
@@ -12,8 +13,9 @@ use crate::tie::Ending;
 use fut_ast::Ended;
 use fut_grammar::Stop;
 use fut_phrases::found::Found;
+use fut_phrases::tokens::{refused, rest_of, starts_with};
 use fut_scalar::NoMemory;
-use fut_token::Token;
+use fut_token::{Fixed, Token};
 use fut_tree::{Bind, Exp, LoopForm};
 
 /// An expression was read, if there was memory for its node.
@@ -28,6 +30,24 @@ pub fn made<'a>(
     match node {
         Ok(tree) => Ok(Found { tree, height, rest }),
         Err(_) => Err(Stop::Memory),
+    }
+}
+
+/// The same, if this keyword or symbol stands next; what was read ends behind it.
+#[tactic(auto, unfolding(fut_grammar::specs::Reading::expect))]
+pub fn made_before<'a>(
+    node: Result<&'a Exp<'a>, NoMemory>,
+    height: u32,
+    fixed: Fixed,
+    tokens: &'a [Token],
+) -> Result<Found<'a, &'a Exp<'a>>, Stop>
+    ensures exact { (e : SourceExp) → IfOk node.entry (λ x. x.now ≡ e) → Gives tree_found result (ends_with fixed e height tokens.now) }
+    ensures low { IfOk result (λ x. x.height ≡ height) }
+{
+    if starts_with(tokens, fixed) {
+        made(node, height, rest_of(tokens))
+    } else {
+        Err(Stop::Fault(refused(tokens)))
     }
 }
 

@@ -11,7 +11,7 @@ ghost use Rattle.fut_phrases.specs.Found.{tree_found};
 use crate::brackets::expressions;
 use crate::indices::named_list;
 use crate::leaves::unit;
-use crate::made::made;
+use crate::made::made_before;
 use crate::tie::{ExpSort, ReadExp};
 use bumpalo::Bump;
 use fut_ast::{Spot, What};
@@ -31,7 +31,6 @@ use fut_token::{Fixed, Token};
 use fut_tree::Exp;
 
 /// What stands in parentheses.
-#[tactic(auto, unfolding(fut_grammar::specs::Phrases::paren_at))]
 pub fn paren_below<'a, R: ReadExp<'a>>(
     bump: &'a Bump,
     read: R,
@@ -86,7 +85,6 @@ fn section_or_round<'a, R: ReadExp<'a>>(
     }
 }
 
-#[tactic(auto, using(crate::proofs::Heights::first_height), unfolding(fut_grammar::specs::Reading::row_at, fut_grammar::specs::Reading::parts_at, fut_grammar::specs::Reading::has_at, fut_grammar::specs::Reading::sub_at, fut_grammar::specs::Phrases::phrases, fut_grammar::specs::Reading::expect))]
 fn operator_and_operand<'a, R: ReadExp<'a>>(
     bump: &'a Bump,
     read: R,
@@ -111,20 +109,13 @@ fn operator_and_operand<'a, R: ReadExp<'a>>(
     };
     match read.read(inner, ExpSort::Operands(level_of(fixed) + 1), rest) {
         Ok(operand) => {
-            if !starts_with(operand.rest, Fixed::CloseParen) {
-                return Err(Stop::Fault(refused(operand.rest)));
-            }
-            made(
-                section_of_right(bump, fixed, paren, at.place, name, operand.tree.exp),
-                operand.height + 1,
-                rest_of(operand.rest),
-            )
+            let node = section_of_right(bump, fixed, paren, at.place, name, operand.tree.exp);
+            made_before(node, operand.height + 1, Fixed::CloseParen, operand.rest)
         }
         Err(stop) => Err(stop),
     }
 }
 
-#[tactic(auto, unfolding(fut_grammar::specs::Phrases::plain_at, fut_grammar::specs::Phrases::phrases))]
 fn plain<'a, R: ReadExp<'a>>(
     bump: &'a Bump,
     read: R,
@@ -161,7 +152,6 @@ fn plain<'a, R: ReadExp<'a>>(
     }
 }
 
-#[tactic(auto, unfolding(fut_grammar::specs::Phrases::round_end, fut_grammar::specs::Reading::expect))]
 fn round<'a, R: ReadExp<'a>>(
     bump: &'a Bump,
     read: R,
@@ -177,33 +167,23 @@ fn round<'a, R: ReadExp<'a>>(
     ensures low { IfOk result (λ x. x.height ≤ inner + 1) }
 {
     if !starts_with(tokens, Fixed::Comma) {
-        if !starts_with(tokens, Fixed::CloseParen) {
-            return Err(Stop::Fault(refused(tokens)));
-        }
-        return Ok(Found {
-            tree: first,
-            height: first_height + 1,
-            rest: rest_of(tokens),
-        });
+        return made_before(Ok(first), first_height + 1, Fixed::CloseParen, tokens);
     }
     let others = match expressions(bump, read, inner, first_height, rest_of(tokens)) {
         Ok(others) => others,
         Err(stop) => return Err(stop),
     };
-    if !starts_with(others.rest, Fixed::CloseParen) {
-        return Err(Stop::Fault(refused(others.rest)));
-    }
     match in_front(bump, first, others.tree) {
-        Ok(all) => made(
+        Ok(all) => made_before(
             round_of(bump, at.place, all),
             others.height + 1,
-            rest_of(others.rest),
+            Fixed::CloseParen,
+            others.rest,
         ),
         Err(_) => Err(Stop::Memory),
     }
 }
 
-#[tactic(auto, unfolding(fut_grammar::specs::Reading::row_at, fut_grammar::specs::Reading::parts_at, fut_grammar::specs::Reading::has_at, fut_grammar::specs::Reading::expect))]
 fn index_alone<'a, R: ReadExp<'a>>(
     bump: &'a Bump,
     read: R,
@@ -228,20 +208,16 @@ fn index_alone<'a, R: ReadExp<'a>>(
     if !starts_with(parts.rest, Fixed::CloseBracket) {
         return Err(Stop::Fault(refused(parts.rest)));
     }
-    let behind = rest_of(parts.rest);
-    if !starts_with(behind, Fixed::CloseParen) {
-        return Err(Stop::Fault(refused(behind)));
-    }
-    made(
+    made_before(
         section_of_index(bump, paren, bracket, parts.tree),
         parts.height + 1,
-        rest_of(behind),
+        Fixed::CloseParen,
+        rest_of(parts.rest),
     )
 }
 
 // ---- what has no expressions in it, or has them read before
 
-#[tactic(auto, unfolding(fut_grammar::specs::Phrases::section_end, fut_grammar::specs::Reading::expect))]
 fn operand_and_operator<'a>(
     bump: &'a Bump,
     fixed: Fixed,
@@ -255,21 +231,16 @@ fn operand_and_operator<'a>(
     ensures low { IfOk result (λ x. x.height ≡ first_height + 1) }
 {
     match take_operator(fixed, tokens) {
-        Ok(((key, name), rest)) => {
-            if !starts_with(rest, Fixed::CloseParen) {
-                return Err(Stop::Fault(refused(rest)));
-            }
-            made(
-                section_of_left(bump, fixed, at.place, first, key.place, name),
-                first_height + 1,
-                rest_of(rest),
-            )
-        }
+        Ok(((key, name), rest)) => made_before(
+            section_of_left(bump, fixed, at.place, first, key.place, name),
+            first_height + 1,
+            Fixed::CloseParen,
+            rest,
+        ),
         Err(stop) => Err(stop),
     }
 }
 
-#[tactic(auto, unfolding(fut_grammar::specs::Reading::row_at, fut_grammar::specs::Reading::parts_at, fut_grammar::specs::Reading::has_at, fut_grammar::specs::Reading::expect))]
 fn operator_in_parens<'a>(
     bump: &'a Bump,
     fixed: Fixed,
@@ -281,21 +252,16 @@ fn operator_in_parens<'a>(
 {
     let paren = next_spot(tokens).place;
     match take_operator(fixed, rest_of(tokens)) {
-        Ok(((at, name), rest)) => {
-            if !starts_with(rest, Fixed::CloseParen) {
-                return Err(Stop::Fault(refused(rest)));
-            }
-            made(
-                operator_alone(bump, fixed, paren, at.place, name),
-                1,
-                rest_of(rest),
-            )
-        }
+        Ok(((at, name), rest)) => made_before(
+            operator_alone(bump, fixed, paren, at.place, name),
+            1,
+            Fixed::CloseParen,
+            rest,
+        ),
         Err(stop) => Err(stop),
     }
 }
 
-#[tactic(auto, unfolding(fut_grammar::specs::Reading::row_at, fut_grammar::specs::Reading::parts_at, fut_grammar::specs::Reading::has_at, fut_grammar::specs::Reading::expect))]
 fn fields_alone<'a>(bump: &'a Bump, tokens: &'a [Token]) -> Result<Found<'a, &'a Exp<'a>>, Stop>
     requires first { starts Fixed.OpenParen tokens.now ≡ true }
     requires dot { starts Fixed.Dot (tail tokens.now) ≡ true }
@@ -310,16 +276,12 @@ fn fields_alone<'a>(bump: &'a Bump, tokens: &'a [Token]) -> Result<Found<'a, &'a
     }
     let dot = next_spot(rest).place;
     match take_path(bump, rest_of(rest)) {
-        Ok((fields, rest)) => {
-            if !starts_with(rest, Fixed::CloseParen) {
-                return Err(Stop::Fault(refused(rest)));
-            }
-            made(
-                section_of_fields(bump, paren, dot, fields),
-                1,
-                rest_of(rest),
-            )
-        }
+        Ok((fields, rest)) => made_before(
+            section_of_fields(bump, paren, dot, fields),
+            1,
+            Fixed::CloseParen,
+            rest,
+        ),
         Err(stop) => Err(stop),
     }
 }

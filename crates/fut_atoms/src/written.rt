@@ -47,7 +47,6 @@ impl<'a, R: ReadExp<'a>> ReadItem<'a, Held<'a, Exp<'a>>> for TargetItems<R> {
 
     ghost reads = { λ s d. R.reads s.read d };
 
-    #[tactic(auto, using(crate::proofs::ItemLaws::target_is), unfolding(crate::specs::Parts::target_at))]
     fn item(
         self,
         bump: &'a Bump,

@@ -1,3 +1,3 @@
+pub mod InsideLaws
 pub mod NodeLaws
-pub mod ReadLaws
 pub mod SuffixLaws

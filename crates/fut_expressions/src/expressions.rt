@@ -1,9 +1,9 @@
 // Expressions: the one function that reads what stands in productions.
-ghost use Rattle.std.specs.Prelude.{◌≡◌, ◌≤◌, ◌<◌, ◌+◌, suc, Err, IfOk, Option, ℕ};
+ghost use Rattle.std.specs.Prelude.{◌≡◌, ◌≤◌, ◌<◌, ◌+◌, suc, true, Err, IfOk, Option, ℕ};
 ghost use Rattle.fut_ast.specs.Behind.{begins, continues};
 ghost use Rattle.fut_ast.specs.Sorts.{Ending as PlainEnding, Path, SourceExp, Whole};
 ghost use Rattle.fut_atoms.specs.Tie.{Law, Reads, ending_found, inside_found, replacing_found, seen, sort_of};
-ghost use Rattle.fut_expressions.specs.Steps.{Steps};
+ghost use Rattle.fut_expressions.specs.Steps.{Steps, one_higher};
 ghost use Rattle.fut_grammar.specs.Phrases.{read_at};
 ghost use Rattle.fut_grammar.specs.Reading.{Gives, Read};
 ghost use Rattle.fut_phrases.specs.Found.{found_as, tree_found};
@@ -12,7 +12,7 @@ ghost use Rattle.fut_tree.specs.Names.{names};
 
 use crate::insides::inside_below;
 use crate::operators::unary_below;
-use crate::updates::replacing_below;
+use crate::updates::replacement;
 use crate::wholes::{last_below, operand_below, operands_below, right_below, whole_below};
 use bumpalo::Bump;
 use fut_ast::Ended;
@@ -129,11 +129,13 @@ fn with_section<'a>(read: Result<Found<'a, FirstInside<'a>>, Stop>) -> ExpAnswer
     }
 }
 
-// The same with the names of a field.
-fn with_path<'a>(read: Result<Found<'a, Replacement<'a>>, Stop>) -> ExpAnswer<'a>
-    ensures exact { (what : Read (Path × SourceExp)) → Gives replacing_found read.entry what → Gives (found_as (λ t. (names t.path.now, t.exp.now))) result what }
-    ensures low { (k : ℕ) → IfOk read.entry (λ x. x.height ≤ k) → IfOk result (λ x. x.height ≤ k) }
+// The same with the names of a field, one node higher.
+fn with_path<'a>(inner: u32, read: Result<Found<'a, Replacement<'a>>, Stop>) -> ExpAnswer<'a>
+    requires { (inner < 1000) × IfOk read (λ x. x.height ≤ inner) }
+    ensures exact { (what : Read (Path × SourceExp)) → Gives replacing_found read.entry what → Gives (found_as (λ t. (names t.path.now, t.exp.now))) result (one_higher what) }
+    ensures low { IfOk result (λ x. x.height ≤ inner + 1) }
 {
+    let _inner = inner;
     match read {
         Ok(found) => Ok(Found {
             tree: AnyExp {
@@ -142,7 +144,7 @@ fn with_path<'a>(read: Result<Found<'a, Replacement<'a>>, Stop>) -> ExpAnswer<'a
                 section: None,
                 path: found.tree.path,
             },
-            height: found.height,
+            height: found.height + 1,
             rest: found.rest,
         }),
         Err(stop) => Err(stop),
@@ -158,6 +160,7 @@ fn below<'a, R: ReadExp<'a>>(
     sort: ExpSort,
     tokens: &'a [Token],
 ) -> ExpAnswer<'a>
+    requires begun { begins (sort_of sort) tokens.now ≡ true }
     requires law { R.reads read inner }
     requires room { inner < 1000 }
     ensures exact { Steps sort inner tokens.now result }
@@ -172,7 +175,7 @@ fn below<'a, R: ReadExp<'a>>(
         ExpSort::Whole => alone(whole_below(bump, read, inner, tokens)),
         ExpSort::Last => with_ending(last_below(bump, read, inner, tokens)),
         ExpSort::Inside => with_section(inside_below(bump, read, inner, tokens)),
-        ExpSort::Replacing => with_path(replacing_below(bump, read, inner, tokens)),
+        ExpSort::Replacing => with_path(inner, replacement(bump, read, inner, tokens)),
     }
 }
 
@@ -191,7 +194,10 @@ fn node<'a, R: ReadExp<'a>>(
     if !begins_sort(sort, tokens) {
         return Err(Stop::Fault(refused(tokens)));
     }
-    let found = below(bump, read, inner, sort, tokens)?;
+    let found = match below(bump, read, inner, sort, tokens) {
+        Ok(found) => found,
+        Err(stop) => return Err(stop),
+    };
     if goes_on_sort(sort, found) {
         return Err(Stop::Fault(refused(found.rest)));
     }

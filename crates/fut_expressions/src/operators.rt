@@ -15,7 +15,7 @@ ghost use Rattle.fut_phrases.specs.Found.{tree_found};
 ghost use Rattle.fut_grammar.specs.Phrases.{again_at, app_at, chain_at, graded_at, operand_too_deep, operation_at, operators_at, phrases, read_at, unary_at};
 ghost use Rattle.fut_grammar.specs.Reading.{Fails, Gives, parts_at, refuse, row_at, suffix_at};
 
-use crate::behind::too_high;
+use crate::behind::{is_full, too_high};
 use bumpalo::Bump;
 use fut_ast::{Ended, Oper, Spot};
 use fut_atoms::atoms::atom_below;
@@ -58,7 +58,6 @@ pub fn unary_below<'a, R: ReadExp<'a>>(
 }
 
 // An operator before its operand.
-#[tactic(auto, unfolding(fut_grammar::specs::Reading::parts_at, fut_grammar::specs::Reading::has_at, fut_grammar::specs::Reading::sub_at, fut_grammar::specs::Phrases::phrases, fut_grammar::specs::Reading::expect))]
 fn prefixed<'a, R: ReadExp<'a>>(
     bump: &'a Bump,
     read: R,
@@ -85,7 +84,6 @@ fn prefixed<'a, R: ReadExp<'a>>(
     }
 }
 
-#[tactic(auto, unfolding(fut_grammar::specs::Reading::row_at, fut_grammar::specs::Reading::parts_at, fut_grammar::specs::Reading::has_at, fut_grammar::specs::Reading::sub_at, fut_grammar::specs::Phrases::phrases, fut_grammar::specs::Reading::argument_at, fut_grammar::specs::Reading::expect))]
 fn asserted<'a, R: ReadExp<'a>>(
     bump: &'a Bump,
     read: R,
@@ -161,7 +159,6 @@ fn arguments_behind<'a, R: ReadExp<'a>>(
     Ok(found)
 }
 
-#[tactic(auto, unfolding(fut_grammar::specs::Reading::suffix_at, fut_grammar::specs::Reading::parts_at, fut_grammar::specs::Reading::has_at, fut_grammar::specs::Reading::sub_at, fut_grammar::specs::Phrases::phrases, fut_grammar::specs::Reading::argument_at))]
 fn argument_behind<'a, R: ReadExp<'a>>(
     bump: &'a Bump,
     read: R,
@@ -169,20 +166,16 @@ fn argument_behind<'a, R: ReadExp<'a>>(
     at: Spot,
     first: Found<'a, &'a Exp<'a>>,
 ) -> Result<Found<'a, &'a Exp<'a>>, Stop>
+    requires sign { begins_argument first.rest.now ≡ true }
     requires law { R.reads read inner }
     requires room { (inner < 1000) × (first.height ≤ inner + 1) }
     ensures exact { Gives tree_found result (suffix_at (phrases (read_at inner)) applied (suc inner) at first.entry.tree.now first.entry.height first.entry.rest.now) }
     ensures low { IfOk result (λ x. x.height ≤ inner + 1) }
 {
     let tokens = first.rest;
-    if goes_on_atom(tokens) {
-        return Err(Stop::Fault(refused(tokens)));
-    }
-    if first.height > inner {
-        return Err(Stop::Fault(Fault::TooDeep(tokens.len())));
-    }
-    if !begins_exp_argument(tokens) {
-        return Err(Stop::Fault(refused(tokens)));
+    let goes_on = goes_on_atom(tokens);
+    if is_full(goes_on, first.height, inner) {
+        return Err(Stop::Fault(too_high(goes_on, tokens)));
     }
     match read.read(inner, ExpSort::Atom, tokens) {
         Ok(value) => made(
@@ -275,7 +268,10 @@ fn operators_behind<'a, R: ReadExp<'a>>(
             return Err(too_many_operators(operator, found.rest));
         }
         turns -= 1;
-        found = operation(bump, read, inner, least, operator, at, found)?;
+        found = match operation(bump, read, inner, least, operator, at, found) {
+            Ok(longer) => longer,
+            Err(stop) => return Err(stop),
+        };
     }
     Ok(found)
 }
@@ -308,7 +304,6 @@ fn operand_too_deep(operator: Fixed, tokens: &[Token]) -> Stop
     }
 }
 
-#[tactic(auto, unfolding(fut_grammar::specs::Phrases::operation_at, fut_grammar::specs::Reading::parts_at, fut_grammar::specs::Reading::has_at, fut_grammar::specs::Reading::sub_at, fut_grammar::specs::Phrases::phrases))]
 fn operation<'a, R: ReadExp<'a>>(
     bump: &'a Bump,
     read: R,
@@ -325,11 +320,8 @@ fn operation<'a, R: ReadExp<'a>>(
 {
     let _least = least;
     let tokens = first.rest;
-    if goes_on_app(tokens) {
-        return Err(Stop::Fault(refused(tokens)));
-    }
-    if first.height > inner {
-        return Err(operand_too_deep(fixed, tokens));
+    if is_full(goes_on_app(tokens), first.height, inner) {
+        return Err(too_many_operators(fixed, tokens));
     }
     let ((operator, name), rest) = match take_operator(fixed, tokens) {
         Ok(taken) => taken,

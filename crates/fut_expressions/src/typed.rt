@@ -1,13 +1,13 @@
 // Types behind expressions, and all that may stand behind operands.
 ghost use Rattle.std.specs.Prelude.{◌≡◌, ◌≤◌, ◌<◌, ◌+◌, suc, true, length, if◌then◌else◌, IfOk};
-ghost use Rattle.fut_ast.specs.Rows.{ascribed, coerced, suffix_parts, suffix_tree};
-ghost use Rattle.fut_ast.specs.Sorts.{Typed};
-ghost use Rattle.fut_ast.specs.Tokens.{spot_of};
+ghost use Rattle.fut_ast.specs.Nodes.{exp_at, node};
+ghost use Rattle.fut_ast.specs.Tokens.{spot_of, starts};
+ghost use Rattle.fut_ast.specs.declared.exp.Form.TheVariants as form;
 ghost use Rattle.fut_atoms.specs.Tie.{ending_found};
 ghost use Rattle.fut_grammar.specs.Phrases.{again_at, goes_typed, phrases, read_at, typed_at, typed_behind, typed_suffix};
-ghost use Rattle.fut_grammar.specs.Reading.{Gives, parts_at, refuse, suffix_at};
+ghost use Rattle.fut_grammar.specs.Reading.{Gives, suffix_at};
 
-use crate::behind::too_high;
+use crate::behind::{is_full, too_high};
 use crate::operators::chain_below;
 use crate::ranges::end_behind;
 use crate::updates::updates_again;
@@ -17,11 +17,13 @@ use fut_atoms::made::ending_made;
 use fut_atoms::tie::{Ending, ReadExp};
 use fut_exp_parts::exp_nodes::{ascribed, coerced};
 use fut_exp_parts::exp_tokens::goes_on_updated;
-use fut_grammar::{Fault, Stop};
+use fut_grammar::Stop;
 use fut_phrases::found::Found;
-use fut_phrases::tokens::{greater, next_spot, refused, starts_with, take};
+use fut_phrases::tokens::{greater, next_spot, rest_of, starts_with};
 use fut_phrases::types::whole_type;
+use fut_scalar::{NoMemory, Place};
 use fut_token::{Fixed, Token};
+use fut_tree::{Exp, TypeExp};
 
 /// An expression that begins with an operand.
 #[tactic(auto, unfolding(fut_grammar::specs::Phrases::typed_at))]
@@ -102,78 +104,45 @@ fn goes_typed_on(tokens: &[Token]) -> bool
     starts_with(tokens, Fixed::Colon) || starts_with(tokens, Fixed::ColonGreater)
 }
 
-#[tactic(auto, using(crate::proofs::SuffixLaws::type_goes_on), unfolding(fut_grammar::specs::Reading::suffix_at))]
 fn type_behind<'a>(
     bump: &'a Bump,
     inner: u32,
     at: Spot,
     first: Found<'a, Ending<'a>>,
 ) -> Result<Found<'a, Ending<'a>>, Stop>
-    requires { (inner < 1000) × (first.height ≤ inner + 1) }
+    requires sign { goes_typed first.rest.now ≡ true }
+    requires room { (inner < 1000) × (first.height ≤ inner + 1) }
     ensures exact { Gives ending_found result (suffix_at (phrases (read_at inner)) (typed_suffix first.entry.rest.now) (suc inner) at (first.entry.tree.exp.now, first.entry.tree.ended) first.entry.height first.entry.rest.now) }
     ensures low { IfOk result (λ x. x.height ≤ inner + 1) }
 {
     let tokens = first.rest;
-    if goes_on_updated(first.tree.ended, tokens) {
-        return Err(Stop::Fault(refused(tokens)));
+    let goes_on = goes_on_updated(first.tree.ended, tokens);
+    if is_full(goes_on, first.height, inner) {
+        return Err(Stop::Fault(too_high(goes_on, tokens)));
     }
-    if first.height > inner {
-        return Err(Stop::Fault(Fault::TooDeep(tokens.len())));
+    match whole_type(bump, inner, rest_of(tokens)) {
+        Ok(ty) => {
+            let node = with_type(bump, at.place, tokens, first.tree.exp, ty.tree);
+            let height = greater(first.height, ty.height);
+            ending_made(node, Ended::Type, height + 1, ty.rest)
+        }
+        Err(stop) => Err(stop),
     }
-    if starts_with(tokens, Fixed::Colon) {
-        ascribed_as(bump, inner, at, first)
+}
+
+// The node of an expression and the type behind it, by the sign between them.
+fn with_type<'a>(
+    bump: &'a Bump,
+    from: Place,
+    sign: &[Token],
+    e: &'a Exp<'a>,
+    ty: &'a TypeExp<'a>,
+) -> Result<&'a Exp<'a>, NoMemory>
+    ensures { IfOk result (λ t. t.now ≡ (if starts Fixed.Colon sign.now then exp_at from (form.Ascribe e.now ty.now) else node from (spot_of sign.now).place (form.Coerce e.now ty.now))) }
+{
+    if starts_with(sign, Fixed::Colon) {
+        ascribed(bump, from, e, ty)
     } else {
-        coerced_to(bump, inner, at, first)
-    }
-}
-
-#[tactic(auto, unfolding(fut_grammar::specs::Reading::parts_at, fut_grammar::specs::Reading::has_at, fut_grammar::specs::Reading::sub_at, fut_grammar::specs::Phrases::phrases))]
-fn ascribed_as<'a>(
-    bump: &'a Bump,
-    inner: u32,
-    at: Spot,
-    first: Found<'a, Ending<'a>>,
-) -> Result<Found<'a, Ending<'a>>, Stop>
-    requires { (inner < 1000) × (first.height ≤ inner) }
-    ensures exact { Gives ending_found result (parts_at (phrases (read_at inner)) true Typed (suffix_parts ascribed) (suffix_tree ascribed at (spot_of first.entry.rest.now) (first.entry.tree.exp.now, first.entry.tree.ended)) first.entry.height first.entry.rest.now) }
-    ensures low { IfOk result (λ x. x.height ≤ inner + 1) }
-{
-    let rest = match take(first.rest, Fixed::Colon) {
-        Ok(rest) => rest,
-        Err(stop) => return Err(stop),
-    };
-    match whole_type(bump, inner, rest) {
-        Ok(ty) => {
-            let node = ascribed(bump, at.place, first.tree.exp, ty.tree);
-            let height = greater(first.height, ty.height);
-            ending_made(node, Ended::Type, height + 1, ty.rest)
-        }
-        Err(stop) => Err(stop),
-    }
-}
-
-#[tactic(auto, unfolding(fut_grammar::specs::Reading::parts_at, fut_grammar::specs::Reading::has_at, fut_grammar::specs::Reading::sub_at, fut_grammar::specs::Phrases::phrases))]
-fn coerced_to<'a>(
-    bump: &'a Bump,
-    inner: u32,
-    at: Spot,
-    first: Found<'a, Ending<'a>>,
-) -> Result<Found<'a, Ending<'a>>, Stop>
-    requires { (inner < 1000) × (first.height ≤ inner) }
-    ensures exact { Gives ending_found result (parts_at (phrases (read_at inner)) true Typed (suffix_parts coerced) (suffix_tree coerced at (spot_of first.entry.rest.now) (first.entry.tree.exp.now, first.entry.tree.ended)) first.entry.height first.entry.rest.now) }
-    ensures low { IfOk result (λ x. x.height ≤ inner + 1) }
-{
-    let mark = next_spot(first.rest).place;
-    let rest = match take(first.rest, Fixed::ColonGreater) {
-        Ok(rest) => rest,
-        Err(stop) => return Err(stop),
-    };
-    match whole_type(bump, inner, rest) {
-        Ok(ty) => {
-            let node = coerced(bump, at.place, mark, first.tree.exp, ty.tree);
-            let height = greater(first.height, ty.height);
-            ending_made(node, Ended::Type, height + 1, ty.rest)
-        }
-        Err(stop) => Err(stop),
+        coerced(bump, from, next_spot(sign).place, e, ty)
     }
 }

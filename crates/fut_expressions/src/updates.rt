@@ -1,28 +1,31 @@
 // Updates of arrays and records.
-ghost use Rattle.std.specs.Prelude.{◌≡◌, ◌≤◌, ◌<◌, ◌+◌, ◌∷◌, suc, true, length, if◌then◌else◌, IfOk};
+ghost use Rattle.std.specs.Prelude.{◌≡◌, ◌≤◌, ◌<◌, ◌+◌, suc, true, length, if◌then◌else◌, IfOk, Ok};
 ghost use Rattle.fut_ast.specs.ExpRows.{further_replaced, last_replaced};
-ghost use Rattle.fut_ast.specs.Rows.{of_exp, suffix_parts, suffix_tree, with_field, with_index, with_path};
-ghost use Rattle.fut_ast.specs.Sorts.{Updated};
-ghost use Rattle.fut_ast.specs.Tokens.{spot_of, starts};
+ghost use Rattle.fut_ast.specs.Rows.{suffix_parts, suffix_tree, with_index};
+ghost use Rattle.fut_ast.specs.Sorts.{Path, Updated};
+ghost use Rattle.fut_ast.specs.Tokens.{spot_of, starts, tail};
 ghost use Rattle.fut_atoms.specs.Tie.{ending_found, replacing_found};
-ghost use Rattle.fut_grammar.specs.Phrases.{again_at, phrases, read_at, replacing_at, with_suffix};
-ghost use Rattle.fut_grammar.specs.Reading.{Gives, parts_at, refuse, row_at, suffix_at};
+ghost use Rattle.fut_expressions.specs.Replaced.{replaced_at, unraised_at};
+ghost use Rattle.fut_grammar.specs.Phrases.{again_at, phrases, read_at, with_suffix};
+ghost use Rattle.fut_grammar.specs.Reading.{Gives, parts_at, refuse, suffix_at};
+ghost use Rattle.fut_tree.specs.Names.{names};
 
-use crate::behind::too_high;
+use crate::behind::{is_full, too_high};
 use bumpalo::Bump;
 use fut_ast::{Ended, Spot, What};
 use fut_atoms::made::ending_made;
-use fut_atoms::tie::{Ending, ExpSort, ReadExp, Replacement, read_behind};
+use fut_atoms::tie::{AnyExp, Ending, ExpSort, ReadExp, Replacement, read_behind};
 use fut_atoms::written::written_list;
 use fut_exp_parts::binds::path_behind;
 use fut_exp_parts::exp_nodes::updated;
 use fut_exp_parts::exp_tokens::goes_on_range;
 use fut_exp_parts::replacing::with_field_replaced;
-use fut_grammar::{Fault, Stop};
+use fut_grammar::Stop;
 use fut_phrases::found::Found;
 use fut_phrases::tokens::{
-    greater, next_spot, refused, rest_of, starts_with, take, take_word, without_form,
+    greater, next_spot, rest_of, starts_with, take, take_word, without_form,
 };
+use fut_scalar::NoMemory;
 use fut_token::{Fixed, Token};
 
 /// Updates, as many as stand there.
@@ -56,7 +59,6 @@ pub fn updates_again<'a, R: ReadExp<'a>>(
     Ok(found)
 }
 
-#[tactic(auto, using(crate::proofs::SuffixLaws::update_goes_on), unfolding(fut_grammar::specs::Reading::suffix_at))]
 fn update_behind<'a, R: ReadExp<'a>>(
     bump: &'a Bump,
     read: R,
@@ -64,30 +66,32 @@ fn update_behind<'a, R: ReadExp<'a>>(
     at: Spot,
     first: Found<'a, Ending<'a>>,
 ) -> Result<Found<'a, Ending<'a>>, Stop>
-    requires first { starts Fixed.KeyWith first.rest.now ≡ true }
+    requires sign { starts Fixed.KeyWith first.rest.now ≡ true }
     requires law { R.reads read inner }
     requires room { (inner < 1000) × (first.height ≤ inner + 1) }
     ensures exact { Gives ending_found result (suffix_at (phrases (read_at inner)) (with_suffix first.entry.rest.now) (suc inner) at (first.entry.tree.exp.now, first.entry.tree.ended) first.entry.height first.entry.rest.now) }
     ensures low { IfOk result (λ x. x.height ≤ inner + 1) }
 {
     let tokens = first.rest;
-    if goes_on_range(first.tree.ended, tokens) {
-        return Err(Stop::Fault(refused(tokens)));
-    }
-    if first.height > inner {
-        return Err(Stop::Fault(Fault::TooDeep(tokens.len())));
+    let goes_on = goes_on_range(first.tree.ended, tokens);
+    if is_full(goes_on, first.height, inner) {
+        return Err(Stop::Fault(too_high(goes_on, tokens)));
     }
     let behind = rest_of(tokens);
     if starts_with(behind, Fixed::OpenBracket) {
-        index_replaced(bump, read, inner, at, first)
-    } else if starts_with(rest_of(behind), Fixed::Dot) {
-        path_replaced(bump, read, inner, at, first)
-    } else {
-        field_replaced(bump, read, inner, at, first)
+        return index_replaced(bump, read, inner, at, first);
+    }
+    match replacement(bump, read, inner, behind) {
+        Ok(found) => {
+            let new = found.tree;
+            let node = with_field_replaced(bump, at.place, first.tree.exp, new.path, new.exp);
+            let height = greater(first.height, found.height);
+            ending_made(node, Ended::Update, height + 1, found.rest)
+        }
+        Err(stop) => Err(stop),
     }
 }
 
-#[tactic(auto, unfolding(fut_grammar::specs::Reading::parts_at, fut_grammar::specs::Reading::has_at, fut_grammar::specs::Reading::sub_at, fut_grammar::specs::Phrases::phrases, fut_grammar::specs::Reading::expect))]
 fn index_replaced<'a, R: ReadExp<'a>>(
     bump: &'a Bump,
     read: R,
@@ -95,7 +99,8 @@ fn index_replaced<'a, R: ReadExp<'a>>(
     at: Spot,
     first: Found<'a, Ending<'a>>,
 ) -> Result<Found<'a, Ending<'a>>, Stop>
-    requires first { starts Fixed.KeyWith first.rest.now ≡ true }
+    requires sign { starts Fixed.KeyWith first.rest.now ≡ true }
+    requires bracket { starts Fixed.OpenBracket (tail first.rest.now) ≡ true }
     requires law { R.reads read inner }
     requires room { (inner < 1000) × (first.height ≤ inner) }
     ensures exact { Gives ending_found result (parts_at (phrases (read_at inner)) true Updated (suffix_parts with_index) (suffix_tree with_index at (spot_of first.entry.rest.now) (first.entry.tree.exp.now, first.entry.tree.ended)) first.entry.height first.entry.rest.now) }
@@ -103,11 +108,7 @@ fn index_replaced<'a, R: ReadExp<'a>>(
 {
     let behind = rest_of(first.rest);
     let mark = next_spot(behind).place;
-    let rest = match take(behind, Fixed::OpenBracket) {
-        Ok(rest) => rest,
-        Err(stop) => return Err(stop),
-    };
-    let indices = match written_list(bump, read, inner, first.height, rest) {
+    let indices = match written_list(bump, read, inner, first.height, rest_of(behind)) {
         Ok(indices) => indices,
         Err(stop) => return Err(stop),
     };
@@ -132,78 +133,8 @@ fn index_replaced<'a, R: ReadExp<'a>>(
     }
 }
 
-#[tactic(auto, unfolding(fut_grammar::specs::Reading::parts_at, fut_grammar::specs::Reading::has_at, fut_grammar::specs::Reading::sub_at, fut_grammar::specs::Phrases::phrases, fut_grammar::specs::Reading::expect))]
-fn field_replaced<'a, R: ReadExp<'a>>(
-    bump: &'a Bump,
-    read: R,
-    inner: u32,
-    at: Spot,
-    first: Found<'a, Ending<'a>>,
-) -> Result<Found<'a, Ending<'a>>, Stop>
-    requires first { starts Fixed.KeyWith first.rest.now ≡ true }
-    requires law { R.reads read inner }
-    requires room { (inner < 1000) × (first.height ≤ inner) }
-    ensures exact { Gives ending_found result (parts_at (phrases (read_at inner)) true Updated (suffix_parts with_field) (suffix_tree with_field at (spot_of first.entry.rest.now) (first.entry.tree.exp.now, first.entry.tree.ended)) first.entry.height first.entry.rest.now) }
-    ensures low { IfOk result (λ x. x.height ≤ inner + 1) }
-{
-    let behind = rest_of(first.rest);
-    let (name, rest) = match take_word(behind) {
-        Ok(word) => word,
-        Err(stop) => return Err(stop),
-    };
-    let path = match path_behind(bump, name, &[]) {
-        Ok(path) => path,
-        Err(_) => return Err(Stop::Memory),
-    };
-    match read_behind(read, inner, Fixed::Equal, ExpSort::Right, rest) {
-        Ok(value) => {
-            let node = with_field_replaced(bump, at.place, first.tree.exp, path, value.tree.exp);
-            let height = greater(first.height, value.height);
-            ending_made(node, Ended::Update, height + 1, value.rest)
-        }
-        Err(stop) => Err(stop),
-    }
-}
-
-#[tactic(auto, unfolding(fut_grammar::specs::Reading::parts_at, fut_grammar::specs::Reading::has_at, fut_grammar::specs::Reading::sub_at, fut_grammar::specs::Phrases::phrases, fut_grammar::specs::Reading::expect))]
-fn path_replaced<'a, R: ReadExp<'a>>(
-    bump: &'a Bump,
-    read: R,
-    inner: u32,
-    at: Spot,
-    first: Found<'a, Ending<'a>>,
-) -> Result<Found<'a, Ending<'a>>, Stop>
-    requires first { starts Fixed.KeyWith first.rest.now ≡ true }
-    requires law { R.reads read inner }
-    requires room { (inner < 1000) × (first.height ≤ inner) }
-    ensures exact { Gives ending_found result (parts_at (phrases (read_at inner)) true Updated (suffix_parts with_path) (suffix_tree with_path at (spot_of first.entry.rest.now) (first.entry.tree.exp.now, first.entry.tree.ended)) first.entry.height first.entry.rest.now) }
-    ensures low { IfOk result (λ x. x.height ≤ inner + 1) }
-{
-    let behind = rest_of(first.rest);
-    let (name, rest) = match take_word(behind) {
-        Ok(word) => word,
-        Err(stop) => return Err(stop),
-    };
-    match without_form(What::LocalOpen, rest) {
-        Ok(()) => (),
-        Err(stop) => return Err(stop),
-    }
-    let found = match read_behind(read, inner, Fixed::Dot, ExpSort::Replacing, rest) {
-        Ok(found) => found,
-        Err(stop) => return Err(stop),
-    };
-    let path = match path_behind(bump, name, found.tree.path) {
-        Ok(path) => path,
-        Err(_) => return Err(Stop::Memory),
-    };
-    let node = with_field_replaced(bump, at.place, first.tree.exp, path, found.tree.exp);
-    let height = greater(first.height, found.height);
-    ending_made(node, Ended::Update, height + 1, found.rest)
-}
-
-/// What is replaced in a record.
-#[tactic(auto, unfolding(fut_grammar::specs::Phrases::replacing_at))]
-pub fn replacing_below<'a, R: ReadExp<'a>>(
+/// What is replaced in a record, and by what, without a node of its own.
+pub fn replacement<'a, R: ReadExp<'a>>(
     bump: &'a Bump,
     read: R,
     inner: u32,
@@ -211,8 +142,8 @@ pub fn replacing_below<'a, R: ReadExp<'a>>(
 ) -> Result<Found<'a, Replacement<'a>>, Stop>
     requires law { R.reads read inner }
     requires room { inner < 1000 }
-    ensures exact { Gives replacing_found result (replacing_at (phrases (read_at inner)) (suc inner) tokens.now) }
-    ensures low { IfOk result (λ x. x.height ≤ inner + 1) }
+    ensures exact { Gives replacing_found result (replaced_at (phrases (read_at inner)) tokens.now) }
+    ensures low { IfOk result (λ x. x.height ≤ inner) }
 {
     if starts_with(rest_of(tokens), Fixed::Dot) {
         replaced_inside(bump, read, inner, tokens)
@@ -221,7 +152,6 @@ pub fn replacing_below<'a, R: ReadExp<'a>>(
     }
 }
 
-#[tactic(auto, unfolding(fut_grammar::specs::Reading::row_at, fut_grammar::specs::Reading::parts_at, fut_grammar::specs::Reading::has_at, fut_grammar::specs::Reading::sub_at, fut_grammar::specs::Phrases::phrases, fut_grammar::specs::Reading::expect))]
 fn replaced_here<'a, R: ReadExp<'a>>(
     bump: &'a Bump,
     read: R,
@@ -230,31 +160,19 @@ fn replaced_here<'a, R: ReadExp<'a>>(
 ) -> Result<Found<'a, Replacement<'a>>, Stop>
     requires law { R.reads read inner }
     requires room { inner < 1000 }
-    ensures exact { Gives replacing_found result (row_at (phrases (read_at inner)) (of_exp last_replaced) tokens.now) }
-    ensures low { IfOk result (λ x. x.height ≤ inner + 1) }
+    ensures exact { Gives replacing_found result (unraised_at (phrases (read_at inner)) last_replaced tokens.now) }
+    ensures low { IfOk result (λ x. x.height ≤ inner) }
 {
     let (name, rest) = match take_word(tokens) {
         Ok(word) => word,
         Err(stop) => return Err(stop),
     };
-    let value = match read_behind(read, inner, Fixed::Equal, ExpSort::Right, rest) {
-        Ok(value) => value,
-        Err(stop) => return Err(stop),
-    };
-    match path_behind(bump, name, &[]) {
-        Ok(path) => Ok(Found {
-            tree: Replacement {
-                path,
-                exp: value.tree.exp,
-            },
-            height: value.height + 1,
-            rest: value.rest,
-        }),
-        Err(_) => Err(Stop::Memory),
+    match read_behind(read, inner, Fixed::Equal, ExpSort::Right, rest) {
+        Ok(value) => replacement_made(path_behind(bump, name, &[]), value),
+        Err(stop) => Err(stop),
     }
 }
 
-#[tactic(auto, unfolding(fut_grammar::specs::Reading::row_at, fut_grammar::specs::Reading::parts_at, fut_grammar::specs::Reading::has_at, fut_grammar::specs::Reading::sub_at, fut_grammar::specs::Phrases::phrases, fut_grammar::specs::Reading::expect))]
 fn replaced_inside<'a, R: ReadExp<'a>>(
     bump: &'a Bump,
     read: R,
@@ -263,8 +181,8 @@ fn replaced_inside<'a, R: ReadExp<'a>>(
 ) -> Result<Found<'a, Replacement<'a>>, Stop>
     requires law { R.reads read inner }
     requires room { inner < 1000 }
-    ensures exact { Gives replacing_found result (row_at (phrases (read_at inner)) (of_exp further_replaced) tokens.now) }
-    ensures low { IfOk result (λ x. x.height ≤ inner + 1) }
+    ensures exact { Gives replacing_found result (unraised_at (phrases (read_at inner)) further_replaced tokens.now) }
+    ensures low { IfOk result (λ x. x.height ≤ inner) }
 {
     let (name, rest) = match take_word(tokens) {
         Ok(word) => word,
@@ -274,17 +192,27 @@ fn replaced_inside<'a, R: ReadExp<'a>>(
         Ok(()) => (),
         Err(stop) => return Err(stop),
     }
-    let found = match read_behind(read, inner, Fixed::Dot, ExpSort::Replacing, rest) {
-        Ok(found) => found,
-        Err(stop) => return Err(stop),
-    };
-    match path_behind(bump, name, found.tree.path) {
+    match read_behind(read, inner, Fixed::Dot, ExpSort::Replacing, rest) {
+        Ok(found) => replacement_made(path_behind(bump, name, found.tree.path), found),
+        Err(stop) => Err(stop),
+    }
+}
+
+// What was read replaces what the names lead to, if there was memory for them.
+fn replacement_made<'a>(
+    path: Result<&'a [&'a str], NoMemory>,
+    found: Found<'a, AnyExp<'a>>,
+) -> Result<Found<'a, Replacement<'a>>, Stop>
+    ensures exact { (xs : Path) → IfOk path.entry (λ p. names p.now ≡ xs) → Gives replacing_found result (Ok ((xs, found.entry.tree.exp.now), found.entry.height, found.entry.rest.now)) }
+    ensures low { IfOk result (λ x. x.height ≡ found.entry.height) }
+{
+    match path {
         Ok(path) => Ok(Found {
             tree: Replacement {
                 path,
                 exp: found.tree.exp,
             },
-            height: found.height + 1,
+            height: found.height,
             rest: found.rest,
         }),
         Err(_) => Err(Stop::Memory),

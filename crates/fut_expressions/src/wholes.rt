@@ -1,11 +1,12 @@
 // Any expression, and the choice of a form by its first token.
 ghost use Rattle.std.specs.Prelude.{◌≡◌, ◌≤◌, ◌<◌, ◌+◌, suc, if◌then◌else◌, Err, IfOk, List, Ok, ℕ};
-ghost use Rattle.fut_ast.specs.Sorts.{SourceExp};
+ghost use Rattle.fut_ast.specs.Rows.{near_right, operands, whole};
+ghost use Rattle.fut_ast.specs.Sorts.{Ending as PlainEnding, SourceExp};
 ghost use Rattle.fut_token.specs.declared.token.Token.{Token};
 ghost use Rattle.fut_atoms.specs.Tie.{ending_found};
 ghost use Rattle.fut_phrases.specs.Found.{tree_found};
-ghost use Rattle.fut_grammar.specs.Phrases.{big_at, body_at, last_at, lets_at, operand_at, operands_at, phrases, read_at, right_at, whole_at};
-ghost use Rattle.fut_grammar.specs.Reading.{Gives, refuse};
+ghost use Rattle.fut_grammar.specs.Phrases.{big_at, body_at, far_at, last_at, lets_at, operand_at, operands_at, phrases, read_at, right_at, whole_at};
+ghost use Rattle.fut_grammar.specs.Reading.{Gives, Read, refuse};
 
 use crate::operators::chain_below;
 use crate::ranges::range_below;
@@ -111,7 +112,6 @@ fn lets_below<'a, R: ReadExp<'a>>(
 // ---- expressions that nothing goes on with
 
 /// Any expression.
-#[tactic(auto, unfolding(fut_grammar::specs::Phrases::whole_at, fut_grammar::specs::Phrases::far_at, fut_grammar::specs::Phrases::ended))]
 pub fn whole_below<'a, R: ReadExp<'a>>(
     bump: &'a Bump,
     read: R,
@@ -123,15 +123,10 @@ pub fn whole_below<'a, R: ReadExp<'a>>(
     ensures exact { Gives tree_found result (whole_at (phrases (read_at inner)) (suc inner) tokens.now) }
     ensures low { IfOk result (λ x. x.height ≤ inner + 1) }
 {
-    let found = match last_below(bump, read, inner, tokens) {
-        Ok(found) => found,
-        Err(stop) => return Err(stop),
-    };
-    closed(found, goes_on_typed(found.tree.ended, found.rest))
+    whole_typed(last_below(bump, read, inner, tokens))
 }
 
 /// Operands and operators of a level or tighter.
-#[tactic(auto, unfolding(fut_grammar::specs::Phrases::operands_at, fut_grammar::specs::Phrases::far_at, fut_grammar::specs::Phrases::ended))]
 pub fn operands_below<'a, R: ReadExp<'a>>(
     bump: &'a Bump,
     read: R,
@@ -144,15 +139,10 @@ pub fn operands_below<'a, R: ReadExp<'a>>(
     ensures exact { Gives tree_found result (operands_at (phrases (read_at inner)) (suc inner) least tokens.now) }
     ensures low { IfOk result (λ x. x.height ≤ inner + 1) }
 {
-    let found = match chain_below(bump, read, inner, least, tokens) {
-        Ok(found) => found,
-        Err(stop) => return Err(stop),
-    };
-    closed(found, goes_on_chain(least, found.tree.ended, found.rest))
+    whole_chain(least, chain_below(bump, read, inner, least, tokens))
 }
 
 /// The right operand of an operator.
-#[tactic(auto, unfolding(fut_grammar::specs::Phrases::operand_at, fut_grammar::specs::Phrases::far_at, fut_grammar::specs::Phrases::ended))]
 pub fn operand_below<'a, R: ReadExp<'a>>(
     bump: &'a Bump,
     read: R,
@@ -166,22 +156,13 @@ pub fn operand_below<'a, R: ReadExp<'a>>(
     ensures low { IfOk result (λ x. x.height ≤ inner + 1) }
 {
     if begins_exp_operand(tokens) {
-        let found = match chain_below(bump, read, inner, least, tokens) {
-            Ok(found) => found,
-            Err(stop) => return Err(stop),
-        };
-        closed(found, goes_on_chain(least, found.tree.ended, found.rest))
+        whole_chain(least, chain_below(bump, read, inner, least, tokens))
     } else {
-        let found = match big_below(bump, read, inner, tokens) {
-            Ok(found) => found,
-            Err(stop) => return Err(stop),
-        };
-        closed(found, goes_on_typed(found.tree.ended, found.rest))
+        whole_typed(big_below(bump, read, inner, tokens))
     }
 }
 
 /// The new value of an update.
-#[tactic(auto, unfolding(fut_grammar::specs::Phrases::right_at, fut_grammar::specs::Phrases::far_at, fut_grammar::specs::Phrases::ended))]
 pub fn right_below<'a, R: ReadExp<'a>>(
     bump: &'a Bump,
     read: R,
@@ -194,17 +175,52 @@ pub fn right_below<'a, R: ReadExp<'a>>(
     ensures low { IfOk result (λ x. x.height ≤ inner + 1) }
 {
     if begins_exp_operand(tokens) {
-        let found = match range_below(bump, read, inner, tokens) {
-            Ok(found) => found,
-            Err(stop) => return Err(stop),
-        };
-        closed(found, goes_on_range(found.tree.ended, found.rest))
+        whole_range(range_below(bump, read, inner, tokens))
     } else {
-        let found = match big_below(bump, read, inner, tokens) {
-            Ok(found) => found,
-            Err(stop) => return Err(stop),
-        };
-        closed(found, goes_on_typed(found.tree.ended, found.rest))
+        whole_typed(big_below(bump, read, inner, tokens))
+    }
+}
+
+// What was read, where nothing goes on with operands and operators of a level or tighter.
+#[tactic(auto, unfolding(fut_grammar::specs::Phrases::far_at, fut_grammar::specs::Phrases::ended))]
+fn whole_chain<'a>(
+    least: u8,
+    read: Result<Found<'a, Ending<'a>>, Stop>,
+) -> Result<Found<'a, &'a Exp<'a>>, Stop>
+    ensures exact { (what : Read PlainEnding) → Gives ending_found read.entry what → Gives tree_found result (far_at (operands {k = least}) what) }
+    ensures low { (k : ℕ) → IfOk read.entry (λ x. x.height ≤ k) → IfOk result (λ x. x.height ≤ k) }
+{
+    match read {
+        Ok(found) => closed(found, goes_on_chain(least, found.tree.ended, found.rest)),
+        Err(stop) => Err(stop),
+    }
+}
+
+// The same, where nothing goes on with a range.
+#[tactic(auto, unfolding(fut_grammar::specs::Phrases::far_at, fut_grammar::specs::Phrases::ended))]
+fn whole_range<'a>(
+    read: Result<Found<'a, Ending<'a>>, Stop>,
+) -> Result<Found<'a, &'a Exp<'a>>, Stop>
+    ensures exact { (what : Read PlainEnding) → Gives ending_found read.entry what → Gives tree_found result (far_at near_right what) }
+    ensures low { (k : ℕ) → IfOk read.entry (λ x. x.height ≤ k) → IfOk result (λ x. x.height ≤ k) }
+{
+    match read {
+        Ok(found) => closed(found, goes_on_range(found.tree.ended, found.rest)),
+        Err(stop) => Err(stop),
+    }
+}
+
+/// The same, where nothing goes on with any expression.
+#[tactic(auto, unfolding(fut_grammar::specs::Phrases::far_at, fut_grammar::specs::Phrases::ended))]
+pub fn whole_typed<'a>(
+    read: Result<Found<'a, Ending<'a>>, Stop>,
+) -> Result<Found<'a, &'a Exp<'a>>, Stop>
+    ensures exact { (what : Read PlainEnding) → Gives ending_found read.entry what → Gives tree_found result (far_at whole what) }
+    ensures low { (k : ℕ) → IfOk read.entry (λ x. x.height ≤ k) → IfOk result (λ x. x.height ≤ k) }
+{
+    match read {
+        Ok(found) => closed(found, goes_on_typed(found.tree.ended, found.rest)),
+        Err(stop) => Err(stop),
     }
 }
 

@@ -1,6 +1,5 @@
 -- The turns of the loop are those of the reading.
 use Rattle.std.proofs.Common.{suc, sym, ◌∙◌, arith}
-use Rattle.std.proofs.lemmas.Result.{err_from_is_err_and}
 use Rattle.fut_ast.specs.Behind.{behind_atom}
 use Rattle.fut_ast.specs.Sorts.{Atom}
 use Rattle.fut_grammar.specs.Phrases.{again_at, atom_suffix, phrases, read_at}
@@ -14,10 +13,9 @@ returns-clause-exact g c = again_ends (phrases (read_at c.args.inner)) (suc c.ar
 pub returns-then-turns-eq0-clause-exact : goal.returns-then-turns-eq0-clause-exact
 returns-then-turns-eq0-clause-exact g c = core_of_atom c.behind.found.rest.now c.behind.found.tree.now (again_spent_any (phrases (read_at c.args.inner)) (suc c.args.inner) Atom (λ us. behind_atom us) (λ us. atom_suffix us) c.args.at c.behind.turns c.behind.found.tree.now c.behind.found.height c.behind.found.rest.now (again_at (phrases (read_at c.args.inner)) (suc c.args.inner) behind_atom (λ us. atom_suffix us) c.args.at (suc c.args.inner) c.args.base.tree.now c.args.base.height c.args.base.rest.now) c.behind.invariant.0 (sym c.goes_on_atom.ensures ∙ c.behind-test.true) (omega arith))
 
-pub returns-in_err-found-clause-exact : goal.returns-in_err-found-clause-exact
-returns-in_err-found-clause-exact g c =
-    let p = err_from_is_err_and c.from_residual.result c.from_residual.ensures.1 in
-    rw (p.1, p.2) (again_fails (phrases (read_at c.args.inner)) (suc c.args.inner) Atom (λ us. behind_atom us) (λ us. atom_suffix us) c.args.at c.behind.turns c.behind.found.tree.now c.behind.found.height c.behind.found.rest.now (again_at (phrases (read_at c.args.inner)) (suc c.args.inner) behind_atom (λ us. atom_suffix us) c.args.at (suc c.args.inner) c.args.base.tree.now c.args.base.height c.args.base.rest.now) c.behind.invariant.0 c.in_err-found.field-0.0 (sym c.goes_on_atom.ensures ∙ c.behind-test.true) (omega arith) c.in_err-found.ensures.exact)
+pub returns-in-Err-clause-exact : goal.returns-in-Err-clause-exact
+returns-in-Err-clause-exact g c =
+    again_fails (phrases (read_at c.args.inner)) (suc c.args.inner) Atom (λ us. behind_atom us) (λ us. atom_suffix us) c.args.at c.behind.turns c.behind.found.tree.now c.behind.found.height c.behind.found.rest.now (again_at (phrases (read_at c.args.inner)) (suc c.args.inner) behind_atom (λ us. atom_suffix us) c.args.at (suc c.args.inner) c.args.base.tree.now c.args.base.height c.args.base.rest.now) c.behind.invariant.0 c.in-Err.stop (sym c.goes_on_atom.ensures ∙ c.behind-test.true) (omega arith) c.in-Err.ensures.exact
 
 pub behind-preserved : goal.behind-preserved
-behind-preserved g c = (again_turns (phrases (read_at c.args.inner)) (suc c.args.inner) Atom (λ us. behind_atom us) (λ us. atom_suffix us) c.args.at c.behind.turns c.behind.found.tree.now c.behind.found.height c.behind.found.rest.now (again_at (phrases (read_at c.args.inner)) (suc c.args.inner) behind_atom (λ us. atom_suffix us) c.args.at (suc c.args.inner) c.args.base.tree.now c.args.base.height c.args.base.rest.now) c.behind.invariant.0 _ (sym c.goes_on_atom.ensures ∙ c.behind-test.true) (omega arith) c.in_ok-found.ensures.exact, omega (arith, c.in_ok-found.ensures.low))
+behind-preserved g c = (again_turns (phrases (read_at c.args.inner)) (suc c.args.inner) Atom (λ us. behind_atom us) (λ us. atom_suffix us) c.args.at c.behind.turns c.behind.found.tree.now c.behind.found.height c.behind.found.rest.now (again_at (phrases (read_at c.args.inner)) (suc c.args.inner) behind_atom (λ us. atom_suffix us) c.args.at (suc c.args.inner) c.args.base.tree.now c.args.base.height c.args.base.rest.now) c.behind.invariant.0 _ (sym c.goes_on_atom.ensures ∙ c.behind-test.true) (omega arith) c.in-Ok.ensures.exact, omega (arith, c.in-Ok.ensures.low))

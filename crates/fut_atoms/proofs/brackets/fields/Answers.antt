@@ -1,16 +1,25 @@
--- The node of what was read between the braces.
-use Rattle.std.proofs.Common.{◌≡◌, ◌+◌, suc, sym, ap, ◌∙◌, arith}
+-- What was read between the braces.
+use Rattle.std.proofs.Common.{◌+◌, ◌≤◌, sym, ap, ◌∙◌, refl, arith}
+use Rattle.fut_token.specs.declared.token.Fixed.TheVariants as fixed
+use Rattle.fut_ast.specs.Sorts.{Base}
 use Rattle.fut_ast.specs.declared.node.Spot.{Spot}
+use Rattle.fut_grammar.specs.Phrases.{phrases, read_at}
 use Rattle.fut_grammar.specs.Reading.{expect, has_at, parts_at, row_at}
+use Rattle.fut_phrases.proofs.ReadLaws.{fails_as, low_as}
+use Rattle.fut_atoms.proofs.ClosingLaws.{closes}
 use Rattle.fut_atoms.proofs.brackets.fields.Goals as goal
 
-pub returns-else-not-starts_with-2-clause-exact : goal.returns-else-not-starts_with-2-clause-exact
+pub returns-then-not-starts_with : goal.returns-then-not-starts_with
 unfolding row_at parts_at has_at expect
-returns-else-not-starts_with-2-clause-exact g c =
-    let bracket_open = sym c.starts_with.ensures ∙ c.if-not-starts_with.false in
-    let behind = sym c.rest_of.ensures in
-    let close = sym c.starts_with-in-Ok.ensures ∙ c.if-not-starts_with-2.false in
-    let end = sym c.rest_of-in-Ok.ensures in
+returns-then-not-starts_with g c = record { exact = rw (sym c.starts_with.ensures ∙ c.if-not-starts_with.true, c.refused.ensures) refl; low = tt }
+
+pub returns-in-Ok : goal.returns-in-Ok
+unfolding row_at parts_at has_at expect
+returns-in-Ok g c =
     let place = ap (λ (s : Spot). s.place) (sym c.next_spot.ensures) in
-    let one : suc c.in-Ok.all.height ≡ c.in-Ok.all.height + 1 = omega arith in
-    rw (bracket_open, behind, c.in-Ok.ensures.exact, close, end, place, one) (c.made.ensures.exact _ c.record.ensures)
+    let low : c.in-Ok.all.height + 1 ≤ c.args.inner + 1 = omega (arith, c.in-Ok.ensures.low) in
+    record { exact = rw (sym c.starts_with.ensures ∙ c.if-not-starts_with.false, sym c.rest_of.ensures, c.in-Ok.ensures.exact, place) (closes (phrases (read_at c.args.inner)) Base fixed.CloseBrace _ c.in-Ok.all.height c.in-Ok.all.rest.now _ c.made_before.result (c.made_before.ensures.exact _ c.record.ensures)); low = low_as c.made_before.result c.made_before.ensures.low low }
+
+pub returns-in-Err : goal.returns-in-Err
+unfolding row_at parts_at has_at expect
+returns-in-Err g c = record { exact = fails_as c.in-Err.stop c.in-Err.ensures.exact (λ f read. rw (sym c.starts_with.ensures ∙ c.if-not-starts_with.false, sym c.rest_of.ensures, read) refl); low = tt }

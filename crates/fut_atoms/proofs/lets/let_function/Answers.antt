@@ -1,11 +1,12 @@
 -- What stops a part stops the production.
-use Rattle.std.proofs.Common.{refl}
+use Rattle.std.proofs.Common.{◌≤◌, sym, ap, refl, arith}
 use Rattle.fut_token.specs.declared.token.Fixed.TheVariants as fixed
+use Rattle.fut_ast.specs.declared.node.Spot.{Spot}
 use Rattle.fut_ast.specs.Sorts.{Whole}
 use Rattle.fut_grammar.specs.Phrases.{items, read_at}
 use Rattle.fut_grammar.specs.Reading.{expect, has_at, parts_at, row_at, sub_at}
 use Rattle.fut_atoms.proofs.BehindLaws.{behind_fails}
-use Rattle.fut_phrases.proofs.ReadLaws.{fails_as}
+use Rattle.fut_phrases.proofs.ReadLaws.{fails_as, low_as}
 use Rattle.fut_atoms.proofs.lets.let_function.Goals as goal
 
 pub returns-in-Err : goal.returns-in-Err
@@ -27,3 +28,11 @@ returns-in-Err-maybe_type_inside g c = record { exact = fails_as c.in-Err-maybe_
 pub returns-in-Err-read_behind : goal.returns-in-Err-read_behind
 unfolding row_at parts_at has_at expect sub_at items
 returns-in-Err-read_behind g c = record { exact = behind_fails c.in-Err-read_behind.stop fixed.Equal (read_at c.args.inner Whole) c.in-Ok-maybe_type_inside.ty.rest.now c.in-Err-read_behind.ensures.exact (λ sign f read. rw (c.requires.form, c.in-Ok.ensures, c.in-Ok-heads_inside.ensures.exact, c.in-Ok-several_patterns_inside.ensures.exact, c.in-Ok-maybe_type_inside.ensures.exact, sign, read) refl) (λ none. rw (c.requires.form, c.in-Ok.ensures, c.in-Ok-heads_inside.ensures.exact, c.in-Ok-several_patterns_inside.ensures.exact, c.in-Ok-maybe_type_inside.ensures.exact, none) refl); low = tt }
+
+pub returns-in-Ok-read_behind : goal.returns-in-Ok-read_behind
+unfolding row_at parts_at has_at expect sub_at items
+returns-in-Ok-read_behind g c =
+    let place = ap (λ (s : Spot). s.place) (sym c.next_spot.ensures) in
+    let body = rw c.in-Ok-read_behind.ensures.sign at c.in-Ok-read_behind.ensures.exact in
+    let low : c.greater.result ≤ c.args.inner = omega (arith, c.greater.ensures, c.in-Ok-maybe_type_inside.ensures.low, c.in-Ok-read_behind.ensures.low) in
+    record { exact = rw (c.requires.form, c.in-Ok.ensures, c.in-Ok-heads_inside.ensures.exact, c.in-Ok-several_patterns_inside.ensures.exact, c.in-Ok-maybe_type_inside.ensures.exact, c.in-Ok-read_behind.ensures.sign, body, place, sym c.greater.ensures) (c.bind_made.ensures.exact _ c.function_bound.ensures); low = low_as c.bind_made.result c.bind_made.ensures.low low }

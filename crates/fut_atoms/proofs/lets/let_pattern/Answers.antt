@@ -1,5 +1,5 @@
 -- What stops a part stops the production.
-use Rattle.std.proofs.Common.{◌≡◌, Bool, true, false, ◌&&◌, not, refl}
+use Rattle.std.proofs.Common.{◌≡◌, Bool, true, false, ◌&&◌, not, ◌≤◌, sym, refl, arith}
 use Rattle.fut_token.specs.declared.token.Fixed.TheVariants as fixed
 use Rattle.fut_ast.specs.Behind.{is_function_let, is_update_let}
 use Rattle.fut_ast.specs.Sorts.{Whole}
@@ -23,3 +23,10 @@ returns-in-Err-whole_pattern g c = record { exact = fails_as c.in-Err-whole_patt
 pub returns-in-Err-read_behind : goal.returns-in-Err-read_behind
 unfolding row_at parts_at has_at expect sub_at items
 returns-in-Err-read_behind g c = record { exact = behind_fails c.in-Err-read_behind.stop fixed.Equal (read_at c.args.inner Whole) c.in-Ok-whole_pattern.pat.rest.now c.in-Err-read_behind.ensures.exact (λ sign f read. rw (neither (is_update_let c.args.tokens.now) (is_function_let c.args.tokens.now) c.requires.no_update c.requires.no_function, c.in-Ok.ensures.exact, c.in-Ok-whole_pattern.ensures.exact, sign, read) refl) (λ none. rw (neither (is_update_let c.args.tokens.now) (is_function_let c.args.tokens.now) c.requires.no_update c.requires.no_function, c.in-Ok.ensures.exact, c.in-Ok-whole_pattern.ensures.exact, none) refl); low = tt }
+
+pub returns-in-Ok-read_behind : goal.returns-in-Ok-read_behind
+unfolding row_at parts_at has_at expect sub_at items
+returns-in-Ok-read_behind g c =
+    let value = rw c.in-Ok-read_behind.ensures.sign at c.in-Ok-read_behind.ensures.exact in
+    let low : c.greater-in-Ok-read_behind.result ≤ c.args.inner = omega (arith, c.greater.ensures, c.greater-in-Ok-read_behind.ensures, c.in-Ok.ensures.low, c.in-Ok-whole_pattern.ensures.low, c.in-Ok-read_behind.ensures.low) in
+    record { exact = rw (neither (is_update_let c.args.tokens.now) (is_function_let c.args.tokens.now) c.requires.no_update c.requires.no_function, c.in-Ok.ensures.exact, c.in-Ok-whole_pattern.ensures.exact, c.in-Ok-read_behind.ensures.sign, value, sym c.greater.ensures, sym c.greater-in-Ok-read_behind.ensures) refl; low = low }

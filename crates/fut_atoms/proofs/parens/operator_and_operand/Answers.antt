@@ -1,33 +1,35 @@
 -- The operand is read at the level behind that of the operator.
-use Rattle.std.proofs.Common.{◌≡◌, ◌+◌, suc, ℕ, Ok, sym, ap, subst, refl, ◌∙◌, arith}
+use Rattle.std.proofs.Common.{◌≡◌, ◌+◌, ◌≤◌, suc, sym, ap, ◌∙◌, refl, arith}
 use Rattle.std.proofs.Math.Nat.{zero-max}
+use Rattle.fut_token.specs.declared.token.Fixed.TheVariants as fixed
 use Rattle.fut_ast.specs.Operators.{level}
-use Rattle.fut_ast.specs.Sorts.{Operands}
+use Rattle.fut_ast.specs.Sorts.{Base}
 use Rattle.fut_ast.specs.declared.node.Spot.{Spot}
 use Rattle.fut_grammar.specs.Phrases.{phrases, read_at}
-use Rattle.fut_grammar.specs.Reading.{Gives, expect, has_at, parts_at, row_at, sub_at}
-use Rattle.fut_phrases.specs.Found.{found_as}
+use Rattle.fut_grammar.specs.Reading.{expect, has_at, parts_at, row_at, sub_at}
+use Rattle.fut_phrases.proofs.ReadLaws.{fails_as, low_as}
+use Rattle.fut_atoms.proofs.ClosingLaws.{closes}
 use Rattle.fut_atoms.proofs.parens.operator_and_operand.Goals as goal
 
-pub returns-then-not-starts_with-clause-exact : goal.returns-then-not-starts_with-clause-exact
+pub returns-then-starts_with : goal.returns-then-starts_with
 unfolding row_at parts_at has_at sub_at phrases expect
-returns-then-not-starts_with-clause-exact g c =
-    let behind = sym c.rest_of-rest.ensures in
-    let minus = sym c.starts_with.ensures ∙ c.if-starts_with.false in
-    let least : c.level_of.result + 1 ≡ suc (level c.args.fixed) = omega (arith, c.level_of.ensures.exact) in
-    let read = subst (λ (n : ℕ). Gives (found_as (λ t. t.exp.now)) (Ok c.in-Ok-read.operand) (read_at c.args.inner (Operands n) c.in-Ok.operator.1.now)) least c.in-Ok-read.ensures.exact in
-    let close = sym c.starts_with-in-Ok-read.ensures ∙ c.if-not-starts_with.true in
-    rw (c.requires.first, behind, minus, c.in-Ok.ensures, read, close, c.refused-then-not-starts_with.ensures) refl
+returns-then-starts_with g c = record { exact = rw (c.requires.first, sym c.rest_of-rest.ensures, sym c.starts_with.ensures ∙ c.if-starts_with.true, c.refused.ensures) refl; low = tt }
 
-pub returns-else-not-starts_with-clause-exact : goal.returns-else-not-starts_with-clause-exact
+pub returns-in-Err : goal.returns-in-Err
 unfolding row_at parts_at has_at sub_at phrases expect
-returns-else-not-starts_with-clause-exact g c =
-    let behind = sym c.rest_of-rest.ensures in
-    let minus = sym c.starts_with.ensures ∙ c.if-starts_with.false in
+returns-in-Err g c = record { exact = fails_as c.in-Err.stop c.in-Err.ensures (λ f read. rw (c.requires.first, sym c.rest_of-rest.ensures, sym c.starts_with.ensures ∙ c.if-starts_with.false, read) refl); low = tt }
+
+pub returns-in-Err-read : goal.returns-in-Err-read
+unfolding row_at parts_at has_at sub_at phrases expect
+returns-in-Err-read g c =
     let least : c.level_of.result + 1 ≡ suc (level c.args.fixed) = omega (arith, c.level_of.ensures.exact) in
-    let read = subst (λ (n : ℕ). Gives (found_as (λ t. t.exp.now)) (Ok c.in-Ok-read.operand) (read_at c.args.inner (Operands n) c.in-Ok.operator.1.now)) least c.in-Ok-read.ensures.exact in
-    let close = sym c.starts_with-in-Ok-read.ensures ∙ c.if-not-starts_with.false in
-    let end = sym c.rest_of.ensures in
+    record { exact = fails_as c.in-Err-read.stop (rw least at c.in-Err-read.ensures.exact) (λ f read. rw (c.requires.first, sym c.rest_of-rest.ensures, sym c.starts_with.ensures ∙ c.if-starts_with.false, c.in-Ok.ensures, read) refl); low = tt }
+
+pub returns-in-Ok-read : goal.returns-in-Ok-read
+unfolding row_at parts_at has_at sub_at phrases expect
+returns-in-Ok-read g c =
+    let least : c.level_of.result + 1 ≡ suc (level c.args.fixed) = omega (arith, c.level_of.ensures.exact) in
+    let read = rw least at c.in-Ok-read.ensures.exact in
     let paren = ap (λ (s : Spot). s.place) (sym c.next_spot.ensures) in
-    let one : suc c.in-Ok-read.operand.height ≡ c.in-Ok-read.operand.height + 1 = omega arith in
-    rw (c.requires.first, behind, minus, c.in-Ok.ensures, read, close, end, zero-max c.in-Ok-read.operand.height, paren, one) (c.made.ensures.exact _ c.section_of_right.ensures)
+    let low : c.in-Ok-read.operand.height + 1 ≤ c.args.inner + 1 = omega (arith, c.in-Ok-read.ensures.low) in
+    record { exact = rw (c.requires.first, sym c.rest_of-rest.ensures, sym c.starts_with.ensures ∙ c.if-starts_with.false, c.in-Ok.ensures, read, zero-max c.in-Ok-read.operand.height, paren) (closes (phrases (read_at c.args.inner)) Base fixed.CloseParen _ c.in-Ok-read.operand.height c.in-Ok-read.operand.rest.now _ c.made_before.result (c.made_before.ensures.exact _ c.section_of_right-node.ensures)); low = low_as c.made_before.result c.made_before.ensures.low low }

@@ -1,5 +1,5 @@
 -- The turns of the loop are those of the reading.
-use Rattle.std.proofs.Common.{sym, ◌∙◌, arith}
+use Rattle.std.proofs.Common.{sym, ◌∙◌, refl, arith}
 use Rattle.fut_ast.specs.Behind.{begins_argument}
 use Rattle.fut_ast.specs.Sorts.{App}
 use Rattle.fut_ast.specs.Rows.{applied}
@@ -19,3 +19,6 @@ returns-in-Err-clause-exact g c =
 
 pub behind-preserved : goal.behind-preserved
 behind-preserved g c = (again_turns _ _ App (λ us. begins_argument us) (λ us. applied) _ _ _ _ _ _ c.behind.invariant.0 _ (sym c.begins_exp_argument.ensures ∙ c.behind-test.true) (omega arith) c.in-Ok.ensures.exact, omega (arith, c.in-Ok.ensures.low))
+
+pub argument_behind-requires : goal.argument_behind-requires
+argument_behind-requires g c = λ k. ((refl, tt), (sym c.begins_exp_argument.ensures ∙ c.behind-test.true, (c.requires.law, (c.requires.room.0, c.behind.invariant.1))))

@@ -1,6 +1,5 @@
 -- The turns of the loop are those of the reading.
 use Rattle.std.proofs.Common.{sym, subst, ◌∙◌, arith}
-use Rattle.std.proofs.lemmas.Result.{err_from_is_err_and}
 use Rattle.fut_ast.specs.Sorts.{Ending}
 use Rattle.fut_grammar.specs.Reading.{Fails, Read}
 use Rattle.fut_grammar.proofs.Turns.{operators_end, operators_spent, operators_turn, operators_fail}
@@ -12,16 +11,14 @@ returns-then-turns-eq0-clause-exact g c =
     let is = operators_spent _ _ _ _ _ _ _ _ _ _ c.behind.invariant.0 c.in-Some.operator next (omega arith) in
     subst (λ (r : Read Ending). Fails c.too_many_operators.result r) (sym is) (c.too_many_operators.ensures c.args.inner)
 
-pub returns-in_err-found-clause-exact : goal.returns-in_err-found-clause-exact
-returns-in_err-found-clause-exact g c =
-    let p = err_from_is_err_and c.from_residual.result c.from_residual.ensures.1 in
-    let next = sym c.next_between.ensures ∙ c.in-Some.is in
-    rw (p.1, p.2) (operators_fail _ _ _ _ _ _ _ _ _ _ c.behind.invariant.0 c.in-Some.operator c.in_err-found.field-0.0 next (omega arith) c.in_err-found.ensures.exact)
+pub returns-in-Err-clause-exact : goal.returns-in-Err-clause-exact
+returns-in-Err-clause-exact g c =
+    operators_fail _ _ _ _ _ _ _ _ _ _ c.behind.invariant.0 c.in-Some.operator c.in-Err.stop (sym c.next_between.ensures ∙ c.in-Some.is) (omega arith) c.in-Err.ensures.exact
 
 pub behind-preserved : goal.behind-preserved
 behind-preserved g c =
     let next = sym c.next_between.ensures ∙ c.in-Some.is in
-    (operators_turn _ _ _ _ _ _ _ _ _ _ c.behind.invariant.0 c.in-Some.operator _ next (omega arith) c.in_ok-found.ensures.exact, omega (arith, c.in_ok-found.ensures.low))
+    (operators_turn _ _ _ _ _ _ _ _ _ _ c.behind.invariant.0 c.in-Some.operator _ next (omega arith) c.in-Ok.ensures.exact, omega (arith, c.in-Ok.ensures.low))
 
 pub returns-clause-exact : goal.returns-clause-exact
 returns-clause-exact g c = operators_end _ _ _ _ _ _ _ _ _ _ c.behind.invariant.0 (sym c.next_between.ensures ∙ c.in_default.is)

@@ -1,31 +1,40 @@
 -- Each kind of update, behind what nothing goes on with.
-use Rattle.std.proofs.Common.{◌<◌, suc, sym, ap, ◌∙◌, arith}
-use Rattle.fut_ast.specs.Rows.{Suffix}
-use Rattle.fut_ast.specs.Tokens.{starts, tail}
+use Rattle.std.proofs.Common.{nat_lt, ◌≡◌, ◌+◌, ◌≤◌, max, suc, sym, ap, ◌∙◌, refl, arith}
 use Rattle.fut_token.specs.declared.token.Fixed.TheVariants as fixed
+use Rattle.fut_ast.specs.Tokens.{starts}
 use Rattle.fut_grammar.specs.Phrases.{phrases, read_at}
-use Rattle.fut_expressions.proofs.SuffixLaws.{suffix_taken}
+use Rattle.fut_expressions.proofs.SuffixLaws.{field_free, index_free, tested, update_full}
+use Rattle.fut_phrases.proofs.ReadLaws.{fails_as, low_as}
 use Rattle.fut_expressions.proofs.updates.update_behind.Goals as goal
 
-pub returns-then-starts_with-clause-exact : goal.returns-then-starts_with-clause-exact
-returns-then-starts_with-clause-exact g c =
-    let low : c.args.first.height < suc c.args.inner = omega arith in
-    let free = sym c.goes_on_range.ensures ∙ c.if-goes_on_range.false in
+pub returns-then-is_full : goal.returns-then-is_full
+returns-then-is_full g c =
+    let full = tested (nat_lt c.args.inner c.args.first.height) c.is_full.ensures.full c.goes_on_range-goes_on.ensures c.if-is_full.true in
+    record { exact = rw (c.too_high.ensures, c.goes_on_range-goes_on.ensures) (update_full (phrases (read_at c.args.inner)) c.args.inner c.args.at c.args.first.height c.args.first.rest.now (c.args.first.tree.exp.now, c.args.first.tree.ended) full); low = tt }
+
+pub index_replaced-requires : goal.index_replaced-requires
+index_replaced-requires g c =
+    let fits = c.is_full.ensures.free c.if-is_full.false in
     let bracket = ap (starts fixed.OpenBracket) (sym c.rest_of-behind.ensures) ∙ sym c.starts_with.ensures ∙ c.if-starts_with.true in
-    rw bracket (rw (suffix_taken (phrases (read_at c.args.inner)) Suffix.with_index (suc c.args.inner) c.args.at (c.args.first.tree.exp.now, c.args.first.tree.ended) c.args.first.height c.args.first.rest.now free low) c.index_replaced.ensures.exact)
+    λ k. ((refl, tt), (c.requires.sign, (bracket, (c.requires.law, (c.requires.room.0, fits)))))
 
-pub returns-then-starts_with-2-clause-exact : goal.returns-then-starts_with-2-clause-exact
-returns-then-starts_with-2-clause-exact g c =
-    let low : c.args.first.height < suc c.args.inner = omega arith in
-    let free = sym c.goes_on_range.ensures ∙ c.if-goes_on_range.false in
-    let bracket = ap (starts fixed.OpenBracket) (sym c.rest_of-behind.ensures) ∙ sym c.starts_with.ensures ∙ c.if-starts_with.false in
-    let dot = ap (λ ts. starts fixed.Dot (tail ts)) (sym c.rest_of-behind.ensures) ∙ ap (starts fixed.Dot) (sym c.rest_of.ensures) ∙ sym c.starts_with-else-starts_with.ensures ∙ c.if-starts_with-2.true in
-    rw (bracket, dot) (rw (suffix_taken (phrases (read_at c.args.inner)) Suffix.with_path (suc c.args.inner) c.args.at (c.args.first.tree.exp.now, c.args.first.tree.ended) c.args.first.height c.args.first.rest.now free low) c.path_replaced.ensures.exact)
+pub returns-then-starts_with : goal.returns-then-starts_with
+returns-then-starts_with g c =
+    let free = tested (nat_lt c.args.inner c.args.first.height) c.is_full.ensures.full c.goes_on_range-goes_on.ensures c.if-is_full.false in
+    let bracket = ap (starts fixed.OpenBracket) (sym c.rest_of-behind.ensures) ∙ sym c.starts_with.ensures ∙ c.if-starts_with.true in
+    record { exact = rw (index_free (phrases (read_at c.args.inner)) c.args.inner c.args.at c.args.first.height c.args.first.rest.now (c.args.first.tree.exp.now, c.args.first.tree.ended) bracket free) c.index_replaced.ensures.exact; low = c.index_replaced.ensures.low }
 
-pub returns-else-starts_with-2-clause-exact : goal.returns-else-starts_with-2-clause-exact
-returns-else-starts_with-2-clause-exact g c =
-    let low : c.args.first.height < suc c.args.inner = omega arith in
-    let free = sym c.goes_on_range.ensures ∙ c.if-goes_on_range.false in
+pub returns-in-Err : goal.returns-in-Err
+returns-in-Err g c =
+    let free = tested (nat_lt c.args.inner c.args.first.height) c.is_full.ensures.full c.goes_on_range-goes_on.ensures c.if-is_full.false in
     let bracket = ap (starts fixed.OpenBracket) (sym c.rest_of-behind.ensures) ∙ sym c.starts_with.ensures ∙ c.if-starts_with.false in
-    let dot = ap (λ ts. starts fixed.Dot (tail ts)) (sym c.rest_of-behind.ensures) ∙ ap (starts fixed.Dot) (sym c.rest_of.ensures) ∙ sym c.starts_with-else-starts_with.ensures ∙ c.if-starts_with-2.false in
-    rw (bracket, dot) (rw (suffix_taken (phrases (read_at c.args.inner)) Suffix.with_field (suc c.args.inner) c.args.at (c.args.first.tree.exp.now, c.args.first.tree.ended) c.args.first.height c.args.first.rest.now free low) c.field_replaced.ensures.exact)
+    record { exact = fails_as c.in-Err.stop c.in-Err.ensures.exact (λ f read. rw (field_free (phrases (read_at c.args.inner)) c.args.inner c.args.at c.args.first.height c.args.first.rest.now (c.args.first.tree.exp.now, c.args.first.tree.ended) c.requires.sign bracket free, sym c.rest_of-behind.ensures, read) refl); low = tt }
+
+pub returns-in-Ok : goal.returns-in-Ok
+returns-in-Ok g c =
+    let free = tested (nat_lt c.args.inner c.args.first.height) c.is_full.ensures.full c.goes_on_range-goes_on.ensures c.if-is_full.false in
+    let fits = c.is_full.ensures.free c.if-is_full.false in
+    let bracket = ap (starts fixed.OpenBracket) (sym c.rest_of-behind.ensures) ∙ sym c.starts_with.ensures ∙ c.if-starts_with.false in
+    let one : suc (max c.args.first.height c.in-Ok.found.height) ≡ c.greater-height.result + 1 = omega (arith, c.greater-height.ensures) in
+    let low : c.greater-height.result + 1 ≤ c.args.inner + 1 = omega (arith, c.greater-height.ensures, c.in-Ok.ensures.low, fits) in
+    record { exact = rw (field_free (phrases (read_at c.args.inner)) c.args.inner c.args.at c.args.first.height c.args.first.rest.now (c.args.first.tree.exp.now, c.args.first.tree.ended) c.requires.sign bracket free, sym c.rest_of-behind.ensures, c.in-Ok.ensures.exact, one) (c.ending_made.ensures.exact _ c.with_field_replaced-node.ensures); low = low_as c.ending_made.result c.ending_made.ensures.low low }

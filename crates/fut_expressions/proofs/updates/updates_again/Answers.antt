@@ -1,5 +1,5 @@
 -- The turns of the loop are those of the reading.
-use Rattle.std.proofs.Common.{sym, ◌∙◌, arith}
+use Rattle.std.proofs.Common.{sym, ◌∙◌, refl, arith}
 use Rattle.fut_token.specs.declared.token.Fixed.TheVariants as fixed
 use Rattle.fut_ast.specs.Tokens.{starts}
 use Rattle.fut_ast.specs.Sorts.{Updated}
@@ -20,3 +20,6 @@ returns-in-Err-clause-exact g c =
 
 pub behind-preserved : goal.behind-preserved
 behind-preserved g c = (again_turns _ _ Updated (λ us. starts fixed.KeyWith us) (λ us. with_suffix us) _ _ _ _ _ _ c.behind.invariant.0 _ (sym c.starts_with.ensures ∙ c.behind-test.true) (omega arith) c.in-Ok.ensures.exact, omega (arith, c.in-Ok.ensures.low))
+
+pub update_behind-requires : goal.update_behind-requires
+update_behind-requires g c = λ k. ((refl, tt), (sym c.starts_with.ensures ∙ c.behind-test.true, (c.requires.law, (c.requires.room.0, c.behind.invariant.1))))
