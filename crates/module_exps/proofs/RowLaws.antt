@@ -1,7 +1,7 @@
 -- Rows of lets.
-use Rattle.std.proofs.Common.{◌≡◌, ℕ, ◌+◌, ◌<◌, ◌≤◌, ◌++◌, List, [], ◌∷◌, map, length, drop, get_or, Bool, refl, sym, ◌∙◌, ap, subst, Result, Ok, Err, append_assoc, append-nil}
+use Rattle.std.proofs.Common.{◌≡◌, ℕ, ◌+◌, ◌-◌, ◌<◌, ◌≤◌, ◌++◌, arith, List, [], ◌∷◌, map, length, drop, get_or, Bool, refl, sym, ◌∙◌, ap, subst, Result, Ok, Err, append_assoc, append-nil}
 use Rattle.std.proofs.Math.ListN.{drop_of_length-le}
-use Rattle.std.proofs.lemmas.List.{map-append}
+use Rattle.std.proofs.lemmas.List.{length-drop, map-append}
 use Rattle.std.specs.Borrow.{Bor}
 use Rattle.fut_scalar.specs.declared.place.BindId.{BindId}
 use Rattle.fut_scalar.specs.declared.place.Place.{Place}
@@ -24,7 +24,7 @@ use Rattle.fut_flat.proofs.SourceForms as sources
 use Rattle.module_scopes.specs.declared.refusal.Stop.{Stop}
 use Rattle.module_scopes.specs.declared.table.Names.{Names}
 use Rattle.module_scopes.specs.Scopes.{Scope, enter}
-use Rattle.module_scopes.specs.Resolve.{Bound, Numbered, after, and_size, next, with_text, number_sizes, number_heads, resolve, resolve_pattern}
+use Rattle.module_scopes.specs.Resolve.{Bound, Numbered, after, and_size, led_by, next, with_text, number_sizes, number_heads, resolve, resolve_pattern, section_name}
 use Rattle.module_scopes.specs.Answers.{Went, went, refused, no_memory, Entered, entered, not_entered, no_memory_entered}
 use Rattle.module_scopes.specs.Table.{scope_of, made_of, outside}
 use Rattle.module_scopes.proofs.Walking.{from_here, after_assoc}
@@ -36,9 +36,10 @@ use Rattle.module_types.specs.Bindings.{Brings, bound_heads_of, heads_numbered, 
 use Rattle.module_exps.specs.declared.heads.Head.{Head}
 use Rattle.module_exps.specs.Heads.{head_of, Valued, valued_of, Behind, now_behind, Brought_head, brought_head, no_head, not_brought_head, Brought_heads, brought_heads, not_brought_heads}
 use Rattle.module_exps.specs.Lists.{Put, put, no_item, no_room}
-use Rattle.module_exps.specs.Parts.{Doing_rows, doing_rows, Headed, behind, each_row, headed_value, row_part, sized_pattern, source_of}
+use Rattle.module_exps.specs.Parts.{Doing_rows, doing_rows, Headed, behind, each_row, headed_value, name_before, row_part, sized_pattern, source_of}
 use Rattle.module_exps.proofs.Above.{Above, Rises, rises, above_all, enter_above, higher, rises_behind, rises_then, same_scope, scoped}
 use Rattle.module_exps.proofs.HeadLaws.{within, within_second}
+use Rattle.module_exps.proofs.SectionLaws.{led_rises, led_then, name_of_lets}
 
 -- ---- values with their parameters
 
@@ -108,53 +109,61 @@ row_entered b s s1 s2 s3 u t n hd hd2 hs v _ p ns m wv out mk k no_memory3 = no_
 finish : List LetTree → Numbered (List Row × Scope) → Numbered (List Row × Scope)
 finish done r = after r (λ rs m. Ok ((map row_of done ++ rs.0, rs.1), m))
 
-pub rows_start : (bs : List Bind) (s : Names) → Doing_rows bs s bs [] s
+-- one row, and the name that stands before it
+abbrev pub led_row : SourceTerm → ℕ → Bind → Names → Numbered (Row × Scope)
+led_row e n b t = led_by (name_before n e) (scope_of t) (row_part b (scope_of t) (made_of t))
+
+pub rows_start : (e : SourceTerm) (bs : List Bind) (s : Names) → Doing_rows e bs s bs [] s
 unfolding after
-rows_start bs s = doing_rows (sym (at_start (each_row bs (scope_of s) (made_of s))))
+rows_start e bs s = doing_rows (sym (at_start (each_row e bs (scope_of s) (made_of s))))
   where
     at_start : (r : Numbered (List Row × Scope)) → after r (λ rs m. Ok ((map row_of [] ++ rs.0, rs.1), m)) ≡ r
     at_start (Ok (r, m)) = refl
     at_start (Err e) = refl
 
-pub rows_next : (bs : List Bind) (s t u : Names) (i : ℕ) (b : Bind) (done : List LetTree) (l : LetTree) → i < length bs → b ≡ get_or bs i b → Entered row_of (row_part b (scope_of t) (made_of t)) u (Ok l)
-    → Doing_rows bs s (drop i bs) done t → Doing_rows bs s (drop (i + 1) bs) (done ++ l ∷ []) u
-unfolding each_row after finish
-rows_next bs s t u i b done l k is (entered g) (doing_rows so) = doing_rows (
+left_of_rows : (bs : List Bind) (i n : ℕ) → n + (i + 1) ≡ length bs → n ≡ length (drop (i + 1) bs)
+left_of_rows bs i n is = let d : length (drop (i + 1) bs) ≡ length bs - (i + 1) = length-drop (i + 1) bs in omega (arith, is, d)
+
+rows_from : (e : SourceTerm) (bs : List Bind) (s t : Names) (i n : ℕ) (b : Bind) (done : List LetTree) (q : Numbered (Row × Scope)) → i < length bs → b ≡ get_or bs i b → n + (i + 1) ≡ length bs → led_row e n b t ≡ q → Doing_rows e bs s (drop i bs) done t
+    → each_row e bs (scope_of s) (made_of s) ≡ finish done (after q (λ r m. after (each_row e (drop (i + 1) bs) r.1 m) (λ rs m. Ok ((r.0 ∷ rs.0, rs.1), m))))
+unfolding each_row finish
+rows_from e bs s t i n b done q k is left g (doing_rows so) =
     so
-    ∙ ap (λ xs. finish done (each_row xs (scope_of t) (made_of t))) (from_here bs i b k is)
-    ∙ ap (λ r. finish done (after r (λ r m. after (each_row (drop (i + 1) bs) r.1 m) (λ rs m. Ok ((r.0 ∷ rs.0, rs.1), m))))) g
-    ∙ at_rest (each_row (drop (i + 1) bs) (scope_of u) (made_of u)))
+    ∙ ap (λ xs. finish done (each_row e xs (scope_of t) (made_of t))) (from_here bs i b k is)
+    ∙ ap (λ r. finish done (after r (λ r m. after (each_row e (drop (i + 1) bs) r.1 m) (λ rs m. Ok ((r.0 ∷ rs.0, rs.1), m))))) (ap (λ n. led_row e n b t) (sym (left_of_rows bs i n left)) ∙ g)
+
+pub rows_next : (e : SourceTerm) (bs : List Bind) (s t u : Names) (i n : ℕ) (b : Bind) (done : List LetTree) (l : LetTree) → i < length bs → b ≡ get_or bs i b → n + (i + 1) ≡ length bs → Entered row_of (led_row e n b t) u (Ok l)
+    → Doing_rows e bs s (drop i bs) done t → Doing_rows e bs s (drop (i + 1) bs) (done ++ l ∷ []) u
+unfolding after finish
+rows_next e bs s t u i n b done l k is left (entered g) d = doing_rows (rows_from e bs s t i n b done _ k is left g d ∙ at_rest (each_row e (drop (i + 1) bs) (scope_of u) (made_of u)))
   where
     at_rest : (r : Numbered (List Row × Scope)) → finish done (after r (λ rs m. Ok ((row_of l ∷ rs.0, rs.1), m))) ≡ after r (λ rs m. Ok ((map row_of (done ++ l ∷ []) ++ rs.0, rs.1), m))
     at_rest (Ok (rs, m)) = λ j. Ok ((sym (ap (λ xs. xs ++ rs.0) (map-append row_of done (l ∷ [])) ∙ append_assoc (map row_of done) (row_of l ∷ []) rs.0) j, rs.1), m)
     at_rest (Err e) = refl
 
-pub rows_stop : {Q : Type 0} {view : Q → List Row} (bs : List Bind) (s t u : Names) (i : ℕ) (b : Bind) (done : List LetTree) (e : Stop) → i < length bs → b ≡ get_or bs i b → Entered row_of (row_part b (scope_of t) (made_of t)) u (Err e)
-    → Doing_rows bs s (drop i bs) done t → Entered view (each_row bs (scope_of s) (made_of s)) u (Err e)
-unfolding each_row after finish
-rows_stop bs s t u i b done _ k is (not_entered g) (doing_rows so) = not_entered (
-    so
-    ∙ ap (λ xs. finish done (each_row xs (scope_of t) (made_of t))) (from_here bs i b k is)
-    ∙ ap (λ r. finish done (after r (λ r m. after (each_row (drop (i + 1) bs) r.1 m) (λ rs m. Ok ((r.0 ∷ rs.0, rs.1), m))))) g)
-rows_stop bs s t u i b done _ k is no_memory_entered d = no_memory_entered
+pub rows_stop : {Q : Type 0} {view : Q → List Row} (e : SourceTerm) (bs : List Bind) (s t u : Names) (i n : ℕ) (b : Bind) (done : List LetTree) (x : Stop) → i < length bs → b ≡ get_or bs i b → n + (i + 1) ≡ length bs → Entered row_of (led_row e n b t) u (Err x)
+    → Doing_rows e bs s (drop i bs) done t → Entered view (each_row e bs (scope_of s) (made_of s)) u (Err x)
+unfolding after finish
+rows_stop e bs s t u i n b done _ k is left (not_entered g) d = not_entered (rows_from e bs s t i n b done _ k is left g d)
+rows_stop e bs s t u i n b done _ k is left no_memory_entered d = no_memory_entered
 
-pub rows_end : (bs : List Bind) (s t : Names) (i : ℕ) (done : List LetTree) (r : Bor (List LetTree)) → length bs ≤ i → r.now ≡ done → Doing_rows bs s (drop i bs) done t
-    → Entered (λ (ls : Bor (List LetTree)). map row_of ls.now) (each_row bs (scope_of s) (made_of s)) t (Ok r)
+pub rows_end : (e : SourceTerm) (bs : List Bind) (s t : Names) (i : ℕ) (done : List LetTree) (r : Bor (List LetTree)) → length bs ≤ i → r.now ≡ done → Doing_rows e bs s (drop i bs) done t
+    → Entered (λ (ls : Bor (List LetTree)). map row_of ls.now) (each_row e bs (scope_of s) (made_of s)) t (Ok r)
 unfolding each_row after finish
-rows_end bs s t i done r k is (doing_rows so) = entered (
+rows_end e bs s t i done r k is (doing_rows so) = entered (
     so
-    ∙ ap (λ xs. finish done (each_row xs (scope_of t) (made_of t))) (drop_of_length-le bs k)
+    ∙ ap (λ xs. finish done (each_row e xs (scope_of t) (made_of t))) (drop_of_length-le bs k)
     ∙ λ j. Ok (((append-nil (map row_of done) ∙ ap (map row_of) (sym is)) j, scope_of t), made_of t))
 
 -- what a walk over one gave
-pub rows_put : (bs : List Bind) (s t u : Names) (i : ℕ) (b : Bind) (done more : List LetTree) (r : Result LetTree Stop) (w : Unit {0}) → i < length bs → b ≡ get_or bs i b → Entered row_of (row_part b (scope_of t) (made_of t)) u r → Put (λ l. l) r done more (Ok w)
-    → Doing_rows bs s (drop i bs) done t → Doing_rows bs s (drop (i + 1) bs) more u
-rows_put bs s t u i b done more _ w k is p (put {x = l} so) d = subst (λ ls. Doing_rows bs s (drop (i + 1) bs) ls u) (sym so) (rows_next bs s t u i b done l k is p d)
+pub rows_put : (e : SourceTerm) (bs : List Bind) (s t u : Names) (i n : ℕ) (b : Bind) (done more : List LetTree) (r : Result LetTree Stop) (w : Unit {0}) → i < length bs → b ≡ get_or bs i b → n + (i + 1) ≡ length bs → Entered row_of (led_row e n b t) u r → Put (λ l. l) r done more (Ok w)
+    → Doing_rows e bs s (drop i bs) done t → Doing_rows e bs s (drop (i + 1) bs) more u
+rows_put e bs s t u i n b done more _ w k is left p (put {x = l} so) d = subst (λ ls. Doing_rows e bs s (drop (i + 1) bs) ls u) (sym so) (rows_next e bs s t u i n b done l k is left p d)
 
-pub rows_put_stops : {Q : Type 0} {view : Q → List Row} (bs : List Bind) (s t u : Names) (i : ℕ) (b : Bind) (done more : List LetTree) (r : Result LetTree Stop) (e : Stop) → i < length bs → b ≡ get_or bs i b → Entered row_of (row_part b (scope_of t) (made_of t)) u r → Put (λ l. l) r done more (Err e)
-    → Doing_rows bs s (drop i bs) done t → Entered view (each_row bs (scope_of s) (made_of s)) u (Err e)
-rows_put_stops bs s t u i b done more _ e k is p no_item d = rows_stop bs s t u i b done e k is p d
-rows_put_stops bs s t u i b done more r _ k is p no_room d = no_memory_entered
+pub rows_put_stops : {Q : Type 0} {view : Q → List Row} (e : SourceTerm) (bs : List Bind) (s t u : Names) (i n : ℕ) (b : Bind) (done more : List LetTree) (r : Result LetTree Stop) (x : Stop) → i < length bs → b ≡ get_or bs i b → n + (i + 1) ≡ length bs → Entered row_of (led_row e n b t) u r → Put (λ l. l) r done more (Err x)
+    → Doing_rows e bs s (drop i bs) done t → Entered view (each_row e bs (scope_of s) (made_of s)) u (Err x)
+rows_put_stops e bs s t u i n b done more _ x k is left p no_item d = rows_stop e bs s t u i n b done x k is left p d
+rows_put_stops e bs s t u i n b done more r _ k is left p no_room d = no_memory_entered
 
 -- ---- a row before its body
 
@@ -183,12 +192,12 @@ one_row b s (Ok (p, m)) N v rest sc = at_value (v (enter (N m).0.1 sc) (N m).1)
     at_value (Ok (v, m')) = refl
     at_value (Err e) = refl
 
-row_first_of : (b : Bind) (rest : SourceTerm) (sc : Scope) (m : List Text) → resolve (source.lets (sources.row_of (bind_of b) ∷ []) rest) sc m ≡ after (row_part b sc m) (λ r m. after (resolve rest r.1 m) (λ e m. Ok (Let r.0.0 r.0.1 e, m)))
+row_first_of : (b : Bind) (rest : SourceTerm) (sc : Scope) (m : List Text) → resolve (source.lets (sources.row_of (bind_of b) ∷ []) rest) sc m ≡ led_by (section_name rest) sc (after (row_part b sc m) (λ r m. after (resolve rest r.1 m) (λ e m. Ok (Let r.0.0 r.0.1 e, m))))
 unfolding resolve source.lets row_part sized_pattern headed_value heads_numbered source_of after sizes_numbered resolve_pattern enter row_after
 row_first_of b rest sc m =
     ap (λ r. resolve (source.lets (r ∷ []) rest) sc m) (sources.row_is (bind_of b))
-    ∙ (λ i. after (sizes_anywhere (bind_of b).pat.place (names b.sizes.now) sc m i) (λ s m. after (resolve_pattern (source_pattern b.pat.now) (enter s.1 sc) m) (λ p m. after (Ok (number_heads (source_parameters (heads_of b.heads.now)) m)) (λ h m. after (resolve (source_term b.value.now) (enter h.1 sc) m) (λ v m. after (resolve rest (enter p.1 (enter s.1 sc)) m) (λ e m. Ok (Let (row_of_parts s h.0 b.is_function p.0) v e, m)))))))
-    ∙ one_row b (number_sizes (labels (record { file = 0; line = 0; column = 0 }) (names b.sizes.now)) m).0 (resolve_pattern (source_pattern b.pat.now) (enter (number_sizes (labels (record { file = 0; line = 0; column = 0 }) (names b.sizes.now)) m).0.1 sc) (number_sizes (labels (record { file = 0; line = 0; column = 0 }) (names b.sizes.now)) m).1) (λ m. number_heads (source_parameters (heads_of b.heads.now)) m) (resolve (source_term b.value.now)) (resolve rest) sc
+    ∙ ap (led_by (section_name rest) sc) ((λ i. after (sizes_anywhere (bind_of b).pat.place (names b.sizes.now) sc m i) (λ s m. after (resolve_pattern (source_pattern b.pat.now) (enter s.1 sc) m) (λ p m. after (Ok (number_heads (source_parameters (heads_of b.heads.now)) m)) (λ h m. after (resolve (source_term b.value.now) (enter h.1 sc) m) (λ v m. after (resolve rest (enter p.1 (enter s.1 sc)) m) (λ e m. Ok (Let (row_of_parts s h.0 b.is_function p.0) v e, m)))))))
+    ∙ one_row b (number_sizes (labels (record { file = 0; line = 0; column = 0 }) (names b.sizes.now)) m).0 (resolve_pattern (source_pattern b.pat.now) (enter (number_sizes (labels (record { file = 0; line = 0; column = 0 }) (names b.sizes.now)) m).0.1 sc) (number_sizes (labels (record { file = 0; line = 0; column = 0 }) (names b.sizes.now)) m).1) (λ m. number_heads (source_parameters (heads_of b.heads.now)) m) (resolve (source_term b.value.now)) (resolve rest) sc)
 
 at_end : (r : Numbered FlatTerm) → r ≡ after r (λ e m. Ok (e, m))
 unfolding after
@@ -204,22 +213,24 @@ row_onto r rs m = Ok ((r.0 ∷ rs.0, rs.1), m)
 let_onto : Row × Scope → FlatTerm → List Text → Numbered FlatTerm
 let_onto r e m = Ok (Let r.0.0 r.0.1 e, m)
 
-row_more : (bs : List Bind) (e : SourceTerm) (r : Row × Scope) (m : List Text) → resolve (source.lets (map sources.row_of (binds_of bs)) e) r.1 m ≡ after (each_row bs r.1 m) (rows_then e)
-    → after (resolve (source.lets (map sources.row_of (binds_of bs)) e) r.1 m) (let_onto r) ≡ after (after (each_row bs r.1 m) (row_onto r)) (rows_then e)
+row_more : (bs : List Bind) (e : SourceTerm) (r : Row × Scope) (m : List Text) → resolve (source.lets (map sources.row_of (binds_of bs)) e) r.1 m ≡ after (each_row e bs r.1 m) (rows_then e)
+    → after (resolve (source.lets (map sources.row_of (binds_of bs)) e) r.1 m) (let_onto r) ≡ after (after (each_row e bs r.1 m) (row_onto r)) (rows_then e)
 unfolding after lets rows_then row_onto let_onto
 row_more bs e r m ih =
     ap (λ q. after q (let_onto r)) ih
-    ∙ after_assoc (each_row bs r.1 m) (rows_then e) (let_onto r)
-    ∙ (λ i. after (each_row bs r.1 m) (λ rs m. after_assoc (resolve e rs.1 m) (λ e m. Ok (lets rs.0 e, m)) (let_onto r) i))
-    ∙ sym (after_assoc (each_row bs r.1 m) (row_onto r) (rows_then e))
+    ∙ after_assoc (each_row e bs r.1 m) (rows_then e) (let_onto r)
+    ∙ (λ i. after (each_row e bs r.1 m) (λ rs m. after_assoc (resolve e rs.1 m) (λ e m. Ok (lets rs.0 e, m)) (let_onto r) i))
+    ∙ sym (after_assoc (each_row e bs r.1 m) (row_onto r) (rows_then e))
 
-pub lets_each : (bs : List Bind) (e : SourceTerm) (sc : Scope) (m : List Text) → resolve (source.lets (map sources.row_of (binds_of bs)) e) sc m ≡ after (each_row bs sc m) (λ rs m. after (resolve e rs.1 m) (λ e m. Ok (lets rs.0 e, m)))
+pub lets_each : (bs : List Bind) (e : SourceTerm) (sc : Scope) (m : List Text) → resolve (source.lets (map sources.row_of (binds_of bs)) e) sc m ≡ after (each_row e bs sc m) (λ rs m. after (resolve e rs.1 m) (λ e m. Ok (lets rs.0 e, m)))
 unfolding each_row after lets source.lets rows_then row_onto let_onto
 lets_each [] e sc m = at_end (resolve e sc m)
 lets_each (b ∷ bs) e sc m =
     row_first_of b (source.lets (map sources.row_of (binds_of bs)) e) sc m
-    ∙ (λ i. after (row_part b sc m) (λ r m. row_more bs e r m (lets_each bs e r.1 m) i))
-    ∙ sym (after_assoc (row_part b sc m) (λ r m. after (each_row bs r.1 m) (row_onto r)) (rows_then e))
+    ∙ (λ i. led_by (name_of_lets bs e i) sc (after (row_part b sc m) (λ r m. row_more bs e r m (lets_each bs e r.1 m) i)))
+    ∙ ap (led_by (name_before (length bs) e) sc) (sym (after_assoc (row_part b sc m) (λ r m. after (each_row e bs r.1 m) (row_onto r)) (rows_then e)))
+    ∙ led_then (name_before (length bs) e) sc (after (row_part b sc m) (λ r m. after (each_row e bs r.1 m) (row_onto r))) (rows_then e)
+    ∙ ap (λ q. after q (rows_then e)) (led_then (name_before (length bs) e) sc (row_part b sc m) (λ r m. after (each_row e bs r.1 m) (row_onto r)))
 
 pub behind_above : (h : Headed) (sc : Scope) → Above sc (behind h sc)
 unfolding behind
@@ -229,12 +240,12 @@ row_rises : (b : Bind) (sc : Scope) (m : List Text) → Rises sc (row_part b sc 
 unfolding row_part
 row_rises b sc m = rises_behind _ _ (λ h m. rises_behind _ _ (λ v m. rises (behind_above h sc)))
 
-rows_rise : (bs : List Bind) (sc : Scope) (m : List Text) → Rises sc (each_row bs sc m)
+rows_rise : (e : SourceTerm) (bs : List Bind) (sc : Scope) (m : List Text) → Rises sc (each_row e bs sc m)
 unfolding each_row
-rows_rise [] sc m = rises (same_scope sc)
-rows_rise (b ∷ bs) sc m = rises_then (λ r m. after (each_row bs r.1 m) (λ rs m. Ok ((r.0 ∷ rs.0, rs.1), m))) (row_rises b sc m) (λ r t m up. higher (λ (rs : List Row). r ∷ rs) up (rows_rise bs t m))
+rows_rise e [] sc m = rises (same_scope sc)
+rows_rise e (b ∷ bs) sc m = rises_then (λ r m. after (each_row e bs r.1 m) (λ rs m. Ok ((r.0 ∷ rs.0, rs.1), m))) (led_rises (name_before (length bs) e) (row_rises b sc m)) (λ r t m up. higher (λ (rs : List Row). r ∷ rs) up (rows_rise e bs t m))
 
 pub lets_went : (bs : List Bind) (e : SourceTerm) (s s1 s2 u : Names) (h : ℕ) (a : Result (Bor (List LetTree)) Stop) (b : Result (Bor Flat) Stop) (d : Result (Bor Flat) Stop)
-    → Entered (λ (ls : Bor (List LetTree)). map row_of ls.now) (each_row bs (scope_of s) (made_of s)) s1 a → Went held_term (resolve e) s1 s2 b → h ≡ length (scope_of s) → scope_of u ≡ outside h (scope_of s2) → made_of u ≡ made_of s2
+    → Entered (λ (ls : Bor (List LetTree)). map row_of ls.now) (each_row e bs (scope_of s) (made_of s)) s1 a → Went held_term (resolve e) s1 s2 b → h ≡ length (scope_of s) → scope_of u ≡ outside h (scope_of s2) → made_of u ≡ made_of s2
     → Built2 (λ (ls : Bor (List LetTree)) e x. held_term x ≡ lets (map row_of ls.now) (held_term e)) a b d → Went held_term (resolve (source.lets (map sources.row_of (binds_of bs)) e)) s u d
-lets_went bs e s s1 s2 u h a b d rows w hs out mk q = by_same (lets_each bs e) (scoped (each_row bs) (resolve e) lets s s1 s2 u h a b d hs (rows_rise bs (scope_of s) (made_of s)) rows w out mk q)
+lets_went bs e s s1 s2 u h a b d rows w hs out mk q = by_same (lets_each bs e) (scoped (each_row e bs) (resolve e) lets s s1 s2 u h a b d hs (rows_rise e bs (scope_of s) (made_of s)) rows w out mk q)

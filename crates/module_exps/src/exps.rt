@@ -27,6 +27,7 @@ use crate::heads::{
 use crate::leaves::{is_behind, operator, used};
 use crate::lists::{put, put_exp};
 use crate::operations::{Operation, gathered, operation_of};
+use crate::sections::{led, looked_before};
 use bumpalo::Bump;
 use bumpalo::collections::into_bump_slice;
 use fut_flat as flat;
@@ -136,7 +137,7 @@ fn walked_binding<'a>(
             nodes::lambda(bump, exp.place, params, body)
         }
         Form::Lets(binds, body) => {
-            let lets = walked_rows(binds, bump, names);
+            let lets = walked_rows(binds, body, bump, names);
             let body = walked(body, bump, names);
             names.leave(height);
             rows::rowed(bump, exp.place, lets, body)
@@ -309,19 +310,23 @@ pub fn walked_body<'a>(
 
 // ---- lets
 
-/// A row of lets, each of which sees those before it. What they bind is in scope behind them.
+/// A row of lets before a body, each of which sees those before it. What they bind is in scope behind them.
 #[cycle(exps)]
 #[tactic(auto, using(crate::proofs::ExpLaws::start_rules))]
 fn walked_rows<'a>(
     binds: &'a [Bind<'a>],
+    body: &'a Exp<'a>,
     bump: &'a Bump,
     names: &mut Names<'a>,
 ) -> Result<&'a [flat::Let<'a>], Stop<'a>>
-    ensures { Entered (λ ls. map row_of ls.now) (each_row binds.now (scope_of names.old) (made_of names.old)) names.new result }
+    ensures { Entered (λ ls. map row_of ls.now) (each_row (source_of body.now) binds.now (scope_of names.old) (made_of names.old)) names.new result }
 {
     let mut made = Vec::new(bump);
+    let mut left = binds.len();
     for bind in binds {
-        put(walked_row(bind, bump, names), &mut made)?;
+        left -= 1;
+        let looked = looked_before(left, body, names);
+        put(led(looked, walked_row(bind, bump, names)), &mut made)?;
     }
     Ok(into_bump_slice(made))
 }

@@ -16,6 +16,7 @@ mod heads;
 mod leaves;
 mod lists;
 mod operations;
+mod sections;
 
 use bumpalo::Bump;
 use fut_flat as flat;

@@ -1,5 +1,5 @@
 -- Resolving a part numbers more and more, and the parts that bind names bind them by new numbers.
-use Rattle.std.proofs.Common.{◌≡◌, suc, ◌≤◌, ◌++◌, List, [], ◌∷◌, Bool, true, false, cond, Some, None, Result, Ok, Err, refl, sym, ap, ◌∙◌, subst, arith, length}
+use Rattle.std.proofs.Common.{◌≡◌, suc, ◌≤◌, ◌++◌, List, [], ◌∷◌, Bool, true, false, cond, Option, Some, None, Result, Ok, Err, refl, sym, ap, ◌∙◌, subst, arith, length}
 use Rattle.std.proofs.lemmas.List.{length-append}
 use Rattle.fut_scalar.specs.declared.place.BindId.{BindId}
 use Rattle.fut_ast.specs.Sorts.{Text}
@@ -9,8 +9,8 @@ use Rattle.fut_flat.specs.Erased.{FlatPattern, FlatType}
 use Rattle.fut_flat.specs.Sources.{Spelled, SourceSize, WrittenType, SourcePattern}
 use Rattle.fut_flat.specs.Terms.{Size_term, Size_use, Size_const, Size_blank, Type_use, Array_type, Unique_type, Arrow_type, Tuple_type, Record_type, Type_terms, no_type, type_and, Type_args, no_arg, size_arg, type_arg, Bound_pattern, Wild_pattern, Tuple_pattern, Record_pattern, Typed_pattern, Patterns, no_pattern, pattern_and}
 use Rattle.module_scopes.specs.Names.{Refusal, Twice}
-use Rattle.module_scopes.specs.Scopes.{Entry, a_value, Scope, size_of, type_of}
-use Rattle.module_scopes.specs.Resolve.{Numbered, after, next, with_text, refers, resolve_size, resolve_type, resolve_types, resolve_arguments, Naming, has, beside, name_pattern, name_patterns}
+use Rattle.module_scopes.specs.Scopes.{Entry, a_value, Found, Scope, size_of, type_of, value_of}
+use Rattle.module_scopes.specs.Resolve.{Numbered, after, led_by, where_found, next, with_text, refers, resolve_size, resolve_type, resolve_types, resolve_arguments, Naming, has, beside, name_pattern, name_patterns}
 use Rattle.fut_meaning.specs.Resolved.{Locals, Pattern_resolved, p_bound, p_wild, p_tuple, p_record, p_typed, Patterns_resolved, p_none, p_and}
 use Rattle.module_meaning.proofs.Readings.{entered, entered-append}
 use Rattle.module_meaning.proofs.Downs.{pattern_up}
@@ -20,6 +20,16 @@ pub went : {A B S T : Type 0} {C : Type 0} (r : Result (A × S) Refusal) (k : A 
 unfolding after
 went (Ok (a, s)) k z e c = c a s refl e
 went (Err x) k z e c = absurd (let y : Err x ≡ Ok z = e in cc)
+
+-- and where a name stands before it
+pub led_so : {A : Type 0} {C : Type 0} (o : Option Spelled) (sc : Scope) (r : Numbered A) (z : A × List Text) → led_by o sc r ≡ Ok z → (r ≡ Ok z → C) → C
+unfolding led_by
+led_so None sc r z e c = c e
+led_so {A = A} {C = C} (Some p) sc r z e c = found_so (value_of sc p) e
+  where
+    found_so : (q : Result Found Refusal) → where_found q r ≡ Ok z → C
+    found_so (Ok f) g = c g
+    found_so (Err x) g = absurd (let y : ◌≡◌ {A = Numbered A} (Err x) (Ok z) = g in cc)
 
 pub ok_part : {A S : Type 0} {a b : A} {s t : S} → ◌≡◌ {A = Result (A × S) Refusal} (Ok (a, s)) (Ok (b, t)) → a ≡ b
 ok_part {A} {S} {a} {b} {s} {t} h = let z : ◌≡◌ {A = A × S} (a, s) (b, t) = cc in ap (λ q. q.0) z

@@ -9,10 +9,10 @@ use Rattle.fut_flat.specs.Sources.{Spelled, SourceTerm, SourceTurns}
 use Rattle.fut_flat.specs.Terms.{Parameter, Size_parameter, Type_parameter, Use, Strict, Lambda, Apply, Let, If, Loop, Terms, no_term, term_and, Counted, Over, While}
 use Rattle.module_scopes.specs.Names.{Refusal}
 use Rattle.module_scopes.specs.Scopes.{Scope}
-use Rattle.module_scopes.specs.Resolve.{Numbered, Bound, with_text, next, number_sizes, number_heads, resolve, resolve_all, resolve_turns, is_declared, stands_behind, head_text}
+use Rattle.module_scopes.specs.Resolve.{Numbered, Bound, with_text, next, number_sizes, number_heads, resolve, resolve_all, resolve_turns, is_declared, section_name, stands_behind, head_text}
 use Rattle.module_meaning.specs.Sourced.{No_sizes, Plain, All_plain, Plain_turns}
 use Rattle.module_meaning.specs.Sizeless.{Sizeless, All_sizeless, Turns_sizeless}
-use Rattle.module_meaning.proofs.Grown.{went, ok_part, ok_rest}
+use Rattle.module_meaning.proofs.Grown.{went, led_so, ok_part, ok_rest}
 use Rattle.module_meaning.proofs.Terms.{either_order}
 use Rattle.module_meaning.proofs.Told.{Told, All_told, Turns_told}
 
@@ -43,13 +43,13 @@ mutual
       (λ g. went _ _ _ g (λ b m h w. went _ _ _ w (λ c l i q. let y = subst Sizeless (sym (ok_part q)) z in (term_plain f sc m l c n.0 y.0 i, term_plain a sc made m b n.1 y.1 h))))
       (λ g. went _ _ _ g (λ b m h w. went _ _ _ w (λ c l i q. let y = subst Sizeless (sym (ok_part q)) z in (term_plain f sc made m b n.0 y.0 h, term_plain a sc m l c n.1 y.1 i))))
   term_plain (Let b v body) sc made made' u n z e =
-      went _ _ _ e (λ s m1 h1 g1. went _ _ _ g1 (λ p m2 h2 g2. went _ _ _ g2 (λ hs m3 h3 g3. went _ _ _ g3 (λ v' m4 h4 g4. went _ _ _ g4 (λ e' m5 h5 q.
+      led_so (section_name body) sc _ _ e (λ g0. went _ _ _ g0 (λ s m1 h1 g1. went _ _ _ g1 (λ p m2 h2 g2. went _ _ _ g2 (λ hs m3 h3 g3. went _ _ _ g3 (λ v' m4 h4 g4. went _ _ _ g4 (λ e' m5 h5 q.
       let y = subst Sizeless (sym (ok_part q)) z in (
         no_size b.sizes made (ap (λ w. w.0) (ok_part h1) ∙ y.0),
         no_head b.parameters m2 (subst No_sizes (ap (λ w. w.0) (sym (ok_part h3))) y.1),
         term_plain v _ m3 m4 v' n.0 y.2 h4,
         term_plain body _ m4 m5 e' n.1 y.3 h5,
-      ))))))
+      )))))))
   term_plain (If c a b) sc made made' u n z e =
       went _ _ _ e (λ c' m h w. went _ _ _ w (λ a' l i w'. went _ _ _ w' (λ b' k j q.
       let y = subst Sizeless (sym (ok_part q)) z in

@@ -10,13 +10,13 @@ use Rattle.fut_flat.specs.Sources.{Spelled, SourceTerm, SourcePattern, SourceTur
 use Rattle.fut_flat.specs.Terms.{Patterns, no_pattern, pattern_and, Parameter, Size_parameter, Type_parameter, Operation, Integer, Truth, Tuple_of, Record_of, Array_of, Binary, Negate, Complement, Index, Project, Update, Replace, Ascribe, Coerce, Declared, Assert, Range, Use, Strict, Lambda, Apply, Let, If, Loop, Terms, no_term, term_and, Counted, Over, While}
 use Rattle.module_scopes.specs.Names.{Refusal}
 use Rattle.module_scopes.specs.Scopes.{Entry, a_value, Scope, enter, value_of}
-use Rattle.module_scopes.specs.Resolve.{Numbered, next, with_text, Naming, Bound, whole, resolve_pattern, resolve_parameters, number_sizes, number_heads, resolve_operation, is_declared, use_found, resolve, resolve_all, resolve_turns, stands_behind}
+use Rattle.module_scopes.specs.Resolve.{Numbered, next, with_text, Naming, Bound, whole, resolve_pattern, resolve_parameters, number_sizes, number_heads, resolve_operation, is_declared, section_name, use_found, resolve, resolve_all, resolve_turns, stands_behind}
 use Rattle.fut_meaning.specs.Sources.{Outside}
 use Rattle.fut_meaning.specs.Resolved.{Locals, flat_use, Pattern_resolved, p_bound, p_wild, p_tuple, p_record, p_typed, Patterns_resolved, p_none, p_and, Same_operation, o_integer, o_truth, o_tuple, o_record, o_array, o_binary, o_negate, o_complement, o_index, o_project, o_update, o_replace, o_ascribe, o_coerce, o_declared, o_assert, o_range, Resolved, r_use, r_strict, r_lambda, r_apply, r_let, r_if, r_loop, All_resolved, r_none, r_more, Turns_resolved, r_counted, r_over, r_while}
 use Rattle.module_meaning.specs.Sourced.{No_sizes, Plain, All_plain, Plain_turns}
 use Rattle.module_meaning.proofs.Readings.{Reads, reads_type, entered, reads_entered, use_is}
 use Rattle.module_meaning.proofs.Downs.{pattern_up, down, all_down, turns_down}
-use Rattle.module_meaning.proofs.Grown.{went, ok_part, ok_rest, More, more_same, more_text, type_more, Named_so, pattern_so}
+use Rattle.module_meaning.proofs.Grown.{went, led_so, ok_part, ok_rest, More, more_same, more_text, type_more, Named_so, pattern_so}
 
 mutual
   pattern_le : {n m : ℕ} {ls inner : Locals} {p : SourcePattern} {q : FlatPattern} → Pattern_resolved n ls p q m inner → n ≤ m
@@ -186,7 +186,7 @@ mutual
       let y = term_so a sc m l b ls outside n.1 r i in
       term_ends (r_apply x.resolved (down x.more y.resolved)) (omega (arith, x.more, y.more)) q)))
   term_so (Let b v body) sc made made' u ls outside n r e =
-      went _ _ _ e (λ s m1 h1 g1. went _ _ _ g1 (λ p m2 h2 g2. went _ _ _ g2 (λ hs m3 h3 g3. went _ _ _ g3 (λ v' m4 h4 g4. went _ _ _ g4 (λ e' m5 h5 q.
+      led_so (section_name body) sc _ _ e (λ g0. went _ _ _ g0 (λ s m1 h1 g1. went _ _ _ g1 (λ p m2 h2 g2. went _ _ _ g2 (λ hs m3 h3 g3. went _ _ _ g3 (λ v' m4 h4 g4. went _ _ _ g4 (λ e' m5 h5 q.
       let none = sizes_none b.sizes made n.0 in
       let no_entry : s.1 ≡ [] = ap (λ z. z.1) (sym (ok_part h1)) ∙ ap (λ z. z.0.1) none in
       let same_made : m1 ≡ made = sym (ok_rest h1) ∙ ap (λ z. z.1) none in
@@ -196,7 +196,7 @@ mutual
       let le : More m2 m3 = subst (λ z. More m2 z) (ok_rest h3) (heads_more b.parameters m2 n.1) in
       let y = term_so v (enter hs.1 sc) m3 m4 v' ls outside n.2 heads h4 in
       let w = term_so body (enter p.1 (enter s.1 sc)) m4 m5 e' (entered p.1 ls) outside n.3 (reads_entered p.1 inner) h5 in
-      term_ends (r_let x (down (omega (arith, pattern_le x, le)) y.resolved) (down (omega (arith, le, y.more)) w.resolved)) (omega (arith, pattern_le x, le, y.more, w.more)) q)))))
+      term_ends (r_let x (down (omega (arith, pattern_le x, le)) y.resolved) (down (omega (arith, le, y.more)) w.resolved)) (omega (arith, pattern_le x, le, y.more, w.more)) q))))))
   term_so (If c a b) sc made made' u ls outside n r e =
       went _ _ _ e (λ c' m h w. went _ _ _ w (λ a' l i w'. went _ _ _ w' (λ b' k j q.
       let x = term_so c sc made m c' ls outside n.0 r h in

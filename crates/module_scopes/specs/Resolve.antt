@@ -4,11 +4,12 @@ use Rattle.std.specs.Str.{bytes_eq}
 use Rattle.fut_scalar.specs.declared.place.BindId.{BindId}
 use Rattle.fut_scalar.specs.declared.place.Place.{Place}
 use Rattle.fut_ast.specs.Sorts.{Text, Path}
+use Rattle.fut_ast.specs.Nodes.{held_name}
 use Rattle.fut_ast.specs.declared.node.Label.{Label}
 use Rattle.fut_flat.specs.declared.prim.Ref.{Ref}
 use Rattle.fut_flat.specs.Terms.{Size_term, Size_use, Size_const, Size_blank, Type_term, Type_use, Array_type, Unique_type, Arrow_type, Tuple_type, Record_type, Type_terms, no_type, type_and, Type_args, no_arg, size_arg, type_arg, Pattern, Bound_pattern, Wild_pattern, Tuple_pattern, Record_pattern, Typed_pattern, Patterns, no_pattern, pattern_and, Parameter, Size_parameter, Type_parameter, Operation, Integer, Truth, Tuple_of, Record_of, Array_of, Binary, Negate, Complement, Index, Project, Update, Replace, Ascribe, Coerce, Declared, Assert, Range, Binding, Term, Use, Strict, Lambda, Apply, Let, If, Loop, Terms, no_term, term_and, Turns, Counted, Over, While}
 use Rattle.fut_flat.specs.Erased.{FlatType, FlatPattern, FlatTerm, FlatTurns}
-use Rattle.fut_flat.specs.Sources.{Spelled, SourceSize, WrittenType, SourcePattern, SourceTerm, SourceTurns}
+use Rattle.fut_flat.specs.Sources.{Spelled, spelled, SourceSize, WrittenType, SourcePattern, SourceTerm, SourceTurns}
 use Rattle.module_scopes.specs.Names.{Refusal, Twice}
 use Rattle.module_scopes.specs.Scopes.{Entry, a_value, a_type, Scope, enter, Found, value_of, size_of, type_of}
 
@@ -181,6 +182,25 @@ stands_behind (Let b v e) = false
 stands_behind (If c a b) = false
 stands_behind (Loop mark sizes p first turns body) = false
 
+abbrev pub is_held : Path → Bool
+is_held [] = false
+is_held (x ∷ []) = bytes_eq x held_name
+is_held (x ∷ y ∷ ys) = false
+
+abbrev pub where_found : {A : Type 0} → Result Found Refusal → Numbered A → Numbered A
+where_found (Ok f) part = part
+where_found (Err e) part = Err e
+
+-- ``(`f` e)`` is `let v = e in \x -> f x v` with a v that no text spells: the name f, which stands before e, of the let's body
+unfoldable pub section_name : SourceTerm → Option Spelled
+section_name (Lambda ps (Apply (Apply (Use p at k) x) (Use v to l))) = cond (is_held v.path) (Some (spelled p.path p.place)) None
+section_name e = None
+
+-- a part before which a name stands: if that is refused, it is the first refusal
+unfoldable pub led_by : {A : Type 0} → Option Spelled → Scope → Numbered A → Numbered A
+led_by None sc part = part
+led_by (Some p) sc part = where_found (value_of sc p) part
+
 unfoldable mutual
   pub resolve : SourceTerm → Scope → List Text → Numbered FlatTerm
   resolve (Use p at k) sc made = use_found at made (value_of sc p)
@@ -196,12 +216,13 @@ unfoldable mutual
       (after (resolve f sc made) (λ f made. after (resolve e sc made) (λ e made. Ok (Apply f e, made))))
   -- the value of a let sees its size and type parameters, and the body what the pattern binds
   resolve (Let b v e) sc made =
+      led_by (section_name e) sc (
       after (Ok (number_sizes b.sizes made)) (λ s made.
       after (resolve_pattern b.pattern (enter s.1 sc) made) (λ p made.
       after (Ok (number_heads b.parameters made)) (λ h made.
       after (resolve v (enter h.1 sc) made) (λ v made.
       after (resolve e (enter p.1 (enter s.1 sc)) made) (λ e made.
-      Ok (Let (record { sizes = s.0; parameters = h.0; is_function = b.is_function; pattern = p.0 }) v e, made))))))
+      Ok (Let (record { sizes = s.0; parameters = h.0; is_function = b.is_function; pattern = p.0 }) v e, made)))))))
   resolve (If c a b) sc made = after (resolve c sc made) (λ c made. after (resolve a sc made) (λ a made. after (resolve b sc made) (λ b made. Ok (If c a b, made))))
   -- the first value does not see what the loop binds
   resolve (Loop mark sizes p first turns body) sc made =

@@ -12,6 +12,7 @@ use Rattle.module_exps.proofs.HeldExps.{place_at}
 use Rattle.module_exps.proofs.ListSizes.{held_biggest}
 use Rattle.module_exps.proofs.OperationLaws.{operation_smaller, operation_stops, operation_went}
 use Rattle.module_exps.proofs.RowLaws.{lets_went, row_entered, rows_end, rows_put, rows_put_stops}
+use Rattle.module_exps.proofs.SectionLaws.{led_entered}
 use Rattle.module_exps.proofs.StrictLaws.{binary_went, ascribed_went, coerced_went}
 use Rattle.module_exps.proofs.TurnLaws.{counted_entered, loop_stops, loop_went, over_entered, repeated_entered}
 use Rattle.module_exps.proofs.exps.+exps.Goals as goal
@@ -82,15 +83,15 @@ pub walked_body-returns-in-Some : goal.walked_body-returns-in-Some
 walked_body-returns-in-Some t c = rw c.in-Some.is (typed_body c.args.body.now _ _ _ _ _ _ _ _ (place_at c.body.inside _ c.body.view_is) c.declared.ensures c.resolved_type.ensures.went c.walked-in-Some.ensures)
 
 pub walked_rows-loop-bind-preserved : goal.walked_rows-loop-bind-preserved
-walked_rows-loop-bind-preserved t c = rows_put _ _ _ _ _ c.bind-item.result _ _ _ _ c.loop-bind-test.true c.bind-item.is c.walked_row.ensures c.in_ok-put.ensures c.loop-bind.invariant
+walked_rows-loop-bind-preserved t c = (rows_put _ _ _ _ _ _ _ c.bind-item.result _ _ _ _ c.loop-bind-test.true c.bind-item.is (omega (arith, c.loop-bind.invariant.1, c.loop-bind-test.true)) (led_entered _ _ _ c.looked_before-looked.ensures c.walked_row.ensures c.led.ensures) c.in_ok-put.ensures c.loop-bind.invariant.0, omega (arith, c.loop-bind.invariant.1, c.loop-bind-test.true))
 
 pub walked_rows-returns-in_err-put : goal.walked_rows-returns-in_err-put
 walked_rows-returns-in_err-put t c =
     let p = err_from_is_err_and c.from_residual.result c.from_residual.ensures.1 in
-    rw (p.1, p.2) (rows_put_stops _ _ _ _ _ c.bind-item.result _ _ _ _ c.loop-bind-test.true c.bind-item.is c.walked_row.ensures c.in_err-put.ensures c.loop-bind.invariant)
+    rw (p.1, p.2) (rows_put_stops _ _ _ _ _ _ _ c.bind-item.result _ _ _ _ c.loop-bind-test.true c.bind-item.is (omega (arith, c.loop-bind.invariant.1, c.loop-bind-test.true)) (led_entered _ _ _ c.looked_before-looked.ensures c.walked_row.ensures c.led.ensures) c.in_err-put.ensures c.loop-bind.invariant.0)
 
 pub walked_rows-returns : goal.walked_rows-returns
-walked_rows-returns t c = rows_end _ _ _ _ _ _ c.loop-bind-test.false c.into_bump_slice.ensures c.loop-bind.invariant
+walked_rows-returns t c = rows_end _ _ _ _ _ _ _ c.loop-bind-test.false c.into_bump_slice.ensures c.loop-bind.invariant.0
 
 pub walked_row-returns : goal.walked_row-returns
 walked_row-returns t c = row_entered c.args.bind.now _ _ _ _ _ _ _ _ _ _ _ _ c.sized_pattern-head.ensures c.height-height.ensures c.brought_heads-heads.ensures c.walked-value.ensures c.leave.ensures.scope c.leave.ensures.made c.brought_head-head.ensures c.let_row.ensures
