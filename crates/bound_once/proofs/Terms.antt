@@ -10,8 +10,8 @@ use Rattle.fut_flat.specs.Sources.{Spelled, SourceTerm, SourceTurns}
 use Rattle.fut_flat.specs.Terms.{Project, Use, Strict, Lambda, Apply, Let, If, Loop, Terms, no_term, term_and, Counted, Over, While}
 use Rattle.module_scopes.specs.Names.{Refusal}
 use Rattle.module_scopes.specs.Scopes.{Scope, enter, Found, value_of}
-use Rattle.module_scopes.specs.Resolve.{Numbered, with_text, Bound, is_declared, projected, use_found, resolve, resolve_all, resolve_turns, stands_behind}
-use Rattle.module_meaning.proofs.Grown.{went, more_text}
+use Rattle.module_scopes.specs.Resolve.{Numbered, with_text, Bound, is_declared, projected, section_name, use_found, resolve, resolve_all, resolve_turns, stands_behind}
+use Rattle.module_meaning.proofs.Grown.{led_so, went, more_text}
 use Rattle.module_meaning.proofs.Terms.{either_order}
 use Rattle.bound_once.specs.Binders.{term_binders, all_term_binders, turns_binders}
 use Rattle.bound_once.proofs.Filled.{Filled, fill_none, fill_one, fill_both, fill_back, fill_end}
@@ -50,13 +50,13 @@ mutual
       (λ g. went _ _ _ g (λ c m h w. went _ _ _ w (λ b l i q.
       fill_end term_binders length (fill_both (term_filled f sc made m c h) (term_filled a sc m l b i)) q)))
   term_filled (Let b v body) sc made made' u e =
-      went _ _ _ e (λ s m1 h1 g1. went _ _ _ g1 (λ p m2 h2 g2. went _ _ _ g2 (λ hs m3 h3 g3. went _ _ _ g3 (λ v' m4 h4 g4. went _ _ _ g4 (λ e' m5 h5 q.
+      led_so (section_name body) sc _ _ e (λ g0. went _ _ _ g0 (λ s m1 h1 g1. went _ _ _ g1 (λ p m2 h2 g2. went _ _ _ g2 (λ hs m3 h3 g3. went _ _ _ g3 (λ v' m4 h4 g4. went _ _ _ g4 (λ e' m5 h5 q.
       fill_end term_binders length
       (fill_both (sizes_filled b.sizes made m1 s h1)
       (fill_both (whole_filled b.pattern (enter s.1 sc) m1 m2 p h2)
       (fill_both (heads_filled b.parameters m2 m3 hs h3)
       (fill_both (term_filled v (enter hs.1 sc) m3 m4 v' h4)
-      (term_filled body (enter p.1 (enter s.1 sc)) m4 m5 e' h5))))) q)))))
+      (term_filled body (enter p.1 (enter s.1 sc)) m4 m5 e' h5))))) q))))))
   term_filled (If c a b) sc made made' u e =
       went _ _ _ e (λ c' m h w. went _ _ _ w (λ a' l i w'. went _ _ _ w' (λ b' k j q.
       fill_end term_binders length (fill_both (term_filled c sc made m c' h) (fill_both (term_filled a sc m l a' i) (term_filled b sc l k b' j))) q)))
