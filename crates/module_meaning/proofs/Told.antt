@@ -11,7 +11,7 @@ use Rattle.fut_ast.specs.declared.exp.Form.{Form-F, out-Form, map-Form, out-roll
 use Rattle.fut_ast.specs.declared.exp.Bind.{Bind-F, roll-Bind}
 use Rattle.fut_ast.specs.declared.exp.Ix.{Ix-F, out-Ix, map-Ix, roll-Ix, out-roll-Ix}
 use Rattle.fut_ast.specs.declared.exp.LoopForm.{LoopForm-F, out-LoopForm, map-LoopForm, roll-LoopForm, out-roll-LoopForm}
-use Rattle.fut_flat.specs.Sources.{Spelled, SourceTerm, SourceTurns, Placed, terms, terms_then, declared, joined, names_before, is_before, standing, applied_to, Asked, maybe_one, asked, Row, lets, placed, source_term}
+use Rattle.fut_flat.specs.Sources.{Spelled, SourceTerm, SourceTurns, Placed, terms, terms_then, declared, joined, names_before, is_before, standing, applied_to, Asked, asked, Row, lets, placed, source_term}
 use Rattle.module_scopes.specs.Programs.{definition_term}
 use Rattle.fut_flat.specs.Terms.{Use, Strict, Lambda, Apply, Let, If, Loop, Terms, no_term, term_and, Counted, Over, While}
 use Rattle.fut_flat.proofs.SourceForms.{PlainForm, PlainIx, PlainLoop, PlainBind, asked_of, turns_of, row_of, exp_fields, layer, placed_is, row_is, turns_layer, turns_are, index_layer, index_is}

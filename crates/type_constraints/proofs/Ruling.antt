@@ -1,5 +1,6 @@
 -- The rules of operations.
-use Rattle.std.proofs.Common.{◌≡◌, ◌<◌, ℕ, zero, suc, Bool, true, false, List, [], ◌∷◌, length, slice_index_or, Option, Some, None, refl, sym, ◌∙◌, ap, subst, arith}
+use Rattle.std.proofs.Common.{◌≡◌, ◌<◌, ◌≤◌, ◌+◌, ℕ, zero, suc, Bool, true, false, List, [], ◌∷◌, length, slice_index_or, Option, Some, None, refl, sym, ◌∙◌, ap, subst, arith}
+use Rattle.std.specs.Borrow.{Bor}
 use Rattle.fut_ast.specs.Sorts.{Text}
 use Rattle.fut_ast.specs.declared.node.End.{End}
 use Rattle.fut_scalar.specs.declared.operator.BinOp.{BinOp}
@@ -7,8 +8,11 @@ use Rattle.fut_scalar.specs.declared.scalar.IntType.{IntType}
 use Rattle.fut_scalar.specs.declared.place.BindId.{BindId}
 use Rattle.fut_flat.specs.declared.prim.Ref.{Ref}
 use Rattle.fut_flat.specs.declared.act.Act.{Act}
+use Rattle.fut_flat.specs.declared.act.Act.TheVariants as act
+use Rattle.fut_flat.specs.declared.act.Part.{Part}
+use Rattle.fut_flat.specs.declared.ty.TypeExp.{TypeExp}
 use Rattle.fut_flat.specs.Terms.{Operation, Integer, Truth, Tuple_of, Record_of, Array_of, Binary, Negate, Complement, Index, Project, Update, Replace, Ascribe, Coerce, Declared, Assert, Range}
-use Rattle.fut_flat.specs.Erased.{FlatType, operation_of}
+use Rattle.fut_flat.specs.Erased.{FlatType, operation_of, type_of}
 use Rattle.fut_types.specs.declared.Kind.{Kind}
 use Rattle.fut_types.specs.Types.{Ty, Sub, Kinds, Tys, none, more}
 use Rattle.fut_typing.specs.Names.{Names}
@@ -16,25 +20,24 @@ use Rattle.fut_typing.specs.Scopes.{Denotes}
 use Rattle.fut_typing.specs.Rules.{Rule, Written}
 use Rattle.fut_typing.specs.Homes.{Env, scope_of}
 use Rattle.fut_typing.specs.Typing.{operand}
+use Rattle.fut_typing.proofs.Ranges.{own_some}
+use Rattle.fut_flat.specs.Numbers.{own_numbers}
 use Rattle.type_graph.specs.Graph.{Each}
 use Rattle.type_claims.specs.Claims.{types_of}
 use Rattle.type_rules.specs.declared.demand.Demand.{Demand}
-use Rattle.type_rules.specs.Demands.{All_met, All_allow, Always_allowed}
+use Rattle.type_rules.specs.Demands.{All_met, All_allow, Always_allowed, Stay_within}
 use Rattle.type_scopes.specs.declared.Inference.{Inference}
 use Rattle.type_scopes.specs.Scopes.{Claim, Safe, Claimed, Refused}
 use Rattle.type_scopes.proofs.Claiming.{claimed_as, refused_as}
 use Rattle.type_patterns.specs.Asking.{Ascribed_claim}
 use Rattle.type_constraints.specs.Counts.{Works_on}
 use Rattle.type_constraints.specs.Parts.{Rule_claim, Rule_homes}
+use Rattle.type_constraints.specs.Plain.{Demanded, IsPlain, Say_rule}
 use Rattle.type_constraints.proofs.Forms.{anywhere}
 
 -- an operation with which no type is written
 abbrev pub Unwritten : Kind → Operation Ref BindId → Type 0
 Unwritten places o = (N : Names) (E : Env) (K : Kinds) (a : Sub) (lo : ℕ) → Written N places K o (scope_of N places E) a (a lo)
-
--- demands say the rule
-abbrev pub Say_rule : Kind → Operation Ref BindId → ℕ → List ℕ → List Demand → Type 0
-Say_rule places o lo parts ds = (N : Names) (K : Kinds) (a : Sub) → (All_met N.shapes K a ds → Rule N places K o (a lo) (a (operand o lo)) (types_of a parts)) × (Rule N places K o (a lo) (a (operand o lo)) (types_of a parts) → All_met N.shapes K a ds)
 
 module _ (places : Kind) (base lo : ℕ) (o : Operation Ref BindId) (parts : List ℕ) (plain : Unwritten places o) (i i' : Inference) where
   abbrev pub rule : Claim
@@ -53,6 +56,64 @@ module _ (places : Kind) (base lo : ℕ) (o : Operation Ref BindId) (parts : Lis
 
     pub demanded_err : ((places : Kind) (d lo : ℕ) → Refused places base d lo (λ N scope K a. All_met N.shapes K a ds) (λ home. All_allow home ds) i i') → (d from : ℕ) → Refused places base d from (Rule_claim places o lo parts) (Rule_homes d o lo) i i'
     demanded_err f d from = refused_as places base d from (λ N scope K a. All_met N.shapes K a ds) (Rule_claim places o lo parts) (λ home. All_allow home ds) (Rule_homes d o lo) i i' (λ N E K a h. (say N K a).1 h.0) (λ home h. allowed home) (f places d from)
+
+pub plain_unwritten : (places : Kind) (o : Operation Ref BindId) → IsPlain o → Unwritten places o
+plain_unwritten places (Integer n t) p N E K a lo = tt
+plain_unwritten places (Truth b) p N E K a lo = tt
+plain_unwritten places (Binary op) p N E K a lo = tt
+plain_unwritten places Negate p N E K a lo = tt
+plain_unwritten places Complement p N E K a lo = tt
+plain_unwritten places Assert p N E K a lo = tt
+plain_unwritten places (Range stepped end) p N E K a lo = tt
+plain_unwritten places Tuple_of p N E K a lo = absurd p
+plain_unwritten places (Record_of fs) p N E K a lo = absurd p
+plain_unwritten places Array_of p N E K a lo = absurd p
+plain_unwritten places (Index ps) p N E K a lo = absurd p
+plain_unwritten places (Project f) p N E K a lo = absurd p
+plain_unwritten places Update p N E K a lo = absurd p
+plain_unwritten places (Replace f) p N E K a lo = absurd p
+plain_unwritten places (Ascribe t) p N E K a lo = absurd p
+plain_unwritten places (Coerce t) p N E K a lo = absurd p
+plain_unwritten places (Declared t) p N E K a lo = absurd p
+
+-- the operations that are left
+pub rest_plain : (a : Act) → (a ≡ act.Tuple → ⊥) → (a ≡ act.Array → ⊥) → ((ps : Bor (List Part)) → a ≡ act.Index ps → ⊥) → (a ≡ act.Update → ⊥) → ((fs : Bor (List (Bor Text))) → a ≡ act.Record fs → ⊥) → ((f : Bor Text) → a ≡ act.Project f → ⊥) → ((f : Bor Text) → a ≡ act.Replace f → ⊥) → ((t : Bor TypeExp) → a ≡ act.Ascribe t → ⊥) → ((t : Bor TypeExp) → a ≡ act.Coerce t → ⊥) → ((t : Bor TypeExp) → a ≡ act.Declared t → ⊥) → IsPlain (operation_of a)
+rest_plain (act.Int n t) n0 n1 n2 n3 n4 n5 n6 n7 n8 n9 = tt
+rest_plain (act.Truth b) n0 n1 n2 n3 n4 n5 n6 n7 n8 n9 = tt
+rest_plain act.Negate n0 n1 n2 n3 n4 n5 n6 n7 n8 n9 = tt
+rest_plain act.Complement n0 n1 n2 n3 n4 n5 n6 n7 n8 n9 = tt
+rest_plain (act.Binary op) n0 n1 n2 n3 n4 n5 n6 n7 n8 n9 = tt
+rest_plain act.Assert n0 n1 n2 n3 n4 n5 n6 n7 n8 n9 = tt
+rest_plain (act.Range stepped end) n0 n1 n2 n3 n4 n5 n6 n7 n8 n9 = tt
+rest_plain act.Tuple n0 n1 n2 n3 n4 n5 n6 n7 n8 n9 = absurd (n0 refl)
+rest_plain act.Array n0 n1 n2 n3 n4 n5 n6 n7 n8 n9 = absurd (n1 refl)
+rest_plain (act.Index ps) n0 n1 n2 n3 n4 n5 n6 n7 n8 n9 = absurd (n2 ps refl)
+rest_plain act.Update n0 n1 n2 n3 n4 n5 n6 n7 n8 n9 = absurd (n3 refl)
+rest_plain (act.Record fs) n0 n1 n2 n3 n4 n5 n6 n7 n8 n9 = absurd (n4 fs refl)
+rest_plain (act.Project f) n0 n1 n2 n3 n4 n5 n6 n7 n8 n9 = absurd (n5 f refl)
+rest_plain (act.Replace f) n0 n1 n2 n3 n4 n5 n6 n7 n8 n9 = absurd (n6 f refl)
+rest_plain (act.Ascribe t) n0 n1 n2 n3 n4 n5 n6 n7 n8 n9 = absurd (n7 t refl)
+rest_plain (act.Coerce t) n0 n1 n2 n3 n4 n5 n6 n7 n8 n9 = absurd (n8 t refl)
+rest_plain (act.Declared t) n0 n1 n2 n3 n4 n5 n6 n7 n8 n9 = absurd (n9 t refl)
+
+pub only_plain : (a : Act) → IsPlain (operation_of a) → ((n : ℕ) (t : Option IntType) → a ≡ act.Int n t → ⊥) → ((b : Bool) → a ≡ act.Truth b → ⊥) → (a ≡ act.Negate → ⊥) → (a ≡ act.Complement → ⊥) → ((op : BinOp) → a ≡ act.Binary op → ⊥) → (a ≡ act.Assert → ⊥) → ((stepped : Bool) (end : End) → a ≡ act.Range stepped end → ⊥) → ⊥
+only_plain (act.Int n t) p n0 n1 n2 n3 n4 n5 n6 = n0 n t refl
+only_plain (act.Truth b) p n0 n1 n2 n3 n4 n5 n6 = n1 b refl
+only_plain act.Negate p n0 n1 n2 n3 n4 n5 n6 = n2 refl
+only_plain act.Complement p n0 n1 n2 n3 n4 n5 n6 = n3 refl
+only_plain (act.Binary op) p n0 n1 n2 n3 n4 n5 n6 = n4 op refl
+only_plain act.Assert p n0 n1 n2 n3 n4 n5 n6 = n5 refl
+only_plain (act.Range stepped end) p n0 n1 n2 n3 n4 n5 n6 = n6 stepped end refl
+only_plain act.Tuple p n0 n1 n2 n3 n4 n5 n6 = p
+only_plain act.Array p n0 n1 n2 n3 n4 n5 n6 = p
+only_plain (act.Index ps) p n0 n1 n2 n3 n4 n5 n6 = p
+only_plain act.Update p n0 n1 n2 n3 n4 n5 n6 = p
+only_plain (act.Record fs) p n0 n1 n2 n3 n4 n5 n6 = p
+only_plain (act.Project f) p n0 n1 n2 n3 n4 n5 n6 = p
+only_plain (act.Replace f) p n0 n1 n2 n3 n4 n5 n6 = p
+only_plain (act.Ascribe t) p n0 n1 n2 n3 n4 n5 n6 = p
+only_plain (act.Coerce t) p n0 n1 n2 n3 n4 n5 n6 = p
+only_plain (act.Declared t) p n0 n1 n2 n3 n4 n5 n6 = p
 
 -- a list of few numbers
 no_part : (l : List ℕ) → length l ≡ 0 → l ≡ []
@@ -112,6 +173,37 @@ module _ (places : Kind) (o : Operation Ref BindId) (lo : ℕ) (parts : List ℕ
   pub say_three : length parts ≡ 3 → Say_of places o lo (λ a. more (a (slice_index_or parts 0 0)) (more (a (slice_index_or parts 1 0)) (more (a (slice_index_or parts 2 0)) none))) ds → Say_rule places o lo parts ds
   unfolding types_of
   say_three e say = subst (λ (l : List ℕ). Say_rule places o lo l ds) (sym (three_parts parts e)) say
+
+-- the demands of the rule of an operation on few parts
+abbrev says_of : Operation Ref BindId → ℕ → (Sub → Tys) → List Demand → Type 0
+says_of o lo ts ds = (places : Kind) → Say_of places o lo ts ds
+
+module _ (o : Operation Ref BindId) (lo : ℕ) (parts : List ℕ) (ds : List Demand) where
+  abbrev nth : ℕ → ℕ
+  nth i = slice_index_or parts i 0
+
+  pub demanded_none : length parts ≡ 0 → says_of o lo (λ a. none) ds → Stay_within ds (lo ∷ []) → Always_allowed ds → Demanded o lo parts ds
+  demanded_none e say within allowed = record { says = λ places. say_none places o lo parts ds e (say places); within = λ table base room below. within table base (omega (arith, room, own_some o), tt); allowed = allowed }
+
+  pub demanded_one : length parts ≡ 1 → says_of o lo (λ a. more (a (nth 0)) none) ds → Stay_within ds (lo ∷ nth 0 ∷ []) → Always_allowed ds → Demanded o lo parts ds
+  demanded_one e say within allowed = record { says = λ places. say_one places o lo parts ds e (say places); within = λ table base room below. within table base (omega (arith, room, own_some o), (part_below base parts 0 0 below (omega (arith, e)), tt)); allowed = allowed }
+
+  pub demanded_two : length parts ≡ 2 → says_of o lo (λ a. more (a (nth 0)) (more (a (nth 1)) none)) ds → Stay_within ds (lo ∷ nth 0 ∷ nth 1 ∷ []) → Always_allowed ds → Demanded o lo parts ds
+  demanded_two e say within allowed = record { says = λ places. say_two places o lo parts ds e (say places); within = λ table base room below. within table base (omega (arith, room, own_some o), (part_below base parts 0 0 below (omega (arith, e)), (part_below base parts 1 0 below (omega (arith, e)), tt))); allowed = allowed }
+
+  -- the operands have a type of their own
+  pub demanded_operands : own_numbers o ≡ 2 → length parts ≡ 2 → says_of o lo (λ a. more (a (nth 0)) (more (a (nth 1)) none)) ds → Stay_within ds (lo ∷ (1 + lo) ∷ nth 0 ∷ nth 1 ∷ []) → Always_allowed ds → Demanded o lo parts ds
+  demanded_operands two e say within allowed = record { says = λ places. say_two places o lo parts ds e (say places); within = λ table base room below. within table base (omega (arith, room, two), (omega (arith, room, two), (part_below base parts 0 0 below (omega (arith, e)), (part_below base parts 1 0 below (omega (arith, e)), tt)))); allowed = allowed }
+
+  pub demanded_three : length parts ≡ 3 → says_of o lo (λ a. more (a (nth 0)) (more (a (nth 1)) (more (a (nth 2)) none))) ds → Stay_within ds (lo ∷ nth 0 ∷ nth 1 ∷ nth 2 ∷ []) → Always_allowed ds → Demanded o lo parts ds
+  demanded_three e say within allowed = record { says = λ places. say_three places o lo parts ds e (say places); within = λ table base room below. within table base (omega (arith, room, own_some o), (part_below base parts 0 0 below (omega (arith, e)), (part_below base parts 1 0 below (omega (arith, e)), (part_below base parts 2 0 below (omega (arith, e)), tt)))); allowed = allowed }
+
+module _ (places : Kind) (base lo : ℕ) (o : Operation Ref BindId) (parts : List ℕ) (plain : IsPlain o) (ds : List Demand) (d : Demanded o lo parts ds) (i i' : Inference) where
+  pub plain_ok : ((places : Kind) (d lo : ℕ) → Claimed places base d lo (λ N scope K a. All_met N.shapes K a ds) (λ home. All_allow home ds) i i') → (d from : ℕ) → Claimed places base d from (Rule_claim places o lo parts) (Rule_homes d o lo) i i'
+  plain_ok = demanded_ok places base lo o parts (plain_unwritten places o plain) i i' ds (d.says places) d.allowed
+
+  pub plain_err : ((places : Kind) (d lo : ℕ) → Refused places base d lo (λ N scope K a. All_met N.shapes K a ds) (λ home. All_allow home ds) i i') → (d from : ℕ) → Refused places base d from (Rule_claim places o lo parts) (Rule_homes d o lo) i i'
+  plain_err = demanded_err places base lo o parts (plain_unwritten places o plain) i i' ds (d.says places) d.allowed
 
 -- an operation on another number of parts
 abbrev pub Never_rule : Kind → Operation Ref BindId → List ℕ → Type 0

@@ -14,6 +14,7 @@ ghost use Rattle.type_scopes.specs.Scopes.{Opened, Refused, Safe};
 mod expressions;
 mod operations;
 mod patterns;
+mod plain;
 mod setting;
 mod uses;
 

@@ -9,6 +9,7 @@ ghost use Rattle.type_scopes.specs.Scopes.{Claimed, Refused, Safe};
 ghost use Rattle.type_constraints.specs.Parts.{Rule_claim, Rule_homes};
 ghost use Rattle.type_constraints.specs.Counts.{Works_on};
 
+use crate::plain::plain_rule;
 use fut_flat::Act;
 use fut_types::Kind;
 use std::alloc::Global;
@@ -16,10 +17,7 @@ use type_graph::UnifyErr;
 use type_labels::label;
 use type_patterns::{constrain_ascription, constrain_fields};
 use type_rows::{array, index, tuple, update_at};
-use type_rules::{
-    assertion, binary, complement, literal, negation, projection, range, range_by, replacement,
-    truth,
-};
+use type_rules::{projection, replacement};
 use type_scopes::{Inference, demand};
 
 /// How many numbers an operation has beside those of its parts.
@@ -81,21 +79,9 @@ pub fn constrain_rule<'a>(
         Act::Declared(ty) => {
             constrain_ascription(alloc, places, base, ty, lo, parts[0], inference)
         }
-        Act::Int { ty, .. } => demand(alloc, base, inference, &literal(lo, ty)),
-        Act::Truth(_) => demand(alloc, base, inference, &truth(lo)),
-        Act::Negate => demand(alloc, base, inference, &negation(lo, parts[0])),
-        Act::Complement => demand(alloc, base, inference, &complement(lo, parts[0])),
-        Act::Binary(op) => {
-            let rule = binary(op, lo, 1 + lo, parts[0], parts[1]);
-            demand(alloc, base, inference, &rule)
-        }
-        Act::Assert => demand(alloc, base, inference, &assertion(lo, parts[0], parts[1])),
-        Act::Range { stepped, .. } => {
-            if stepped {
-                let rule = range_by(lo, parts[0], parts[1], parts[2]);
-                return demand(alloc, base, inference, &rule);
-            }
-            demand(alloc, base, inference, &range(lo, parts[0], parts[1]))
+        _ => {
+            let rule = plain_rule(act, lo, parts);
+            demand(alloc, base, inference, rule.as_slice())
         }
     }
 }
