@@ -1,3 +1,5 @@
+pub mod Digital
+pub mod Names
 pub mod Limits
 pub mod Ever
 pub mod Within

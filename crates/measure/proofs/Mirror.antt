@@ -5,7 +5,7 @@ use Rattle.fut_scalar.specs.declared.place.BindId.{BindId}
 use Rattle.fut_ast.specs.Sorts.{Text}
 use Rattle.fut_flat.specs.declared.prim.Primitive.{Primitive}
 use Rattle.fut_flat.specs.Erased.{patterns, pattern_of, term_of, texts}
-use Rattle.fut_meaning.specs.Knowns.{Known, Data, Known_tuple, Known_record, Known_function, Known_primitive, Scope, empty, known_as, is_data}
+use Rattle.fut_meaning.specs.Knowns.{Known, Data, Known_tuple, Known_record, Known_function, Known_primitive, Scope, empty, branch, is_data}
 use Rattle.measure.specs.declared.known.Known.{Known as Held_known, fold_out-Known}
 use Rattle.measure.specs.declared.known.KnownForm.{KnownForm, KnownForm-F, fold-KnownForm, fold_out-KnownForm, out-KnownForm, roll-KnownForm, roll-out-KnownForm, map-KnownForm}
 use Rattle.measure.specs.declared.known.KnownForm.TheVariants as form
@@ -84,16 +84,16 @@ known_function s c is = known_closure s c is ∙ closure_is c.now
 pub known_primitive : (s : Held_known) (p : Primitive) (ss : Bor (List Held_known)) → s.form.now ≡ form.Primitive p ss → known_of s ≡ Known_primitive p (knowns (map known_of ss.now))
 known_primitive s p ss is = known_at s _ _ is (form.outs-Primitive p ss)
 
-scope_layer_is : (l : Scope-F KnownForm Held_scope Closure Held_known) (b : BindId) (s : Held_known) (sc : Bor Held_scope) → l ≡ Scope-F.Bind b s sc → scope_form (map-Scope KnownForm Held_scope Closure Held_known Known Scope Known Known form_known scope_of closure_of known_of l) ≡ known_as b (known_of s) (scope_of sc.now)
+scope_layer_is : (l : Scope-F KnownForm Held_scope Closure Held_known) (b : BindId) (s : Held_known) (even odd : Bor Held_scope) → l ≡ Scope-F.Bind b s even odd → scope_form (map-Scope KnownForm Held_scope Closure Held_known Known Scope Known Known form_known scope_of closure_of known_of l) ≡ branch b (known_of s) (scope_of even.now) (scope_of odd.now)
 unfolding scope_form
-scope_layer_is l b s sc e = rw e refl
+scope_layer_is l b s even odd e = rw e refl
 
 pub scope_empty : scope_of scope.Empty ≡ empty
 unfolding scope_of scope_form known_of form_known closure_of
 scope_empty = fold_out-Scope Known Scope Known Known known_form scope_form (λ c. Known_function (patterns (map pattern_of c.params.now)) (term_of c.body.now) c.scope.now) (λ s. s.form.now) scope.Empty ∙ ap (λ l. scope_form (map-Scope KnownForm Held_scope Closure Held_known Known Scope Known Known form_known scope_of closure_of known_of l)) scope.outs-Empty
 
-pub scope_bind : (b : BindId) (s : Held_known) (sc : Bor Held_scope) → scope_of (scope.Bind b s sc) ≡ known_as b (known_of s) (scope_of sc.now)
+pub scope_bind : (b : BindId) (s : Held_known) (even odd : Bor Held_scope) → scope_of (scope.Bind b s even odd) ≡ branch b (known_of s) (scope_of even.now) (scope_of odd.now)
 unfolding scope_of known_of form_known closure_of
-scope_bind b s sc = fold_out-Scope Known Scope Known Known known_form scope_form (λ c. Known_function (patterns (map pattern_of c.params.now)) (term_of c.body.now) c.scope.now) (λ s. s.form.now) (scope.Bind b s sc) ∙ scope_layer_is _ b s sc (scope.outs-Bind b s sc)
+scope_bind b s even odd = fold_out-Scope Known Scope Known Known known_form scope_form (λ c. Known_function (patterns (map pattern_of c.params.now)) (term_of c.body.now) c.scope.now) (λ s. s.form.now) (scope.Bind b s even odd) ∙ scope_layer_is _ b s even odd (scope.outs-Bind b s even odd)
 
 pub ruleset mirrors = (known_data, known_tuple, known_record, known_function, known_primitive, scope_empty, scope_bind)

@@ -2,7 +2,7 @@
 use Rattle.std.specs.Prelude.{List, [], ◌∷◌, map, Option, option_map}
 use Rattle.fut_ast.specs.Sorts.{Text}
 use Rattle.fut_flat.specs.Erased.{patterns, pattern_of, term_of, texts}
-use Rattle.fut_meaning.specs.Knowns.{Known, Data, Known_tuple, Known_record, Known_function, Known_primitive, Knowns, known_none, known_and, Known_fields, known_no_field, known_field, Scope, empty, known_as}
+use Rattle.fut_meaning.specs.Knowns.{Known, Data, Known_tuple, Known_record, Known_function, Known_primitive, Knowns, known_none, known_and, Known_fields, known_no_field, known_field, Scope, empty, branch}
 use Rattle.measure.specs.declared.known.Known.{Known as Held_known, fold-Known}
 use Rattle.measure.specs.declared.known.KnownForm.{KnownForm-F}
 use Rattle.measure.specs.declared.known.Closure.{Closure, fold-Closure}
@@ -28,7 +28,7 @@ known_form (KnownForm-F.Primitive p ss) = Known_primitive p (knowns ss.now)
 
 unfoldable pub scope_form : Scope-F Known Scope Known Known → Scope
 scope_form Scope-F.Empty = empty
-scope_form (Scope-F.Bind b s sc) = known_as b s sc.now
+scope_form (Scope-F.Bind b s even odd) = branch b s even.now odd.now
 
 unfoldable pub known_of : Held_known → Known
 known_of = fold-Known Known Scope Known Known known_form scope_form (λ c. Known_function (patterns (map pattern_of c.params.now)) (term_of c.body.now) c.scope.now) (λ s. s.form.now)

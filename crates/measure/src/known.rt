@@ -38,12 +38,13 @@ pub struct Closure<'a> {
     pub scope: &'a Scope<'a>,
 }
 
-/// Local names with what is known of them, the newest first.
+/// Local names with what is known of them, as a digital search tree: below a name stand first those whose number goes on with
+/// a zero, by its binary digits from the last one on, and then those that go on with a one.
 #[cycle(known)]
 #[derive(Clone, Copy)]
 pub enum Scope<'a> {
     Empty,
-    Bind(BindId, Known<'a>, &'a Scope<'a>),
+    Bind(BindId, Known<'a>, &'a Scope<'a>, &'a Scope<'a>),
 }
 
 static DATA: KnownForm<'static> = KnownForm::Data;

@@ -1,7 +1,7 @@
 // Local names.
 ghost use Rattle.std.specs.Prelude.{◌≡◌, IfOk, IfErr, map};
 ghost use Rattle.fut_flat.specs.Erased.{pattern_of, patterns, term_of};
-ghost use Rattle.fut_meaning.specs.Knowns.{Known_function, empty, find, known_as};
+ghost use Rattle.fut_meaning.specs.Knowns.{Known_function, branch, empty, find, known_as, known_by};
 ghost use Rattle.measure.specs.Held.{known_of, scope_of, maybe_known};
 ghost use Rattle.measure.specs.declared.stop.Stop.TheVariants as stop;
 
@@ -17,11 +17,17 @@ pub fn find<'a>(scope: &'a Scope<'a>, number: BindId) -> Option<Known<'a>>
     ensures { maybe_known result ≡ find (scope_of scope.now) number.0 }
 {
     let mut current = *scope;
-    while let Scope::Bind(bind, known, rest) = current {
+    let mut digits = number.0;
+    while let Scope::Bind(bind, known, even, odd) = current {
         if bind.0 == number.0 {
             return Some(known);
         }
-        current = *rest;
+        if digits % 2 == 1 {
+            current = *odd;
+        } else {
+            current = *even;
+        }
+        digits /= 2;
     }
     None
 }
@@ -38,6 +44,7 @@ pub fn no_scope<'a>(bump: &'a Bump) -> Result<&'a Scope<'a>, Stop>
 }
 
 /// The names with one more.
+#[tactic(auto, using(crate::proofs::Finding::binding))]
 pub fn bound<'a>(
     bump: &'a Bump,
     bind: BindId,
@@ -47,7 +54,52 @@ pub fn bound<'a>(
     ensures ok { IfOk result (λ inner. scope_of inner.now ≡ known_as bind (known_of known.entry) (scope_of scope.now)) }
     ensures err { IfErr result (λ e. e ≡ stop.Memory) }
 {
-    match bump.try_alloc(Scope::Bind(bind, known, scope)) {
+    bound_by(bump, bind.0, bind, known, scope)
+}
+
+// The names with one more, of whose number these digits are left. Two numbers differ in one of their 32 digits, so this goes at
+// most as deep as that.
+#[tactic(auto, using(crate::proofs::Finding::binding))]
+fn bound_by<'a>(
+    bump: &'a Bump,
+    digits: u32,
+    bind: BindId,
+    known: Known<'a>,
+    scope: &'a Scope<'a>,
+) -> Result<&'a Scope<'a>, Stop>
+    ensures ok { IfOk result (λ inner. scope_of inner.now ≡ known_by digits bind (known_of known.entry) (scope_of scope.now)) }
+    ensures err { IfErr result (λ e. e ≡ stop.Memory) }
+{
+    let Scope::Bind(other, held, even, odd) = *scope else {
+        return root(bump, bind, known, scope, scope);
+    };
+    if other.0 == bind.0 {
+        root(bump, bind, known, even, odd)
+    } else if digits % 2 == 1 {
+        match bound_by(bump, digits / 2, bind, known, odd) {
+            Ok(odd) => root(bump, other, held, even, odd),
+            Err(stop) => Err(stop),
+        }
+    } else {
+        match bound_by(bump, digits / 2, bind, known, even) {
+            Ok(even) => root(bump, other, held, even, odd),
+            Err(stop) => Err(stop),
+        }
+    }
+}
+
+// A name with those below it.
+fn root<'a>(
+    bump: &'a Bump,
+    bind: BindId,
+    known: Known<'a>,
+    even: &'a Scope<'a>,
+    odd: &'a Scope<'a>,
+) -> Result<&'a Scope<'a>, Stop>
+    ensures ok { IfOk result (λ inner. scope_of inner.now ≡ branch bind (known_of known.entry) (scope_of even.now) (scope_of odd.now)) }
+    ensures err { IfErr result (λ e. e ≡ stop.Memory) }
+{
+    match bump.try_alloc(Scope::Bind(bind, known, even, odd)) {
         Ok(inner) => Ok(inner),
         Err(_) => Err(Stop::Memory),
     }

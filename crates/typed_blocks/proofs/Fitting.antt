@@ -1,5 +1,5 @@
 -- What is known stays where more definitions are known, and the part of a record is known by its label.
-use Rattle.std.proofs.Common.{◌≡◌, Bool, true, false, cond, ℕ, refl, sym, ◌∙◌, subst, List, [], ◌∷◌, Option, Some, None, if◌then◌else◌, ◌==◌, eq-eqb, nat_eq}
+use Rattle.std.proofs.Common.{◌≡◌, Bool, true, false, cond, ℕ, refl, sym, ◌∙◌, subst, List, [], ◌∷◌, Option, Some, None, if◌then◌else◌, ◌==◌, eq-eqb}
 use native.Mathlib.Decide.{ℕ_discrete}
 use Rattle.std.specs.Str.{bytes_eq}
 use Rattle.std.proofs.lemmas.Slice.Eq.{bytes_eq-Decides}
@@ -10,7 +10,9 @@ use Rattle.fut_types.specs.Types.{Ty, Var, Made, Tys, none, more}
 use Rattle.fut_types.specs.Shapes.{place_from, part_at}
 use Rattle.fut_typing.specs.Names.{Names}
 use Rattle.typed_meaning.proofs.Records.{there_place}
-use Rattle.unfold.specs.Knowns.{Known, Scalar_known, Tuple_known, Record_known, Function_known, Primitive_known, Knowns, no_known, known_and, Known_fields, no_known_field, known_field_and, Scope as Seen, no_name, name_and, Tops, find, field}
+use Rattle.fut_blocks.specs.Meaning.{look}
+use Rattle.fut_meaning.specs.Knowns.{or_else}
+use Rattle.unfold.specs.Knowns.{Known, Scalar_known, Tuple_known, Record_known, Function_known, Primitive_known, Knowns, no_known, known_and, Known_fields, no_known_field, known_field_and, Scope as Seen, Tops, local, find, field}
 use Rattle.typed_blocks.specs.Fits.{Learns, Each_field, Fits, All_fit, Keyed}
 
 pub some_same : {A : Type 0} {x y : A} → Some x ≡ Some y → x ≡ y
@@ -27,12 +29,11 @@ learns_more tops tops' tops'' g h k s e = h k s (g k s e)
 
 pub find_learns : (tops tops' : Tops) → Learns tops tops' → (sc : Seen) (b : ℕ) (s : Known) → find tops sc b ≡ Some s → find tops' sc b ≡ Some s
 unfolding find
-find_learns tops tops' g no_name b s e = g b s e
-find_learns tops tops' g (name_and x w sc) b s e = known (nat_eq x.0 b) (find_learns tops tops' g sc b s) e
+find_learns tops tops' g sc b s e = known (local sc b) e
   where
-    known : (c : Bool) → (find tops sc b ≡ Some s → find tops' sc b ≡ Some s) → cond c (Some w) (find tops sc b) ≡ Some s → cond c (Some w) (find tops' sc b) ≡ Some s
-    known true rec e = e
-    known false rec e = rec e
+    known : (o : Option Known) → or_else o (look tops b) ≡ Some s → or_else o (look tops' b) ≡ Some s
+    known None e = g b s e
+    known (Some u) e = e
 
 -- ---- fields
 pub each_map : (P Q : Text → Known → Type 0) → ((g : Text) (s : Known) → P g s → Q g s) → (fs : Known_fields) → Each_field P fs → Each_field Q fs

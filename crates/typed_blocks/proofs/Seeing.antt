@@ -1,5 +1,5 @@
 -- Names with what is known of them: where more definitions are known, and behind a pattern.
-use Rattle.std.proofs.Common.{◌≡◌, cond, ℕ, ◌+◌, ◌<◌, sym, ap, ◌∙◌, subst, List, [], ◌∷◌, Some, ne_eqb, eq-eqb}
+use Rattle.std.proofs.Common.{◌≡◌, ℕ, ◌+◌, ◌<◌, sym, ap, ◌∙◌, subst, List, [], ◌∷◌, Some}
 use native.Mathlib.Decide.{ℕ_discrete}
 use Rattle.fut_scalar.specs.declared.place.BindId.{BindId}
 use Rattle.fut_scalar.specs.declared.scalar.IntType.{IntType}
@@ -15,6 +15,7 @@ use Rattle.fut_typing.specs.Scopes.{Uses, Scope, with_uses, with_type, with_size
 use Rattle.fut_typing.specs.Patterns.{pattern_types, with_pattern, with_patterns, with_parameters, Pattern_typed, Patterns_typed}
 use Rattle.fut_typing.proofs.Local.{AllLocal, Agree}
 use Rattle.typed_meaning.specs.Meant.{No_sizes}
+use Rattle.unfold.proofs.Names.{found_here, found_on}
 use Rattle.unfold.specs.Knowns.{Known, Tuple_known, Record_known, Knowns, no_known, known_and, Known_fields, Scope as Seen, name_and, Tops, listed, find, record_parts}
 use Rattle.unfold.specs.Unfolding.{Binds, b_bound, b_wild, b_tuple, b_record, b_typed, All_bind, b_none, b_more}
 use Rattle.typed_blocks.specs.Fits.{Learns, Fits, All_fit, Names_fit}
@@ -61,10 +62,9 @@ module _ (N : Names) (integer_at : ℕ → IntType) (P : ℕ → Type 0) (K : Ki
     Sees scope sc = Names_fit N integer_at tops P scope K a sc
 
     pub name_fits : (b : BindId) (v : Known) (u : Uses) (scope : Scope) (sc : Seen) → ((t : Ty) → u K a t → At t v) → Sees scope sc → Sees (with_uses b.0 u scope) (name_and b v sc)
-    unfolding find
     name_fits b v u scope sc here rest n p t = elim (ℕ_discrete n b.0) as (λ d. (elim d as (λ d. Uses) [ yes e ↦ u | no ne ↦ scope.uses n ]) K a t → (s : Known) × (find tops (name_and b v sc) n ≡ Some s) × At t s) [
-      | yes e ↦ λ h. (v, ap (λ c. cond c (Some v) (find tops sc n)) (eq-eqb b.0 n (sym e)), here t h)
-      | no ne ↦ λ h. let r = rest n p t h in (r.0, ap (λ c. cond c (Some v) (find tops sc n)) (ne_eqb b.0 n (λ e. ne (sym e))) ∙ r.1, r.2)
+      | yes e ↦ λ h. (v, found_here tops b v sc n (sym e), here t h)
+      | no ne ↦ λ h. let r = rest n p t h in (r.0, found_on tops b v sc n (λ e. ne (sym e)) ∙ r.1, r.2)
     ]
 
     pub same_fits : (t u : Ty) (s : Known) → t ≡ u → At t s → At u s

@@ -183,7 +183,7 @@ module _ (N : Names) (are : AreNames N) (integer_at : ℕ → IntType) (P : ℕ 
       stuck (no_count {s = s} x lacks) = let r = of_integers N integer_at K tops (a (1 + at)) s (subst (HasKind K kind.Integer) e k) (g.1 _ _ _ s x) in lacks r.0 r.1
 
       names : (inside inner : Seen) → In_scope tops carried a inside → Turn_names integer_at tops sc inside at (Counted i n) inner → In_scope tops (with_turns (Counted i n) at carried) a inner
-      names inside _ h (turn_counted {y = y} {u = u} x) =
+      names inside _ h (turn_counted {u = u} y x) =
           name_fits N integer_at P K tops a i (named y) (the_one at) carried inside (λ t q. subst (λ z. At tops z (named y)) (sym q) (any_scalar N integer_at K tops (a at) u (named y) (subst (λ z. At tops z (Scalar_known u)) (sym e) (g.1 _ _ _ (Scalar_known u) x)) tt)) h
 
   tested_go : (c : FlatTerm) (at : ℕ) (carried : Scope) (a : Sub) (tops : Tops) (sc : Seen) → a at ≡ bool_ty → ((inside : Seen) → In_scope tops carried a inside → Goes_on tops inside at c (a at)) → Turns_go at (While c) carried a tops sc

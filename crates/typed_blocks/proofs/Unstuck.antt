@@ -28,7 +28,7 @@ use Rattle.typed_meaning.specs.Meant.{No_sizes, Meant, Literal, Literals_told}
 use Rattle.typed_meaning.specs.Programs.{Definitions_meant, Definitions_told, None_has, One_each}
 use Rattle.typed_meaning.proofs.Literals.{literal_kept}
 use Rattle.typed_meaning.proofs.Programs.{or_left, or_right, both, uses_of, tops_of, Reached}
-use Rattle.unfold.specs.Knowns.{Known, Knowns, no_known, known_and, no_name, Tops, listed, find}
+use Rattle.unfold.specs.Knowns.{Known, Knowns, no_known, known_and, no_name, Tops, listed, find, local_by, local}
 use Rattle.unfold.specs.Programs.{Definitions_unfold, d_none, d_reached, d_other, Applies_all, a_none, a_more}
 use Rattle.unfold.specs.Shapes.{Shape, Shapes, Laid, laid_scalar, laid_tuple, All_laid, laid_none, laid_more}
 use Rattle.unfold.specs.Stuck.{Definitions_stuck, stuck_definition, stuck_next, stuck_other, Stuck_runs, stuck_run, stuck_on, Program_stuck, in_definitions, no_entry, in_entry, no_result}
@@ -88,7 +88,7 @@ module _ (N : Names) (are : AreNames N) (K : Kinds) (a : Sub) (integer_at : ℕ 
 
     -- the names behind it, where it is known
     behind_known : (P Q : ℕ → Type 0) (tops : Tops) (w : Known) → ((k : ℕ) → Q k → P k) → Left tops (d ∷ ds) → ((t : Ty) → Reused kind.Data whole lo K a t → At tops t w) → In_tops tops P scope → In_tops ((d.bind.0, w) ∷ tops) Q (with_uses d.bind.0 (Reused kind.Data whole lo) scope)
-    unfolding find
+    unfolding find local local_by
     behind_known P Q tops w into left each h n q t = elim (ℕ_discrete n d.bind.0) as (λ x. (elim x as (λ x. Uses) [ yes e ↦ Reused kind.Data whole lo | no ne ↦ scope.uses n ]) K a t → (s : Known) × (look ((d.bind.0, w) ∷ tops) n ≡ Some s) × At ((d.bind.0, w) ∷ tops) t s) [
       | yes e ↦ λ u. (w, ap (λ b. cond b (Some w) (look tops n)) (eq-eqb d.bind.0 n (sym e)), fits_learn N integer_at t tops ((d.bind.0, w) ∷ tops) (new_top tops w left) w (each t u))
       | no ne ↦ λ u. let r = h n (into n q) t u in (r.0, new_top tops w left n r.0 r.1, fits_learn N integer_at t tops ((d.bind.0, w) ∷ tops) (new_top tops w left) r.0 r.2)
@@ -96,7 +96,7 @@ module _ (N : Names) (are : AreNames N) (K : Kinds) (a : Sub) (integer_at : ℕ 
 
     -- and where it is not
     behind_left : (P Q : ℕ → Type 0) (tops : Tops) → ((k : ℕ) → Q k → P k) → (Q d.bind.0 → ⊥) → In_tops tops P scope → In_tops tops Q (with_uses d.bind.0 (Reused kind.Data whole lo) scope)
-    unfolding find
+    unfolding find local local_by
     behind_left P Q tops into never h n q t = elim (ℕ_discrete n d.bind.0) as (λ x. (elim x as (λ x. Uses) [ yes e ↦ Reused kind.Data whole lo | no ne ↦ scope.uses n ]) K a t → (s : Known) × (look tops n ≡ Some s) × At tops t s) [
       | yes e ↦ λ u. absurd (never (subst Q e q))
       | no ne ↦ λ u. h n (into n q) t u
@@ -228,7 +228,7 @@ module _ (N : Names) (are : AreNames N) (K : Kinds) (a : Sub) (integer_at : ℕ 
   module _ (ds : List Definition) (ts : Tys) (u : Ty) (hs : Shapes) (used : (scope_behind N kind.Data (map defined ds) 0 nothing).uses entry.0 K a (arrows ts u)) (shapes : All_of_shapes ts hs) (result : HasKind K kind.Data u) (go : Definitions_go ds 0 nothing []) where
     -- what is known of the entry
     entry_fits : (n n' : ℕ) (bs : Bindings) (end : Tops) → Definitions_unfold integer_at entry.0 [] (tops_of 0 ds) n bs end n' → (s : Known) × (look end entry.0 ≡ Some s) × At end (arrows ts u) s
-    unfolding find
+    unfolding find local local_by
     entry_fits n n' bs end v = go.1 n n' bs end v entry.0 (eq-eqb entry.0 entry.0 refl) (arrows ts u) used
 
     entry_is : (n n' : ℕ) (bs : Bindings) (end : Tops) (s : Known) → Definitions_unfold integer_at entry.0 [] (tops_of 0 ds) n bs end n' → look end entry.0 ≡ Some s → At end (arrows ts u) s
@@ -245,7 +245,7 @@ module _ (N : Names) (are : AreNames N) (K : Kinds) (a : Sub) (integer_at : ℕ 
         let q = r.1 [] in lacks r.0 q.0 q.1
 
 pub unfolding_never_stuck : UnfoldingNeverStuck
-unfolding find
+unfolding find local local_by
 unfolding_never_stuck N are K a integer_at flat is entry ts u used result hs shapes =
     program_goes N are K a integer_at entry flat.definitions.now ts u hs used shapes result (definitions_go N are K a integer_at entry flat.definitions.now 0 nothing [] (record {
       all = λ b K x y t same h. absurd h;

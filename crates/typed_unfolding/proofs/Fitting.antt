@@ -1,5 +1,5 @@
 -- What is known stays where more is known, and the part of a record is known by its label.
-use Rattle.std.proofs.Common.{◌≡◌, Bool, true, false, cond, ℕ, sym, ◌∙◌, subst, List, [], ◌∷◌, Option, Some, None, if◌then◌else◌, ◌==◌, eq-eqb, nat_eq}
+use Rattle.std.proofs.Common.{◌≡◌, ℕ, sym, ◌∙◌, subst, List, [], ◌∷◌, Option, Some, None, if◌then◌else◌, ◌==◌, eq-eqb}
 use native.Mathlib.Decide.{ℕ_discrete}
 use Rattle.fut_scalar.specs.declared.scalar.IntType.{IntType}
 use Rattle.fut_types.specs.declared.Head.TheVariants as head
@@ -8,7 +8,9 @@ use Rattle.fut_types.specs.Shapes.{place_from, part_at}
 use Rattle.fut_typing.specs.Names.{Names}
 use Rattle.fut_blocks.specs.Typed.{Sort}
 use Rattle.typed_meaning.proofs.Records.{there_place}
-use Rattle.unfold.specs.Knowns.{Known, Scalar_known, Tuple_known, Record_known, Function_known, Primitive_known, Knowns, no_known, known_and, Scope as Seen, no_name, name_and, find}
+use Rattle.fut_blocks.specs.Meaning.{look}
+use Rattle.fut_meaning.specs.Knowns.{or_else}
+use Rattle.unfold.specs.Knowns.{Known, Scalar_known, Tuple_known, Record_known, Function_known, Primitive_known, Knowns, no_known, known_and, Scope as Seen, local, find}
 use Rattle.typed_blocks.proofs.Fitting.{some_same, each_map}
 use Rattle.typed_unfolding.specs.Worlds.{World, Learns}
 use Rattle.typed_unfolding.specs.Fits.{On_scalar, Fits, All_fit, Keyed}
@@ -16,12 +18,11 @@ use Rattle.typed_unfolding.proofs.Worlds.{learns_more, is_kept}
 
 pub find_learns : (w w' : World) → Learns w w' → (sc : Seen) (b : ℕ) (s : Known) → find w.0 sc b ≡ Some s → find w'.0 sc b ≡ Some s
 unfolding find
-find_learns w w' g no_name b s e = g.0 b s e
-find_learns w w' g (name_and x v sc) b s e = known (nat_eq x.0 b) (find_learns w w' g sc b s) e
+find_learns w w' g sc b s e = known (local sc b) e
   where
-    known : (c : Bool) → (find w.0 sc b ≡ Some s → find w'.0 sc b ≡ Some s) → cond c (Some v) (find w.0 sc b) ≡ Some s → cond c (Some v) (find w'.0 sc b) ≡ Some s
-    known true rec e = e
-    known false rec e = rec e
+    known : (o : Option Known) → or_else o (look w.0 b) ≡ Some s → or_else o (look w'.0 b) ≡ Some s
+    known None e = g.0 b s e
+    known (Some u) e = e
 
 pub scalar_learns : (x : Sort) (w w' : World) → Learns w w' → (s : Known) → On_scalar w.1 x s → On_scalar w'.1 x s
 scalar_learns x w w' g (Scalar_known u) h = is_kept w.1 w'.1 u x g.1 h

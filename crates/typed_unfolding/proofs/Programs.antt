@@ -30,7 +30,7 @@ use Rattle.typed_meaning.specs.Meant.{No_sizes, Meant, Literal, Literals_told}
 use Rattle.typed_meaning.specs.Programs.{Definitions_meant, Definitions_told, None_has, One_each}
 use Rattle.typed_meaning.proofs.Literals.{literal_kept}
 use Rattle.typed_meaning.proofs.Programs.{or_left, or_right, both, uses_of, tops_of, Reached}
-use Rattle.unfold.specs.Knowns.{Known, Knowns, no_known, known_and, no_name, Tops, listed, find}
+use Rattle.unfold.specs.Knowns.{Known, Knowns, no_known, known_and, no_name, Tops, listed, find, local_by, local}
 use Rattle.unfold.specs.Programs.{Definitions_unfold, d_none, d_reached, d_other, Applies_all, a_none, a_more, Program_unfolds}
 use Rattle.unfold.specs.Shapes.{Shape, Shapes}
 use Rattle.unfold.specs.Unfolding.{Bindings, names, Unfolds}
@@ -103,7 +103,7 @@ module _ (N : Names) (are : AreNames N) (K : Kinds) (a : Sub) (integer_at : ℕ 
 
     -- the names behind it, where it is known
     behind_known : (P Q : ℕ → Type 0) (w : World) (v : Known) (H : Types) → ((k : ℕ) → Q k → P k) → Learns w (and_it w v H) → ((t : Ty) → Reused kind.Data whole lo K a t → At (and_it w v H) t v) → In_tops w P scope → In_tops (and_it w v H) Q (with_uses d.bind.0 (Reused kind.Data whole lo) scope)
-    unfolding find
+    unfolding find local local_by
     behind_known P Q w v H into g each h n q t = elim (ℕ_discrete n d.bind.0) as (λ x. (elim x as (λ x. Uses) [ yes e ↦ Reused kind.Data whole lo | no ne ↦ scope.uses n ]) K a t → (s : Known) × (look ((d.bind.0, v) ∷ w.0) n ≡ Some s) × At (and_it w v H) t s) [
       | yes e ↦ λ u. (v, ap (λ b. cond b (Some v) (look w.0 n)) (eq-eqb d.bind.0 n (sym e)), each t u)
       | no ne ↦ λ u. let r = h n (into n q) t u in (r.0, g.0 n r.0 r.1, fits_learn N integer_at t w (and_it w v H) g r.0 r.2)
@@ -111,7 +111,7 @@ module _ (N : Names) (are : AreNames N) (K : Kinds) (a : Sub) (integer_at : ℕ 
 
     -- and where it is not
     behind_left : (P Q : ℕ → Type 0) (w : World) → ((k : ℕ) → Q k → P k) → (Q d.bind.0 → ⊥) → In_tops w P scope → In_tops w Q (with_uses d.bind.0 (Reused kind.Data whole lo) scope)
-    unfolding find
+    unfolding find local local_by
     behind_left P Q w into never h n q t = elim (ℕ_discrete n d.bind.0) as (λ x. (elim x as (λ x. Uses) [ yes e ↦ Reused kind.Data whole lo | no ne ↦ scope.uses n ]) K a t → (s : Known) × (look w.0 n ≡ Some s) × At w t s) [
       | yes e ↦ λ u. absurd (never (subst Q e q))
       | no ne ↦ λ u. h n (into n q) t u
@@ -218,7 +218,7 @@ module _ (N : Names) (are : AreNames N) (K : Kinds) (a : Sub) (integer_at : ℕ 
 
   module _ (ds : List Definition) (ts : Tys) (u : Ty) (hs : Shapes) (used : (scope_behind N kind.Data (map defined ds) 0 nothing).uses entry.0 K a (arrows ts u)) (shapes : All_of_shapes ts hs) where
     entry_is : (w : World) (f : Known) → Ends ds 0 nothing w → look w.0 entry.0 ≡ Some f → At w (arrows ts u) f
-    unfolding find
+    unfolding find local local_by
     entry_is w f ends e = let r = ends entry.0 (eq-eqb entry.0 entry.0 refl) (arrows ts u) used in subst (At w (arrows ts u)) (some_same (sym r.1 ∙ e)) r.2
 
     nothing_below : (n : ℕ) → Below [] n
@@ -240,7 +240,7 @@ module _ (N : Names) (are : AreNames N) (K : Kinds) (a : Sub) (integer_at : ℕ 
         }
 
 pub unfolded_well_typed : UnfoldedWellTyped
-unfolding find
+unfolding find local local_by
 unfolded_well_typed N are K a integer_at flat is entry ts u used hs h p x shapes sorts ss result =
     program_typed N are K a integer_at entry flat.definitions.now ts u hs used shapes h p x sorts ss result (λ G. record {
       all = λ b K x y t same h. absurd h;

@@ -13,7 +13,7 @@ use Rattle.fut_blocks.specs.declared.block.Atom.TheVariants as atom
 use Rattle.fut_blocks.specs.declared.block.Operation.TheVariants as operation
 use Rattle.fut_blocks.specs.Plain.{Operate, Give}
 use Rattle.fut_blocks.specs.Plain as act
-use Rattle.unfold.specs.Knowns.{Known, Tuple_known, Function_known, no_known, known_and, Scope, no_name, name_and, Tops, find}
+use Rattle.unfold.specs.Knowns.{Known, Tuple_known, Function_known, no_known, known_and, Scope, no_name, name_by, name_and, Tops, local_by, local, find}
 use Rattle.unfold.specs.Shapes.{Scalar_shape, Tuple_shape, no_shape, shape_and, Shape, laid_scalar, laid_tuple, laid_none, laid_more}
 use Rattle.unfold.specs.Unfolding.{Bindings, named, both_hold, b_bound, b_tuple, b_none, b_more, e_scalars, e_tuples, e_none, e_more, o_truth, o_tuple, o_equal, Unfolds, u_name, u_strict, u_apply, u_if, u_counted, u_none, u_more, a_body, a_waits}
 
@@ -49,11 +49,11 @@ abbrev defined : Tops
 defined = (0, Function_known (pattern_and (name 1) (pattern_and (name 2) no_pattern)) (two binary.Eq (var 1) (var 2)) 3 no_name) ∷ []
 
 -- the local name 4 has the component 0, the name 5 the component 1
-abbrev local : Scope
-local = name_and (bind_id 5) (named 1) (name_and (bind_id 4) (named 0) no_name)
+abbrev locals : Scope
+locals = name_and (bind_id 5) (named 1) (name_and (bind_id 4) (named 0) no_name)
 
 abbrev Comes_to : FlatTerm → Bindings → Known → ℕ → Type 0
-Comes_to t bs s m = Unfolds (λ n. I32) defined local 7 t 2 bs s m
+Comes_to t bs s m = Unfolds (λ n. I32) defined locals 7 t 2 bs s m
 
 abbrev equal : ℕ → ℕ → act.Action
 equal x y = Operate (operation.Binary binary.Eq here (atom.Name x) (atom.Name y))
@@ -62,7 +62,7 @@ equal x y = Operate (operation.Binary binary.Eq here (atom.Name x) (atom.Name y)
 pairs_are_compared : Comes_to (Apply (Apply (var 0) (pair (var 4) (var 5))) (pair (var 5) (var 4)))
     ((2 ∷ [], equal 0 1) ∷ (3 ∷ [], equal 1 0) ∷ (4 ∷ [], both_hold (atom.Name 3) (atom.Constant (scalar.Bool true))) ∷ (5 ∷ [], both_hold (atom.Name 2) (atom.Name 4)) ∷ [])
     (named 5) 6
-unfolding find
+unfolding find local local_by name_and name_by
 pairs_are_compared =
     u_apply
     (u_apply (u_name refl) (u_strict (u_more (u_name refl) (u_more (u_name refl) u_none)) o_tuple) (a_waits b_bound))
@@ -74,7 +74,7 @@ pairs_are_compared =
 branches_give_components : Comes_to (If truth (pair (var 4) (var 5)) (pair (var 5) (var 4)))
     ((2 ∷ 3 ∷ [], act.If (atom.Constant (scalar.Bool true)) (Give (atom.Name 0 ∷ atom.Name 1 ∷ [])) (Give (atom.Name 1 ∷ atom.Name 0 ∷ []))) ∷ [])
     (known_pair (named 2) (named 3)) 4
-unfolding find Rattle.fut_blocks.specs.Plain.lets
+unfolding find local local_by name_and name_by Rattle.fut_blocks.specs.Plain.lets
 branches_give_components =
     u_if {h = pair_shape} (2 ∷ 3 ∷ [])
     (u_strict u_none o_truth)
@@ -89,7 +89,7 @@ branches_give_components =
 loops_have_components : Comes_to (Loop here [] (Tuple_pattern (pattern_and (name 6) (pattern_and (name 7) no_pattern))) (pair (var 4) (var 5)) (Counted (bind_id 8) (var 5)) (pair (var 7) (var 8)))
     ((5 ∷ 6 ∷ [], act.For (2 ∷ 3 ∷ []) (atom.Name 0 ∷ atom.Name 1 ∷ []) 4 (atom.Name 1) (Give (atom.Name 3 ∷ atom.Name 4 ∷ []))) ∷ [])
     (known_pair (named 5) (named 6)) 7
-unfolding find Rattle.fut_blocks.specs.Plain.lets
+unfolding find local local_by name_and name_by Rattle.fut_blocks.specs.Plain.lets
 loops_have_components =
     u_counted {n3 = 4} {h = pair_shape} (2 ∷ 3 ∷ []) (5 ∷ 6 ∷ [])
     (u_strict (u_more (u_name refl) (u_more (u_name refl) u_none)) o_tuple)

@@ -1,6 +1,6 @@
 -- When what is known of a value stands for it, under the values of the names that were bound so far.
-use Rattle.std.proofs.Common.{◌≡◌, ℕ, suc, ◌<◌, ◌≤◌, List, ◌∷◌, Bool, true, false, cond, nat_eq, Option, Some, None, refl, ap, ◌∙◌, subst, arith, eq-eqb}
-use Rattle.std.proofs.lemmas.Bool.{ne_eqb}
+use Rattle.std.proofs.Common.{◌≡◌, ℕ, suc, ◌<◌, ◌≤◌, List, ◌∷◌, Bool, true, false, cond, nat_eq, Option, Some, None, refl, ap, ◌∙◌, sym, subst, arith, eq-eqb}
+use Rattle.std.proofs.lemmas.Bool.{ne_eqb, eqb-true, eqb-false}
 use Rattle.fut_scalar.specs.declared.place.BindId.{BindId}
 use Rattle.fut_scalar.specs.declared.place.Place.{Place}
 use Rattle.fut_ast.specs.Sorts.{Text}
@@ -18,6 +18,7 @@ use Rattle.fut_blocks.specs.declared.block.Atom.{Atom}
 use Rattle.fut_blocks.specs.declared.block.Atom.TheVariants as atom
 use Rattle.fut_blocks.specs.Meaning.{Component, Names, look, value_of}
 use Rattle.unfold.specs.Knowns.{Known, Scalar_known, Tuple_known, Record_known, Function_known, Primitive_known, Knowns, no_known, known_and, Known_fields, no_known_field, known_field_and, Scope, no_name, name_and, Tops, find}
+use Rattle.unfold.proofs.Names.{found_here, found_on, no_local}
 
 abbrev pub FlatValues : Type 0
 FlatValues = Values Ref BindId (Unit {0})
@@ -141,11 +142,16 @@ module _ (d : Names Component) (n : ℕ) where
   by_name true false e s t v found o h q k = absurd (let z : true ≡ false = e in cc)
   by_name false true e s t v found o h q k = absurd (let z : false ≡ true = e in cc)
 
+  found_by : (tops : Tops) (b : BindId) (u : Known) (sc : Scope) (k : ℕ) (c : Bool) → nat_eq b.0 k ≡ c → find tops (name_and b u sc) k ≡ cond c (Some u) (find tops sc k)
+  found_by tops b u sc k true e = found_here tops b u sc k (eqb-true b.0 k e)
+  found_by tops b u sc k false e = found_on tops b u sc k (eqb-false b.0 k e)
+
   pub top_found : (k : ℕ) (s : Known) {tops : Tops} {tops' : FlatTops} → Tops_stand d n tops tops' → look tops k ≡ Some s → Finds (Stands d n) s (top tops' k)
   top_found k s all_none q = absurd (let z : None ≡ Some s = q in cc)
   top_found k s (all_more {x = a} {x' = b} h t) q = by_name (nat_eq a.0 k) (nat_eq b.0 k) (ap (λ z. nat_eq z k) h.number) s a.1 b.1 _ _ h.stands q (λ e. top_found k s t e)
 
   pub name_found : (k : ℕ) (s : Known) {tops : Tops} {tops' : FlatTops} {sc : Scope} {env : FlatEnv} → Tops_stand d n tops tops' → Holds d n sc env → find tops sc k ≡ Some s → Finds (Stands d n) s (flat_look tops' env k)
-  unfolding find flat_look
-  name_found k s t h_base q = top_found k s t q
-  name_found k s t (h_bind {b} {s = u} {v = v} h hs) q = by_name (nat_eq b.0 k) (nat_eq b.0 k) refl s u v _ _ h q (λ e. name_found k s t hs e)
+  unfolding flat_look
+  name_found k s {tops = tops} t h_base q = top_found k s t (sym (no_local tops k) ∙ q)
+  name_found k s {tops = tops} t (h_bind {b} {s = u} {sc = sc} {v = v} h hs) q =
+      by_name (nat_eq b.0 k) (nat_eq b.0 k) refl s u v (find tops sc k) _ h (sym (found_by tops b u sc k (nat_eq b.0 k) refl) ∙ q) (λ e. name_found k s t hs e)

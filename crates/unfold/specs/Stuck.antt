@@ -55,7 +55,7 @@ pub data Carried (integer_at : ℕ → IntType) (tops : Tops) (sc : Scope) (lo :
 
 -- the names of a turn, for the names that the pattern binds; how many turns there are has been unfolded outside of the loop
 pub data Turn_names (integer_at : ℕ → IntType) (tops : Tops) (sc inside : Scope) (at : ℕ) : FlatTurns → Scope → Type 0 where
-  turn_counted : {n n' y : ℕ} {i : BindId} {count : FlatTerm} {bs : Bindings} {u : Atom} → Unfolds integer_at tops sc (1 + at) count n bs (Scalar_known u) n' → Turn_names integer_at tops sc inside at (Counted i count) (name_and i (named y) inside)
+  turn_counted : {n n' : ℕ} {i : BindId} {count : FlatTerm} {bs : Bindings} {u : Atom} (y : ℕ) → Unfolds integer_at tops sc (1 + at) count n bs (Scalar_known u) n' → Turn_names integer_at tops sc inside at (Counted i count) (name_and i (named y) inside)
   turn_tested : {test : FlatTerm} → Turn_names integer_at tops sc inside at (While test) inside
 
 -- a term, whose nodes are numbered from a number on

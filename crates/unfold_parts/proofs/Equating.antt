@@ -12,7 +12,7 @@ use Rattle.fut_blocks.specs.declared.block.Operation.TheVariants as operation
 use Rattle.fut_blocks.specs.Plain.{Action, Operate}
 use Rattle.unfold.proofs.Mirror.{known_scalar, known_tuple, known_record}
 use Rattle.unfold.specs.Held.{known_of, field_of, fields_known}
-use Rattle.unfold.specs.Knowns.{Known, Scalar_known, Tuple_known, Record_known, knowns}
+use Rattle.unfold.specs.Knowns.{Known, Scalar_known, knowns}
 use Rattle.unfold.specs.Stuck.{No_scalar}
 use Rattle.unfold.specs.Unfolding.{Bindings, step, both_hold, Equals, e_scalars, e_tuples, e_records, All_equal, e_none, e_more}
 use Rattle.unfold.specs.declared.known.Field.{Field}

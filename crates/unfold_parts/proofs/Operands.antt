@@ -19,7 +19,7 @@ use Rattle.fut_blocks.specs.declared.block.Atom.{Atom}
 use Rattle.unfold.specs.Held.{known_of}
 use Rattle.unfold.specs.Knowns.{Known, Scalar_known, Tuple_known, Record_known, Function_known, Primitive_known, Knowns, known_and, Known_fields, Scope, knowns, part}
 use Rattle.unfold.specs.Stuck.{No_scalar, No_operation, No_primitive}
-use Rattle.unfold.specs.Unfolding.{Bindings, e_scalars, e_tuples, e_records, e_more, o_integer, o_truth, o_record, o_binary, o_equal, o_unequal, o_negate, o_complement, o_project, o_replace, o_ascribe, o_coerce, o_declared, o_assert, p_convert, p_min, p_max, p_abs, p_popc}
+use Rattle.unfold.specs.Unfolding.{e_scalars, e_tuples, e_records, e_more, o_integer, o_truth, o_record, o_binary, o_equal, o_unequal, o_negate, o_complement, o_project, o_replace, o_ascribe, o_coerce, o_declared, o_assert, p_convert, p_min, p_max, p_abs, p_popc}
 use Rattle.unfold.specs.declared.known.Known.{Known as Held_known}
 use Rattle.unfold_parts.specs.Parts.{Not_one, Not_one_scalar, Not_two_scalars}
 use Rattle.unfold_parts.specs.Refused.{Not_compared, Not_both_compared, Not_all_compared, Not_fields_compared}

@@ -1,13 +1,16 @@
 -- The table of what is known of the definitions, one more at a time.
 use Rattle.std.proofs.Common.{◌≡◌, ℕ, zero, suc, ◌<◌, ◌++◌, List, [], ◌∷◌, length, get_or, set, cond, Bool, true, false, nat_eq, Option, Some, None, refl, sym, ap, ◌∙◌, eqb-true, false-eqb}
 use Rattle.std.proofs.lemmas.List.{get_or-set_same, get_or-set_other}
+use Rattle.std.specs.Borrow.{Bor}
 use Rattle.fut_scalar.specs.declared.place.BindId.{BindId}
 use Rattle.fut_blocks.specs.Meaning.{look}
-use Rattle.unfold.specs.Knowns.{Known, Scope, no_name, name_and, Tops}
+use Rattle.unfold.specs.Knowns.{Tops}
 use Rattle.unfold.specs.declared.known.Known.{Known as Held_known}
 use Rattle.unfold.specs.Held.{known_of}
 use Rattle.unfold_parts.specs.Held.{maybe_known}
-use Rattle.unfold_parts.specs.Tables.{Tabled, tabled, definitions_of}
+use Rattle.unfold_parts.specs.Tables.{Tabled, tabled, defined_form, definitions_of}
+use Rattle.unfold_parts.specs.declared.tops.Defined.{Defined, Defined-F, map-Defined, fold_out-Defined}
+use Rattle.unfold_parts.specs.declared.tops.Defined.TheVariants as defined
 
 longer : (t : List (Option Held_known)) (k : ℕ) → get_or (t ++ None ∷ []) k None ≡ get_or t k None
 longer [] zero = refl
@@ -30,12 +33,16 @@ table_with tops t b s (tabled f) lt = tabled (λ k. at k (nat_eq b.0 k) refl)
 pub empty_table : Tabled [] []
 empty_table = tabled (λ k. refl)
 
-pub no_definitions : (sc : Scope) → sc ≡ no_name → definitions_of sc ≡ []
-unfolding definitions_of
-no_definitions sc e = ap definitions_of e
+behind_layer : (l : Defined-F Defined) (b : BindId) (s : Held_known) (ds : Bor Defined) → l ≡ Defined-F.Behind b s ds → defined_form (map-Defined Defined Tops definitions_of l) ≡ (b.0, known_of s) ∷ definitions_of ds.now
+unfolding defined_form
+behind_layer l b s ds e = rw e refl
 
-pub one_more_definition : (sc sc' : Scope) (b : BindId) (s : Known) → sc' ≡ name_and b s sc → definitions_of sc' ≡ (b.0, s) ∷ definitions_of sc
+pub no_definitions : definitions_of defined.Nothing ≡ []
+unfolding definitions_of defined_form
+no_definitions = fold_out-Defined Tops defined_form defined.Nothing ∙ ap (λ l. defined_form (map-Defined Defined Tops definitions_of l)) defined.outs-Nothing
+
+pub one_more_definition : (b : BindId) (s : Held_known) (ds : Bor Defined) → definitions_of (defined.Behind b s ds) ≡ (b.0, known_of s) ∷ definitions_of ds.now
 unfolding definitions_of
-one_more_definition sc sc' b s e = ap definitions_of e
+one_more_definition b s ds = fold_out-Defined Tops defined_form (defined.Behind b s ds) ∙ behind_layer _ b s ds (defined.outs-Behind b s ds)
 
 pub ruleset tabling = (table_longer, table_with, empty_table, no_definitions, one_more_definition)

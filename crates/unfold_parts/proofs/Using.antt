@@ -1,5 +1,5 @@
 -- What is known of a use.
-use Rattle.std.proofs.Common.{◌≡◌, ℕ, List, [], map, cond, nat_eq, Bool, true, false, Option, Some, None, Ok, Err, refl, sym, ap, ◌∙◌, subst}
+use Rattle.std.proofs.Common.{◌≡◌, ℕ, List, [], map, Some, None, Ok, Err, refl, sym, ap, ◌∙◌, subst}
 use Rattle.std.specs.Borrow.{Bor}
 use Rattle.fut_scalar.specs.Integers.{width_of}
 use Rattle.fut_scalar.specs.declared.place.BindId.{BindId}
@@ -14,38 +14,29 @@ use Rattle.fut_flat.specs.declared.prim.Ref.TheVariants as ref
 use Rattle.fut_flat.specs.Terms.{Use}
 use Rattle.fut_blocks.specs.declared.block.Atom.TheVariants as atom
 use Rattle.fut_blocks.specs.Meaning.{look, fitted}
+use Rattle.fut_meaning.specs.Knowns.{or_else}
 use Rattle.fut_meaning.specs.Operators.{lowest, highest}
 use Rattle.unfold.proofs.Mirror.{known_primitive}
 use Rattle.unfold.specs.Held.{known_of}
-use Rattle.unfold.specs.Knowns.{Known, Scalar_known, Primitive_known, knowns, Scope, no_name, name_and, Tops, find}
+use Rattle.unfold.specs.Knowns.{Known, Scalar_known, Primitive_known, knowns, Scope, Tops, local, find}
 use Rattle.unfold.specs.Stuck.{no_such_name, type_name}
 use Rattle.unfold.specs.Unfolding.{Unfolds, u_name, u_primitive, u_constant, constant_of}
 use Rattle.unfold.specs.declared.known.Known.{Known as Held_known}
 use Rattle.unfold.specs.declared.known.KnownForm.TheVariants as form
 use Rattle.unfold_parts.specs.Answers.{Used, used, not_used, Primitive_used}
-use Rattle.unfold_parts.specs.Locals.{local}
 use Rattle.unfold_parts.specs.Refused.{lost}
 use Rattle.unfold_parts.specs.declared.refusal.Refusal.TheVariants.{Lost}
 
-abbrev or_top : Option Known → Option Known → Option Known
-or_top None o = o
-or_top (Some s) o = Some s
-
-by_number : (c : Bool) (s : Known) (f l t : Option Known) → f ≡ or_top l t → cond c (Some s) f ≡ or_top (cond c (Some s) l) t
-by_number true s f l t e = refl
-by_number false s f l t e = e
-
-found : (tops : Tops) (sc : Scope) (k : ℕ) → find tops sc k ≡ or_top (local sc k) (look tops k)
-unfolding find local
-found tops no_name k = refl
-found tops (name_and b s sc) k = by_number (nat_eq b.0 k) s (find tops sc k) (local sc k) (look tops k) (found tops sc k)
+found : (tops : Tops) (sc : Scope) (k : ℕ) → find tops sc k ≡ or_else (local sc k) (look tops k)
+unfolding find
+found tops sc k = refl
 
 module _ (tops : Tops) (sc : Scope) (b : BindId) (at : Place) (s : Held_known) where
   pub used_local : Some (known_of s) ≡ local sc b.0 → Used tops sc (ref.Bound b) at (Ok s)
-  used_local e = used (λ integer_at lo k n. u_name (found tops sc b.0 ∙ ap (λ z. or_top z (look tops b.0)) (sym e)))
+  used_local e = used (λ integer_at lo k n. u_name (found tops sc b.0 ∙ ap (λ z. or_else z (look tops b.0)) (sym e)))
 
   pub used_top : None ≡ local sc b.0 → Some (known_of s) ≡ look tops b.0 → Used tops sc (ref.Bound b) at (Ok s)
-  used_top e q = used (λ integer_at lo k n. u_name (found tops sc b.0 ∙ ap (λ z. or_top z (look tops b.0)) (sym e) ∙ sym q))
+  used_top e q = used (λ integer_at lo k n. u_name (found tops sc b.0 ∙ ap (λ z. or_else z (look tops b.0)) (sym e) ∙ sym q))
 
   pub used_primitive : (p : Primitive) → Primitive_used p at (known_of s) → Used tops sc (ref.Prim p) at (Ok s)
   used_primitive p h = used (λ integer_at lo k n. h integer_at tops sc lo k n)
@@ -53,7 +44,7 @@ module _ (tops : Tops) (sc : Scope) (b : BindId) (at : Place) (s : Held_known) w
 module _ (tops : Tops) (sc : Scope) (at : Place) where
   -- a name that is neither local nor defined
   pub used_none : (b : BindId) → None ≡ local sc b.0 → None ≡ look tops b.0 → Used tops sc (ref.Bound b) at (Err Lost)
-  used_none b e q = not_used (lost (λ integer_at lo k. no_such_name (found tops sc b.0 ∙ ap (λ z. or_top z (look tops b.0)) (sym e) ∙ sym q)))
+  used_none b e q = not_used (lost (λ integer_at lo k. no_such_name (found tops sc b.0 ∙ ap (λ z. or_else z (look tops b.0)) (sym e) ∙ sym q)))
 
   pub used_type : (t : ScalarType) → Used tops sc (ref.Scalar t) at (Err Lost)
   used_type t = not_used (lost (λ integer_at lo k. type_name))

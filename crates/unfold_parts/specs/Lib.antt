@@ -1,5 +1,4 @@
 pub mod Held
-pub mod Locals
 pub mod Patterns
 pub mod States
 pub mod Tables

@@ -3,19 +3,22 @@ use Rattle.std.specs.Prelude.{◌≡◌, ℕ, List, [], ◌∷◌, Option, None,
 use Rattle.fut_blocks.specs.Meaning.{look}
 use Rattle.fut_scalar.specs.declared.scalar.IntType.{IntType}
 use Rattle.fut_scalar.specs.declared.scalar.IntType.TheVariants.{I32}
-use Rattle.unfold.specs.Held.{scope_of}
-use Rattle.unfold.specs.Knowns.{Scope, no_name, name_and, Tops}
+use Rattle.unfold.specs.Held.{known_of}
+use Rattle.unfold.specs.Knowns.{Tops}
 use Rattle.unfold.specs.declared.known.Known.{Known as Held_known}
 use Rattle.unfold_parts.specs.Held.{maybe_known}
+use Rattle.unfold_parts.specs.declared.tops.Defined.{Defined, Defined-F, fold-Defined}
 use Rattle.unfold_parts.specs.declared.tops.Tops.{Tops as Held_tops}
 
--- names with what is known of them, as definitions
-unfoldable pub definitions_of : Scope → Tops
-definitions_of no_name = []
-definitions_of (name_and b s sc) = (b.0, s) ∷ definitions_of sc
+unfoldable pub defined_form : Defined-F Tops → Tops
+defined_form Defined-F.Nothing = []
+defined_form (Defined-F.Behind b s ds) = (b.0, known_of s) ∷ ds.now
+
+unfoldable pub definitions_of : Defined → Tops
+definitions_of = fold-Defined Tops defined_form
 
 abbrev pub tops_of : Held_tops → Tops
-tops_of tops = definitions_of (scope_of tops.list.now)
+tops_of tops = definitions_of tops.list.now
 
 -- the table has what the list has
 pub data Tabled (tops : Tops) (table : List (Option Held_known)) : Type 0 where

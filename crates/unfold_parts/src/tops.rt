@@ -2,39 +2,68 @@
 ghost use Rattle.std.specs.Prelude.{◌≡◌, ◌∷◌, [], IfErr, IfOk};
 ghost use Rattle.fut_blocks.specs.Meaning.{look};
 ghost use Rattle.unfold.specs.Held.{known_of, scope_of};
-ghost use Rattle.unfold.specs.Knowns.{no_name};
 ghost use Rattle.unfold_parts.specs.Answers.{Used};
 ghost use Rattle.unfold_parts.specs.Held.{maybe_known};
-ghost use Rattle.unfold_parts.specs.Tables.{Kept, tops_of};
+ghost use Rattle.unfold_parts.specs.Tables.{Kept, definitions_of, tops_of};
 ghost use Rattle.unfold_parts.specs.declared.refusal.Refusal.TheVariants as refusal;
 
 use crate::primitives::use_of_primitive;
 use crate::refusal::Refusal;
-use crate::scope::{bound, find};
+use crate::scope::find;
 use bumpalo::Bump;
 use fut_flat::Ref;
 use fut_scalar::{BindId, Place};
+use std::slice;
 use unfold::{Known, Scope};
+
+/// Definitions with what is known of them, the last one first.
+#[derive(Clone, Copy)]
+pub enum Defined<'a> {
+    Nothing,
+    Behind(BindId, Known<'a>, &'a Defined<'a>),
+}
+
+static NOTHING: Defined<'static> = Defined::Nothing;
 
 /// What is known of the definitions: in order, the last one first, and by their numbers.
 #[derive(Drop)]
 pub struct Tops<'a> {
     pub bump: &'a Bump,
-    pub list: &'a Scope<'a>,
+    pub list: &'a Defined<'a>,
     pub table: Vec<Option<Known<'a>>, &'a Bump>,
 }
 
+// One more definition.
+#[tactic(auto, using(crate::proofs::Tabling::tabling))]
+fn behind<'a>(
+    bump: &'a Bump,
+    number: BindId,
+    known: Known<'a>,
+    list: &'a Defined<'a>,
+) -> Result<&'a Defined<'a>, Refusal>
+    ensures ok { IfOk result (λ longer. definitions_of longer.now ≡ (number.0, known_of known.entry) ∷ definitions_of list.now) }
+    ensures err { IfErr result (λ r. r ≡ refusal.Memory) }
+{
+    let longer = Defined::Behind(number, known, list);
+    match bump.try_alloc_slice_copy(slice::from_ref(&longer)) {
+        Ok(cells) => {
+            let cells: &'a [Defined<'a>] = cells;
+            Ok(&cells[0])
+        }
+        Err(_) => Err(Refusal::Memory),
+    }
+}
+
 impl<'a> Tops<'a> {
-    /// No definitions. `nothing` is the empty scope.
+    /// No definitions.
     #[tactic(auto, using(crate::proofs::Tabling::tabling))]
-    pub fn new(bump: &'a Bump, nothing: &'a Scope<'a>) -> Tops<'a>
-        requires nothing { scope_of nothing.now ≡ no_name }
+    pub fn new(bump: &'a Bump) -> Tops<'a>
         ensures kept { Kept result }
         ensures tops { tops_of result ≡ [] }
     {
         Tops {
             bump,
-            list: nothing,
+            list: &NOTHING,
             table: Vec::new(bump),
         }
     }
@@ -61,7 +90,7 @@ impl<'a> Tops<'a> {
         ensures err { IfErr result (λ r. r ≡ refusal.Memory) }
     {
         let bump = self.bump;
-        let list = match bound(bump, number, known, self.list) {
+        let list = match behind(bump, number, known, self.list) {
             Ok(list) => list,
             Err(refusal) => return Err(refusal),
         };

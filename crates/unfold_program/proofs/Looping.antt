@@ -105,7 +105,7 @@ module _ (c : Context) (sc : Scope) (l : LoopTree) (first : Walked) (old new : U
     counted_body_err m1 m2 k tn r (scalar_unfolded cs g p h) (turned_to {inside = inside} same la up lt bi iis ne) (not_blocked x) = not_counted (refused_as turn x)
       where
         names_of : (lo : ℕ) → first.at ≡ 1 + lo + pattern_numbers (pattern_of l.pat) + numbers (term_of l.first) → Turn_names (told c) (defined c) sc inside (1 + lo + pattern_numbers (pattern_of l.pat) + numbers (term_of l.first)) (Counted i count) (name_and i (named tn.index) inside)
-        names_of lo at = turn_counted (moved c (omega (arith, q, at)) p)
+        names_of lo at = turn_counted tn.index (moved c (omega (arith, q, at)) p)
 
         turn : No_block c (scope_of tn.scope.now) k.at (term_of l.body) (known_of first.known) → Loop_stuck c sc l (Counted i count) first old
         turn (stuck_inside w) lo n bs at v = stuck_body (carried v la lt) bi (names_of lo at) (stuck_at c (omega (arith, q, at, h)) (subst (λ z. Stuck (told c) (defined c) z k.at (term_of l.body)) iis w))

@@ -86,7 +86,7 @@ fn unfold_from<'a>(
         Err(refusal) => return Err(refusal),
     };
     let context = Context {
-        tops: Tops::new(state.bump, nothing),
+        tops: Tops::new(state.bump),
         types: integer_types,
     };
     match unfold_definitions(context, entry, flags, nothing, flat.definitions, state) {
