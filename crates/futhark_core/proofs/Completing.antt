@@ -11,7 +11,7 @@ use Rattle.fut_ast.specs.declared.module.Program.{Program}
 use Rattle.fut_parser.specs.declared.programs.ParseErr.{ParseErr}
 use Rattle.fut_parser.specs.declared.programs.ParseErr.TheVariants as parse
 use Rattle.module_scopes.specs.Names.{Refusal}
-use Rattle.module_scopes.specs.Programs.{FlatProgram}
+use Rattle.module_scopes.specs.Programs.{FlatProgram, resolve_program}
 use Rattle.module_elab.specs.Elaborated.{program_of as flat_of}
 use Rattle.front_types.specs.declared.typed.TypeErr.{TypeErr}
 use Rattle.front_types.specs.declared.typed.TypeErr.TheVariants as types
@@ -36,14 +36,14 @@ use Rattle.futhark_status.specs.declared.status.Status.{Status}
 use Rattle.futhark_status.specs.declared.status.Status.TheVariants.{Done, Usage, LoadFault, Text, Names, Types, Entry, Limit, ReadFault, Input, Failure, Turns, WriteFault, Memory}
 use Rattle.futhark_core.specs.Acceptance.{Source, Unlexed, UnacceptedTokens, LexedUnaccepted}
 use Rattle.futhark_core.specs.Entering.{NotEntered}
-use Rattle.futhark_core.specs.Meaning.{Entered, IsEntered}
+use Rattle.futhark_core.specs.Meaning.{Entered, IsEntered, Outcome, Gives, Fails, Allows, Alone}
 use Rattle.futhark_core.specs.Row.{Outside, Streams, RunRow, TextRow, NamesRow, TypesRow, LoadRow, FrontRow, Started, InputRow, ActionRow, ProgramRow, CheckRow, status_for}
-use Rattle.futhark_core.specs.Comes.{Accepted, Acted, Agrees, Done_with, Argued, Built, Comes, Commanded, Complete, Ending, Entering, FileHeld, IsLimit, IsRun, Lacks, Named, NoFault, Onward, Parsed, ParserRefusal, Ran, Then, Told, Tokenized, Typed, Unread, refusal_of}
+use Rattle.futhark_core.specs.Comes.{Accepted, Acted, Agrees, Done_with, Argued, Built, Comes, Commanded, Complete, Came, Ending, Entering, FileHeld, IsLimit, Lacks, Named, NoFault, Onward, Parsed, ParserRefusal, Ran, Tells, Then, Told, Tokenized, Typed, Unread, refusal_of}
 use Rattle.futhark_core.proofs.Settling.{EndsAs, Holds, Settles, TypesRefusal, built_err, built_ok, commanded_err, commanded_ok, held_err, held_ok, named_err, named_ok, parsed_none, parsed_ok, then_ends, then_err, then_ok, tokenized_err, tokenized_ok, typed_err, typed_ok}
 
 -- ---- entries
 
-module _ (source : Source) (name : List ℕ) where
+module _ (source : Source) (name : List ℕ) (turns : ℕ) (resolved : resolve_program source.files ≡ Ok (flat_of source.flat)) where
   abbrev flat : FlatProgram
   flat = flat_of source.flat
 
@@ -56,63 +56,73 @@ module _ (source : Source) (name : List ℕ) where
     here = has_entry source.flat name is.at is.begins
 
     -- it goes on to what the arguments come to
-    behind_entry : (left : Option (List ℕ)) (end : Result Ending Status) (P : Type 0) → Then (Entering flat name) (λ entered. Argued entered name left) end → (Argued flat name left end → P) → P
+    behind_entry : (left : Option (List ℕ)) (end : Result Ending Status) (P : Type 0) → Then (Entering flat name) (λ entered. Argued entered name turns left) end → (Argued flat name turns left end → P) → P
     behind_entry left end P run next = go run.0 run.1 run.2
       where
-        go : (middle : Result FlatProgram Status) → Entering flat name middle → Onward middle (λ entered. Argued entered name left) end → P
-        go (Ok same) p on = next (subst (λ f. Argued f name left end) p.2 on)
+        go : (middle : Result FlatProgram Status) → Entering flat name middle → Onward middle (λ entered. Argued entered name turns left) end → P
+        go (Ok same) p on = next (subst (λ f. Argued f name turns left end) p.2 on)
         go (Err status) (inl p) on = absurd (none_or_one is.at p.0 here)
         go (Err status) (inr p) on = absurd (p.1 source refl e is)
 
     -- a limit of the program agrees with each end behind the entry
-    past_limit : (status : Status) → IsLimit status → (left : Option (List ℕ)) (end : Result Ending Status) → Argued flat name left end → Agrees status end
+    past_limit : (status : Status) → IsLimit status → (left : Option (List ℕ)) (end : Result Ending Status) → Argued flat name turns left end → Agrees status end
     past_limit status past None end p = absurd p
     past_limit status past (Some left) (Ok Told) p = absurd p
     past_limit status past (Some left) (Ok Ran) p = inr past
+    past_limit status past (Some left) (Ok (Came outcome)) p = inr past
     past_limit status past (Some left) (Ok (Unread st)) p = inr past
     past_limit status past (Some left) (Err st) p = absurd p
 
     -- the input is too long
-    too_long : (left : Option (List ℕ)) → IfSome left (λ left. 67108864 < length left) → (end : Result Ending Status) → Argued flat name left end → Agrees (Limit limit.InputBytes) end
+    too_long : (left : Option (List ℕ)) → IfSome left (λ left. 67108864 < length left) → (end : Result Ending Status) → Argued flat name turns left end → Agrees (Limit limit.InputBytes) end
     too_long None long end p = absurd p
     too_long (Some left) long (Ok Told) p = absurd p
     too_long (Some left) long (Ok Ran) p = let few = p.0 in absurd (omega arith)
+    too_long (Some left) long (Ok (Came outcome)) p = let few = p.0 in absurd (omega arith)
     too_long (Some left) long (Ok (Unread st)) (inl p) = inl (sym p.1)
     too_long (Some left) long (Ok (Unread st)) (inr p) = let few = p.1 in absurd (omega arith)
     too_long (Some left) long (Err st) p = absurd p
 
     -- the input is refused
-    refused_input : (err : TextErr) (bytes : List ℕ) (left : Option (List ℕ)) → IfSome left (λ left. bytes ≡ left) → length bytes ≤ 67108864 → Refuses e.params bytes err → (end : Result Ending Status) → Argued flat name left end → Agrees (Input err) end
+    refused_input : (err : TextErr) (bytes : List ℕ) (left : Option (List ℕ)) → IfSome left (λ left. bytes ≡ left) → length bytes ≤ 67108864 → Refuses e.params bytes err → (end : Result Ending Status) → Argued flat name turns left end → Agrees (Input err) end
     refused_input err bytes None all short refuses end p = absurd p
     refused_input err bytes (Some left) all short refuses (Ok Told) p = absurd p
     refused_input err bytes (Some left) all short refuses (Ok Ran) p =
         let own = rw all at refuses in let reads = p.1 source refl e is in let other = reads.1 in absurd cc
+    refused_input err bytes (Some left) all short refuses (Ok (Came outcome)) p =
+        let own = rw all at refuses in let reads = p.1 source refl resolved e is in let other = reads.1 in absurd cc
     refused_input err bytes (Some left) all short refuses (Ok (Unread st)) (inl p) = let l = ap length all in let many = p.0 in absurd (omega arith)
     refused_input err bytes (Some left) all short refuses (Ok (Unread st)) (inr p) =
         let own = rw all at refuses in let other = p.2 source refl e is in let same : p.0 ≡ err = cc in inl (ap Input (sym same) ∙ sym p.3)
     refused_input err bytes (Some left) all short refuses (Err st) p = absurd p
 
-    -- the program was run
-    ran_to : (status : Status) → IsRun status → (bytes : List ℕ) (values : List Scalar) (left : Option (List ℕ)) → IfSome left (λ left. bytes ≡ left) → length bytes ≤ 67108864 → Reads e.params bytes values → (end : Result Ending Status) → Argued flat name left end → Agrees status end
-    ran_to status run bytes values None all short reads end p = absurd p
-    ran_to status run bytes values (Some left) all short reads (Ok Told) p = absurd p
-    ran_to status run bytes values (Some left) all short reads (Ok Ran) p = inl run
-    ran_to status run bytes values (Some left) all short reads (Ok (Unread st)) (inl p) = let l = ap length all in let many = p.0 in absurd (omega arith)
-    ran_to status run bytes values (Some left) all short reads (Ok (Unread st)) (inr p) =
+    -- the program came to this outcome, and the files allow no other
+    ran_to : (status : Status) (outcome : Outcome) → Tells outcome status → (bytes : List ℕ) (values : List Scalar) → Alone source e turns values outcome → (left : Option (List ℕ)) → IfSome left (λ left. bytes ≡ left) → length bytes ≤ 67108864 → Reads e.params bytes values → (end : Result Ending Status) → Argued flat name turns left end → Agrees status end
+    ran_to status outcome tells bytes values alone None all short reads end p = absurd p
+    ran_to status outcome tells bytes values alone (Some left) all short reads (Ok Told) p = absurd p
+    ran_to status outcome tells bytes values alone (Some left) all short reads (Ok Ran) p = inl (outcome, tells)
+    ran_to status outcome tells bytes values alone (Some left) all short reads (Ok (Came other)) p =
+        let own = rw all at reads in
+        let read = p.1 source refl resolved e is in
+        let same_reading = read.1 in
+        let same : read.0 ≡ values = cc in
+        inl (subst (λ z. Tells z status) (sym (alone other (subst (λ z. Allows source e turns z other) same read.2))) tells)
+    ran_to status outcome tells bytes values alone (Some left) all short reads (Ok (Unread st)) (inl p) = let l = ap length all in let many = p.0 in absurd (omega arith)
+    ran_to status outcome tells bytes values alone (Some left) all short reads (Ok (Unread st)) (inr p) =
         let own = rw all at reads in let other = p.2 source refl e is in absurd cc
-    ran_to status run bytes values (Some left) all short reads (Err st) p = absurd p
+    ran_to status outcome tells bytes values alone (Some left) all short reads (Err st) p = absurd p
 
   -- no entry
-  unentered : (err : EntryErr) → NotEntered source name err → (left : Option (List ℕ)) (end : Result Ending Status) → Then (Entering flat name) (λ entered. Argued entered name left) end → Agrees (Entry err name) end
+  unentered : (err : EntryErr) → NotEntered source name err → (left : Option (List ℕ)) (end : Result Ending Status) → Then (Entering flat name) (λ entered. Argued entered name turns left) end → Agrees (Entry err name) end
   unentered NoEntry none left end run = go run.0 run.1 run.2
     where
-      go : (middle : Result FlatProgram Status) → Entering flat name middle → Onward middle (λ entered. Argued entered name left) end → Agrees (Entry NoEntry name) end
+      go : (middle : Result FlatProgram Status) → Entering flat name middle → Onward middle (λ entered. Argued entered name turns left) end → Agrees (Entry NoEntry name) end
       go (Ok same) p on = absurd (none_or_one p.0.0 (has_no_entry source.flat name none) p.0.1)
       go (Err st) (inl p) on = subst (Agrees (Entry NoEntry name)) (sym on) (inl (sym p.1))
       go (Err st) (inr p) on = absurd (none_or_one p.0.0 (has_no_entry source.flat name none) p.0.1)
   unentered OutsideProfile outside left end run = go run.0 run.1 run.2
     where
-      go : (middle : Result FlatProgram Status) → Entering flat name middle → Onward middle (λ entered. Argued entered name left) end → Agrees (Entry OutsideProfile name) end
+      go : (middle : Result FlatProgram Status) → Entering flat name middle → Onward middle (λ entered. Argued entered name turns left) end → Agrees (Entry OutsideProfile name) end
       go (Ok same) p on = absurd (p.1 source refl outside)
       go (Err st) (inl p) on = absurd (none_or_one outside.at p.0 (has_entry source.flat name outside.at outside.begins))
       go (Err st) (inr p) on = subst (Agrees (Entry OutsideProfile name)) (sym on) (inl (sym p.2))
@@ -329,37 +339,40 @@ module _ (words : List (List ℕ)) (old new : Outside) (quiet : NoFault old new)
     abbrev entry : List ℕ
     entry = asked.entry
 
+    resolved : resolve_program source.files ≡ Ok (flat_of source.flat)
+    resolved = let t = s.accepted.accepted.accepted in ap resolve_program t.files ∙ t.acceptable.resolved.resolves.resolved
+
     -- what is done is this
     done : (action : Action) → asked.action ≡ action → (status : Status) → Holds (Done_with action asked old.input.left (flat_of source.flat)) (Agrees status) → Ends status
     done action is status h = acted asked source s status (subst (λ x. Holds (Done_with x asked old.input.left (flat_of source.flat)) (Agrees status)) (sym is) h)
 
     module _ (is_run : asked.action ≡ Run) where
       -- the entry was found, and behind it this holds
-      entered : (status : Status) (e : Entered) → IsEntered source entry e → ((end : Result Ending Status) → Argued (flat_of source.flat) entry old.input.left end → Agrees status end) → Ends status
-      entered status e is h = done Run is_run status (λ end run. behind_entry source entry e is old.input.left end (Agrees status end) run (h end))
+      entered : (status : Status) (e : Entered) → IsEntered source entry e → ((end : Result Ending Status) → Argued (flat_of source.flat) entry asked.turns old.input.left end → Agrees status end) → Ends status
+      entered status e is h = done Run is_run status (λ end run. behind_entry source entry asked.turns resolved e is old.input.left end (Agrees status end) run (h end))
 
       unread : (err : TextErr) → InputRow asked source before behind err → Ends (Input err)
       unread text.Memory row = absurd row
       unread err row = entered (Input err) row.entered row.ready.entered
-          (refused_input source entry row.entered row.ready.entered err row.bytes old.input.left row.read.all row.short row.refuses)
+          (refused_input source entry asked.turns resolved row.entered row.ready.entered err row.bytes old.input.left row.read.all row.short row.refuses)
 
       ran : (status : Status) → ProgramRow status asked source before behind → Ends status ⊎ (status ≡ Memory)
       ran Done row =
           let c = row.comes in
-          inl (entered Done c.entered c.ready.entered (ran_to source entry c.entered c.ready.entered Done (inl refl) c.bytes c.arguments old.input.left c.read.all c.short c.reads))
+          inl (entered Done c.entered c.ready.entered (ran_to source entry asked.turns resolved c.entered c.ready.entered Done (Gives row.components) refl c.bytes c.arguments c.alone old.input.left c.read.all c.short c.reads))
       ran (Entry err name) row =
-          inl (done Run is_run (Entry err name) (λ end run. subst (λ n. Agrees (Entry err n) end) (sym row.name_is) (unentered source entry err row.not_entered old.input.left end run)))
-      ran (Limit limit.Nodes) row = inl (entered (Limit limit.Nodes) row.entered row.is_entered (past_limit source entry row.entered row.is_entered (Limit limit.Nodes) (inl refl) old.input.left))
-      ran (Limit limit.Depth) row = inl (entered (Limit limit.Depth) row.entered row.is_entered (past_limit source entry row.entered row.is_entered (Limit limit.Depth) (inr refl) old.input.left))
-      ran (Limit limit.InputBytes) row = inl (entered (Limit limit.InputBytes) row.entered row.ready.entered (too_long source entry row.entered row.ready.entered old.input.left row.past.long))
+          inl (done Run is_run (Entry err name) (λ end run. subst (λ n. Agrees (Entry err n) end) (sym row.name_is) (unentered source entry asked.turns resolved err row.not_entered old.input.left end run)))
+      ran (Limit limit.Nodes) row = inl (entered (Limit limit.Nodes) row.entered row.is_entered (past_limit source entry asked.turns resolved row.entered row.is_entered (Limit limit.Nodes) (inl refl) old.input.left))
+      ran (Limit limit.Depth) row = inl (entered (Limit limit.Depth) row.entered row.is_entered (past_limit source entry asked.turns resolved row.entered row.is_entered (Limit limit.Depth) (inr refl) old.input.left))
+      ran (Limit limit.InputBytes) row = inl (entered (Limit limit.InputBytes) row.entered row.ready.entered (too_long source entry asked.turns resolved row.entered row.ready.entered old.input.left row.past.long))
       ran ReadFault row = absurd (quiet.input row.faults)
       ran (Input err) row = inl (unread err row)
       ran (Failure report path) row =
           let c = row.1.comes in
-          inl (entered (Failure report path) c.entered c.ready.entered (ran_to source entry c.entered c.ready.entered (Failure report path) (inr (inl (report, path, refl))) c.bytes c.arguments old.input.left c.read.all c.short c.reads))
+          inl (entered (Failure report path) c.entered c.ready.entered (ran_to source entry asked.turns resolved c.entered c.ready.entered (Failure report path) (Fails report) (path, inl refl) c.bytes c.arguments c.alone old.input.left c.read.all c.short c.reads))
       ran (Turns report path) row =
           let c = row.1.comes in
-          inl (entered (Turns report path) c.entered c.ready.entered (ran_to source entry c.entered c.ready.entered (Turns report path) (inr (inr (report, path, refl))) c.bytes c.arguments old.input.left c.read.all c.short c.reads))
+          inl (entered (Turns report path) c.entered c.ready.entered (ran_to source entry asked.turns resolved c.entered c.ready.entered (Turns report path) (Fails report) (path, inr refl) c.bytes c.arguments c.alone old.input.left c.read.all c.short c.reads))
       ran WriteFault row = absurd (quiet.out row.out.faults)
       ran Memory row = inr refl
       ran (Usage word) row = absurd row

@@ -10,8 +10,9 @@ use Rattle.fut_arithmetic.specs.Types.{type_of}
 use Rattle.fut_flat.specs.declared.program.Flat.{Flat}
 use Rattle.fut_flat.specs.declared.prim.Ref.{Ref}
 use Rattle.fut_meaning.specs.Datums.{as_values}
+use Rattle.fut_ast.specs.declared.module.Program.{Program as SourceProgram}
 use Rattle.fut_blocks.specs.declared.block.Program.{Program}
-use Rattle.fut_blocks.specs.Programs.{Rising, AreOf}
+use Rattle.fut_blocks.specs.Programs.{Program_means, Rising, AreOf}
 use Rattle.module_scopes.specs.Programs.{resolve_program}
 use Rattle.module_elab.specs.Elaborated.{program_of as flat_of}
 use Rattle.fut_scalar.specs.declared.scalar.IntType.{IntType}
@@ -48,9 +49,9 @@ use Rattle.plain_runs.specs.Results.{scalar_datums}
 use Rattle.plain_runs.proofs.Runs.{run_is}
 use Rattle.futhark_core.specs.Acceptance.{Source}
 use Rattle.futhark_core.specs.Entering.{IsOutside, NotEntered}
-use Rattle.futhark_core.specs.Meaning.{Entered, IsTypedAs, IsEntered}
+use Rattle.futhark_core.specs.Meaning.{Entered, IsTypedAs, IsEntered, Outcome, Gives, Fails, Allows}
 use Rattle.futhark_core.specs.Row.{Streams, IsReady, ProgramRow}
-use Rattle.futhark_core.specs.Private.Stages.{Never_wrong_for, Runs_for, IsUnentered, unprepared}
+use Rattle.futhark_core.specs.Private.Stages.{Never_wrong_for, Runs_for, IsUnentered, unprepared, in_blocks}
 
 scalars_split : (cs : List Scalar) → All_split (scalars (length cs)) (as_values {P = Ref} {B = BindId} {S = Unit {0}} (scalar_datums cs)) cs []
 scalars_split [] = split_none
@@ -109,10 +110,15 @@ module _ {flat : Flat} {inference : Inference} {integers : List IntType} {number
     pub never_wrong_for : (turns : ℕ) → Never_wrong_for params turns p
     never_wrong_for turns arguments of = (runs turns arguments of).never_wrong
 
+    comes : (files : List SourceProgram) (turns : ℕ) → resolve_program files ≡ Ok (flat_of flat) → (arguments : List Scalar) → AreOf params arguments → (outcome : Outcome) → Allows (record { files = files; flat = flat }) entered turns arguments outcome → (f : ℕ) × Program_means turns p arguments (in_blocks outcome) f
+    comes files turns resolved arguments of (Gives vs) a = (runs turns arguments of).results_come files resolved vs a.0
+    comes files turns resolved arguments of (Fails r) a = (runs turns arguments of).reports_come files resolved r a
+
     pub runs_for : (source : Source) → source.flat ≡ flat → resolve_program source.files ≡ Ok (flat_of source.flat) → (turns : ℕ) → Runs_for source entered turns p
     runs_for source e resolved turns = subst (λ (f : Flat). Runs_for (record { files = source.files; flat = f }) entered turns p) (sym e) (record {
       gives = λ arguments of vs f x. (runs turns arguments of).gives source.files (resolved ∙ ap (λ f. Ok (flat_of f)) e) vs f x;
       fails = λ arguments of r f x. (runs turns arguments of).fails source.files (resolved ∙ ap (λ f. Ok (flat_of f)) e) r f x;
+      comes = comes source.files turns (resolved ∙ ap (λ f. Ok (flat_of f)) e);
     })
 
     pub is_ready : (asked : Command) (source : Source) → source.flat ≡ flat → ((e : Entered) → e.number ≡ number.0 → IsTypedAs source e → IsEntered source asked.entry e) → IsReady asked source entered

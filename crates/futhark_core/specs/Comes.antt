@@ -4,7 +4,6 @@
 -- types holds for some way to number names and records, and so for each; what is said of an entry, of each typing that shows it.
 use Rattle.std.specs.Prelude.{◌≡◌, ◌≤◌, ◌<◌, ◌⊎◌, ℕ, List, length, Option, Some, None, Result, Ok, Err}
 use Rattle.fut_scalar.specs.declared.place.Place.{Place}
-use Rattle.fut_scalar.specs.declared.report.Report.{Report}
 use Rattle.fut_scalar.specs.declared.scalar.Scalar.{Scalar}
 use Rattle.fut_token.specs.declared.token.Token.{Token}
 use Rattle.fut_io.specs.Counts.{Rose}
@@ -19,7 +18,7 @@ use Rattle.fut_typing.specs.Names.{Names as Numbering}
 use Rattle.fut_typing.specs.Program.{Defined}
 use Rattle.fut_typing.specs.Answers.{NoType, FunctionPlace, Ambiguous}
 use Rattle.module_scopes.specs.Names as refusal
-use Rattle.module_scopes.specs.Programs.{FlatProgram}
+use Rattle.module_scopes.specs.Programs.{FlatProgram, resolve_program}
 use Rattle.module_elab.specs.Elaborated.{program_of as flat_of}
 use Rattle.unbuilt_tokens.specs.Unbuilt.{first_unbuilt}
 use Rattle.front.specs.Acceptance.{Resolves, Typable, definitions_of, named_file}
@@ -41,7 +40,7 @@ use Rattle.futhark_status.specs.declared.status.Status.{Status}
 use Rattle.futhark_status.specs.declared.status.Status.TheVariants.{Done, Usage, Entry, Limit, Input, Failure, Turns, Memory}
 use Rattle.futhark_core.specs.Acceptance.{Source}
 use Rattle.futhark_core.specs.Entering.{IsOutside}
-use Rattle.futhark_core.specs.Meaning.{Entered, IsEntered}
+use Rattle.futhark_core.specs.Meaning.{Entered, IsEntered, Outcome, Gives, Fails, Allows}
 use Rattle.futhark_core.specs.Row.{Outside, most_input, status_for}
 
 -- what a stage comes to: something for the next one, or the status that ends the run
@@ -123,15 +122,21 @@ Accepted files file =
 
 -- ---- what is done with it
 
--- how a run ends whose source is accepted and has its entry: it tells so, it was run, or its input is refused with a status
+-- how a run ends whose source is accepted and has its entry: it tells so, it was run, it comes to an outcome, or its input is
+-- refused with a status
 pub data Ending : Type 0 where
   Told : Ending
   Ran : Ending
+  Came : Outcome → Ending
   Unread : Status → Ending
 
 -- this holds of the entry of this name, however it is read off
 abbrev pub Of_entries : FlatProgram → Name → (Entered → Type 0) → Type 0
 Of_entries flat name P = (source : Source) → flat_of source.flat ≡ flat → (e : Entered) → IsEntered source name e → P e
+
+-- and this of the files too that resolve to the flat program
+abbrev pub Of_sources : FlatProgram → Name → (Source → Entered → Type 0) → Type 0
+Of_sources flat name P = (source : Source) → flat_of source.flat ≡ flat → resolve_program source.files ≡ Ok flat → (e : Entered) → IsEntered source name e → P source e
 
 -- a run may begin at a definition of this name, or at none
 abbrev pub Entering : FlatProgram → Name → Stage FlatProgram
@@ -139,18 +144,19 @@ Entering flat name (Ok same) = ((at : ℕ) × HasEntry flat name at) × ((source
 Entering flat name (Err status) = (HasNoEntry flat name × (status ≡ Entry NoEntry name))
     ⊎ (((at : ℕ) × HasEntry flat name at) × Of_entries flat name (λ e. ⊥) × (status ≡ Entry OutsideProfile name))
 
--- the told input reads as arguments, or is too long or refused
-abbrev pub Argued : FlatProgram → Name → Option (List ℕ) → Stage Ending
-Argued flat name None end = ⊥
-Argued flat name (Some bytes) (Ok Told) = ⊥
-Argued flat name (Some bytes) (Ok Ran) = (length bytes ≤ most_input) × Of_entries flat name (λ e. (values : List Scalar) × Reads e.params bytes values)
-Argued flat name (Some bytes) (Ok (Unread status)) = ((most_input < length bytes) × (status ≡ Limit limit.InputBytes))
+-- the told input reads as arguments, for which the files allow an outcome, or is too long or refused
+abbrev pub Argued : FlatProgram → Name → ℕ → Option (List ℕ) → Stage Ending
+Argued flat name turns None end = ⊥
+Argued flat name turns (Some bytes) (Ok Told) = ⊥
+Argued flat name turns (Some bytes) (Ok Ran) = (length bytes ≤ most_input) × Of_entries flat name (λ e. (values : List Scalar) × Reads e.params bytes values)
+Argued flat name turns (Some bytes) (Ok (Came outcome)) = (length bytes ≤ most_input) × Of_sources flat name (λ source e. (values : List Scalar) × Reads e.params bytes values × Allows source e turns values outcome)
+Argued flat name turns (Some bytes) (Ok (Unread status)) = ((most_input < length bytes) × (status ≡ Limit limit.InputBytes))
     ⊎ ((err : TextErr) × (length bytes ≤ most_input) × Of_entries flat name (λ e. Refuses e.params bytes err) × (status ≡ Input err))
-Argued flat name (Some bytes) (Err status) = ⊥
+Argued flat name turns (Some bytes) (Err status) = ⊥
 
 -- an accepted program is run on the input, or is told to be accepted
 abbrev pub Done_with : Action → Command → Option (List ℕ) → FlatProgram → Stage Ending
-Done_with Run asked left flat = Then (Entering flat asked.entry) (λ entered. Argued entered asked.entry left)
+Done_with Run asked left flat = Then (Entering flat asked.entry) (λ entered. Argued entered asked.entry asked.turns left)
 Done_with Check asked left flat = λ end. end ≡ Ok Told
 
 abbrev pub Acted : Command → Option (List ℕ) → FlatProgram → Stage Ending
@@ -175,9 +181,10 @@ pub record NoFault (old new : Outside) : Type 0 where
 abbrev pub IsLimit : Status → Type 0
 IsLimit status = (status ≡ Limit limit.Nodes) ⊎ (status ≡ Limit limit.Depth)
 
--- a run ends with a result or a failure that is allowed, as its row says
-abbrev pub IsRun : Status → Type 0
-IsRun status = (status ≡ Done) ⊎ (((report : Report) × (path : Name) × (status ≡ Failure report path)) ⊎ ((report : Report) × (path : Name) × (status ≡ Turns report path)))
+-- the status tells of this outcome
+abbrev pub Tells : Outcome → Status → Type 0
+Tells (Gives components) status = status ≡ Done
+Tells (Fails report) status = (path : Name) × ((status ≡ Failure report path) ⊎ (status ≡ Turns report path))
 
 -- both say the same of types, perhaps at other places
 abbrev pub AlikeTypes : TypeErr → TypeErr → Type 0
@@ -193,7 +200,8 @@ Alike status end = ((file : Name) × ParserRefusal file status × ParserRefusal 
 
 abbrev pub Agrees : Status → Result Ending Status → Type 0
 Agrees status (Ok Told) = status ≡ Done
-Agrees status (Ok Ran) = IsRun status ⊎ IsLimit status
+Agrees status (Ok Ran) = ((outcome : Outcome) × Tells outcome status) ⊎ IsLimit status
+Agrees status (Ok (Came outcome)) = Tells outcome status ⊎ IsLimit status
 Agrees status (Ok (Unread end)) = (status ≡ end) ⊎ IsLimit status
 Agrees status (Err end) = (status ≡ end) ⊎ Alike status end
 

@@ -63,5 +63,9 @@ abbrev pub Allows : Source → Entered → ℕ → List Scalar → Outcome → T
 Allows source e turns arguments (Gives components) = Allows_result source.files (flat_of source.flat) e.integer_at turns e.number arguments e.tuple components × AreOf e.results components
 Allows source e turns arguments (Fails report) = Allows_report source.files (flat_of source.flat) e.integer_at turns e.number arguments report
 
+-- and no other
+abbrev pub Alone : Source → Entered → ℕ → List Scalar → Outcome → Type 0
+Alone source e turns arguments outcome = (other : Outcome) → Allows source e turns arguments other → other ≡ outcome
+
 abbrev pub tops_of : Source → List FlatTop
 tops_of source = flat_tops 0 (named_terms source.flat)

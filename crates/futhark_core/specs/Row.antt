@@ -26,7 +26,7 @@ use Rattle.futhark_status.specs.declared.status.Status.{Status}
 use Rattle.futhark_status.specs.declared.status.Status.TheVariants.{Done, Usage, LoadFault, Text, Names, Types, Entry, Limit, ReadFault, Input, Failure, Turns, WriteFault, Memory}
 use Rattle.futhark_core.specs.Acceptance.{Source, AcceptedFile, UnacceptedFile}
 use Rattle.futhark_core.specs.Entering.{NotEntered}
-use Rattle.futhark_core.specs.Meaning.{Entered, IsEntered, Outcome, Gives, Fails, Allows, tops_of}
+use Rattle.futhark_core.specs.Meaning.{Entered, IsEntered, Outcome, Gives, Fails, Allows, Alone, tops_of}
 
 -- what a run meets outside
 pub record Outside : Type 0 where
@@ -143,7 +143,7 @@ abbrev pub InputRow : Command → Source → Streams → Streams → TextErr →
 InputRow asked source old new text.Memory = ⊥
 InputRow asked source old new err = UnreadInput asked source old new err
 
--- the whole input was read, it reads as arguments, and the files allow this outcome for them
+-- the whole input was read, it reads as arguments, and the files allow this outcome for them and no other
 pub record ComesTo (asked : Command) (source : Source) (old new : SourceSeen) (outcome : Outcome) : Type 0 where
   pub entered : Entered
   pub ready : IsReady asked source entered
@@ -153,6 +153,7 @@ pub record ComesTo (asked : Command) (source : Source) (old new : SourceSeen) (o
   pub arguments : List Scalar
   pub reads : Reads entered.params bytes arguments
   pub allows : Allows source entered asked.turns arguments outcome
+  pub alone : Alone source entered asked.turns arguments outcome
 
 -- out grew by exactly the lines of a result that the files allow
 pub record DoneRow (asked : Command) (source : Source) (old new : Streams) : Type 0 where

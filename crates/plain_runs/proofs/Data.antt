@@ -113,3 +113,12 @@ module _ (N : Names) (integer_at : ℕ → IntType) (M : FlatMode) (budget : ℕ
   results_are tops {v = v} false (s ∷ []) u r p f = one_is tops s p (subst (λ z. Fits N integer_at M budget z tops v) r f)
   results_are tops false (s ∷ t ∷ ss) u r p f = absurd r
   results_are tops {v = v} true ss u r p f = tuple_is tops ss p (subst (λ z. Fits N integer_at M budget z tops v) r.1 f)
+
+-- data that is laid in components has these components
+split_is : (vs : List Scalar) {hs : Shapes} {cs rest : List Component} → All_split hs (as_values (scalar_datums vs)) cs rest → cs ≡ vs ++ rest
+split_is [] split_none = refl
+split_is (v ∷ vs) (split_more split_scalar ps) = ap (λ z. v ∷ z) (split_is vs ps)
+
+pub result_is : {tuple : Bool} {vs : List Scalar} {d : Datum} {h : Shape} {cs : List Component} → Is_result tuple vs d → Split h (as_value d) cs [] → cs ≡ vs
+result_is one_scalar split_scalar = refl
+result_is (a_tuple {cs = vs}) (split_tuple p) = split_is vs p ∙ append-nil vs

@@ -1,4 +1,4 @@
--- What the blocks of a typed program allow, its files allow.
+-- What the blocks of a typed program allow, its files allow, and the other way round.
 use Rattle.std.proofs.Common.{◌≡◌, ℕ, List, [], ◌∷◌, Bool, false, map, refl, sym, ap, subst}
 use Rattle.fut_scalar.specs.declared.place.BindId.{BindId}
 use Rattle.fut_scalar.specs.declared.report.Report.{Report}
@@ -14,11 +14,11 @@ use Rattle.fut_flat.specs.Terms.{Parameter, Size_parameter, Type_parameter, Use,
 use Rattle.fut_flat.specs.Erased.{FlatTerm, FlatTurns}
 use Rattle.fut_typing.specs.Program.{defined, program_of as typing_of}
 use Rattle.fut_meaning.specs.Claims.{Safe}
-use Rattle.fut_meaning.specs.Datums.{Scalar_datum, as_value, as_values, all_values}
+use Rattle.fut_meaning.specs.Datums.{Datum, Scalar_datum, as_value, as_values, all_values}
 use Rattle.fut_meaning.specs.Flats.{FlatValue, named_terms, flat_tops, Flat_means, flat_names}
 use Rattle.fut_meaning.specs.Meaning.{plain}
 use Rattle.fut_meaning.specs.Outcomes.{Out, Val, Fail, Wrong}
-use Rattle.fut_meaning.specs.Sames.{Same_out, same_value, same_report, same_wrong, Right, right}
+use Rattle.fut_meaning.specs.Sames.{Same_out, same_value, same_report, same_wrong, Left, left, Right, right}
 use Rattle.fut_meaning.specs.Values.{listed}
 use Rattle.fut_blocks.specs.declared.block.Program.{Program}
 use Rattle.fut_blocks.specs.Meaning.{Component}
@@ -43,11 +43,11 @@ use Rattle.typed_programs.specs.Entries.{scalar_tys, Results_are}
 use Rattle.type_scopes.specs.declared.Inference.{Inference}
 use Rattle.typed_programs.specs.Typed.{Typed_by, integer_at}
 use Rattle.unfold.specs.Shapes.{Shape, Shapes, All_split, Is_value}
-use Rattle.unfold.proofs.Programs.{adds_no_outcome}
+use Rattle.unfold.proofs.Programs.{adds_no_outcome, loses_no_outcome}
 use Rattle.plain_runs.specs.Allowed.{Allows_result, Allows_report}
 use Rattle.plain_runs.specs.Claims.{Is_run, Runs_as, BlocksMeanTheSource}
-use Rattle.plain_runs.specs.Results.{scalar_datums}
-use Rattle.plain_runs.proofs.Data.{arguments_fit, listed_scalars, results_are}
+use Rattle.plain_runs.specs.Results.{scalar_datums, Is_result}
+use Rattle.plain_runs.proofs.Data.{arguments_fit, listed_scalars, results_are, result_is}
 
 -- ---- what the meaning knows binds no size
 
@@ -145,11 +145,39 @@ module _ {flat : Flat} {inference : Inference} {integers : List IntType} {entry 
         same : {o : Out FlatValue} → Same_out (Is_value h) (Fail k) o → Flat_means (integer_at integers) (plain false) budget (named_terms flat) entry values o f → Allows_report ps (program_of flat) (integer_at integers) budget entry.0 arguments k
         same same_report x = report_of k f x
 
+    -- ---- what the files allow, the blocks allow
+
+    came : (vs : List Scalar) (d : Datum) (f : ℕ) → Is_result tuple vs d → Left (Is_value h) (Program_means budget p arguments) (Val (as_value d)) f → (g : ℕ) × Program_means budget p arguments (Val vs) g
+    came vs d f is (left o x s) = same s x
+      where
+        same : {o : Out (List Component)} → Same_out (Is_value h) o (Val (as_value d)) → Program_means budget p arguments o f → (g : ℕ) × Program_means budget p arguments (Val vs) g
+        same (same_value s) x = (f, subst (λ z. Program_means budget p arguments (Val z) f) (result_is is s) x)
+
+    failed : (k : Report) (f : ℕ) → Left (Is_value h) (Program_means budget p arguments) (Fail k) f → (g : ℕ) × Program_means budget p arguments (Fail k) g
+    failed k f (left o x s) = same s x
+      where
+        same : {o : Out (List Component)} → Same_out (Is_value h) o (Fail k) → Program_means budget p arguments o f → (g : ℕ) × Program_means budget p arguments (Fail k) g
+        same same_report x = (f, x)
+
+    allowed : (o : Out FlatValue) (f : ℕ) → Rattle.fut_meaning.specs.Programs.Program_means (flat_names (integer_at integers)) (plain false) budget (flat_tops 0 (named_values (program_of flat).definitions)) entry.0 (all_values (map Scalar_datum arguments)) o f → Left (Is_value h) (Program_means budget p arguments) o f
+    allowed o f m =
+        loses_no_outcome (plain false) (integer_at integers) budget (named_terms flat) entry hs h p r.unfolds (as_values (scalar_datums arguments)) arguments split o f
+        (subst (λ z. Flat_means (integer_at integers) (plain false) budget (named_terms flat) entry z o f) (sym (listed_scalars arguments))
+        (subst (λ z. Rattle.fut_meaning.specs.Programs.Program_means (flat_names (integer_at integers)) (plain false) budget (flat_tops 0 z) entry.0 (all_values (map Scalar_datum arguments)) o f) (named_are flat.definitions.now) m))
+
+    result_comes : (vs : List Scalar) → Allows_result ps (program_of flat) (integer_at integers) budget entry.0 arguments tuple vs → (g : ℕ) × Program_means budget p arguments (Val vs) g
+    result_comes vs a = came vs a.result a.words a.is_result (allowed (Val (as_value a.result)) a.words ((same_results ps (program_of flat) resolved no_size (integer_at integers) false budget entry.0 (map Scalar_datum arguments) a.result a.words).1 a.means))
+
+    report_comes : (k : Report) → Allows_report ps (program_of flat) (integer_at integers) budget entry.0 arguments k → (g : ℕ) × Program_means budget p arguments (Fail k) g
+    report_comes k a = failed k a.words (allowed (Fail k) a.words ((same_reports ps (program_of flat) resolved no_size (integer_at integers) false budget entry.0 (map Scalar_datum arguments) k a.words).1 a.means))
+
   pub run_is : Runs_as flat integers entry tuple results p budget arguments
   run_is = record {
     never_wrong = λ f x. wrong_never f (flat_allows Wrong f x);
     gives = λ ps resolved vs f x. gives_so ps resolved vs f (flat_allows (Val vs) f x);
     fails = λ ps resolved k f x. fails_so ps resolved k f (flat_allows (Fail k) f x);
+    results_come = result_comes;
+    reports_come = report_comes;
   }
 
 pub blocks_mean_the_source : BlocksMeanTheSource

@@ -1,5 +1,5 @@
--- What is proved of the blocks to which a typed program unfolds from an entry on: they never go wrong, and what they allow,
--- the files allow by their names.
+-- What is proved of the blocks to which a typed program unfolds from an entry on: they never go wrong, what they allow, the
+-- files allow by their names, and the other way round.
 use Rattle.std.specs.Prelude.{◌≡◌, ℕ, List, [], Bool, Ok, slice_index_or}
 use Rattle.fut_scalar.specs.declared.place.BindId.{BindId}
 use Rattle.fut_scalar.specs.declared.report.Report.{Report}
@@ -44,6 +44,8 @@ pub record Runs_as (flat : Flat) (integers : List IntType) (entry : BindId) (tup
   pub never_wrong : NeverWrong budget p arguments
   pub gives : (ps : List SourceProgram) → resolve_program ps ≡ Ok (program_of flat) → (vs : List Scalar) (f : ℕ) → Program_means budget p arguments (Val vs) f → Allows_result ps (program_of flat) (integer_at integers) budget entry.0 arguments tuple vs × AreOf results vs
   pub fails : (ps : List SourceProgram) → resolve_program ps ≡ Ok (program_of flat) → (r : Report) (f : ℕ) → Program_means budget p arguments (Fail r) f → Allows_report ps (program_of flat) (integer_at integers) budget entry.0 arguments r
+  pub results_come : (ps : List SourceProgram) → resolve_program ps ≡ Ok (program_of flat) → (vs : List Scalar) → Allows_result ps (program_of flat) (integer_at integers) budget entry.0 arguments tuple vs → (f : ℕ) × Program_means budget p arguments (Val vs) f
+  pub reports_come : (ps : List SourceProgram) → resolve_program ps ≡ Ok (program_of flat) → (r : Report) → Allows_report ps (program_of flat) (integer_at integers) budget entry.0 arguments r → (f : ℕ) × Program_means budget p arguments (Fail r) f
 
 abbrev pub BlocksMeanTheSource : Type 0
 BlocksMeanTheSource =

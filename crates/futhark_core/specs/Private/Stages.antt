@@ -8,7 +8,7 @@ use Rattle.fut_scalar.specs.declared.scalar.ScalarType.{ScalarType}
 use Rattle.fut_token.specs.declared.token.Token.{Token}
 use Rattle.fut_io.specs.Outside.{LoaderSeen, Loaded}
 use Rattle.fut_lexer.specs.Lexing.{HasTokens}
-use Rattle.fut_meaning.specs.Outcomes.{Val, Fail}
+use Rattle.fut_meaning.specs.Outcomes.{Out, Val, Fail}
 use Rattle.fut_blocks.specs.declared.block.Program.{Program}
 use Rattle.fut_blocks.specs.Programs.{Program_means, NeverWrong, AreOf}
 use Rattle.fut_eval.specs.declared.program.EvalErr.{EvalErr}
@@ -28,7 +28,7 @@ use Rattle.futhark_status.specs.declared.status.Why.TheVariants as why
 use Rattle.futhark_status.specs.declared.status.Status.{Status}
 use Rattle.futhark_status.specs.declared.status.Status.TheVariants.{Entry, Limit, Input, Failure, Turns, Memory}
 use Rattle.futhark_core.specs.Acceptance.{Source, AcceptedTokens, UnacceptedTokens, UnacceptedFile}
-use Rattle.futhark_core.specs.Meaning.{Entered, Gives, Fails, Allows}
+use Rattle.futhark_core.specs.Meaning.{Entered, Outcome, Gives, Fails, Allows}
 use Rattle.futhark_core.specs.Row.{Streams, ActionRow, status_for}
 
 -- ---- from a file to its tokens
@@ -83,10 +83,16 @@ IsUnentered err name status = (status ≡ Entry err name) ⊎ (status ≡ Memory
 
 -- ---- a program that is ready
 
--- its blocks never go wrong, and what they allow, the source allows
+-- this outcome as blocks have it
+abbrev pub in_blocks : Outcome → Out (List Scalar)
+in_blocks (Gives vs) = Val vs
+in_blocks (Fails r) = Fail r
+
+-- what its blocks allow, the source allows, and the other way round
 pub record Runs_for (source : Source) (e : Entered) (turns : ℕ) (p : Program) : Type 0 where
   pub gives : (arguments : List Scalar) → AreOf e.params arguments → (vs : List Scalar) (f : ℕ) → Program_means turns p arguments (Val vs) f → Allows source e turns arguments (Gives vs)
   pub fails : (arguments : List Scalar) → AreOf e.params arguments → (r : Report) (f : ℕ) → Program_means turns p arguments (Fail r) f → Allows source e turns arguments (Fails r)
+  pub comes : (arguments : List Scalar) → AreOf e.params arguments → (outcome : Outcome) → Allows source e turns arguments outcome → (f : ℕ) × Program_means turns p arguments (in_blocks outcome) f
 
 abbrev pub Never_wrong_for : List ScalarType → ℕ → Program → Type 0
 Never_wrong_for params turns p = (arguments : List Scalar) → AreOf params arguments → NeverWrong turns p arguments
