@@ -2,7 +2,7 @@
 ghost use Rattle.std.specs.Prelude.{Bool};
 ghost use Rattle.fut_meaning.specs.Lawful.{lawful};
 ghost use Rattle.fut_meaning.specs.Meaning.{plain};
-ghost use Rattle.unfold.specs.Claims.{AddsNoOutcome, LosesNoOutcome, NamesRise};
+ghost use Rattle.unfold.specs.Claims.{AddsNoOutcome, FindsDefinitions, FindsOthersAsBefore, FindsTheLastBound, LosesNoOutcome, NamesRise};
 
 /// The law that what the blocks of a program allow, the program allows, with the same count.
 pub fn unfolding_adds_no_outcome()
@@ -19,4 +19,11 @@ pub fn unfolding_loses_no_outcome()
 /// The law that the names of a program's blocks rise, so that each is bound once.
 pub fn names_rise()
     ensures { NamesRise }
+{}
+
+/// The law that in a scope of unfolding the name bound last is found, and every other one as before.
+pub fn scopes_find_the_last_bound()
+    ensures definitions { FindsDefinitions }
+    ensures last { FindsTheLastBound }
+    ensures others { FindsOthersAsBefore }
 {}
