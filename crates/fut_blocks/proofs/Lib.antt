@@ -1,4 +1,5 @@
 pub mod Layers
 pub mod NeverStuck
 pub mod OneOutcome
+pub mod SomeOutcome
 mod Examples

@@ -1,6 +1,6 @@
 -- What is proved of blocks.
 use Rattle.std.specs.Prelude.{◌≡◌, ℕ, List}
-use Rattle.fut_meaning.specs.Claims.{Safe}
+use Rattle.fut_meaning.specs.Claims.{Safe, Some_outcome}
 use Rattle.fut_meaning.specs.Outcomes.{Out}
 use Rattle.fut_blocks.specs.declared.block.Program.{Program}
 use Rattle.fut_blocks.specs.Meaning.{Component}
@@ -14,3 +14,7 @@ NeverStuck = (budget : ℕ) (p : Program) (ts : List Sort) (vs : List Component)
 -- a program has one outcome at most for its arguments, as long as nothing in it may choose
 abbrev pub OneOutcome : Type 0
 OneOutcome = (budget : ℕ) (p : Program) (vs : List Component) (o o' : Out (List Component)) (f f' : ℕ) → Program_means budget p vs o f → Program_means budget p vs o' f' → o ≡ o'
+
+-- a program has some outcome for any components and any budget of turns, be it that it goes wrong
+abbrev pub SomeOutcome : Type 0
+SomeOutcome = (budget : ℕ) (p : Program) (vs : List Component) → Some_outcome (Program_means budget p vs)
