@@ -1,5 +1,5 @@
 -- What the blocks allow, the program allows, and a typed program never goes wrong.
-use Rattle.std.proofs.Common.{ℕ, List}
+use Rattle.std.proofs.Common.{ℕ, List, false}
 use Rattle.fut_scalar.specs.declared.scalar.IntType.{IntType}
 use Rattle.fut_types.specs.Types.{Ty}
 use Rattle.fut_typing.specs.Names.{Names}
@@ -16,12 +16,12 @@ use Rattle.unfold.proofs.Programs.{adds_no_outcome}
 use Rattle.typed_blocks.specs.Claims.{Components_fit, BlocksNeverWrong}
 
 module _ (N : Names) (integer_at : ℕ → IntType) (M : FlatMode) (budget : ℕ) (h : Shape) (u : Ty) where
-  has_same : {o : Out (List Component)} {o' : Out FlatValue} → Same_out (Is_value h) o o' → HasOut (Result_fits N integer_at M budget u) o' → HasOut (Components_fit N integer_at M budget h u) o
+  has_same : {o : Out (List Component)} {o' : Out FlatValue} → Same_out (Is_value h) o o' → HasOut (Result_fits N integer_at M budget false u) o' → HasOut (Components_fit N integer_at M budget h u) o
   has_same (same_value {a' = v} s) k = record { value = v; split = s; fits = k }
   has_same same_report k = tt
   has_same same_wrong k = k
 
-  has_right : {m : Rel FlatValue} (o : Out (List Component)) (f : ℕ) → Safe (Result_fits N integer_at M budget u) m → Right (Is_value h) m o f → HasOut (Components_fit N integer_at M budget h u) o
+  has_right : {m : Rel FlatValue} (o : Out (List Component)) (f : ℕ) → Safe (Result_fits N integer_at M budget false u) m → Right (Is_value h) m o f → HasOut (Components_fit N integer_at M budget h u) o
   has_right o f safe (right o' x s) = has_same s (safe o' f x)
 
 pub blocks_never_wrong : BlocksNeverWrong

@@ -1,5 +1,5 @@
 -- The components of a value of a type are of the type's scalar types.
-use Rattle.std.proofs.Common.{◌≡◌, ℕ, List, ◌∷◌, map, refl, ap, ◌∙◌}
+use Rattle.std.proofs.Common.{◌≡◌, ℕ, List, ◌∷◌, map, refl, ap, ◌∙◌, false}
 use Rattle.fut_scalar.specs.declared.place.BindId.{BindId}
 use Rattle.fut_scalar.specs.declared.scalar.IntType.{IntType}
 use Rattle.fut_scalar.specs.declared.scalar.Scalar.{Scalar}
@@ -29,7 +29,7 @@ module _ (N : Names) (integer_at : ℕ → IntType) (M : FlatMode) (budget : ℕ
   mutual
     unfolding Fits All_fit
 
-    pub sorts_are : {u : Ty} {ss us : List ScalarType} {h : Shape} {v : FlatValue} {cs ds : List Component} → Sorts u ss us → Split h v cs ds → Fits N integer_at M budget u tops v → map type_of ds ≡ us → map type_of cs ≡ ss
+    pub sorts_are : {u : Ty} {ss us : List ScalarType} {h : Shape} {v : FlatValue} {cs ds : List Component} → Sorts u ss us → Split h v cs ds → Fits N integer_at M budget false u tops v → map type_of ds ≡ us → map type_of cs ≡ ss
     sorts_are (sorts_scalar {s} {rest = us}) (split_scalar {c} {rest = ds}) f e = ap (λ z. z ∷ map type_of ds) (scalar_is s c f) ∙ ap (λ z. s ∷ z) e
     sorts_are sorts_scalar (split_tuple p) f e = absurd f
     sorts_are sorts_scalar (split_record p) f e = absurd f
@@ -37,7 +37,7 @@ module _ (N : Names) (integer_at : ℕ → IntType) (M : FlatMode) (budget : ℕ
     sorts_are (sorts_tuple s) (split_tuple p) f e = all_are s p f.1 e
     sorts_are (sorts_tuple s) (split_record p) f e = absurd f.1
 
-    all_are : {ts : Tys} {ss us : List ScalarType} {hs : Shapes} {vs : Values Ref BindId (Unit {0})} {cs ds : List Component} → All_sorts ts ss us → All_split hs vs cs ds → All_fit N integer_at M budget ts tops vs → map type_of ds ≡ us → map type_of cs ≡ ss
+    all_are : {ts : Tys} {ss us : List ScalarType} {hs : Shapes} {vs : Values Ref BindId (Unit {0})} {cs ds : List Component} → All_sorts ts ss us → All_split hs vs cs ds → All_fit N integer_at M budget false ts tops vs → map type_of ds ≡ us → map type_of cs ≡ ss
     all_are sorts_none split_none f e = e
     all_are sorts_none (split_more p ps) f e = absurd f
     all_are (sorts_more s t) split_none f e = absurd f

@@ -1,6 +1,6 @@
 -- What typing promises of unfolding: there is always a way on, and the blocks to which a program unfolds give for the
 -- components of arguments of its types the components of a value of its result's type, or a report, and never go wrong.
-use Rattle.std.specs.Prelude.{ℕ, List, [], Bool}
+use Rattle.std.specs.Prelude.{ℕ, List, [], Bool, false}
 use Rattle.fut_scalar.specs.declared.place.BindId.{BindId}
 use Rattle.fut_scalar.specs.declared.scalar.IntType.{IntType}
 use Rattle.fut_flat.specs.declared.prim.Ref.{Ref}
@@ -32,14 +32,14 @@ use Rattle.unfold.specs.Stuck.{Program_stuck}
 pub record Components_fit (N : Names) (integer_at : ℕ → IntType) (M : FlatMode) (budget : ℕ) (h : Shape) (u : Ty) (components : List Component) : Type 0 where
   pub value : FlatValue
   pub split : Is_value h components value
-  pub fits : Result_fits N integer_at M budget u value
+  pub fits : Result_fits N integer_at M budget false u value
 
 abbrev pub BlocksNeverWrong : Type 0
 BlocksNeverWrong =
     (N : Names) → AreNames N → (places : Kind) (K : Kinds) (a : Sub) (integer_at : ℕ → IntType) (tight : Bool) (budget : ℕ) (flat : Flat) → Is_typed N places K a integer_at flat
     → (entry : BindId) (ts : Tys) (u : Ty) → (scope_behind N places (program_of flat) 0 nothing).uses entry.0 K a (arrows ts u)
     → (hs : Shapes) (h : Shape) (p : Program) → Program_unfolds integer_at (flat_tops 0 (named_terms flat)) entry.0 hs h p
-    → (arguments : Values Ref BindId (Unit {0})) (components : List Component) → All_split hs arguments components [] → Arguments_fit N integer_at (plain tight) budget ts (listed arguments)
+    → (arguments : Values Ref BindId (Unit {0})) (components : List Component) → All_split hs arguments components [] → Arguments_fit N integer_at (plain tight) budget false ts (listed arguments)
     → Safe (Components_fit N integer_at (plain tight) budget h u) (Program_means budget p components)
 
 -- and so the results are of the scalar types of the components of the result's type

@@ -1,5 +1,5 @@
 -- A value stays of its type where further definitions are evaluated.
-use Rattle.std.proofs.Common.{ℕ, List, [], ◌∷◌}
+use Rattle.std.proofs.Common.{ℕ, List, [], ◌∷◌, Bool}
 use Rattle.fut_scalar.specs.declared.scalar.IntType.{IntType}
 use Rattle.fut_types.specs.declared.Head.TheVariants as head
 use Rattle.fut_types.specs.Types.{Ty, Var, Made, Tys, none, more}
@@ -14,11 +14,11 @@ grows_self tops k v e = e
 pub grows_more : (tops tops' tops'' : FlatTops) → Grows tops tops' → Grows tops' tops'' → Grows tops tops''
 grows_more tops tops' tops'' g h k v e = h k v (g k v e)
 
-module _ (N : Names) (integer_at : ℕ → IntType) (M : FlatMode) (budget : ℕ) where
+module _ (N : Names) (integer_at : ℕ → IntType) (M : FlatMode) (budget : ℕ) (total : Bool) where
   mutual
     unfolding Fits All_fit Fields_fit
 
-    pub fits_grow : (t : Ty) (tops tops' : FlatTops) → Grows tops tops' → (v : FlatValue) → Fits N integer_at M budget t tops v → Fits N integer_at M budget t tops' v
+    pub fits_grow : (t : Ty) (tops tops' : FlatTops) → Grows tops tops' → (v : FlatValue) → Fits N integer_at M budget total t tops v → Fits N integer_at M budget total t tops' v
     fits_grow (Var n) tops tops' g v h = h
     fits_grow (Made (head.Scalar s) ts) tops tops' g v h = h
     fits_grow (Made head.Array ts) tops tops' g v h = h
@@ -39,12 +39,12 @@ module _ (N : Names) (integer_at : ℕ → IntType) (M : FlatMode) (budget : ℕ
     fits_grow (Made (head.Rigid n k) ts) tops tops' g v h = h
     fits_grow (Made (head.Abstract n d) ts) tops tops' g v h = h
 
-    pub all_fit_grow : (ts : Tys) (tops tops' : FlatTops) → Grows tops tops' → (vs : FlatValues) → All_fit N integer_at M budget ts tops vs → All_fit N integer_at M budget ts tops' vs
+    pub all_fit_grow : (ts : Tys) (tops tops' : FlatTops) → Grows tops tops' → (vs : FlatValues) → All_fit N integer_at M budget total ts tops vs → All_fit N integer_at M budget total ts tops' vs
     all_fit_grow none tops tops' g vs h = h
     all_fit_grow (more t ts) tops tops' g no_value h = absurd h
     all_fit_grow (more t ts) tops tops' g (value_and v vs) h = (fits_grow t tops tops' g v h.0, all_fit_grow ts tops tops' g vs h.1)
 
-    pub fields_fit_grow : (ls : List ℕ) (ts : Tys) (tops tops' : FlatTops) → Grows tops tops' → (fs : FlatFields) → Fields_fit N integer_at M budget ls ts tops fs → Fields_fit N integer_at M budget ls ts tops' fs
+    pub fields_fit_grow : (ls : List ℕ) (ts : Tys) (tops tops' : FlatTops) → Grows tops tops' → (fs : FlatFields) → Fields_fit N integer_at M budget total ls ts tops fs → Fields_fit N integer_at M budget total ls ts tops' fs
     fields_fit_grow [] none tops tops' g fs h = tt
     fields_fit_grow [] (more t ts) tops tops' g fs h = absurd h
     fields_fit_grow (l ∷ ls) none tops tops' g fs h = absurd h

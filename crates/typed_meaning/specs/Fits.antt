@@ -1,7 +1,7 @@
 -- Which values are of a type. A function is of a type where it takes each value of its parameter's type to an outcome of its
 -- result's: to a value of that type or to a report, and never to what goes wrong; and so it stays where further definitions
--- are evaluated.
-use Rattle.std.specs.Prelude.{◌≡◌, ◌↔◌, ℕ, ◌<◌, List, [], ◌∷◌, true, Some}
+-- are evaluated. A total function has some outcome for each.
+use Rattle.std.specs.Prelude.{◌≡◌, ◌↔◌, ℕ, ◌<◌, List, [], ◌∷◌, Bool, true, Some}
 use Rattle.std.specs.List.{Contains}
 use mathlib.Core.Logic.{◌⊎◌}
 use Rattle.fut_scalar.specs.declared.place.BindId.{BindId}
@@ -20,7 +20,7 @@ use Rattle.fut_meaning.specs.Values.{Scalar_value, Tuple_value, Record_value, Va
 use Rattle.fut_meaning.specs.Meaning.{Lang, Ever}
 use Rattle.fut_meaning.specs.Programs.{top}
 use Rattle.fut_meaning.specs.Flats.{FlatValue, FlatTops, FlatMode, flat_names}
-use Rattle.fut_meaning.specs.Claims.{Safe}
+use Rattle.fut_meaning.specs.Claims.{Correct}
 
 abbrev pub FlatValues : Type 0
 FlatValues = Values Ref BindId (Unit {0})
@@ -80,10 +80,10 @@ pub record Are_keys (N : Names) (labels : List ℕ) (fs : FlatFields) : Type 0 w
   pub ordered : In_order fs
   pub same : (s : Text) → Is_key s fs ↔ Contains labels (N.label s)
 
-module _ (N : Names) (integer_at : ℕ → IntType) (M : FlatMode) (budget : ℕ) where
-  abbrev pub lang : FlatTops → Lang Ref BindId (Unit {0})
-  lang tops = (flat_names integer_at).lang tops
+abbrev pub lang : (ℕ → IntType) → FlatTops → Lang Ref BindId (Unit {0})
+lang integer_at tops = (flat_names integer_at).lang tops
 
+module _ (N : Names) (integer_at : ℕ → IntType) (M : FlatMode) (budget : ℕ) (total : Bool) where
   -- the values of a type, where these definitions have been evaluated
   unfoldable mutual
     pub Fits : Ty → FlatTops → FlatValue → Type 0
@@ -94,7 +94,7 @@ module _ (N : Names) (integer_at : ℕ → IntType) (M : FlatMode) (budget : ℕ
     Fits (Made (head.Record n) ts) tops v = On_record (λ fs. Are_keys N (N.shapes.fields n) fs × Fields_fit (N.shapes.fields n) ts tops fs) v
     Fits (Made head.Fun none) tops v = ⊥
     Fits (Made head.Fun (more t none)) tops v = ⊥
-    Fits (Made head.Fun (more t (more u none))) tops f = (tops' : FlatTops) → Grows tops tops' → (v : FlatValue) → Fits t tops' v → Safe (Fits u tops') (Ever (lang tops') M budget (Call f v))
+    Fits (Made head.Fun (more t (more u none))) tops f = (tops' : FlatTops) → Grows tops tops' → (v : FlatValue) → Fits t tops' v → Correct total (Fits u tops') (Ever (lang integer_at tops') M budget (Call f v))
     Fits (Made head.Fun (more t (more u (more w ts)))) tops v = ⊥
     Fits (Made (head.Rigid n k) ts) tops v = ⊥
     Fits (Made (head.Abstract n d) ts) tops v = ⊥
