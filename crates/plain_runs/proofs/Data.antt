@@ -14,13 +14,13 @@ use Rattle.fut_types.specs.Types.{Ty, Made, scalar_ty}
 use Rattle.fut_typing.specs.Names.{Names}
 use Rattle.fut_meaning.specs.Datums.{Datum, Scalar_datum, Tuple_datum, as_value, as_values, all_values}
 use Rattle.fut_meaning.specs.Flats.{FlatValue, FlatTops, FlatMode}
-use Rattle.fut_meaning.specs.Values.{Scalar_value, Tuple_value, Values, value_and, listed}
+use Rattle.fut_meaning.specs.Values.{Scalar_value, Tuple_value, Record_value, Closure, Primitive_value, Values, no_value, value_and, listed}
 use Rattle.fut_blocks.specs.Meaning.{Component}
 use Rattle.fut_blocks.specs.Programs.{AreOf}
 use Rattle.typed_meaning.specs.Fits.{Fits, All_fit, Is_scalar}
 use Rattle.typed_meaning.specs.Programs.{Arguments_fit}
 use Rattle.typed_programs.specs.Entries.{scalar_tys, Results_are}
-use Rattle.unfold.specs.Shapes.{Shape, Shapes, Split, split_scalar, split_tuple, split_record, All_split, split_none, split_more}
+use Rattle.unfold.specs.Shapes.{Shape, Shapes, Split, split_scalar, split_tuple, All_split, split_none, split_more}
 use Rattle.plain_runs.specs.Results.{scalar_datums, Is_result, one_scalar, a_tuple}
 
 abbrev FlatValues : Type 0
@@ -47,8 +47,17 @@ head_is e = cc
 rest_is : {A : Type 0} {x y : A} {xs ys : List A} → x ∷ xs ≡ y ∷ ys → xs ≡ ys
 rest_is e = cc
 
-module _ (N : Names) (integer_at : ℕ → IntType) (M : FlatMode) (budget : ℕ) where
-  pub arguments_fit : (ss : List ScalarType) (cs : List Scalar) → map type_of cs ≡ ss → Arguments_fit N integer_at M budget (scalar_tys ss) (listed (as_values (scalar_datums cs)))
+-- data that is laid in components has these components
+split_is : (vs : List Scalar) {hs : Shapes} {cs rest : List Component} → All_split hs (as_values (scalar_datums vs)) cs rest → cs ≡ vs ++ rest
+split_is [] split_none = refl
+split_is (v ∷ vs) (split_more split_scalar ps) = ap (λ z. v ∷ z) (split_is vs ps)
+
+pub result_is : {tuple : Bool} {vs : List Scalar} {d : Datum} {h : Shape} {cs : List Component} → Is_result tuple vs d → Split h (as_value d) cs [] → cs ≡ vs
+result_is one_scalar split_scalar = refl
+result_is (a_tuple {cs = vs}) (split_tuple p) = split_is vs p ∙ append-nil vs
+
+module _ (N : Names) (integer_at : ℕ → IntType) (M : FlatMode) (budget : ℕ) (total : Bool) where
+  pub arguments_fit : (ss : List ScalarType) (cs : List Scalar) → map type_of cs ≡ ss → Arguments_fit N integer_at M budget total (scalar_tys ss) (listed (as_values (scalar_datums cs)))
   unfolding scalar_tys Fits
   arguments_fit [] [] e = tt
   arguments_fit [] (c ∷ cs) e = absurd (let z : type_of c ∷ map type_of cs ≡ [] = e in cc)
@@ -70,55 +79,45 @@ module _ (N : Names) (integer_at : ℕ → IntType) (M : FlatMode) (budget : ℕ
   scalar_is types.Bool (scalar.Int u n) e = absurd e
   scalar_is types.Bool (scalar.Bool b) e = refl
 
-  one_is : (tops : FlatTops) {h : Shape} {v : FlatValue} {cs : List Component} (s : ScalarType) → Split h v cs [] → Fits N integer_at M budget (scalar_ty s) tops v → Is_data false (s ∷ []) v cs
+  a_scalar : (tops : FlatTops) (s : ScalarType) (v : FlatValue) → Fits N integer_at M budget total (scalar_ty s) tops v → (c : Scalar) × (v ≡ Scalar_value c) × (type_of c ≡ s)
   unfolding scalar_tys Fits
-  one_is tops s (split_scalar {c}) f = record { result = Scalar_datum c; is_result = one_scalar; value = refl; are_of = ap (λ z. z ∷ []) (scalar_is s c f) }
-  one_is tops s (split_tuple p) f = absurd f
-  one_is tops s (split_record p) f = absurd f
+  a_scalar tops s (Scalar_value c) f = (c, refl, scalar_is s c f)
+  a_scalar tops s (Tuple_value vs) f = absurd f
+  a_scalar tops s (Record_value fs) f = absurd f
+  a_scalar tops s (Closure ps e lo env) f = absurd f
+  a_scalar tops s (Primitive_value p at vs) f = absurd f
 
-  record Are_data (results : List ScalarType) (vs : FlatValues) (components rest : List Component) : Type 0 where
-    scalars : List Scalar
-    values : vs ≡ as_values (scalar_datums scalars)
-    components_are : components ≡ scalars ++ rest
-    are_of : AreOf results scalars
-
-  first_is : (tops : FlatTops) {h : Shape} {v : FlatValue} {cs ds : List Component} (s : ScalarType) → Split h v cs ds → Fits N integer_at M budget (scalar_ty s) tops v → (c : Scalar) × (v ≡ Scalar_value c) × (cs ≡ c ∷ ds) × (type_of c ≡ s)
+  all_scalars : (tops : FlatTops) (ss : List ScalarType) (vs : FlatValues) → All_fit N integer_at M budget total (scalar_tys ss) tops vs → (cs : List Scalar) × (vs ≡ as_values (scalar_datums cs)) × AreOf ss cs
   unfolding scalar_tys Fits
-  first_is tops s (split_scalar {c}) f = (c, refl, refl, scalar_is s c f)
-  first_is tops s (split_tuple p) f = absurd f
-  first_is tops s (split_record p) f = absurd f
+  all_scalars tops [] no_value f = ([], refl, refl)
+  all_scalars tops [] (value_and v vs) f = absurd f
+  all_scalars tops (s ∷ ss) no_value f = absurd f
+  all_scalars tops (s ∷ ss) (value_and v vs) f =
+      let x = a_scalar tops s v f.0 in
+      let y = all_scalars tops ss vs f.1 in
+      (x.0 ∷ y.0, (λ i. value_and (x.1 i) (y.1 i)), (λ i. x.2 i ∷ y.2 i))
 
-  all_are : (tops : FlatTops) {hs : Shapes} {vs : FlatValues} {cs ds : List Component} (ss : List ScalarType) → All_split hs vs cs ds → All_fit N integer_at M budget (scalar_tys ss) tops vs → Are_data ss vs cs ds
+  tuple_data : (tops : FlatTops) (ss : List ScalarType) (v : FlatValue) → Fits N integer_at M budget total (Made head.Tuple (scalar_tys ss)) tops v → (cs : List Scalar) × Is_data true ss v cs
   unfolding scalar_tys Fits
-  all_are tops [] split_none f = record { scalars = []; values = refl; components_are = refl; are_of = refl }
-  all_are tops [] (split_more p ps) f = absurd f
-  all_are tops (s ∷ ss) split_none f = absurd f
-  all_are tops (s ∷ ss) (split_more p ps) f =
-      let x = first_is tops s p f.0 in
-      let y = all_are tops ss ps f.1 in
-      record { scalars = x.0 ∷ y.scalars; values = (λ i. value_and (x.1 i) (y.values i)); components_are = x.2 ∙ ap (λ z. x.0 ∷ z) y.components_are; are_of = (λ i. x.3 i ∷ y.are_of i) }
+  tuple_data tops ss (Scalar_value c) f = absurd f.1
+  tuple_data tops ss (Tuple_value vs) f =
+      let y = all_scalars tops ss vs f.1 in
+      (y.0, record { result = Tuple_datum (scalar_datums y.0); is_result = a_tuple; value = ap Tuple_value y.1; are_of = y.2 })
+  tuple_data tops ss (Record_value fs) f = absurd f.1
+  tuple_data tops ss (Closure ps e lo env) f = absurd f.1
+  tuple_data tops ss (Primitive_value p at vs) f = absurd f.1
 
-  tuple_is : (tops : FlatTops) {h : Shape} {v : FlatValue} {cs : List Component} (ss : List ScalarType) → Split h v cs [] → Fits N integer_at M budget (Made head.Tuple (scalar_tys ss)) tops v → Is_data true ss v cs
-  unfolding scalar_tys Fits
-  tuple_is tops ss split_scalar f = absurd f.1
-  tuple_is tops {v = v} {cs = cs} ss (split_tuple p) f =
-      let y = all_are tops ss p f.1 in
-      let e = y.components_are ∙ append-nil y.scalars in
-      record { result = Tuple_datum (scalar_datums y.scalars); is_result = subst (λ z. Is_result true z (Tuple_datum (scalar_datums y.scalars))) (sym e) a_tuple; value = ap Tuple_value y.values; are_of = ap (map type_of) e ∙ y.are_of }
-  tuple_is tops ss (split_record p) f = absurd f.1
+  -- each value of a result's type is the data of some components
+  pub data_of : (tops : FlatTops) (v : FlatValue) (tuple : Bool) (ss : List ScalarType) (u : Ty) → Results_are tuple ss u → Fits N integer_at M budget total u tops v → (cs : List Scalar) × Is_data tuple ss v cs
+  data_of tops v false [] u r f = absurd r
+  data_of tops v false (s ∷ []) u r f =
+      let x = a_scalar tops s v (subst (λ z. Fits N integer_at M budget total z tops v) r f) in
+      (x.0 ∷ [], record { result = Scalar_datum x.0; is_result = one_scalar; value = x.1; are_of = ap (λ z. z ∷ []) x.2 })
+  data_of tops v false (s ∷ t ∷ ss) u r f = absurd r
+  data_of tops v true ss u r f = tuple_data tops ss v (subst (λ z. Fits N integer_at M budget total z tops v) r.1 f)
 
-  pub results_are : (tops : FlatTops) {h : Shape} {v : FlatValue} {cs : List Component} (tuple : Bool) (ss : List ScalarType) (u : Ty) → Results_are tuple ss u → Split h v cs [] → Fits N integer_at M budget u tops v → Is_data tuple ss v cs
-  unfolding scalar_tys Fits
-  results_are tops false [] u r p f = absurd r
-  results_are tops {v = v} false (s ∷ []) u r p f = one_is tops s p (subst (λ z. Fits N integer_at M budget z tops v) r f)
-  results_are tops false (s ∷ t ∷ ss) u r p f = absurd r
-  results_are tops {v = v} true ss u r p f = tuple_is tops ss p (subst (λ z. Fits N integer_at M budget z tops v) r.1 f)
-
--- data that is laid in components has these components
-split_is : (vs : List Scalar) {hs : Shapes} {cs rest : List Component} → All_split hs (as_values (scalar_datums vs)) cs rest → cs ≡ vs ++ rest
-split_is [] split_none = refl
-split_is (v ∷ vs) (split_more split_scalar ps) = ap (λ z. v ∷ z) (split_is vs ps)
-
-pub result_is : {tuple : Bool} {vs : List Scalar} {d : Datum} {h : Shape} {cs : List Component} → Is_result tuple vs d → Split h (as_value d) cs [] → cs ≡ vs
-result_is one_scalar split_scalar = refl
-result_is (a_tuple {cs = vs}) (split_tuple p) = split_is vs p ∙ append-nil vs
+  -- and of the components in which it is laid
+  pub results_are : (tops : FlatTops) {h : Shape} {v : FlatValue} {cs : List Component} (tuple : Bool) (ss : List ScalarType) (u : Ty) → Results_are tuple ss u → Split h v cs [] → Fits N integer_at M budget total u tops v → Is_data tuple ss v cs
+  results_are tops {h = h} {v = v} {cs = cs} tuple ss u r p f =
+      let d = data_of tops v tuple ss u r f in
+      subst (λ z. Is_data tuple ss v z) (sym (result_is d.1.is_result (subst (λ z. Split h z cs []) d.1.value p))) d.1

@@ -1,13 +1,15 @@
 -- What files allow by their names, from an entry on: a result or the report of a failure, in the copying meaning.
-use Rattle.std.specs.Prelude.{ℕ, List, Bool, false, map}
+use Rattle.std.specs.Prelude.{◌⊎◌, ℕ, List, Bool, false, map}
 use Rattle.fut_scalar.specs.declared.report.Report.{Report}
 use Rattle.fut_scalar.specs.declared.scalar.IntType.{IntType}
 use Rattle.fut_scalar.specs.declared.scalar.Scalar.{Scalar}
+use Rattle.fut_scalar.specs.declared.scalar.ScalarType.{ScalarType}
 use Rattle.fut_ast.specs.declared.module.Program.{Program}
 use Rattle.fut_meaning.specs.Datums.{Datum, Scalar_datum, as_value, all_values}
 use Rattle.fut_meaning.specs.Meaning.{plain}
 use Rattle.fut_meaning.specs.Outcomes.{Val, Fail}
 use Rattle.fut_meaning.specs.Sources.{Source_means}
+use Rattle.fut_blocks.specs.Programs.{AreOf}
 use Rattle.module_scopes.specs.Programs.{FlatProgram}
 use Rattle.module_meaning.specs.Claims.{source_of}
 use Rattle.plain_runs.specs.Results.{Is_result}
@@ -25,3 +27,7 @@ module _ (ps : List Program) (flat : FlatProgram) (integer_at : ℕ → IntType)
   pub record Allows_report (report : Report) : Type 0 where
     pub words : ℕ
     pub means : Source_means integer_at (plain false) budget (source_of ps flat) entry (all_values (map Scalar_datum arguments)) (Fail report) words
+
+  -- a result of these types, or a report
+  abbrev pub Allows_some : Bool → List ScalarType → Type 0
+  Allows_some tuple types = ((components : List Scalar) × Allows_result tuple components × AreOf types components) ⊎ ((report : Report) × Allows_report report)

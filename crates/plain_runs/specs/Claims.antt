@@ -1,5 +1,5 @@
 -- What is proved of the blocks to which a typed program unfolds from an entry on: they never go wrong, what they allow, the
--- files allow by their names, and the other way round.
+-- files allow by their names, and the other way round. And that files allow an outcome, whether their program unfolds or not.
 use Rattle.std.specs.Prelude.{◌≡◌, ℕ, List, [], Bool, Ok, slice_index_or}
 use Rattle.fut_scalar.specs.declared.place.BindId.{BindId}
 use Rattle.fut_scalar.specs.declared.report.Report.{Report}
@@ -22,7 +22,7 @@ use Rattle.typed_programs.specs.Entries.{May_be_used}
 use Rattle.typed_programs.specs.Typed.{Typed_by, integer_at}
 use Rattle.unfold.specs.Programs.{Program_unfolds}
 use Rattle.unfold.specs.Shapes.{Shape, Shapes, All_split}
-use Rattle.plain_runs.specs.Allowed.{Allows_result, Allows_report}
+use Rattle.plain_runs.specs.Allowed.{Allows_result, Allows_report, Allows_some}
 use Rattle.plain_runs.specs.Results.{scalar_datums}
 
 -- the entry is one of the definitions, which takes and gives scalars of these types
@@ -51,3 +51,10 @@ abbrev pub BlocksMeanTheSource : Type 0
 BlocksMeanTheSource =
     (flat : Flat) (inference : Inference) (integers : List IntType) (entry : BindId) (params : List ScalarType) (tuple : Bool) (results : List ScalarType) (hs : Shapes) (h : Shape) (p : Program) → Is_run flat inference integers entry params tuple results hs h p
     → (budget : ℕ) (arguments : List Scalar) → AreOf params arguments → All_split hs (as_values (scalar_datums arguments)) arguments [] → Runs_as flat integers entry tuple results p budget arguments
+
+-- The files that resolve to a typed program allow some outcome, from each entry that takes and gives scalars, for arguments of
+-- the types of its parameters and any budget of turns.
+abbrev pub FilesAllowSome : Type 0
+FilesAllowSome =
+    (flat : Flat) (inference : Inference) (integers : List IntType) (entry : BindId) (params : List ScalarType) (tuple : Bool) (results : List ScalarType) → Told_by (Typed_by flat inference integers) inference → Is_usable flat inference entry params tuple results
+    → (ps : List SourceProgram) → resolve_program ps ≡ Ok (program_of flat) → (budget : ℕ) (arguments : List Scalar) → AreOf params arguments → Allows_some ps (program_of flat) (integer_at integers) budget entry.0 arguments tuple results
