@@ -36,9 +36,10 @@ use Rattle.futhark_status.specs.declared.status.Status.{Status}
 use Rattle.futhark_status.specs.declared.status.Status.TheVariants.{Done, Usage, LoadFault, Text, Names, Types, Entry, Limit, ReadFault, Input, Failure, Turns, WriteFault, Memory}
 use Rattle.futhark_core.specs.Acceptance.{Source, Unlexed, UnacceptedTokens, LexedUnaccepted}
 use Rattle.futhark_core.specs.Entering.{NotEntered}
-use Rattle.futhark_core.specs.Meaning.{Entered, IsEntered, Outcome, Gives, Fails, Allows, Alone}
+use Rattle.futhark_core.specs.Meaning.{Entered, IsEntered, Outcome, Gives, Fails, Allows, Alone, Answers}
 use Rattle.futhark_core.specs.Row.{Outside, Streams, RunRow, TextRow, NamesRow, TypesRow, LoadRow, FrontRow, Started, InputRow, ActionRow, ProgramRow, CheckRow, status_for}
-use Rattle.futhark_core.specs.Comes.{Accepted, Acted, Agrees, Done_with, Argued, Built, Comes, Commanded, Complete, Came, Ending, Entering, FileHeld, IsLimit, Lacks, Named, NoFault, Onward, Parsed, ParserRefusal, Ran, Tells, Then, Told, Tokenized, Typed, Unread, refusal_of}
+use Rattle.futhark_core.specs.Comes.{Accepted, Acted, Agrees, Asked, Done_with, Argued, Built, Comes, Commanded, Complete, Came, Ending, Entering, FileHeld, IsLimit, Lacks, Named, NoFault, Onward, Parsed, ParserRefusal, Ran, Tells, Then, Told, Tokenized, Typed, Unread, refusal_of}
+use Rattle.futhark_core.proofs.Reading.{types_of_reading}
 use Rattle.futhark_core.proofs.Settling.{EndsAs, Holds, Settles, TypesRefusal, built_err, built_ok, commanded_err, commanded_ok, held_err, held_ok, named_err, named_ok, parsed_none, parsed_ok, then_ends, then_err, then_ok, tokenized_err, tokenized_ok, typed_err, typed_ok}
 
 -- ---- entries
@@ -64,20 +65,28 @@ module _ (source : Source) (name : List ℕ) (turns : ℕ) (resolved : resolve_p
         go (Err status) (inl p) on = absurd (none_or_one is.at p.0 here)
         go (Err status) (inr p) on = absurd (p.1 source refl e is)
 
+    -- the files allow this outcome for what the input reads as
+    ran_as : (left : List ℕ) (asked : Asked) → asked ≡ record { flat = flat; name = name; turns = turns; input = left } → (status : Status) (outcome : Outcome) (values : List Scalar) → Reads e.params left values → Allows source e turns values outcome → Tells outcome status ⊎ IsLimit status → Agrees status (Ok (Ran asked))
+    ran_as left asked same status outcome values reads allows tells = subst (λ z. Agrees status (Ok (Ran z))) (sym same)
+        (outcome, record { source = source; flat = refl; files = resolved; entered = e; is_entered = is; arguments = values; reads = reads; allows = allows }, tells)
+
     -- a limit of the program agrees with each end behind the entry
-    past_limit : (status : Status) → IsLimit status → (left : Option (List ℕ)) (end : Result Ending Status) → Argued flat name turns left end → Agrees status end
-    past_limit status past None end p = absurd p
-    past_limit status past (Some left) (Ok Told) p = absurd p
-    past_limit status past (Some left) (Ok Ran) p = inr past
-    past_limit status past (Some left) (Ok (Came outcome)) p = inr past
-    past_limit status past (Some left) (Ok (Unread st)) p = inr past
-    past_limit status past (Some left) (Err st) p = absurd p
+    past_limit : (status : Status) → IsLimit status → Answers source e turns → (left : Option (List ℕ)) (end : Result Ending Status) → Argued flat name turns left end → Agrees status end
+    past_limit status past answers None end p = absurd p
+    past_limit status past answers (Some left) (Ok Told) p = absurd p
+    past_limit status past answers (Some left) (Ok (Ran asked)) p =
+        let read = p.2 source refl e is in
+        let some = answers read.0 (types_of_reading e.params left read.0 read.1) in
+        ran_as left asked p.0 status some.0 read.0 read.1 some.1 (inr past)
+    past_limit status past answers (Some left) (Ok (Came outcome)) p = inr past
+    past_limit status past answers (Some left) (Ok (Unread st)) p = inr past
+    past_limit status past answers (Some left) (Err st) p = absurd p
 
     -- the input is too long
     too_long : (left : Option (List ℕ)) → IfSome left (λ left. 67108864 < length left) → (end : Result Ending Status) → Argued flat name turns left end → Agrees (Limit limit.InputBytes) end
     too_long None long end p = absurd p
     too_long (Some left) long (Ok Told) p = absurd p
-    too_long (Some left) long (Ok Ran) p = let few = p.0 in absurd (omega arith)
+    too_long (Some left) long (Ok (Ran asked)) p = let few = p.1 in absurd (omega arith)
     too_long (Some left) long (Ok (Came outcome)) p = let few = p.0 in absurd (omega arith)
     too_long (Some left) long (Ok (Unread st)) (inl p) = inl (sym p.1)
     too_long (Some left) long (Ok (Unread st)) (inr p) = let few = p.1 in absurd (omega arith)
@@ -87,8 +96,8 @@ module _ (source : Source) (name : List ℕ) (turns : ℕ) (resolved : resolve_p
     refused_input : (err : TextErr) (bytes : List ℕ) (left : Option (List ℕ)) → IfSome left (λ left. bytes ≡ left) → length bytes ≤ 67108864 → Refuses e.params bytes err → (end : Result Ending Status) → Argued flat name turns left end → Agrees (Input err) end
     refused_input err bytes None all short refuses end p = absurd p
     refused_input err bytes (Some left) all short refuses (Ok Told) p = absurd p
-    refused_input err bytes (Some left) all short refuses (Ok Ran) p =
-        let own = rw all at refuses in let reads = p.1 source refl e is in let other = reads.1 in absurd cc
+    refused_input err bytes (Some left) all short refuses (Ok (Ran asked)) p =
+        let own = rw all at refuses in let reads = p.2 source refl e is in let other = reads.1 in absurd cc
     refused_input err bytes (Some left) all short refuses (Ok (Came outcome)) p =
         let own = rw all at refuses in let reads = p.1 source refl resolved e is in let other = reads.1 in absurd cc
     refused_input err bytes (Some left) all short refuses (Ok (Unread st)) (inl p) = let l = ap length all in let many = p.0 in absurd (omega arith)
@@ -97,20 +106,21 @@ module _ (source : Source) (name : List ℕ) (turns : ℕ) (resolved : resolve_p
     refused_input err bytes (Some left) all short refuses (Err st) p = absurd p
 
     -- the program came to this outcome, and the files allow no other
-    ran_to : (status : Status) (outcome : Outcome) → Tells outcome status → (bytes : List ℕ) (values : List Scalar) → Alone source e turns values outcome → (left : Option (List ℕ)) → IfSome left (λ left. bytes ≡ left) → length bytes ≤ 67108864 → Reads e.params bytes values → (end : Result Ending Status) → Argued flat name turns left end → Agrees status end
-    ran_to status outcome tells bytes values alone None all short reads end p = absurd p
-    ran_to status outcome tells bytes values alone (Some left) all short reads (Ok Told) p = absurd p
-    ran_to status outcome tells bytes values alone (Some left) all short reads (Ok Ran) p = inl (outcome, tells)
-    ran_to status outcome tells bytes values alone (Some left) all short reads (Ok (Came other)) p =
+    ran_to : (status : Status) (outcome : Outcome) → Tells outcome status → (bytes : List ℕ) (values : List Scalar) → Allows source e turns values outcome → Alone source e turns values outcome → (left : Option (List ℕ)) → IfSome left (λ left. bytes ≡ left) → length bytes ≤ 67108864 → Reads e.params bytes values → (end : Result Ending Status) → Argued flat name turns left end → Agrees status end
+    ran_to status outcome tells bytes values allows alone None all short reads end p = absurd p
+    ran_to status outcome tells bytes values allows alone (Some left) all short reads (Ok Told) p = absurd p
+    ran_to status outcome tells bytes values allows alone (Some left) all short reads (Ok (Ran asked)) p =
+        let own = rw all at reads in ran_as left asked p.0 status outcome values own allows (inl tells)
+    ran_to status outcome tells bytes values allows alone (Some left) all short reads (Ok (Came other)) p =
         let own = rw all at reads in
         let read = p.1 source refl resolved e is in
         let same_reading = read.1 in
         let same : read.0 ≡ values = cc in
         inl (subst (λ z. Tells z status) (sym (alone other (subst (λ z. Allows source e turns z other) same read.2))) tells)
-    ran_to status outcome tells bytes values alone (Some left) all short reads (Ok (Unread st)) (inl p) = let l = ap length all in let many = p.0 in absurd (omega arith)
-    ran_to status outcome tells bytes values alone (Some left) all short reads (Ok (Unread st)) (inr p) =
+    ran_to status outcome tells bytes values allows alone (Some left) all short reads (Ok (Unread st)) (inl p) = let l = ap length all in let many = p.0 in absurd (omega arith)
+    ran_to status outcome tells bytes values allows alone (Some left) all short reads (Ok (Unread st)) (inr p) =
         let own = rw all at reads in let other = p.2 source refl e is in absurd cc
-    ran_to status outcome tells bytes values alone (Some left) all short reads (Err st) p = absurd p
+    ran_to status outcome tells bytes values allows alone (Some left) all short reads (Err st) p = absurd p
 
   -- no entry
   unentered : (err : EntryErr) → NotEntered source name err → (left : Option (List ℕ)) (end : Result Ending Status) → Then (Entering flat name) (λ entered. Argued entered name turns left) end → Agrees (Entry err name) end
@@ -359,20 +369,20 @@ module _ (words : List (List ℕ)) (old new : Outside) (quiet : NoFault old new)
       ran : (status : Status) → ProgramRow status asked source before behind → Ends status ⊎ (status ≡ Memory)
       ran Done row =
           let c = row.comes in
-          inl (entered Done c.entered c.ready.entered (ran_to source entry asked.turns resolved c.entered c.ready.entered Done (Gives row.components) refl c.bytes c.arguments c.alone old.input.left c.read.all c.short c.reads))
+          inl (entered Done c.entered c.ready.entered (ran_to source entry asked.turns resolved c.entered c.ready.entered Done (Gives row.components) refl c.bytes c.arguments c.allows c.alone old.input.left c.read.all c.short c.reads))
       ran (Entry err name) row =
           inl (done Run is_run (Entry err name) (λ end run. subst (λ n. Agrees (Entry err n) end) (sym row.name_is) (unentered source entry asked.turns resolved err row.not_entered old.input.left end run)))
-      ran (Limit limit.Nodes) row = inl (entered (Limit limit.Nodes) row.entered row.is_entered (past_limit source entry asked.turns resolved row.entered row.is_entered (Limit limit.Nodes) (inl refl) old.input.left))
-      ran (Limit limit.Depth) row = inl (entered (Limit limit.Depth) row.entered row.is_entered (past_limit source entry asked.turns resolved row.entered row.is_entered (Limit limit.Depth) (inr refl) old.input.left))
+      ran (Limit limit.Nodes) row = inl (entered (Limit limit.Nodes) row.entered row.is_entered (past_limit source entry asked.turns resolved row.entered row.is_entered (Limit limit.Nodes) (inl refl) row.answers old.input.left))
+      ran (Limit limit.Depth) row = inl (entered (Limit limit.Depth) row.entered row.is_entered (past_limit source entry asked.turns resolved row.entered row.is_entered (Limit limit.Depth) (inr refl) row.answers old.input.left))
       ran (Limit limit.InputBytes) row = inl (entered (Limit limit.InputBytes) row.entered row.ready.entered (too_long source entry asked.turns resolved row.entered row.ready.entered old.input.left row.past.long))
       ran ReadFault row = absurd (quiet.input row.faults)
       ran (Input err) row = inl (unread err row)
       ran (Failure report path) row =
           let c = row.1.comes in
-          inl (entered (Failure report path) c.entered c.ready.entered (ran_to source entry asked.turns resolved c.entered c.ready.entered (Failure report path) (Fails report) (path, inl refl) c.bytes c.arguments c.alone old.input.left c.read.all c.short c.reads))
+          inl (entered (Failure report path) c.entered c.ready.entered (ran_to source entry asked.turns resolved c.entered c.ready.entered (Failure report path) (Fails report) (path, inl refl) c.bytes c.arguments c.allows c.alone old.input.left c.read.all c.short c.reads))
       ran (Turns report path) row =
           let c = row.1.comes in
-          inl (entered (Turns report path) c.entered c.ready.entered (ran_to source entry asked.turns resolved c.entered c.ready.entered (Turns report path) (Fails report) (path, inr refl) c.bytes c.arguments c.alone old.input.left c.read.all c.short c.reads))
+          inl (entered (Turns report path) c.entered c.ready.entered (ran_to source entry asked.turns resolved c.entered c.ready.entered (Turns report path) (Fails report) (path, inr refl) c.bytes c.arguments c.allows c.alone old.input.left c.read.all c.short c.reads))
       ran WriteFault row = absurd (quiet.out row.out.faults)
       ran Memory row = inr refl
       ran (Usage word) row = absurd row

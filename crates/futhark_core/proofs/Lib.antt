@@ -2,4 +2,5 @@ pub mod Ready
 pub mod Rows
 pub mod RowLaws
 pub mod Settling
+pub mod Reading
 pub mod Completing

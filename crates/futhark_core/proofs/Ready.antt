@@ -46,10 +46,11 @@ use Rattle.fut_flat.specs.Erased.{parameters}
 use Rattle.fut_flat.specs.declared.program.Definition.{Definition}
 use Rattle.fut_typing.specs.Free.{has_types}
 use Rattle.plain_runs.specs.Results.{scalar_datums}
-use Rattle.plain_runs.proofs.Runs.{run_is}
+use Rattle.plain_runs.specs.Allowed.{Allows_some}
+use Rattle.plain_runs.proofs.Runs.{run_is, some_allowed}
 use Rattle.futhark_core.specs.Acceptance.{Source}
 use Rattle.futhark_core.specs.Entering.{IsOutside, NotEntered}
-use Rattle.futhark_core.specs.Meaning.{Entered, IsTypedAs, IsEntered, Outcome, Gives, Fails, Allows}
+use Rattle.futhark_core.specs.Meaning.{Entered, IsTypedAs, IsEntered, Outcome, Gives, Fails, Allows, Answers}
 use Rattle.futhark_core.specs.Row.{Streams, IsReady, ProgramRow}
 use Rattle.futhark_core.specs.Private.Stages.{Never_wrong_for, Runs_for, IsUnentered, unprepared, in_blocks}
 
@@ -89,13 +90,24 @@ module _ {flat : Flat} {inference : Inference} {integers : List IntType} {number
     uses = used.2;
   })
 
+  -- the files allow some outcome for all arguments of its types
+  some_outcome : (files : List SourceProgram) (turns : ℕ) → resolve_program files ≡ Ok (flat_of flat) → Answers (record { files = files; flat = flat }) entered turns
+  some_outcome files turns resolved arguments of = outcome (some_allowed told usable turns arguments of files resolved)
+    where
+      outcome : Allows_some files (flat_of flat) (integer_at integers) turns number.0 arguments tuple results → (o : Outcome) × Allows (record { files = files; flat = flat }) entered turns arguments o
+      outcome (inl (vs, allows, are)) = (Gives vs, (allows, are))
+      outcome (inr (r, allows)) = (Fails r, allows)
+
+  answers : (source : Source) → source.flat ≡ flat → resolve_program source.files ≡ Ok (flat_of source.flat) → (turns : ℕ) → Answers source entered turns
+  answers source e resolved turns = subst (λ (f : Flat). Answers (record { files = source.files; flat = f }) entered turns) (sym e) (some_outcome source.files turns (resolved ∙ ap (λ f. Ok (flat_of f)) e))
+
   -- a limit is passed, or memory ran out
-  pub unready : (asked : Command) (source : Source) (old : Streams) → source.flat ≡ flat → ((e : Entered) → e.number ≡ number.0 → IsTypedAs source e → IsEntered source asked.entry e) → (err : PrepareErr) → Is_past flat number params err → ProgramRow (unprepared err) asked source old old
-  unready asked source old same into prepare.Nodes past =
-      record { entered = entered; is_entered = into entered refl (typed_as source same); past = subst (λ (f : Flat). Measures (flat_tops 0 (named_terms f)) number.0 (length params) (Err measure.Nodes)) (sym same) past; quiet = refl }
-  unready asked source old same into prepare.Depth past =
-      record { entered = entered; is_entered = into entered refl (typed_as source same); past = subst (λ (f : Flat). Measures (flat_tops 0 (named_terms f)) number.0 (length params) (Err measure.Depth)) (sym same) past; quiet = refl }
-  unready asked source old same into prepare.Memory past = (refl, inl refl)
+  pub unready : (asked : Command) (source : Source) (old : Streams) → source.flat ≡ flat → resolve_program source.files ≡ Ok (flat_of source.flat) → ((e : Entered) → e.number ≡ number.0 → IsTypedAs source e → IsEntered source asked.entry e) → (err : PrepareErr) → Is_past flat number params err → ProgramRow (unprepared err) asked source old old
+  unready asked source old same resolved into prepare.Nodes past =
+      record { entered = entered; is_entered = into entered refl (typed_as source same); answers = answers source same resolved asked.turns; past = subst (λ (f : Flat). Measures (flat_tops 0 (named_terms f)) number.0 (length params) (Err measure.Nodes)) (sym same) past; quiet = refl }
+  unready asked source old same resolved into prepare.Depth past =
+      record { entered = entered; is_entered = into entered refl (typed_as source same); answers = answers source same resolved asked.turns; past = subst (λ (f : Flat). Measures (flat_tops 0 (named_terms f)) number.0 (length params) (Err measure.Depth)) (sym same) past; quiet = refl }
+  unready asked source old same resolved into prepare.Memory past = (refl, inl refl)
 
   module _ {p : Program} (pr : Is_prepared flat integers number params p) where
     abbrev is_run : Is_run flat inference integers number params tuple results (scalars (length params)) pr.blocks.shape p
@@ -121,9 +133,10 @@ module _ {flat : Flat} {inference : Inference} {integers : List IntType} {number
       comes = comes source.files turns (resolved ∙ ap (λ f. Ok (flat_of f)) e);
     })
 
-    pub is_ready : (asked : Command) (source : Source) → source.flat ≡ flat → ((e : Entered) → e.number ≡ number.0 → IsTypedAs source e → IsEntered source asked.entry e) → IsReady asked source entered
-    is_ready asked source same into = record {
+    pub is_ready : (asked : Command) (source : Source) → source.flat ≡ flat → resolve_program source.files ≡ Ok (flat_of source.flat) → ((e : Entered) → e.number ≡ number.0 → IsTypedAs source e → IsEntered source asked.entry e) → IsReady asked source entered
+    is_ready asked source same resolved into = record {
       entered = into entered refl (typed_as source same);
+      answers = answers source same resolved asked.turns;
       measured = pr.measured;
       measures = subst (λ (f : Flat). Measures (flat_tops 0 (named_terms f)) number.0 (length params) (Ok pr.measured)) (sym same) pr.measures;
     }

@@ -122,11 +122,18 @@ Accepted files file =
 
 -- ---- what is done with it
 
--- how a run ends whose source is accepted and has its entry: it tells so, it was run, it comes to an outcome, or its input is
+-- what is run: an accepted program from the entry of a name, with a budget of turns, on the bytes of an input
+pub record Asked : Type 0 where
+  pub flat : FlatProgram
+  pub name : Name
+  pub turns : ℕ
+  pub input : List ℕ
+
+-- how a run ends whose source is accepted and has its entry: it tells so, this was run, it comes to an outcome, or its input is
 -- refused with a status
 pub data Ending : Type 0 where
   Told : Ending
-  Ran : Ending
+  Ran : Asked → Ending
   Came : Outcome → Ending
   Unread : Status → Ending
 
@@ -144,11 +151,11 @@ Entering flat name (Ok same) = ((at : ℕ) × HasEntry flat name at) × ((source
 Entering flat name (Err status) = (HasNoEntry flat name × (status ≡ Entry NoEntry name))
     ⊎ (((at : ℕ) × HasEntry flat name at) × Of_entries flat name (λ e. ⊥) × (status ≡ Entry OutsideProfile name))
 
--- the told input reads as arguments, for which the files allow an outcome, or is too long or refused
+-- the told input reads as arguments, for which the files allow this outcome, or is too long or refused
 abbrev pub Argued : FlatProgram → Name → ℕ → Option (List ℕ) → Stage Ending
 Argued flat name turns None end = ⊥
 Argued flat name turns (Some bytes) (Ok Told) = ⊥
-Argued flat name turns (Some bytes) (Ok Ran) = (length bytes ≤ most_input) × Of_entries flat name (λ e. (values : List Scalar) × Reads e.params bytes values)
+Argued flat name turns (Some bytes) (Ok (Ran asked)) = (asked ≡ record { flat = flat; name = name; turns = turns; input = bytes }) × (length bytes ≤ most_input) × Of_entries flat name (λ e. (values : List Scalar) × Reads e.params bytes values)
 Argued flat name turns (Some bytes) (Ok (Came outcome)) = (length bytes ≤ most_input) × Of_sources flat name (λ source e. (values : List Scalar) × Reads e.params bytes values × Allows source e turns values outcome)
 Argued flat name turns (Some bytes) (Ok (Unread status)) = ((most_input < length bytes) × (status ≡ Limit limit.InputBytes))
     ⊎ ((err : TextErr) × (length bytes ≤ most_input) × Of_entries flat name (λ e. Refuses e.params bytes err) × (status ≡ Input err))
@@ -186,6 +193,17 @@ abbrev pub Tells : Outcome → Status → Type 0
 Tells (Gives components) status = status ≡ Done
 Tells (Fails report) status = (path : Name) × ((status ≡ Failure report path) ⊎ (status ≡ Turns report path))
 
+-- the files allow this outcome for the arguments that the input reads as
+pub record AllowedFor (asked : Asked) (outcome : Outcome) : Type 0 where
+  pub source : Source
+  pub flat : flat_of source.flat ≡ asked.flat
+  pub files : resolve_program source.files ≡ Ok asked.flat
+  pub entered : Entered
+  pub is_entered : IsEntered source asked.name entered
+  pub arguments : List Scalar
+  pub reads : Reads entered.params asked.input arguments
+  pub allows : Allows source entered asked.turns arguments outcome
+
 -- both say the same of types, perhaps at other places
 abbrev pub AlikeTypes : TypeErr → TypeErr → Type 0
 AlikeTypes (types.NoType at) (types.NoType place) = Unit {0}
@@ -200,7 +218,7 @@ Alike status end = ((file : Name) × ParserRefusal file status × ParserRefusal 
 
 abbrev pub Agrees : Status → Result Ending Status → Type 0
 Agrees status (Ok Told) = status ≡ Done
-Agrees status (Ok Ran) = ((outcome : Outcome) × Tells outcome status) ⊎ IsLimit status
+Agrees status (Ok (Ran asked)) = (outcome : Outcome) × AllowedFor asked outcome × (Tells outcome status ⊎ IsLimit status)
 Agrees status (Ok (Came outcome)) = Tells outcome status ⊎ IsLimit status
 Agrees status (Ok (Unread end)) = (status ≡ end) ⊎ IsLimit status
 Agrees status (Err end) = (status ≡ end) ⊎ Alike status end

@@ -67,5 +67,9 @@ Allows source e turns arguments (Fails report) = Allows_report source.files (fla
 abbrev pub Alone : Source → Entered → ℕ → List Scalar → Outcome → Type 0
 Alone source e turns arguments outcome = (other : Outcome) → Allows source e turns arguments other → other ≡ outcome
 
+-- for all arguments of the types of its parameters they allow some outcome
+abbrev pub Answers : Source → Entered → ℕ → Type 0
+Answers source e turns = (arguments : List Scalar) → AreOf e.params arguments → (outcome : Outcome) × Allows source e turns arguments outcome
+
 abbrev pub tops_of : Source → List FlatTop
 tops_of source = flat_tops 0 (named_terms source.flat)

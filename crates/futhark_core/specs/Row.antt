@@ -26,7 +26,7 @@ use Rattle.futhark_status.specs.declared.status.Status.{Status}
 use Rattle.futhark_status.specs.declared.status.Status.TheVariants.{Done, Usage, LoadFault, Text, Names, Types, Entry, Limit, ReadFault, Input, Failure, Turns, WriteFault, Memory}
 use Rattle.futhark_core.specs.Acceptance.{Source, AcceptedFile, UnacceptedFile}
 use Rattle.futhark_core.specs.Entering.{NotEntered}
-use Rattle.futhark_core.specs.Meaning.{Entered, IsEntered, Outcome, Gives, Fails, Allows, Alone, tops_of}
+use Rattle.futhark_core.specs.Meaning.{Entered, IsEntered, Outcome, Gives, Fails, Allows, Alone, Answers, tops_of}
 
 -- what a run meets outside
 pub record Outside : Type 0 where
@@ -106,12 +106,14 @@ pub record EntryRow (asked : Command) (source : Source) (old new : Streams) (err
 pub record MeasureRow (asked : Command) (source : Source) (old new : Streams) (err : MeasureErr) : Type 0 where
   pub entered : Entered
   pub is_entered : IsEntered source asked.entry entered
+  pub answers : Answers source entered asked.turns
   pub past : Measures (tops_of source) entered.number (length entered.params) (Err err)
   pub quiet : new ≡ old
 
 -- the entry is found, and the program unfolded from it is within the limits
 pub record IsReady (asked : Command) (source : Source) (e : Entered) : Type 0 where
   pub entered : IsEntered source asked.entry e
+  pub answers : Answers source e asked.turns
   pub measured : Measured
   pub measures : Measures (tops_of source) e.number (length e.params) (Ok measured)
 

@@ -17,10 +17,10 @@ pub returns-in-Ok : goal.returns-in-Ok
 returns-in-Ok g c = λ source same resolved into.
     let pr = rw c.as_slice-params.ensures at c.in-Ok.ensures.prepared in
     c.run_ready.ensures source (entered c.requires.known.typed c.requires.usable) (sym c.as_slice-params.ensures)
-    (is_ready c.requires.known.typed c.requires.usable pr (command_in c.args.command.now) source same into)
+    (is_ready c.requires.known.typed c.requires.usable pr (command_in c.args.command.now) source same resolved into)
     (runs_for c.requires.known.typed c.requires.usable pr source same resolved c.args.command.now.turns)
 
 pub returns-in-Err : goal.returns-in-Err
 returns-in-Err g c = λ source same resolved into.
     let past = rw c.as_slice-params.ensures at c.in-Err.ensures.refused in
-    rw c.unprepared.ensures (unready c.requires.known.typed c.requires.usable (command_in c.args.command.now) source _ same into c.in-Err.err past)
+    rw c.unprepared.ensures (unready c.requires.known.typed c.requires.usable (command_in c.args.command.now) source _ same resolved into c.in-Err.err past)
