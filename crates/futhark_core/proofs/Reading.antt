@@ -1,5 +1,5 @@
 -- What a text reads as is of the types that are asked for.
-use Rattle.std.proofs.Common.{◌≡◌, ◌+◌, ℕ, suc, Bool, true, false, cond, List, [], ◌∷◌, map, drop, Option, Some, None, nat_lt, refl, sym, ap, ◌∙◌}
+use Rattle.std.proofs.Common.{◌≡◌, ◌+◌, ℕ, suc, Bool, true, false, cond, List, [], ◌∷◌, map, drop, Some, None, nat_lt, refl, sym, ap, ◌∙◌}
 use Rattle.std.specs.Prelude.{ℤ, pos, negsuc, ◌-◌, ◌^◌, Result, Ok, Err}
 use Rattle.fut_scalar.specs.Integers.{width_of}
 use Rattle.fut_scalar.specs.declared.scalar.IntType.{IntType}
