@@ -13,7 +13,7 @@ ghost use Rattle.fut_tree.specs.Mods.{dec_of};
 use crate::definitions::{DecFormAnswer, definition, imported, module_type_name, type_name};
 use crate::items::Items;
 use crate::mod_tokens::{begins_declaration, begins_declared};
-use crate::module_tie::{DecAnswer, ReadDeclaration, ReadModule, whole_module};
+use crate::module_tie::{DecAnswer, ModSort, ReadDeclaration, ReadModule};
 use bumpalo::Bump;
 use fut_grammar::Stop;
 use fut_module_types::{maybe_module_type, module_params};
@@ -164,12 +164,17 @@ fn module_name<'a, M: ReadModule<'a>>(
         Ok(rest) => rest,
         Err(stop) => return Err(stop),
     };
-    let body = match whole_module(read, inner, rest) {
+    let body = match read.read(inner, ModSort::Whole, rest) {
         Ok(body) => body,
         Err(stop) => return Err(stop),
     };
     Ok(Found {
-        tree: DecForm::Module(Label { name, place }, params.tree, ty.tree, body.tree),
+        tree: DecForm::Module(
+            Label { name, place },
+            params.tree,
+            ty.tree,
+            body.tree.module,
+        ),
         height: greater(ty.height, body.height),
         rest: body.rest,
     })
@@ -183,12 +188,12 @@ fn opened<'a, M: ReadModule<'a>>(read: M, inner: u32, tokens: &'a [Token]) -> De
     ensures exact { Gives dec_form_found result (row_at (items (read_at inner)) (of_mod dec_open) tokens.now) }
     ensures low { IfOk result (λ x. x.height ≤ inner) }
 {
-    let found = match whole_module(read, inner, rest_of(tokens)) {
+    let found = match read.read(inner, ModSort::Whole, rest_of(tokens)) {
         Ok(found) => found,
         Err(stop) => return Err(stop),
     };
     Ok(Found {
-        tree: DecForm::Open(found.tree),
+        tree: DecForm::Open(found.tree.module),
         height: found.height,
         rest: found.rest,
     })

@@ -1,5 +1,5 @@
 // The nodes of module expressions.
-ghost use Rattle.std.specs.Prelude.{Ok};
+ghost use Rattle.std.specs.Prelude.{◌≡◌, IfOk, Ok};
 ghost use Rattle.fut_grammar.specs.Reading.{Gives};
 ghost use Rattle.fut_parser.specs.Private.ModFound.{ending_found};
 ghost use Rattle.fut_phrases.specs.Found.{tree_found};
@@ -18,7 +18,8 @@ pub fn made<'a>(
     height: u32,
     rest: &'a [Token],
 ) -> Result<Found<'a, &'a ModExp<'a>>, Stop>
-    ensures { Gives tree_found result (Ok (exp.entry, height, rest.now)) }
+    ensures exact { Gives tree_found result (Ok (exp.entry, height, rest.now)) }
+    ensures low { IfOk result (λ x. x.height ≡ height) }
 {
     match bump.try_alloc(exp) {
         Ok(tree) => Ok(Found { tree, height, rest }),
@@ -34,7 +35,8 @@ pub fn ended<'a>(
     height: u32,
     rest: &'a [Token],
 ) -> ModAnswer<'a>
-    ensures { Gives ending_found result (Ok ((exp.entry, is_sealed), height, rest.now)) }
+    ensures exact { Gives ending_found result (Ok ((exp.entry, is_sealed), height, rest.now)) }
+    ensures low { IfOk result (λ x. x.height ≡ height) }
 {
     match bump.try_alloc(exp) {
         Ok(module) => Ok(Found {

@@ -1,12 +1,11 @@
 // What reads the modules and declarations in a production is handed over to the function that reads the production.
 ghost use Rattle.std.specs.Prelude.{◌≤◌, ℕ, IfOk};
-ghost use Rattle.fut_ast.specs.Sorts.{Dec_item, Last_mod, Whole_mod};
+ghost use Rattle.fut_ast.specs.Sorts.{Dec_item};
 ghost use Rattle.fut_grammar.specs.Phrases.{read_at};
 ghost use Rattle.fut_grammar.specs.Reading.{Gives};
-ghost use Rattle.fut_parser.specs.Private.ModFound.{dec_found, ending_found};
+ghost use Rattle.fut_parser.specs.Private.ModFound.{dec_found};
 ghost use Rattle.fut_module_types.specs.MtypeTie.{Law};
 ghost use Rattle.fut_parser.specs.Private.ModTie.{Mod_law, Reads_mod};
-ghost use Rattle.fut_phrases.specs.Found.{tree_found};
 
 use fut_grammar::Stop;
 use fut_phrases::found::Found;
@@ -55,36 +54,6 @@ impl<'a, F: Fn(ModSort, &'a [Token]) -> ModAnswer<'a>> ReadModule<'a> for &F {
         let _inner = inner;
         self(sort, tokens)
     }
-}
-
-/// Any module expression.
-pub fn whole_module<'a, M: ReadModule<'a>>(
-    read: M,
-    inner: u32,
-    tokens: &'a [Token],
-) -> Result<Found<'a, &'a ModExp<'a>>, Stop>
-    requires law { M.reads read inner }
-    ensures exact { Gives tree_found result (read_at inner Whole_mod tokens.now) }
-    ensures low { IfOk result (λ x. x.height ≤ inner) }
-{
-    let found = match read.read(inner, ModSort::Whole, tokens) {
-        Ok(found) => found,
-        Err(stop) => return Err(stop),
-    };
-    Ok(Found {
-        tree: found.tree.module,
-        height: found.height,
-        rest: found.rest,
-    })
-}
-
-/// Any module expression as the last part of a form.
-pub fn last_module<'a, M: ReadModule<'a>>(read: M, inner: u32, tokens: &'a [Token]) -> ModAnswer<'a>
-    requires law { M.reads read inner }
-    ensures exact { Gives ending_found result (read_at inner Last_mod tokens.now) }
-    ensures low { IfOk result (λ x. x.height ≤ inner) }
-{
-    read.read(inner, ModSort::Last, tokens)
 }
 
 /// What reads the declarations in a production.

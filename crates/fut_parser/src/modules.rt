@@ -16,9 +16,7 @@ ghost use Rattle.fut_tree.specs.ModTypes.{label_of};
 use crate::items::Items;
 use crate::mod_nodes as node;
 use crate::mod_tokens::{begins_module_argument, goes_on_module};
-use crate::module_tie::{
-    ModAnswer, ModEnding, ModSort, ReadDeclaration, ReadModule, last_module, whole_module,
-};
+use crate::module_tie::{ModAnswer, ModEnding, ModSort, ReadDeclaration, ReadModule};
 use bumpalo::Bump;
 use fut_ast::Spot;
 use fut_grammar::{Fault, Stop};
@@ -55,8 +53,8 @@ pub fn last_below<'a, M: ReadModule<'a>, D: ReadDeclaration<'a>>(
         Ok(first) => first,
         Err(stop) => return Err(stop),
     };
-    match arguments_behind(bump, read, inner, at, first.tree, first.height, first.rest) {
-        Ok(applied) => seal_behind(bump, inner, at, applied.tree, applied.height, applied.rest),
+    match arguments_behind(bump, read, inner, at, first) {
+        Ok(applied) => seal_behind(bump, inner, at, applied),
         Err(stop) => Err(stop),
     }
 }
@@ -146,8 +144,14 @@ fn function<'a, M: ReadModule<'a>>(
     ensures exact { Gives ending_found result (row_at (phrases (read_at inner)) (of_mod mod_function) tokens.now) }
     ensures low { IfOk result (λ x. x.height ≤ inner + 1) }
 {
-    let rest = take(tokens, Fixed::Backslash)?;
-    let param = module_parameter(bump, inner, rest)?;
+    let rest = match take(tokens, Fixed::Backslash) {
+        Ok(rest) => rest,
+        Err(stop) => return Err(stop),
+    };
+    let param = match module_parameter(bump, inner, rest) {
+        Ok(param) => param,
+        Err(stop) => return Err(stop),
+    };
     body_behind(
         bump,
         read,
@@ -183,7 +187,7 @@ fn body_behind<'a, M: ReadModule<'a>>(
         Ok(rest) => rest,
         Err(stop) => return Err(stop),
     };
-    let body = match last_module(read, inner, rest) {
+    let body = match read.read(inner, ModSort::Last, rest) {
         Ok(body) => body,
         Err(stop) => return Err(stop),
     };
@@ -205,7 +209,7 @@ fn round<'a, M: ReadModule<'a>>(read: M, inner: u32, tokens: &'a [Token]) -> Mod
     ensures exact { Gives tree_found result (row_at (phrases (read_at inner)) (of_mod round_mod) tokens.now) }
     ensures low { IfOk result (λ x. x.height ≤ inner + 1) }
 {
-    let found = match whole_module(read, inner, rest_of(tokens)) {
+    let found = match read.read(inner, ModSort::Whole, rest_of(tokens)) {
         Ok(found) => found,
         Err(stop) => return Err(stop),
     };
@@ -213,7 +217,7 @@ fn round<'a, M: ReadModule<'a>>(read: M, inner: u32, tokens: &'a [Token]) -> Mod
         return Err(Stop::Fault(refused(found.rest)));
     }
     Ok(Found {
-        tree: found.tree,
+        tree: found.tree.module,
         height: found.height + 1,
         rest: rest_of(found.rest),
     })
@@ -227,16 +231,13 @@ fn in_braces<'a, D: ReadDeclaration<'a>>(
     tokens: &'a [Token],
 ) -> Module<'a>
     requires law_dec { D.reads read_dec inner }
+    requires first { starts Fixed.OpenBrace tokens.now ≡ true }
     requires room { inner < 1000 }
     ensures exact { Gives tree_found result (row_at (phrases (read_at inner)) (of_mod mod_decs) tokens.now) }
     ensures low { IfOk result (λ x. x.height ≤ inner + 1) }
 {
     let place = next_spot(tokens).place;
-    let rest = match take(tokens, Fixed::OpenBrace) {
-        Ok(rest) => rest,
-        Err(stop) => return Err(stop),
-    };
-    let all = match many(bump, Items { read: read_dec }, inner, 0, rest) {
+    let all = match many(bump, Items { read: read_dec }, inner, 0, rest_of(tokens)) {
         Ok(all) => all,
         Err(stop) => return Err(stop),
     };
@@ -291,31 +292,25 @@ fn arguments_behind<'a, M: ReadModule<'a>>(
     read: M,
     inner: u32,
     at: Spot,
-    first: &'a ModExp<'a>,
-    first_height: u32,
-    tokens: &'a [Token],
+    first: Found<'a, &'a ModExp<'a>>,
 ) -> Module<'a>
     requires law { M.reads read inner }
-    requires room { (inner < 1000) × (first_height ≤ inner + 1) }
-    ensures exact { Gives tree_found result (once_at (phrases (read_at inner)) (suc inner) begins_mod_argument applied_mod at (λ m. m) first.now first_height tokens.now) }
+    requires room { (inner < 1000) × (first.height ≤ inner + 1) }
+    ensures exact { Gives tree_found result (once_at (phrases (read_at inner)) (suc inner) begins_mod_argument applied_mod at (λ m. m) first.entry.tree.now first.entry.height first.entry.rest.now) }
     ensures low { IfOk result (λ x. x.height ≤ inner + 1) }
 {
-    if !begins_module_argument(tokens) {
-        return Ok(Found {
-            tree: first,
-            height: first_height,
-            rest: tokens,
-        });
+    if !begins_module_argument(first.rest) {
+        return Ok(first);
     }
-    if first_height > inner {
-        return Err(Stop::Fault(Fault::TooDeep(tokens.len())));
+    if first.height > inner {
+        return Err(Stop::Fault(Fault::TooDeep(first.rest.len())));
     }
-    let all = match several(bump, Items { read }, inner, first_height, tokens) {
+    let all = match several(bump, Items { read }, inner, first.height, first.rest) {
         Ok(all) => all,
         Err(stop) => return Err(stop),
     };
     let place = at.place;
-    let form = ModForm::Apply(first, all.tree);
+    let form = ModForm::Apply(first.tree, all.tree);
     node::made(bump, ModExp { place, form }, all.height + 1, all.rest)
 }
 
@@ -360,41 +355,39 @@ fn seal_behind<'a>(
     bump: &'a Bump,
     inner: u32,
     at: Spot,
-    first: &'a ModExp<'a>,
-    first_height: u32,
-    tokens: &'a [Token],
+    first: Found<'a, &'a ModExp<'a>>,
 ) -> ModAnswer<'a>
-    requires { (inner < 1000) × (first_height ≤ inner + 1) }
-    ensures exact { Gives ending_found result (once_at (phrases (read_at inner)) (suc inner) (starts Fixed.Colon) sealed at (λ m. (m, false)) first.now first_height tokens.now) }
+    requires { (inner < 1000) × (first.height ≤ inner + 1) }
+    ensures exact { Gives ending_found result (once_at (phrases (read_at inner)) (suc inner) (starts Fixed.Colon) sealed at (λ m. (m, false)) first.entry.tree.now first.entry.height first.entry.rest.now) }
     ensures low { IfOk result (λ x. x.height ≤ inner + 1) }
 {
-    if !starts_with(tokens, Fixed::Colon) {
+    if !starts_with(first.rest, Fixed::Colon) {
         return Ok(Found {
             tree: ModEnding {
-                module: first,
+                module: first.tree,
                 is_sealed: false,
             },
-            height: first_height,
-            rest: tokens,
+            height: first.height,
+            rest: first.rest,
         });
     }
-    if begins_module_argument(tokens) {
-        return Err(Stop::Fault(refused(tokens)));
+    if begins_module_argument(first.rest) {
+        return Err(Stop::Fault(refused(first.rest)));
     }
-    if first_height > inner {
-        return Err(Stop::Fault(Fault::TooDeep(tokens.len())));
+    if first.height > inner {
+        return Err(Stop::Fault(Fault::TooDeep(first.rest.len())));
     }
-    let ty = match module_type(bump, inner, true, rest_of(tokens)) {
+    let ty = match module_type(bump, inner, true, rest_of(first.rest)) {
         Ok(ty) => ty,
         Err(stop) => return Err(stop),
     };
     let place = at.place;
-    let form = ModForm::Seal(first, ty.tree);
+    let form = ModForm::Seal(first.tree, ty.tree);
     node::ended(
         bump,
         ModExp { place, form },
         true,
-        greater(first_height, ty.height) + 1,
+        greater(first.height, ty.height) + 1,
         ty.rest,
     )
 }
