@@ -1,5 +1,5 @@
 -- The list of homes has one for each number, and they are those of the definition.
-use Rattle.std.proofs.Common.{◌≡◌, ◌≢◌, ℕ, zero, suc, ◌+◌, ◌≤◌, ◌<◌, List, [], ◌∷◌, ◌++◌, map, length, replicate, slice_index_or, refl, sym, ◌∙◌, ap, subst, arith}
+use Rattle.std.proofs.Common.{◌≡◌, ◌≢◌, ℕ, zero, suc, ◌+◌, ◌≤◌, ◌<◌, List, [], ◌∷◌, ◌++◌, map, length, replicate, slice_index_or, refl, sym, ◌∙◌, ap, subst, arith, false, Result, Ok, Err, IfOk}
 use mathlib.Core.Logic.{◌⊎◌, inl, inr}
 use native.Mathlib.Decide.{ℕ_discrete}
 use Rattle.std.specs.List.{flat_map}
@@ -15,6 +15,9 @@ use Rattle.fut_typing.specs.Homes.{At_home, Homed, All_homed, Turns_homed, home_
 use Rattle.fut_typing.specs.Program.{Defined, defined, program_numbers}
 use Rattle.type_homes.specs.Listed.{one, homes_of, all_homes, turn_homes, value_homes, program_homes, Program_homed, AreHomes}
 use Rattle.type_homes.specs.Trees.{exp_homes, definition_homes}
+use Rattle.type_homes.specs.Noted.{Noted, full, noted}
+use Rattle.type_homes.specs.declared.noting.Noting.{Noting}
+use Rattle.fut_scalar.specs.declared.memory.NoMemory.{NoMemory}
 
 two : (xs ys : List ℕ) (m n : ℕ) → length xs ≡ m → length ys ≡ n → length (xs ++ ys) ≡ m + n
 two xs ys m n e f = length-append xs ys ∙ (λ i. e i + f i)
@@ -141,3 +144,8 @@ are_homes ds homes is = let e : homes ≡ program_homes (map defined ds) = is �
   long = ap length e ∙ program_long (map defined ds);
   homed = λ home h. program_listed home (map defined ds) 0 (subst (At home 0) e (all_at home homes 0 (λ n lt. (let z : 0 + n ≡ n = omega arith in ap home z ∙ h n lt))));
 }
+
+pub noted_homes : (ds : List Definition) (s t : Noting) (r : Result (List ℕ) NoMemory) → s.homes ≡ [] → Noted s t (flat_map definition_homes ds) → IfOk r (λ homes. (homes ≡ t.homes) × (t.is_full ≡ false)) → IfOk r (λ homes. AreHomes homes (map defined ds))
+noted_homes ds s t (Ok homes) none (noted p e) is = are_homes ds homes (is.0 ∙ e ∙ ap (λ l. l ++ flat_map definition_homes ds) none)
+noted_homes ds s t (Ok homes) none (full p) is = absurd cc
+noted_homes ds s t (Err e) none n is = tt

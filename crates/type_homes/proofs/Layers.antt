@@ -18,16 +18,18 @@ use Rattle.fut_flat.specs.declared.pat.PatField.{PatField, fold_out-PatField}
 use Rattle.fut_flat.specs.declared.pat.PatForm.TheVariants as pat
 use Rattle.fut_flat.specs.declared.ty.TypeExp.{TypeExp}
 use Rattle.fut_flat.specs.declared.prim.Ref.{Ref}
-use Rattle.fut_flat.specs.Numbers.{pattern_numbers, all_pattern_numbers}
+use Rattle.fut_flat.specs.Numbers.{pattern_numbers, all_pattern_numbers, own_numbers}
 use Rattle.fut_flat.specs.Terms.{Let}
-use Rattle.fut_flat.specs.Erased.{FlatPattern, FlatTerm, Row, parameters, patterns, pattern_of, pattern_form, terms, lets, term_of}
+use Rattle.fut_flat.specs.Erased.{FlatPattern, FlatTerm, Row, parameters, operation_of, patterns, pattern_of, pattern_form, terms, lets, term_of}
 use Rattle.fut_flat.proofs.ErasedPatterns.{pattern_field, pattern_bound, pattern_wild, pattern_tuple, pattern_record, pattern_typed}
 use Rattle.fut_flat.proofs.ErasedForms.{row_of, loop_of, turns_of, term_use, term_strict, term_lambda, term_apply, term_lets, term_if, term_loop, row_is, loop_is, turns_counted, turns_over, turns_while}
-use Rattle.fut_typing.specs.Free.{has_types}
-use Rattle.fut_typing.specs.Homes.{depth_if, written_if}
-use Rattle.type_homes.proofs.Lists.{pieces_3}
+use Rattle.fut_typing.specs.Free.{differs, has_types}
+use Rattle.fut_typing.specs.Homes.{depth_if, home_in, written_if}
+use Rattle.type_homes.specs.declared.noting.Noting.{Noting}
+use Rattle.type_homes.specs.Noted.{Noted}
+use Rattle.type_homes.proofs.Lists.{then, told_as}
 use Rattle.type_homes.specs.Listed.{one, homes_of, all_homes, turn_homes}
-use Rattle.type_homes.specs.Trees.{pattern_homes, field_homes, act_homes, exp_homes, written_in, let_homes, definition_homes}
+use Rattle.type_homes.specs.Trees.{pattern_homes, field_homes, exp_homes, written_in, let_homes, definition_homes}
 
 -- patterns
 patterns_homes : (home : ℕ) (ps : List Pat) → flat_map (pattern_homes home) ps ≡ replicate (all_pattern_numbers (patterns (map pattern_of ps))) home
@@ -81,9 +83,10 @@ pub homes_use : (d w : ℕ) (e : Exp) (r : Ref) (k : ℕ) → e.form ≡ form.Us
 unfolding exp_homes homes_of
 homes_use d w e r k is = append_assoc (one d) (replicate k d) (replicate k d) ∙ ap (λ l. one d ++ l) (replicate-append-replicate k k d) ∙ one_more (k + k) d ∙ sym (ap (homes_of d w) (term_use e r k is))
 
-pub homes_strict : (d w : ℕ) (e : Exp) (a : Act) (mark : Place) (es : Bor (List Exp)) → e.form ≡ form.Strict a mark es → act_homes d w a ++ flat_map (exp_homes d w) es.now ≡ exp_homes d w e
-unfolding exp_homes act_homes homes_of
-homes_strict d w e a mark es is = ap (λ l. act_homes d w a ++ l) (exps_homes d w es.now) ∙ sym (ap (homes_of d w) (term_strict e a mark es is))
+pub homes_strict : (d w : ℕ) (e : Exp) (a : Act) (mark : Place) (es : Bor (List Exp)) (count home : ℕ) → count ≡ own_numbers (operation_of a) → home ≡ home_in (differs (operation_of a)) d w → e.form ≡ form.Strict a mark es
+    → replicate count home ++ flat_map (exp_homes d w) es.now ≡ exp_homes d w e
+unfolding exp_homes homes_of
+homes_strict d w e a mark es count home own at is = (λ i. replicate (own i) (at i) ++ exps_homes d w es.now i) ∙ sym (ap (homes_of d w) (term_strict e a mark es is))
 
 pub homes_lambda : (d w : ℕ) (e : Exp) (ps : Bor (List Pat)) (b : Bor Exp) → e.form ≡ form.Lambda ps b → (one d ++ flat_map (pattern_homes d) ps.now) ++ exp_homes d w b.now ≡ exp_homes d w e
 unfolding exp_homes homes_of
@@ -136,11 +139,11 @@ innermost true true d w deep e = e
 innermost true false d w deep e = refl
 innermost false g d w deep e = refl
 
-pub let_pieces : (d w : ℕ) (l : LetTree) (old m1 m2 new : List ℕ) (deep within : ℕ) → deep ≡ depth_if l.is_function d → within ≡ written_in l deep w → m1 ≡ old ++ one d → m2 ≡ m1 ++ pattern_homes deep l.pat → new ≡ m2 ++ exp_homes deep within l.value
-    → new ≡ old ++ let_homes d w l
+pub let_noted : {s m k t : Noting} (d w : ℕ) (l : LetTree) (deep within : ℕ) → deep ≡ depth_if l.is_function d → within ≡ written_in l deep w → Noted s m (one d) → Noted m k (pattern_homes deep l.pat) → Noted k t (exp_homes deep within l.value)
+    → Noted s t (let_homes d w l)
 unfolding let_homes
-let_pieces d w l old m1 m2 new deep within is wis e f g = pieces_3 old m1 m2 new (one d) (pattern_homes deep l.pat) (exp_homes deep within l.value) ((one d ++ pattern_homes (depth_if l.is_function d) l.pat) ++ exp_homes (depth_if l.is_function d) (written_in l (1 + d) w) l.value)
-    (λ i. (one d ++ pattern_homes (is i) l.pat) ++ exp_homes (is i) ((wis ∙ innermost l.is_function (has_types (parameters l.heads.now)) d w deep is) i) l.value) e f g
+let_noted d w l deep within is wis e f g = told_as
+    (λ i. (one d ++ pattern_homes (is i) l.pat) ++ exp_homes (is i) ((wis ∙ innermost l.is_function (has_types (parameters l.heads.now)) d w deep is) i) l.value) (then (then e f) g)
 
 pub definition_is : (d : Definition) (w : ℕ) → w ≡ written_if (has_types (parameters d.heads.now)) 1 0 → one 1 ++ exp_homes 1 w d.value.now ≡ definition_homes d
 unfolding definition_homes

@@ -1,15 +1,14 @@
 -- The homes of the numbers of trees.
 use Rattle.std.specs.Prelude.{ℕ, ◌+◌, ◌&&◌, List, ◌++◌, replicate}
-use Rattle.fut_flat.specs.declared.act.Act.{Act}
 use Rattle.fut_flat.specs.declared.exp.Exp.{Exp}
 use Rattle.fut_flat.specs.declared.exp.Let.{Let as LetTree}
 use Rattle.fut_flat.specs.declared.pat.Pat.{Pat}
 use Rattle.fut_flat.specs.declared.pat.PatField.{PatField}
 use Rattle.fut_flat.specs.declared.program.Definition.{Definition}
-use Rattle.fut_flat.specs.Numbers.{pattern_numbers, own_numbers}
-use Rattle.fut_flat.specs.Erased.{operation_of, parameters, pattern_of, term_of}
-use Rattle.fut_typing.specs.Free.{has_types, differs}
-use Rattle.fut_typing.specs.Homes.{home_in, depth_if, written_if}
+use Rattle.fut_flat.specs.Numbers.{pattern_numbers}
+use Rattle.fut_flat.specs.Erased.{parameters, pattern_of, term_of}
+use Rattle.fut_typing.specs.Free.{has_types}
+use Rattle.fut_typing.specs.Homes.{depth_if, written_if}
 use Rattle.type_homes.specs.Listed.{one, homes_of}
 
 unfoldable pub pattern_homes : ℕ → Pat → List ℕ
@@ -17,9 +16,6 @@ pattern_homes home p = replicate (pattern_numbers (pattern_of p)) home
 
 unfoldable pub field_homes : ℕ → PatField → List ℕ
 field_homes home f = pattern_homes home f.pat
-
-unfoldable pub act_homes : ℕ → ℕ → Act → List ℕ
-act_homes d w a = replicate (own_numbers (operation_of a)) (home_in (differs (operation_of a)) d w)
 
 unfoldable pub exp_homes : ℕ → ℕ → Exp → List ℕ
 exp_homes d w e = homes_of d w (term_of e)

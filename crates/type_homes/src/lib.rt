@@ -7,8 +7,10 @@ ghost use Rattle.std.specs.Prelude.{IfOk};
 ghost use Rattle.fut_typing.specs.Program.{program_of};
 ghost use Rattle.type_homes.specs.Listed.{AreHomes};
 
+mod noting;
 mod terms;
 
+use crate::noting::Noting;
 use crate::terms::note_definitions;
 use fut_flat::Flat;
 use fut_scalar::{List, NoMemory};
@@ -18,7 +20,7 @@ use std::alloc::Global;
 pub fn homes(alloc: Global, flat: &Flat<'_>) -> Result<List<u32>, NoMemory>
     ensures { IfOk result (λ homes. AreHomes homes (program_of flat.now)) }
 {
-    let mut homes = List::new(alloc);
-    note_definitions(&mut homes, flat.definitions)?;
-    Ok(homes)
+    let mut homes = Noting::new(alloc);
+    note_definitions(&mut homes, flat.definitions);
+    homes.noted()
 }

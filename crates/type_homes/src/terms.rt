@@ -1,42 +1,44 @@
 // The homes of the numbers of trees, in the order of the numbers.
-ghost use Rattle.std.specs.Prelude.{◌≡◌, ◌++◌, replicate, IfOk, OnOk};
+ghost use Rattle.std.specs.Prelude.{◌≡◌, replicate, IfOk};
 ghost use Rattle.std.specs.List.{flat_map};
-ghost use Rattle.fut_flat.specs.Erased.{parameters};
-ghost use Rattle.fut_typing.specs.Free.{has_types};
-ghost use Rattle.fut_typing.specs.Homes.{depth_if, written_if};
+ghost use Rattle.fut_flat.specs.Erased.{operation_of, parameters};
+ghost use Rattle.fut_flat.specs.Numbers.{own_numbers};
+ghost use Rattle.fut_typing.specs.Free.{differs, has_types};
+ghost use Rattle.fut_typing.specs.Homes.{depth_if, home_in, written_if};
 ghost use Rattle.fut_flat.proofs.ErasedForms.{loop_of, turns_of};
 ghost use Rattle.type_homes.specs.Listed.{homes_of, turn_homes};
-ghost use Rattle.type_homes.specs.Trees.{act_homes, definition_homes, exp_homes, field_homes, let_homes, pattern_homes, written_in};
+ghost use Rattle.type_homes.specs.Noted.{Noted};
+ghost use Rattle.type_homes.specs.Trees.{definition_homes, exp_homes, field_homes, let_homes, pattern_homes, written_in};
 
+use crate::noting::Noting;
 use fut_flat::{
     Act, Definition, Exp, Form, Head, HeadForm, Let, Loop, LoopForm, Pat, PatField, PatForm,
 };
-use fut_scalar::{List, NoMemory};
+use fut_scalar::NoMemory;
 
 /// Notes the home of so many numbers.
-fn note(homes: &mut List<u32>, count: u32, home: u32) -> Result<(), NoMemory>
-    ensures { OnOk result (homes.new ≡ homes.old ++ replicate count home) }
+fn note(homes: &mut Noting, count: u32, home: u32)
+    ensures { Noted homes.old homes.new (replicate count home) }
 {
     for _ in 0..count {
-        homes.push(home)?;
+        homes.push(home);
     }
-    Ok(())
 }
 
 /// Notes the home of a pattern's numbers.
 #[cycle(pattern)]
-fn note_pattern(homes: &mut List<u32>, pat: &Pat<'_>, home: u32) -> Result<(), NoMemory>
-    ensures { OnOk result (homes.new ≡ homes.old ++ pattern_homes home pat.now) }
+fn note_pattern(homes: &mut Noting, pat: &Pat<'_>, home: u32)
+    ensures { Noted homes.old homes.new (pattern_homes home pat.now) }
 {
     match pat.form {
         PatForm::Bound(_) => homes.push(home),
         PatForm::Wild => homes.push(home),
         PatForm::Tuple(parts) => {
-            homes.push(home)?;
+            homes.push(home);
             note_patterns(homes, parts, home)
         }
         PatForm::Record(fields) => {
-            homes.push(home)?;
+            homes.push(home);
             note_fields(homes, fields, home)
         }
         PatForm::Typed(inner, _) => note_pattern(homes, inner, home),
@@ -44,87 +46,104 @@ fn note_pattern(homes: &mut List<u32>, pat: &Pat<'_>, home: u32) -> Result<(), N
 }
 
 #[cycle(pattern)]
-fn note_patterns(homes: &mut List<u32>, parts: &[Pat<'_>], home: u32) -> Result<(), NoMemory>
-    ensures { OnOk result (homes.new ≡ homes.old ++ flat_map (pattern_homes home) parts.now) }
+fn note_patterns(homes: &mut Noting, parts: &[Pat<'_>], home: u32)
+    ensures { Noted homes.old homes.new (flat_map (pattern_homes home) parts.now) }
 {
     for part in parts {
-        note_pattern(homes, part, home)?;
+        note_pattern(homes, part, home);
     }
-    Ok(())
 }
 
 #[cycle(pattern)]
 #[tactic(auto, unfolding(crate::specs::Trees::field_homes))]
-fn note_fields(homes: &mut List<u32>, fields: &[PatField<'_>], home: u32) -> Result<(), NoMemory>
-    ensures { OnOk result (homes.new ≡ homes.old ++ flat_map (field_homes home) fields.now) }
+fn note_fields(homes: &mut Noting, fields: &[PatField<'_>], home: u32)
+    ensures { Noted homes.old homes.new (flat_map (field_homes home) fields.now) }
 {
     for field in fields {
-        note_pattern(homes, &field.pat, home)?;
+        note_pattern(homes, &field.pat, home);
     }
-    Ok(())
 }
 
-/// Notes the homes of an operation's own numbers, at this depth, where the innermost definition with written type parameters
-/// is at depth `written`.
-#[tactic(auto, unfolding(crate::specs::Trees::act_homes))]
-fn note_act(homes: &mut List<u32>, act: Act<'_>, depth: u32, written: u32) -> Result<(), NoMemory>
-    ensures { OnOk result (homes.new ≡ homes.old ++ act_homes depth written act.entry) }
+/// How many numbers an operation has of its own.
+fn own_numbers_of(act: Act<'_>) -> u32
+    ensures { result ≡ own_numbers (operation_of act.entry) }
 {
     match act {
-        Act::Binary(_) => note(homes, 2, 0),
-        Act::Project(_) => note(homes, 2, written),
-        Act::Int { ty: None, .. } => note(homes, 1, 0),
-        Act::Negate => note(homes, 1, 0),
-        Act::Complement => note(homes, 1, 0),
-        Act::Replace(_) => note(homes, 1, written),
-        Act::Int { ty: Some(_), .. } => note(homes, 1, depth),
-        Act::Truth(_) => note(homes, 1, depth),
-        Act::Tuple => note(homes, 1, depth),
-        Act::Record(_) => note(homes, 1, depth),
-        Act::Array => note(homes, 1, depth),
-        Act::Index(_) => note(homes, 1, depth),
-        Act::Update => note(homes, 1, depth),
-        Act::Ascribe(_) => note(homes, 1, depth),
-        Act::Coerce(_) => note(homes, 1, depth),
-        Act::Declared(_) => note(homes, 1, depth),
-        Act::Assert => note(homes, 1, depth),
-        Act::Range { .. } => note(homes, 1, depth),
+        Act::Binary(_) | Act::Project(_) => 2,
+        Act::Int { .. }
+        | Act::Truth(_)
+        | Act::Tuple
+        | Act::Record(_)
+        | Act::Array
+        | Act::Negate
+        | Act::Complement
+        | Act::Index(_)
+        | Act::Update
+        | Act::Replace(_)
+        | Act::Ascribe(_)
+        | Act::Coerce(_)
+        | Act::Declared(_)
+        | Act::Assert
+        | Act::Range { .. } => 1,
+    }
+}
+
+/// The home of an operation's own numbers, at this depth, where the innermost definition with written type parameters is at
+/// depth `written`.
+fn home_of(act: Act<'_>, depth: u32, written: u32) -> u32
+    ensures { result ≡ home_in (differs (operation_of act.entry)) depth written }
+{
+    match act {
+        Act::Binary(_) | Act::Int { ty: None, .. } | Act::Negate | Act::Complement => 0,
+        Act::Project(_) | Act::Replace(_) => written,
+        Act::Int { ty: Some(_), .. }
+        | Act::Truth(_)
+        | Act::Tuple
+        | Act::Record(_)
+        | Act::Array
+        | Act::Index(_)
+        | Act::Update
+        | Act::Ascribe(_)
+        | Act::Coerce(_)
+        | Act::Declared(_)
+        | Act::Assert
+        | Act::Range { .. } => depth,
     }
 }
 
 /// Notes the homes of a term's numbers.
 #[cycle(term)]
-fn note_exp(homes: &mut List<u32>, exp: &Exp<'_>, depth: u32, written: u32) -> Result<(), NoMemory>
-    ensures { OnOk result (homes.new ≡ homes.old ++ exp_homes depth written exp.now) }
+fn note_exp(homes: &mut Noting, exp: &Exp<'_>, depth: u32, written: u32)
+    ensures { Noted homes.old homes.new (exp_homes depth written exp.now) }
 {
     match exp.form {
         Form::Use(_, before) => {
-            homes.push(depth)?;
-            note(homes, before, depth)?;
+            homes.push(depth);
+            note(homes, before, depth);
             note(homes, before, depth)
         }
         Form::Strict { act, parts, .. } => {
-            note_act(homes, act, depth, written)?;
+            note(homes, own_numbers_of(act), home_of(act, depth, written));
             note_parts(homes, parts, depth, written)
         }
         Form::Lambda(params, body) => {
-            homes.push(depth)?;
-            note_patterns(homes, params, depth)?;
+            homes.push(depth);
+            note_patterns(homes, params, depth);
             note_exp(homes, body, depth, written)
         }
         Form::Apply(function, argument) => {
-            homes.push(depth)?;
-            note_exp(homes, function, depth, written)?;
+            homes.push(depth);
+            note_exp(homes, function, depth, written);
             note_exp(homes, argument, depth, written)
         }
         Form::Lets(lets, body) => {
-            note_lets(homes, lets, depth, written)?;
+            note_lets(homes, lets, depth, written);
             note_exp(homes, body, depth, written)
         }
         Form::If(test, yes, no) => {
-            homes.push(depth)?;
-            note_exp(homes, test, depth, written)?;
-            note_exp(homes, yes, depth, written)?;
+            homes.push(depth);
+            note_exp(homes, test, depth, written);
+            note_exp(homes, yes, depth, written);
             note_exp(homes, no, depth, written)
         }
         Form::Loop(turning) => note_loop(homes, turning, depth, written),
@@ -132,33 +151,21 @@ fn note_exp(homes: &mut List<u32>, exp: &Exp<'_>, depth: u32, written: u32) -> R
 }
 
 #[cycle(term)]
-fn note_parts(
-    homes: &mut List<u32>,
-    parts: &[Exp<'_>],
-    depth: u32,
-    written: u32,
-) -> Result<(), NoMemory>
-    ensures { OnOk result (homes.new ≡ homes.old ++ flat_map (exp_homes depth written) parts.now) }
+fn note_parts(homes: &mut Noting, parts: &[Exp<'_>], depth: u32, written: u32)
+    ensures { Noted homes.old homes.new (flat_map (exp_homes depth written) parts.now) }
 {
     for part in parts {
-        note_exp(homes, part, depth, written)?;
+        note_exp(homes, part, depth, written);
     }
-    Ok(())
 }
 
 #[cycle(term)]
-fn note_lets(
-    homes: &mut List<u32>,
-    lets: &[Let<'_>],
-    depth: u32,
-    written: u32,
-) -> Result<(), NoMemory>
-    ensures { OnOk result (homes.new ≡ homes.old ++ flat_map (let_homes depth written) lets.now) }
+fn note_lets(homes: &mut Noting, lets: &[Let<'_>], depth: u32, written: u32)
+    ensures { Noted homes.old homes.new (flat_map (let_homes depth written) lets.now) }
 {
     for one in lets {
-        note_let(homes, one, depth, written)?;
+        note_let(homes, one, depth, written);
     }
-    Ok(())
 }
 
 /// A function is one deeper.
@@ -200,65 +207,54 @@ fn written_of(one: &Let<'_>, deep: u32, written: u32) -> u32
 }
 
 #[cycle(term)]
-fn note_let(homes: &mut List<u32>, one: &Let<'_>, depth: u32, written: u32) -> Result<(), NoMemory>
-    ensures { OnOk result (homes.new ≡ homes.old ++ let_homes depth written one.now) }
+fn note_let(homes: &mut Noting, one: &Let<'_>, depth: u32, written: u32)
+    ensures { Noted homes.old homes.new (let_homes depth written one.now) }
 {
-    let deep = depth_of(one, depth)?;
-    let innermost = written_of(one, deep, written);
-    homes.push(depth)?;
-    note_pattern(homes, &one.pat, deep)?;
-    note_exp(homes, &one.value, deep, innermost)
+    match depth_of(one, depth) {
+        Ok(deep) => {
+            homes.push(depth);
+            note_pattern(homes, &one.pat, deep);
+            note_exp(homes, &one.value, deep, written_of(one, deep, written))
+        }
+        Err(NoMemory) => homes.stop(),
+    }
 }
 
 #[cycle(term)]
-fn note_loop(
-    homes: &mut List<u32>,
-    turning: &Loop<'_>,
-    depth: u32,
-    written: u32,
-) -> Result<(), NoMemory>
-    ensures { OnOk result (homes.new ≡ homes.old ++ homes_of depth written (loop_of turning.now)) }
+fn note_loop(homes: &mut Noting, turning: &Loop<'_>, depth: u32, written: u32)
+    ensures { Noted homes.old homes.new (homes_of depth written (loop_of turning.now)) }
 {
-    homes.push(depth)?;
-    note_pattern(homes, &turning.pat, depth)?;
-    note_exp(homes, &turning.first, depth, written)?;
-    note_turns(homes, turning, depth, written)?;
+    homes.push(depth);
+    note_pattern(homes, &turning.pat, depth);
+    note_exp(homes, &turning.first, depth, written);
+    note_turns(homes, turning, depth, written);
     note_exp(homes, &turning.body, depth, written)
 }
 
 #[cycle(term)]
-fn note_turns(
-    homes: &mut List<u32>,
-    turning: &Loop<'_>,
-    depth: u32,
-    written: u32,
-) -> Result<(), NoMemory>
-    ensures { OnOk result (homes.new ≡ homes.old ++ turn_homes depth written (turns_of turning.now.form)) }
+fn note_turns(homes: &mut Noting, turning: &Loop<'_>, depth: u32, written: u32)
+    ensures { Noted homes.old homes.new (turn_homes depth written (turns_of turning.now.form)) }
 {
-    match turning.form {
+    match &turning.form {
         LoopForm::For(_, bound) => {
-            homes.push(depth)?;
-            note_exp(homes, &bound, depth, written)
+            homes.push(depth);
+            note_exp(homes, bound, depth, written)
         }
         LoopForm::ForIn(pat, over) => {
-            note_pattern(homes, &pat, depth)?;
-            note_exp(homes, &over, depth, written)
+            note_pattern(homes, pat, depth);
+            note_exp(homes, over, depth, written)
         }
-        LoopForm::While(test) => note_exp(homes, &test, depth, written),
+        LoopForm::While(test) => note_exp(homes, test, depth, written),
     }
 }
 
 /// Notes the homes of the numbers of definitions, each of which is one deep.
-pub(crate) fn note_definitions(
-    homes: &mut List<u32>,
-    definitions: &[Definition<'_>],
-) -> Result<(), NoMemory>
-    ensures { OnOk result (homes.new ≡ homes.old ++ flat_map definition_homes definitions.now) }
+pub(crate) fn note_definitions(homes: &mut Noting, definitions: &[Definition<'_>])
+    ensures { Noted homes.old homes.new (flat_map definition_homes definitions.now) }
 {
     for definition in definitions {
-        homes.push(1)?;
+        homes.push(1);
         let written = innermost_written(definition.heads, 1, 0);
-        note_exp(homes, definition.value, 1, written)?;
+        note_exp(homes, definition.value, 1, written);
     }
-    Ok(())
 }

@@ -1,10 +1,11 @@
-use Rattle.std.proofs.Common.{◌≡◌, ◌++◌, take}
+use Rattle.std.proofs.Common.{take}
 use Rattle.std.specs.List.{flat_map}
+use Rattle.type_homes.specs.Noted.{Noted}
 use Rattle.type_homes.specs.Trees.{field_homes, pattern_homes}
 use Rattle.type_homes.proofs.terms.+pattern.Given as goal
 
 abbrev pub invariant-note_fields-loop-field : goal.invariant-note_fields-loop-field
-invariant-note_fields-loop-field l = l.homes ≡ l.fn.homes ++ flat_map (field_homes l.home) (take l.field-index l.fields)
+invariant-note_fields-loop-field l = Noted l.fn.homes l.homes (flat_map (field_homes l.home) (take l.field-index l.fields))
 
 abbrev pub invariant-note_patterns-loop-part : goal.invariant-note_patterns-loop-part
-invariant-note_patterns-loop-part l = l.homes ≡ l.fn.homes ++ flat_map (pattern_homes l.home) (take l.part-index l.parts)
+invariant-note_patterns-loop-part l = Noted l.fn.homes l.homes (flat_map (pattern_homes l.home) (take l.part-index l.parts))

@@ -1,5 +1,6 @@
-use Rattle.std.proofs.Common.{◌≡◌, ◌++◌, replicate}
+use Rattle.std.proofs.Common.{replicate}
+use Rattle.type_homes.specs.Noted.{Noted}
 use Rattle.type_homes.proofs.terms.note.Given as goal
 
 abbrev pub invariant-loop : goal.invariant-loop
-invariant-loop l = l.homes ≡ l.fn.homes ++ replicate l.counter l.home
+invariant-loop l = Noted l.fn.homes l.homes (replicate l.counter l.home)
