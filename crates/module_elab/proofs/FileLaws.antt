@@ -1,8 +1,7 @@
 -- Lists of declarations and of files.
-use Rattle.std.proofs.Common.{◌≡◌, ℕ, suc, ◌+◌, ◌<◌, ◌≤◌, ◌++◌, List, [], ◌∷◌, map, length, drop, get_or, refl, sym, ◌∙◌, ap, Ok, Err, arith}
-use Rattle.std.specs.Borrow.{Bor}
+use Rattle.std.proofs.Common.{◌≡◌, ℕ, suc, ◌+◌, ◌<◌, ◌≤◌, ◌++◌, List, [], ◌∷◌, map, length, drop, get_or, refl, sym, ◌∙◌, ap, Result, Ok, Err, arith}
 use Rattle.std.proofs.Math.ListN.{drop_of_length-le}
-use Rattle.std.proofs.lemmas.List.{append_assoc, append-nil, map-append}
+use Rattle.std.proofs.lemmas.List.{append_assoc, append-nil}
 use Rattle.fut_ast.specs.Sorts.{Text}
 use Rattle.fut_ast.specs.declared.module.Program.{Program}
 use Rattle.fut_tree.specs.declared.held.Held.{Held}
@@ -16,112 +15,103 @@ use Rattle.module_scopes.specs.Resolve.{after}
 use Rattle.module_scopes.specs.Programs.{Defined, FlatDefinition, Seen, resolve_dec, resolve_decs, resolve_files}
 use Rattle.module_scopes.proofs.Walking.{from_here}
 use Rattle.module_elab.specs.Elaborated.{definition_of}
-use Rattle.module_elab.specs.Walks.{Gives, Gives_files, So_far, gives, gives_files, gives_nothing, gives_refusal, no_files, refuses_files, seen_of, so_far}
+use Rattle.module_elab.specs.Walks.{Gives, Gives_files, So_far, gives, gives_files, gives_nothing, gives_refusal, no_files, one, refuses_files, seen_of, so_far, these}
 
--- what is made, before the rest
-finish : List Definition → Defined (List FlatDefinition) → Defined (List FlatDefinition)
-finish done r = after r (λ ds s. Ok (map definition_of done ++ ds, s))
+-- what was given, before the rest
+finish : List FlatDefinition → Defined (List FlatDefinition) → Defined (List FlatDefinition)
+finish news r = after r (λ ds s. Ok (news ++ ds, s))
 
-onto : List Definition → Defined (List FlatDefinition) → Defined (List FlatDefinition)
-onto more r = after r (λ ds s. Ok (map definition_of more ++ ds, s))
+joined : (news more : List FlatDefinition) (r : Defined (List FlatDefinition)) → finish news (finish more r) ≡ finish (news ++ more) r
+unfolding finish after
+joined news more (Ok (ds, s)) = λ i. Ok (sym (append_assoc news more ds) i, s)
+joined news more (Err e) = refl
 
-joined : (done more : List Definition) (r : Defined (List FlatDefinition)) → finish done (onto more r) ≡ finish (done ++ more) r
-unfolding finish onto after
-joined done more (Ok (ds, s)) = λ i. Ok (sym (ap (λ l. l ++ ds) (map-append definition_of done more) ∙ append_assoc (map definition_of done) (map definition_of more) ds) i, s)
-joined done more (Err e) = refl
-
-pub all_to_do : (does : Defined (List FlatDefinition)) → So_far does [] does
+all_to_do : (does : Defined (List FlatDefinition)) (start : List Definition) → So_far does start start does
 unfolding after
-all_to_do does = so_far (sym (at_start does))
+all_to_do does start = so_far [] (sym (append-nil (map definition_of start))) (sym (at_start does))
   where
     at_start : (r : Defined (List FlatDefinition)) → after r (λ ds s. Ok ([] ++ ds, s)) ≡ r
     at_start (Ok (ds, s)) = refl
     at_start (Err e) = refl
 
-module _ (does : Defined (List FlatDefinition)) (file : ℕ) (ds : List Dec) where
-  pub decs_next : (i : ℕ) (d : Dec) (s t : Seen) (done all_done : List Definition) (y : Definition) → i < length ds → d ≡ get_or ds i d → all_done ≡ done ++ y ∷ []
-      → Gives definition_of (resolve_dec file (dec_of d) s) t (Ok y) → So_far does done (resolve_decs file (decs_of (drop i ds)) s) → So_far does all_done (resolve_decs file (decs_of (drop (i + 1) ds)) t)
-  unfolding resolve_decs after finish onto
-  decs_next i d s t done all_done y k is eq (gives g) (so_far so) = so_far (
-      so
-      ∙ ap (λ l. finish done (resolve_decs file (decs_of l) s)) (from_here ds i d k is)
-      ∙ ap (λ r. finish done (after r (λ d s. after (resolve_decs file (decs_of (drop (i + 1) ds)) s) (λ ds s. Ok (d ∷ ds, s))))) g
-      ∙ joined done (y ∷ []) (resolve_decs file (decs_of (drop (i + 1) ds)) t)
-      ∙ ap (λ l. after (resolve_decs file (decs_of (drop (i + 1) ds)) t) (λ ds s. Ok (map definition_of l ++ ds, s))) (sym eq))
+further : (start done more : List Definition) (news next : List FlatDefinition) → map definition_of done ≡ map definition_of start ++ news → map definition_of more ≡ map definition_of done ++ next → map definition_of more ≡ map definition_of start ++ (news ++ next)
+further start done more news next is so = so ∙ ap (λ l. l ++ next) is ∙ append_assoc (map definition_of start) news next
 
-  pub decs_stop : {Q : Type 0} {view : Q → List FlatDefinition} (i : ℕ) (d : Dec) (s t u : Seen) (done : List Definition) (x : Stop) → i < length ds → d ≡ get_or ds i d
-      → Gives definition_of (resolve_dec file (dec_of d) s) t (Err x) → So_far does done (resolve_decs file (decs_of (drop i ds)) s) → Gives view does u (Err x)
+module _ (file : ℕ) (ds : List Dec) (here : Seen) (start : List Definition) where
+  pub decs_start : So_far (resolve_decs file (decs_of ds) here) start start (resolve_decs file (decs_of ds) here)
+  decs_start = all_to_do (resolve_decs file (decs_of ds) here) start
+
+  pub decs_next : (i : ℕ) (d : Dec) (s t : Seen) (done more : List Definition) (u : Unit {0}) → i < length ds → d ≡ get_or ds i d
+      → Gives one (resolve_dec file (dec_of d) s) done more t (Ok u) → So_far (resolve_decs file (decs_of ds) here) start done (resolve_decs file (decs_of (drop i ds)) s)
+      → So_far (resolve_decs file (decs_of ds) here) start more (resolve_decs file (decs_of (drop (i + 1) ds)) t)
   unfolding resolve_decs after finish
-  decs_stop i d s t u done _ k is (gives_refusal g) (so_far so) = gives_refusal (
+  decs_next i d s t done more u k is (gives {a = y} g put) (so_far news before so) = so_far (news ++ y ∷ []) (further start done more news (y ∷ []) before put) (
       so
-      ∙ ap (λ l. finish done (resolve_decs file (decs_of l) s)) (from_here ds i d k is)
-      ∙ ap (λ r. finish done (after r (λ d s. after (resolve_decs file (decs_of (drop (i + 1) ds)) s) (λ ds s. Ok (d ∷ ds, s))))) g)
-  decs_stop i d s t u done _ k is gives_nothing so = gives_nothing
+      ∙ ap (λ l. finish news (resolve_decs file (decs_of l) s)) (from_here ds i d k is)
+      ∙ ap (λ r. finish news (after r (λ d s. after (resolve_decs file (decs_of (drop (i + 1) ds)) s) (λ ds s. Ok (d ∷ ds, s))))) g
+      ∙ joined news (y ∷ []) (resolve_decs file (decs_of (drop (i + 1) ds)) t))
 
-  pub decs_end : (i : ℕ) (t : Seen) (done : List Definition) (r : Bor (List Definition)) → length ds ≤ i → r.now ≡ done → So_far does done (resolve_decs file (decs_of (drop i ds)) t)
-      → Gives (λ (ds : Bor (List Definition)). map definition_of ds.now) does t (Ok r)
-  unfolding resolve_decs after
-  decs_end i t done r k is (so_far so) = gives (
+  pub decs_stop : (i : ℕ) (d : Dec) (s t u : Seen) (done more last : List Definition) (x : Stop) → i < length ds → d ≡ get_or ds i d
+      → Gives one (resolve_dec file (dec_of d) s) done more t (Err x) → So_far (resolve_decs file (decs_of ds) here) start done (resolve_decs file (decs_of (drop i ds)) s)
+      → Gives these (resolve_decs file (decs_of ds) here) start last u (Err x)
+  unfolding resolve_decs after finish
+  decs_stop i d s t u done more last _ k is (gives_refusal g) (so_far news before so) = gives_refusal (
       so
-      ∙ ap (λ l. after (resolve_decs file (decs_of l) t) (λ ds s. Ok (map definition_of done ++ ds, s))) (drop_of_length-le ds k)
-      ∙ λ j. Ok ((append-nil (map definition_of done) ∙ ap (map definition_of) (sym is)) j, t))
+      ∙ ap (λ l. finish news (resolve_decs file (decs_of l) s)) (from_here ds i d k is)
+      ∙ ap (λ r. finish news (after r (λ d s. after (resolve_decs file (decs_of (drop (i + 1) ds)) s) (λ ds s. Ok (d ∷ ds, s))))) g)
+  decs_stop i d s t u done more last _ k is gives_nothing so = gives_nothing
 
-pub ruleset dec_list_rules = (all_to_do, decs_next, decs_stop, decs_end, gives_nothing)
+  pub decs_end : (i : ℕ) (t : Seen) (done : List Definition) (u : Unit {0}) → length ds ≤ i → So_far (resolve_decs file (decs_of ds) here) start done (resolve_decs file (decs_of (drop i ds)) t)
+      → Gives these (resolve_decs file (decs_of ds) here) start done t (Ok u)
+  unfolding resolve_decs after finish
+  decs_end i t done u k (so_far news is so) = gives (
+      so
+      ∙ ap (λ l. finish news (resolve_decs file (decs_of l) t)) (drop_of_length-le ds k)
+      ∙ λ j. Ok (append-nil news j, t)) is
 
 -- ---- a file
 
-pub file_made : (file : ℕ) (p : Program) (ds : List Dec) (s t : Names) (own none : List Text) (x : Bor (List Definition)) → p.decs ≡ decs_of ds → none ≡ []
-    → Gives (λ (ds : Bor (List Definition)). map definition_of ds.now) (resolve_decs file (decs_of ds) (seen_of none s)) (seen_of own t) (Ok x)
-    → Gives_files (λ (ds : Bor (List Definition)). map definition_of ds.now) (resolve_decs file p.decs (seen_of [] s)) t (Ok x)
-file_made file p ds s t own none x is empty (gives g) = gives_files own ((λ i. resolve_decs file (is i) (seen_of (sym empty i) s)) ∙ g)
-
-pub file_stops : (file : ℕ) (p : Program) (ds : List Dec) (s u : Names) (t : Seen) (none : List Text) (x : Stop) → p.decs ≡ decs_of ds → none ≡ []
-    → Gives (λ (ds : Bor (List Definition)). map definition_of ds.now) (resolve_decs file (decs_of ds) (seen_of none s)) t (Err x)
-    → Gives_files (λ (ds : Bor (List Definition)). map definition_of ds.now) (resolve_decs file p.decs (seen_of [] s)) u (Err x)
-file_stops file p ds s u t none _ is empty (gives_refusal g) = refuses_files ((λ i. resolve_decs file (is i) (seen_of (sym empty i) s)) ∙ g)
-file_stops file p ds s u t none _ is empty gives_nothing = no_files
-
-pub ruleset new_file_rules = (file_made, file_stops)
+pub file_goes : (file : ℕ) (p : Program) (ds : List Dec) (s t : Names) (own none : List Text) (done more : List Definition) (r : Result (Unit {0}) Stop) → p.decs ≡ decs_of ds → none ≡ []
+    → Gives these (resolve_decs file (decs_of ds) (seen_of none s)) done more (seen_of own t) r → Gives_files (resolve_decs file p.decs (seen_of [] s)) done more t r
+file_goes file p ds s t own none done more _ is empty (gives g put) = gives_files own ((λ i. resolve_decs file (is i) (seen_of (sym empty i) s)) ∙ g) put
+file_goes file p ds s t own none done more _ is empty (gives_refusal g) = refuses_files ((λ i. resolve_decs file (is i) (seen_of (sym empty i) s)) ∙ g)
+file_goes file p ds s t own none done more _ is empty gives_nothing = no_files
 
 -- ---- files
 
 -- so far these files are done, and the names are as they are now
-pub data Files_so_far (fs : List (Held Program)) (s : Names) (i : ℕ) (done : List Definition) (t : Names) : Type 0 where
-  files_so_far : (own : List Text) → So_far (resolve_files 0 (all fs) (seen_of [] s)) done (resolve_files i (all (drop i fs)) (seen_of own t)) → Files_so_far fs s i done t
+pub data Files_so_far (fs : List (Held Program)) (s : Names) (start : List Definition) (i : ℕ) (done : List Definition) (t : Names) : Type 0 where
+  files_so_far : (own : List Text) → So_far (resolve_files 0 (all fs) (seen_of [] s)) start done (resolve_files i (all (drop i fs)) (seen_of own t)) → Files_so_far fs s start i done t
 
 one_more : (i : ℕ) → suc i ≡ i + 1
 one_more i = omega arith
 
-module _ (fs : List (Held Program)) (s : Names) where
-  pub files_start : Files_so_far fs s 0 [] s
-  files_start = files_so_far [] (all_to_do (resolve_files 0 (all fs) (seen_of [] s)))
+module _ (fs : List (Held Program)) (s : Names) (start : List Definition) where
+  pub files_start : Files_so_far fs s start 0 start s
+  files_start = files_so_far [] (all_to_do (resolve_files 0 (all fs) (seen_of [] s)) start)
 
-  pub files_next : (i n : ℕ) (f : Held Program) (t u : Names) (done all_done : List Definition) (x : Bor (List Definition)) → i < length fs → f ≡ get_or fs i f → n ≡ i → all_done ≡ done ++ x.now
-      → Gives_files (λ (ds : Bor (List Definition)). map definition_of ds.now) (resolve_decs n f.at.now.decs (seen_of [] t)) u (Ok x) → Files_so_far fs s i done t → Files_so_far fs s (i + 1) all_done u
-  unfolding resolve_files after seen_of finish onto
-  files_next i n f t u done all_done x k is num eq (gives_files own g) (files_so_far before (so_far so)) = files_so_far own (so_far (
-      so
-      ∙ ap (λ l. finish done (resolve_files i (all l) (seen_of before t))) (from_here fs i f k is)
-      ∙ ap (λ r. finish done (after r (λ ds s. after (resolve_files (suc i) (all (drop (i + 1) fs)) s) (λ more s. Ok (ds ++ more, s))))) ((λ j. resolve_decs (sym num j) f.at.now.decs (seen_of [] t)) ∙ g)
-      ∙ joined done x.now (resolve_files (suc i) (all (drop (i + 1) fs)) (seen_of own u))
-      ∙ (λ j. after (resolve_files (one_more i j) (all (drop (i + 1) fs)) (seen_of own u)) (λ ds s. Ok (map definition_of (sym eq j) ++ ds, s)))))
-
-  pub files_stop : {Q : Type 0} {view : Q → List FlatDefinition} (i n : ℕ) (f : Held Program) (t u v : Names) (done : List Definition) (x : Stop) → i < length fs → f ≡ get_or fs i f → n ≡ i
-      → Gives_files (λ (ds : Bor (List Definition)). map definition_of ds.now) (resolve_decs n f.at.now.decs (seen_of [] t)) u (Err x) → Files_so_far fs s i done t
-      → Gives_files view (resolve_files 0 (all fs) (seen_of [] s)) v (Err x)
+  pub files_next : (i n : ℕ) (f : Held Program) (t u : Names) (done more : List Definition) (w : Unit {0}) → i < length fs → f ≡ get_or fs i f → n ≡ i
+      → Gives_files (resolve_decs n f.at.now.decs (seen_of [] t)) done more u (Ok w) → Files_so_far fs s start i done t → Files_so_far fs s start (i + 1) more u
   unfolding resolve_files after seen_of finish
-  files_stop i n f t u v done _ k is num (refuses_files g) (files_so_far before (so_far so)) = refuses_files (
+  files_next i n f t u done more w k is num (gives_files {ds = ds} own g put) (files_so_far before (so_far news eq so)) = files_so_far own (so_far (news ++ ds) (further start done more news ds eq put) (
       so
-      ∙ ap (λ l. finish done (resolve_files i (all l) (seen_of before t))) (from_here fs i f k is)
-      ∙ ap (λ r. finish done (after r (λ ds s. after (resolve_files (suc i) (all (drop (i + 1) fs)) s) (λ more s. Ok (ds ++ more, s))))) ((λ j. resolve_decs (sym num j) f.at.now.decs (seen_of [] t)) ∙ g))
-  files_stop i n f t u v done _ k is num no_files so = no_files
+      ∙ ap (λ l. finish news (resolve_files i (all l) (seen_of before t))) (from_here fs i f k is)
+      ∙ ap (λ r. finish news (after r (λ ds s. after (resolve_files (suc i) (all (drop (i + 1) fs)) s) (λ more s. Ok (ds ++ more, s))))) ((λ j. resolve_decs (sym num j) f.at.now.decs (seen_of [] t)) ∙ g)
+      ∙ joined news ds (resolve_files (suc i) (all (drop (i + 1) fs)) (seen_of own u))
+      ∙ (λ j. finish (news ++ ds) (resolve_files (one_more i j) (all (drop (i + 1) fs)) (seen_of own u)))))
 
-  pub files_end : (i : ℕ) (t : Names) (done : List Definition) (r : Bor (List Definition)) → length fs ≤ i → r.now ≡ done → Files_so_far fs s i done t
-      → Gives_files (λ (ds : Bor (List Definition)). map definition_of ds.now) (resolve_files 0 (all fs) (seen_of [] s)) t (Ok r)
-  unfolding resolve_files after
-  files_end i t done r k is (files_so_far own (so_far so)) = gives_files own (
+  pub files_stop : (i n : ℕ) (f : Held Program) (t u v : Names) (done more last : List Definition) (x : Stop) → i < length fs → f ≡ get_or fs i f → n ≡ i
+      → Gives_files (resolve_decs n f.at.now.decs (seen_of [] t)) done more u (Err x) → Files_so_far fs s start i done t → Gives_files (resolve_files 0 (all fs) (seen_of [] s)) start last v (Err x)
+  unfolding resolve_files after seen_of finish
+  files_stop i n f t u v done more last _ k is num (refuses_files g) (files_so_far before (so_far news eq so)) = refuses_files (
       so
-      ∙ ap (λ l. after (resolve_files i (all l) (seen_of own t)) (λ ds s. Ok (map definition_of done ++ ds, s))) (drop_of_length-le fs k)
-      ∙ λ j. Ok ((append-nil (map definition_of done) ∙ ap (map definition_of) (sym is)) j, seen_of own t))
+      ∙ ap (λ l. finish news (resolve_files i (all l) (seen_of before t))) (from_here fs i f k is)
+      ∙ ap (λ r. finish news (after r (λ ds s. after (resolve_files (suc i) (all (drop (i + 1) fs)) s) (λ more s. Ok (ds ++ more, s))))) ((λ j. resolve_decs (sym num j) f.at.now.decs (seen_of [] t)) ∙ g))
+  files_stop i n f t u v done more last _ k is num no_files so = no_files
 
-pub ruleset file_list_rules = (files_start, files_next, files_stop, files_end, no_files)
+  pub files_end : (i : ℕ) (t : Names) (done : List Definition) (u : Unit {0}) → length fs ≤ i → Files_so_far fs s start i done t → Gives_files (resolve_files 0 (all fs) (seen_of [] s)) start done t (Ok u)
+  unfolding resolve_files after finish
+  files_end i t done u k (files_so_far own (so_far news is so)) = gives_files own (
+      so
+      ∙ ap (λ l. finish news (resolve_files i (all l) (seen_of own t))) (drop_of_length-le fs k)
+      ∙ λ j. Ok (append-nil news j, seen_of own t)) is
