@@ -1,8 +1,12 @@
 -- The fields of records, one after the other.
-use Rattle.std.proofs.Common.{◌≡◌, ℕ, suc, Ok, Err, ◌+◌, ◌<◌, ◌≤◌, ◌++◌, List, [], ◌∷◌, map, length, get_or, drop, take, Option, Some, None, Bool, true, false, cond, refl, sym, ap, ◌∙◌, append-nil, arith}
+use Rattle.std.proofs.Common.{◌≡◌, ℕ, suc, Ok, Err, ◌+◌, ◌<◌, ◌≤◌, ◌++◌, List, [], ◌∷◌, map, length, get_or, set, drop, take, Option, Some, None, Bool, true, false, cond, refl, sym, ap, subst, ◌∙◌, append-nil, arith}
 use Rattle.std.specs.Borrow.{Bor}
 use Rattle.std.specs.Str.{bytes_eq}
-use Rattle.std.proofs.lemmas.List.{drop_all, map-append, length-map}
+use Rattle.std.specs.Cmp.{IsStrictWeakOrder}
+use Rattle.std.specs.Cmp.Lexicographic.{nat_list_cmp_total}
+use Rattle.std.specs.List.Sorted.{IsSortedBy, IsStableBy}
+use Rattle.std.proofs.lemmas.List.{drop_all, take_all, take-set, drop-set, take-append-drop, get_or_default, map-append, length-map}
+use Rattle.std.proofs.lemmas.List.Sorted.{ranks_by}
 use Rattle.fut_ast.specs.Sorts.{Text}
 use Rattle.fut_flat.specs.Erased.{texts}
 use Rattle.fut_meaning.specs.Operations.{named_values, with_name}
@@ -13,10 +17,11 @@ use Rattle.unfold.specs.Knowns.{Known, Record_known, Known_fields, no_known_fiel
 use Rattle.unfold.specs.declared.known.Field.{Field}
 use Rattle.unfold.specs.declared.known.Known.{Known as Held_known}
 use Rattle.unfold.specs.declared.known.KnownForm.TheVariants as form
-use Rattle.unfold_parts.specs.Parts.{is_record, Recorded_to, recorded_to, not_recorded}
+use Rattle.unfold_parts.specs.Parts.{is_record, Place_to, stands_at, stands_nowhere, Recorded_to, recorded_to, not_recorded}
 use Rattle.unfold_parts.specs.Refused.{lost}
 use Rattle.unfold_parts.specs.declared.refusal.Refusal.TheVariants.{Lost}
 use Rattle.unfold_parts.proofs.Lists.{one_more, take_more}
+use Rattle.unfold_parts.proofs.Sorting.{backward, put, in_order, stably}
 
 abbrev pub pair_of : Field → Text × Known
 pair_of f = (f.name.now, known_of f.known)
@@ -69,92 +74,79 @@ behind_one fs f gs = ap (λ z. before z gs) (map-append field_of fs (f ∷ [])) 
 
 -- ---- a field that is replaced
 
--- what stands so far, before the fields that are left
-abbrev pub left_over : Text → Known → Bool → Known_fields → Known_fields
-left_over name s done gs = cond done gs (replaced name s gs)
-
-module _ (name : Text) (s : Known) (fs : List Field) where
-  abbrev pub So_far : Bool → List Field → ℕ → Type 0
-  So_far done made i = replaced name s (Rest fs 0) ≡ before (map field_of made) (left_over name s done (Rest fs i))
-
-  module _ (made made' : List Field) (i : ℕ) (f : Field) (lt : i < length fs) where
-    pub so_far_done : (done : Bool) → done ≡ true → So_far done made i → made' ≡ made ++ get_or fs i f ∷ [] → So_far true made' (i + 1)
-    so_far_done done d e q = e ∙ ap (λ z. before (map field_of made) (left_over name s z (Rest fs i))) d ∙ ap (before (map field_of made)) (rest_step fs i f lt) ∙ sym (behind_one made (get_or fs i f) (Rest fs (i + 1))) ∙ ap (λ z. before (map field_of z) (Rest fs (i + 1))) (sym q)
-
-    pub so_far_other : (done : Bool) → done ≡ false → bytes_eq (get_or fs i f).name.now name ≡ false → So_far done made i → made' ≡ made ++ get_or fs i f ∷ [] → So_far false made' (i + 1)
-    so_far_other done d h e q =
-        e
-        ∙ ap (λ z. before (map field_of made) (left_over name s z (Rest fs i))) d
-        ∙ ap (λ z. before (map field_of made) (replaced name s z)) (rest_step fs i f lt)
-        ∙ ap (λ z. before (map field_of made) (cond z (known_field_and (get_or fs i f).name.now s (Rest fs (i + 1))) (known_field_and (get_or fs i f).name.now (known_of (get_or fs i f).known) (replaced name s (Rest fs (i + 1)))))) h
-        ∙ sym (behind_one made (get_or fs i f) (replaced name s (Rest fs (i + 1))))
-        ∙ ap (λ z. before (map field_of z) (replaced name s (Rest fs (i + 1)))) (sym q)
-
-    pub so_far_here : (done : Bool) (g : Field) → done ≡ false → bytes_eq (get_or fs i f).name.now name ≡ true → g.name.now ≡ (get_or fs i f).name.now → known_of g.known ≡ s → So_far done made i → made' ≡ made ++ g ∷ [] → So_far true made' (i + 1)
-    so_far_here done g d h n k e q =
-        e
-        ∙ ap (λ z. before (map field_of made) (left_over name s z (Rest fs i))) d
-        ∙ ap (λ z. before (map field_of made) (replaced name s z)) (rest_step fs i f lt)
-        ∙ ap (λ z. before (map field_of made) (cond z (known_field_and (get_or fs i f).name.now s (Rest fs (i + 1))) (known_field_and (get_or fs i f).name.now (known_of (get_or fs i f).known) (replaced name s (Rest fs (i + 1)))))) h
-        ∙ ap (λ z. before (map field_of made) (known_field_and z s (Rest fs (i + 1)))) (sym n)
-        ∙ ap (λ z. before (map field_of made) (known_field_and g.name.now z (Rest fs (i + 1)))) (sym k)
-        ∙ sym (behind_one made g (Rest fs (i + 1)))
-        ∙ ap (λ z. before (map field_of z) (Rest fs (i + 1))) (sym q)
-
-  left_none : (done : Bool) → left_over name s done no_known_field ≡ no_known_field
-  left_none true = refl
-  left_none false = refl
-
-  pub so_far_end : (done : Bool) (made : List Field) (i : ℕ) (row : Bor (List Field)) → length fs ≤ i → So_far done made i → row.now ≡ made → fields_known (map field_of row.now) ≡ replaced name s (fields_known (map field_of fs))
-  unfolding fields_known
-  so_far_end done made i row le e q = sym (e ∙ ap (λ z. before (map field_of made) (left_over name s done z)) (rest_done fs i le) ∙ ap (before (map field_of made)) (left_none done) ∙ sym (before_is (map field_of made) []) ∙ ap fields_known (append-nil (map field_of made)) ∙ ap (λ z. fields_known (map field_of z)) (sym q))
-
--- ---- a field put where it belongs
-
 module _ (name : Text) (fs : List Field) where
-  -- the field belongs behind the first ones
-  abbrev pub Behind : ℕ → Type 0
-  Behind i = (s : Known) → with_field name s (Rest fs 0) ≡ before (map field_of (take i fs)) (with_field name s (Rest fs i))
+  -- no field before one has that name
+  abbrev pub Ahead : ℕ → Type 0
+  Ahead i = (s : Known) → replaced name s (Rest fs 0) ≡ before (map field_of (take i fs)) (replaced name s (Rest fs i))
 
-  pub behind_start : Behind 0
-  behind_start s = refl
+  pub ahead_start : Ahead 0
+  ahead_start s = refl
 
-  pub behind_on : (i : ℕ) (f : Field) → i < length fs → is_before name (get_or fs i f).name.now ≡ false → Behind i → Behind (i + 1)
-  behind_on i f lt h b s =
-      b s
-      ∙ ap (λ z. before (map field_of (take i fs)) (with_field name s z)) (rest_step fs i f lt)
-      ∙ ap (λ z. before (map field_of (take i fs)) (cond z (known_field_and name s (known_field_and (get_or fs i f).name.now (known_of (get_or fs i f).known) (Rest fs (i + 1)))) (known_field_and (get_or fs i f).name.now (known_of (get_or fs i f).known) (with_field name s (Rest fs (i + 1)))))) h
-      ∙ sym (behind_one (take i fs) (get_or fs i f) (with_field name s (Rest fs (i + 1))))
-      ∙ ap (λ z. before (map field_of z) (with_field name s (Rest fs (i + 1)))) (sym (take_more fs i f lt))
+  -- the fields up to one, and that one with its name and what is known of it
+  one_replaced : (i : ℕ) (f : Field) (b : Bool) → i < length fs → bytes_eq (get_or fs i f).name.now name ≡ b → Ahead i → (s : Known) → replaced name s (Rest fs 0) ≡ before (map field_of (take i fs)) (cond b (known_field_and (get_or fs i f).name.now s (Rest fs (i + 1))) (known_field_and (get_or fs i f).name.now (known_of (get_or fs i f).known) (replaced name s (Rest fs (i + 1)))))
+  one_replaced i f b lt h a s =
+      a s
+      ∙ ap (λ z. before (map field_of (take i fs)) (replaced name s z)) (rest_step fs i f lt)
+      ∙ ap (λ z. before (map field_of (take i fs)) (cond z (known_field_and (get_or fs i f).name.now s (Rest fs (i + 1))) (known_field_and (get_or fs i f).name.now (known_of (get_or fs i f).known) (replaced name s (Rest fs (i + 1)))))) h
 
-  joined : (i : ℕ) (s : Known) → before (map field_of (take i fs)) (known_field_and name s (Rest fs i)) ≡ fields_known (map field_of (take i fs) ++ (name, s) ∷ map field_of (drop i fs))
+  pub ahead_on : (i : ℕ) (f : Field) → i < length fs → bytes_eq (get_or fs i f).name.now name ≡ false → Ahead i → Ahead (i + 1)
+  ahead_on i f lt h a s =
+      one_replaced i f false lt h a s
+      ∙ sym (behind_one (take i fs) (get_or fs i f) (replaced name s (Rest fs (i + 1))))
+      ∙ ap (λ z. before (map field_of z) (replaced name s (Rest fs (i + 1)))) (sym (take_more fs i f lt))
+
+  set_is : (i : ℕ) (g : Field) → i < length fs → fields_known (map field_of (set fs i g)) ≡ before (map field_of (take i fs)) (known_field_and g.name.now (known_of g.known) (Rest fs (i + 1)))
   unfolding fields_known
-  joined i s = sym (before_is (map field_of (take i fs)) ((name, s) ∷ map field_of (drop i fs)))
+  set_is i g lt =
+      ap (λ z. fields_known (map field_of z)) (sym (take-append-drop i (set fs i g)) ∙ ap (λ z. z ++ drop i (set fs i g)) (take-set fs i g) ∙ ap (λ z. take i fs ++ z) (drop-set fs i g lt))
+      ∙ ap fields_known (map-append field_of (take i fs) (g ∷ drop (i + 1) fs))
+      ∙ before_is (map field_of (take i fs)) (map field_of (g ∷ drop (i + 1) fs))
+      ∙ ap (λ z. before (map field_of (take i fs)) (known_field_and z.0 z.1 (Rest fs (i + 1)))) (field_is g)
 
-  pub behind_here : (i : ℕ) (f : Field) → i < length fs → is_before name (get_or fs i f).name.now ≡ true → Behind i → (s : Known) → with_field name s (fields_known (map field_of fs)) ≡ fields_known (map field_of (take i fs) ++ (name, s) ∷ map field_of (drop i fs))
-  behind_here i f lt h b s =
-      b s
-      ∙ ap (λ z. before (map field_of (take i fs)) (with_field name s z)) (rest_step fs i f lt)
-      ∙ ap (λ z. before (map field_of (take i fs)) (cond z (known_field_and name s (known_field_and (get_or fs i f).name.now (known_of (get_or fs i f).known) (Rest fs (i + 1)))) (known_field_and (get_or fs i f).name.now (known_of (get_or fs i f).known) (with_field name s (Rest fs (i + 1)))))) h
-      ∙ ap (λ z. before (map field_of (take i fs)) (known_field_and name s z)) (sym (rest_step fs i f lt))
-      ∙ joined i s
+  pub ahead_here : (i at : ℕ) (f : Field) → i < length fs → at ≡ i → bytes_eq (get_or fs i f).name.now name ≡ true → Ahead i → Place_to name fs (Some at)
+  ahead_here i at f lt e h a = subst (λ z. Place_to name fs (Some z)) (sym e) (stands_at (λ g n.
+      set_is i g lt
+      ∙ ap (λ z. before (map field_of (take i fs)) (known_field_and z (known_of g.known) (Rest fs (i + 1)))) (n ∙ ap (λ (z : Field). z.name.now) (get_or_default fs i g f lt))
+      ∙ sym (one_replaced i f true lt h a (known_of g.known))))
 
-  pub behind_all : (i : ℕ) → length fs ≤ i → Behind i → (s : Known) → with_field name s (fields_known (map field_of fs)) ≡ fields_known (map field_of (take i fs) ++ (name, s) ∷ map field_of (drop i fs))
-  behind_all i le b s =
-      b s
-      ∙ ap (λ z. before (map field_of (take i fs)) (with_field name s z)) (rest_done fs i le)
-      ∙ ap (λ z. before (map field_of (take i fs)) (known_field_and name s z)) (sym (rest_done fs i le))
-      ∙ joined i s
+  pub ahead_all : (i : ℕ) → length fs ≤ i → Ahead i → Place_to name fs None
+  unfolding fields_known
+  ahead_all i le a = stands_nowhere (λ s.
+      a s
+      ∙ ap (λ z. before (map field_of (take i fs)) (replaced name s z)) (rest_done fs i le)
+      ∙ sym (before_is (map field_of (take i fs)) [])
+      ∙ ap fields_known (append-nil (map field_of (take i fs)))
+      ∙ ap (λ z. fields_known (map field_of z)) (take_all i fs le))
 
--- the field is put there
-pub put_there : (g : Field) (place : ℕ) (view made made' : List Field) → view ≡ made → ((s : Known) → with_field g.name.now s (fields_known (map field_of view)) ≡ fields_known (map field_of (take place view) ++ (g.name.now, s) ∷ map field_of (drop place view))) → made' ≡ take place made ++ g ∷ drop place made → fields_known (map field_of made') ≡ with_field g.name.now (known_of g.known) (fields_known (map field_of made))
-put_there g place view made made' ev p q =
-    ap (λ z. fields_known (map field_of z)) q
-    ∙ ap fields_known (map-append field_of (take place made) (g ∷ drop place made))
-    ∙ ap (λ z. fields_known (map field_of (take place made) ++ z ∷ map field_of (drop place made))) (field_is g)
-    ∙ ap (λ z. fields_known (map field_of (take place z) ++ pair_of g ∷ map field_of (drop place z))) (sym ev)
-    ∙ sym (p (known_of g.known))
-    ∙ ap (λ z. with_field g.name.now (known_of g.known) (fields_known (map field_of z))) ev
+pub put_there : (name : Text) (s : Known) (fs made : List Field) (at : ℕ) (g d : Field) → Place_to name fs (Some at) → made ≡ fs → at < length fs → g.name.now ≡ (get_or fs at d).name.now → known_of g.known ≡ s → fields_known (map field_of (set made at g)) ≡ replaced name s (fields_known (map field_of fs))
+put_there name s fs made at g d (stands_at p) e lt n k = ap (λ z. fields_known (map field_of (set z at g))) e ∙ p g (n ∙ ap (λ (z : Field). z.name.now) (get_or_default fs at d g lt)) ∙ ap (λ z. replaced name z (fields_known (map field_of fs))) k
+
+pub put_nowhere : (name : Text) (s : Known) (fs made : List Field) → Place_to name fs None → made ≡ fs → fields_known (map field_of made) ≡ replaced name s (fields_known (map field_of fs))
+put_nowhere name s fs made (stands_nowhere p) e = ap (λ z. fields_known (map field_of z)) e ∙ sym (p s)
+
+-- ---- fields put in order
+
+abbrev pub name_before : Field → Field → Bool
+name_before f g = is_before f.name.now g.name.now
+
+pub names_rank : IsStrictWeakOrder name_before
+names_rank = ranks_by nat_list_cmp_total (λ (f : Field). f.name.now)
+
+fields_put : (f : Field) (fs : List Field) → fields_known (map field_of (put name_before f fs)) ≡ with_field f.name.now (known_of f.known) (fields_known (map field_of fs))
+unfolding fields_known
+fields_put f [] = ap (λ z. known_field_and z.0 z.1 no_known_field) (field_is f)
+fields_put f (g ∷ fs) =
+    known (name_before f g) (fields_put f fs)
+    ∙ ap (λ z. cond (is_before f.name.now z) (known_field_and f.name.now (known_of f.known) (fields_known (map field_of (g ∷ fs)))) (known_field_and (field_of g).0 (field_of g).1 (with_field f.name.now (known_of f.known) (fields_known (map field_of fs))))) (sym (ap (λ z. z.0) (field_is g)))
+  where
+    known : (b : Bool) → fields_known (map field_of (put name_before f fs)) ≡ with_field f.name.now (known_of f.known) (fields_known (map field_of fs)) → fields_known (map field_of (cond b (f ∷ g ∷ fs) (g ∷ put name_before f fs))) ≡ cond b (known_field_and f.name.now (known_of f.known) (fields_known (map field_of (g ∷ fs)))) (known_field_and (field_of g).0 (field_of g).1 (with_field f.name.now (known_of f.known) (fields_known (map field_of fs))))
+    known true rest = ap (λ z. known_field_and z.0 z.1 (fields_known (map field_of (g ∷ fs)))) (field_is f)
+    known false rest = ap (known_field_and (field_of g).0 (field_of g).1) rest
+
+fields_ordered : (fs : List Field) → fields_known (map field_of (in_order name_before fs)) ≡ fields (map pair_of fs)
+unfolding fields_known
+fields_ordered [] = refl
+fields_ordered (f ∷ fs) = fields_put f (in_order name_before fs) ∙ ap (with_field f.name.now (known_of f.known)) (fields_ordered fs)
 
 -- ---- a record, from its last field on
 
@@ -162,6 +154,16 @@ abbrev pub paired : List Text → List Known → List (Text × Known)
 paired [] ss = []
 paired (f ∷ fs) [] = []
 paired (f ∷ fs) (s ∷ ss) = (f, s) ∷ paired fs ss
+
+abbrev zipped : List (Bor Text) → List Held_known → List Field
+zipped [] ss = []
+zipped (n ∷ ns) [] = []
+zipped (n ∷ ns) (s ∷ ss) = record { name = n; known = s } ∷ zipped ns ss
+
+pairs_are : (ns : List (Bor Text)) (ss : List Held_known) → map pair_of (zipped ns ss) ≡ paired (texts ns) (map known_of ss)
+pairs_are [] ss = refl
+pairs_are (n ∷ ns) [] = refl
+pairs_are (n ∷ ns) (s ∷ ss) = ap (◌∷◌ (n.now, known_of s)) (pairs_are ns ss)
 
 named_are : (names : List Text) (ss : List Known) → length names ≡ length ss → named_values names ss ≡ Some (paired names ss)
 named_are [] [] e = refl
@@ -181,20 +183,19 @@ module _ (names : List (Bor Text)) (parts : List Held_known) where
   recorded_many h = not_recorded (lost (named_many (texts names) (map known_of parts) (λ e. h (sym (length-map names (λ (x : Bor Text). x.now)) ∙ e ∙ length-map parts known_of))))
 
   abbrev pub Recorded : List Field → ℕ → Type 0
-  Recorded made i = fields_known (map field_of made) ≡ fields (paired (texts (drop i names)) (map known_of (drop i parts)))
+  Recorded made i = made ≡ backward (zipped (drop i names) (drop i parts))
 
   pub recorded_start : (n : ℕ) → length names ≤ n → Recorded [] n
-  unfolding fields_known
-  recorded_start n le = sym (ap (λ z. fields (paired (texts z) (map known_of (drop n parts)))) (drop_all n names le))
+  recorded_start n le = sym (ap (λ z. backward (zipped z (drop n parts))) (drop_all n names le))
 
   -- one more field
-  pub recorded_on : (i j : ℕ) (n : Bor Text) (d : Held_known) (made made' : List Field) → i < length names → i < length parts → j ≡ i + 1 → fields_known (map field_of made') ≡ with_field (get_or names i n).now (known_of (get_or parts i d)) (fields_known (map field_of made)) → Recorded made j → Recorded made' i
+  pub recorded_on : (i j : ℕ) (n : Bor Text) (d : Held_known) (made made' : List Field) → i < length names → i < length parts → j ≡ i + 1 → made' ≡ made ++ record { name = get_or names i n; known = get_or parts i d } ∷ [] → Recorded made j → Recorded made' i
   recorded_on i j n d made made' lt lt' ej p r =
       p
-      ∙ ap (with_field (get_or names i n).now (known_of (get_or parts i d))) r
-      ∙ ap (λ z. with_field (get_or names i n).now (known_of (get_or parts i d)) (fields (paired (texts (drop z names)) (map known_of (drop z parts))))) ej
-      ∙ ap (λ z. fields (paired (texts z) (map known_of (get_or parts i d ∷ drop (i + 1) parts)))) (sym (one_more names i n lt))
-      ∙ ap (λ z. fields (paired (texts (drop i names)) (map known_of z))) (sym (one_more parts i d lt'))
+      ∙ ap (λ z. z ++ record { name = get_or names i n; known = get_or parts i d } ∷ []) r
+      ∙ ap (λ z. backward (zipped (drop z names) (drop z parts)) ++ record { name = get_or names i n; known = get_or parts i d } ∷ []) ej
+      ∙ ap (λ z. backward (zipped z (get_or parts i d ∷ drop (i + 1) parts))) (sym (one_more names i n lt))
+      ∙ ap (λ z. backward (zipped (drop i names) z)) (sym (one_more parts i d lt'))
 
-  pub recorded_end : (made : List Field) (j : ℕ) (row : Bor (List Field)) (s : Held_known) → length names ≡ length parts → j ≡ 0 → Recorded made j → row.now ≡ made → s.form ≡ form.Record row → Recorded_to (texts names) (map known_of parts) (Ok s)
-  recorded_end made j row s e ej r q i = recorded_to (is_record (named_are (texts names) (map known_of parts) (length-map names (λ (x : Bor Text). x.now) ∙ e ∙ sym (length-map parts known_of))) (known_record s row i ∙ ap (λ z. Record_known (fields_known (map field_of z))) q ∙ ap Record_known (r ∙ ap (λ z. fields (paired (texts (drop z names)) (map known_of (drop z parts)))) ej)))
+  pub recorded_end : (made made' : List Field) (j : ℕ) (row : Bor (List Field)) (s : Held_known) → length names ≡ length parts → j ≡ 0 → Recorded made j → IsSortedBy name_before made' → IsStableBy name_before made made' → row.now ≡ made' → s.form ≡ form.Record row → Recorded_to (texts names) (map known_of parts) (Ok s)
+  recorded_end made made' j row s e ej r up stable q i = recorded_to (is_record (named_are (texts names) (map known_of parts) (length-map names (λ (x : Bor Text). x.now) ∙ e ∙ sym (length-map parts known_of))) (known_record s row i ∙ ap Record_known (ap (λ z. fields_known (map field_of z)) (q ∙ stably name_before names_rank (zipped names parts) made' up (subst (λ z. IsStableBy name_before z made') (r ∙ ap (λ z. backward (zipped (drop z names) (drop z parts))) ej) stable)) ∙ fields_ordered (zipped names parts) ∙ ap fields (pairs_are names parts))))

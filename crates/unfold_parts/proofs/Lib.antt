@@ -12,6 +12,7 @@ pub mod Stepping
 pub mod Layings
 pub mod Naming
 pub mod Parting
+pub mod Sorting
 pub mod Fielding
 pub mod Binding
 pub mod Operated

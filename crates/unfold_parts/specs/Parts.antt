@@ -1,13 +1,14 @@
 -- Parts of values, by how many there are.
-use Rattle.std.specs.Prelude.{◌≡◌, List, [], ◌∷◌, Option, Some, None, Result, Ok, Err}
+use Rattle.std.specs.Prelude.{◌≡◌, ℕ, map, get_or, set, List, [], ◌∷◌, Option, Some, None, Result, Ok, Err}
 use Rattle.fut_scalar.specs.declared.scalar.Scalar.{Scalar}
 use Rattle.fut_ast.specs.Sorts.{Text}
 use Rattle.fut_blocks.specs.declared.block.Atom.{Atom}
 use Rattle.fut_blocks.specs.declared.block.Atom.TheVariants as atom
 use Rattle.fut_meaning.specs.Operations.{named_values}
-use Rattle.unfold.specs.Held.{known_of}
-use Rattle.unfold.specs.Knowns.{Known, Scalar_known, Record_known, fields}
+use Rattle.unfold.specs.Held.{known_of, field_of, fields_known}
+use Rattle.unfold.specs.Knowns.{Known, Scalar_known, Record_known, fields, replaced}
 use Rattle.unfold.specs.Stuck.{No_scalar}
+use Rattle.unfold.specs.declared.known.Field.{Field}
 use Rattle.unfold.specs.declared.known.Known.{Known as Held_known}
 use Rattle.unfold_parts.specs.Refused.{Refused}
 use Rattle.unfold_parts.specs.declared.parts.Scalars.{Scalars}
@@ -52,3 +53,8 @@ pub data Is_record (names : List Text) (ss : List Known) (s : Known) : Type 0 wh
 pub data Recorded_to (names : List Text) (ss : List Known) : Result Held_known Refusal → Type 0 where
   recorded_to : {s : Held_known} → Is_record names ss (known_of s) → Recorded_to names ss (Ok s)
   not_recorded : {r : Refusal} → Refused (named_values names ss ≡ None) r → Recorded_to names ss (Err r)
+
+-- where a field of that name stands: the fields with another one of its name there are those with another value of it
+pub data Place_to (name : Text) (fs : List Field) : Option ℕ → Type 0 where
+  stands_at : {at : ℕ} → ((g : Field) → g.name.now ≡ (get_or fs at g).name.now → fields_known (map field_of (set fs at g)) ≡ replaced name (known_of g.known) (fields_known (map field_of fs))) → Place_to name fs (Some at)
+  stands_nowhere : ((s : Known) → replaced name s (fields_known (map field_of fs)) ≡ fields_known (map field_of fs)) → Place_to name fs None

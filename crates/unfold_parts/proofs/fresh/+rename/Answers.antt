@@ -62,3 +62,42 @@ rename_fields-returns-in-Err-clause-err t c = fields_unnamed _ _ _ _ c.loop-like
 
 pub rename_fields-returns-in-Err-push-clause-err : goal.rename_fields-returns-in-Err-push-clause-err
 rename_fields-returns-in-Err-push-clause-err t c = no_memory
+
+pub rename_all-returns-in-Err-push-clause-ok : goal.rename_all-returns-in-Err-push-clause-ok
+rename_all-returns-in-Err-push-clause-ok t c = tt
+
+pub rename_fields-returns-in-Err-push-clause-ok : goal.rename_fields-returns-in-Err-push-clause-ok
+rename_fields-returns-in-Err-push-clause-ok t c = tt
+
+pub rename_all-returns-in-Err-clause-ok : goal.rename_all-returns-in-Err-clause-ok
+rename_all-returns-in-Err-clause-ok t c = tt
+
+pub rename_fields-returns-in-Err-clause-ok : goal.rename_fields-returns-in-Err-clause-ok
+rename_fields-returns-in-Err-clause-ok t c = tt
+
+pub rename-returns-in-Ok-rename_fields-clause-err : goal.rename-returns-in-Ok-rename_fields-clause-err
+rename-returns-in-Ok-rename_fields-clause-err t c = tt
+
+pub rename-returns-in-Ok-clause-err : goal.rename-returns-in-Ok-clause-err
+rename-returns-in-Ok-clause-err t c = tt
+
+pub rename-returns-in-Err-rename_fields-clause-ok : goal.rename-returns-in-Err-rename_fields-clause-ok
+rename-returns-in-Err-rename_fields-clause-ok t c = tt
+
+pub rename-returns-in-Err-clause-ok : goal.rename-returns-in-Err-clause-ok
+rename-returns-in-Err-clause-ok t c = tt
+
+pub rename_all-returns-clause-err : goal.rename_all-returns-clause-err
+rename_all-returns-clause-err t c = tt
+
+pub rename_fields-returns-clause-err : goal.rename_fields-returns-clause-err
+rename_fields-returns-clause-err t c = tt
+
+pub rename-returns-in_default-clause-ok : goal.rename-returns-in_default-clause-ok
+rename-returns-in_default-clause-ok t c = tt
+
+pub rename-returns-then-naming-eq0-clause-ok : goal.rename-returns-then-naming-eq0-clause-ok
+rename-returns-then-naming-eq0-clause-ok t c = tt
+
+pub rename-returns-then-deep-ge-MOST_DEEP-clause-ok : goal.rename-returns-then-deep-ge-MOST_DEEP-clause-ok
+rename-returns-then-deep-ge-MOST_DEEP-clause-ok t c = tt
