@@ -1,5 +1,5 @@
 -- There is a place for each number.
-use Rattle.std.proofs.Common.{◌≡◌, ℕ, ◌+◌, List, [], ◌∷◌, ◌++◌, length, map, replicate, refl, sym, ◌∙◌, ap, subst, arith}
+use Rattle.std.proofs.Common.{◌≡◌, ℕ, ◌+◌, List, [], ◌∷◌, ◌++◌, length, map, replicate, refl, sym, ◌∙◌, ap, subst, arith, false, Result, Ok, Err, IfOk}
 use Rattle.std.specs.List.{flat_map}
 use Rattle.std.proofs.lemmas.List.{length-append, length-replicate}
 use Rattle.fut_ast.specs.Sorts.{Text}
@@ -21,6 +21,9 @@ use Rattle.fut_typing.specs.Program.{defined, program_numbers}
 use Rattle.type_places.specs.Places.{one, pattern_places, field_places, exp_places, let_places, loop_places, turn_places, definition_places, program_places}
 use Rattle.type_places.proofs.Lists.{two}
 use Rattle.type_places.proofs.Layers.{PatternLayer, pattern_layer_places, pattern_places_is, pattern_placed_at, field_is, Layer, layer_places, exp_places_is, form_places_at, let_is, loop_is, TurnsLayer, turns_layer_places, turn_places_at}
+use Rattle.type_places.specs.Noted.{Noted, full, noted}
+use Rattle.type_places.specs.declared.noting.Noting.{Noting}
+use Rattle.fut_scalar.specs.declared.memory.NoMemory.{NoMemory}
 
 -- ---- patterns
 
@@ -226,3 +229,12 @@ pub program_counted : (ds : List Definition) → length (program_places ds) ≡ 
 unfolding definition_places
 program_counted [] = refl
 program_counted (d ∷ ds) = two (one d.value.now.place ++ exp_places d.value.now) (program_places ds) _ _ (two (one d.value.now.place) (exp_places d.value.now) 1 _ refl (exp_counted d.value.now)) (program_counted ds)
+
+pub noted_places : (ds : List Definition) (s t : Noting) (r : Result (List Place) NoMemory) → s.places ≡ [] → Noted s t (flat_map definition_places ds) → IfOk r (λ places. (places ≡ t.places) × (t.is_full ≡ false)) → IfOk r (λ places. places ≡ program_places ds)
+noted_places ds s t (Ok places) none (noted p e) is = is.0 ∙ e ∙ ap (λ l. l ++ program_places ds) none
+noted_places ds s t (Ok places) none (full p) is = absurd cc
+noted_places ds s t (Err e) none n is = tt
+
+pub noted_counted : (ds : List Definition) (s t : Noting) (r : Result (List Place) NoMemory) → s.places ≡ [] → Noted s t (flat_map definition_places ds) → IfOk r (λ places. (places ≡ t.places) × (t.is_full ≡ false)) → IfOk r (λ places. length places ≡ program_numbers (map defined ds))
+noted_counted ds s t (Ok places) none n is = ap length (noted_places ds s t (Ok places) none n is) ∙ program_counted ds
+noted_counted ds s t (Err e) none n is = tt

@@ -1,5 +1,5 @@
 -- The places of trees, one level at a time.
-use Rattle.std.proofs.Common.{◌≡◌, ℕ, ◌+◌, ◌<◌, List, ◌++◌, length, replicate, take, slice_index_or, refl, sym, ◌∙◌, ap, append_assoc, Bor}
+use Rattle.std.proofs.Common.{◌≡◌, ℕ, ◌+◌, List, ◌++◌, replicate, refl, sym, ◌∙◌, ap, append_assoc, Bor}
 use Rattle.std.specs.List.{flat_map}
 use Rattle.std.proofs.lemmas.List.{replicate-append-replicate}
 use Rattle.fut_scalar.specs.declared.place.BindId.{BindId}
@@ -22,7 +22,7 @@ use Rattle.fut_flat.specs.declared.ty.TypeExp.{TypeExp}
 use Rattle.fut_flat.specs.Erased.{operation_of}
 use Rattle.fut_flat.specs.Numbers.{own_numbers}
 use Rattle.type_places.specs.Places.{one, Placed, pattern_form_places, pattern_places, field_places, exp_form_places, let_form_places, turns_form_places, loop_form_places, exp_places, form_places, let_places, loop_places, turn_places, definition_places}
-use Rattle.type_places.proofs.Lists.{flat_of_map, looped}
+use Rattle.type_places.proofs.Lists.{flat_of_map}
 
 -- ---- patterns
 
@@ -76,9 +76,6 @@ places_record p fs is = pattern_at p _ _ is (pat.outs-Record fs)
 
 pub places_typed : (p : Pat) (q : Bor Pat) (t : Bor TypeExp) → p.form ≡ pat.Typed q t → pattern_places q.now ≡ pattern_places p
 places_typed p q t is = pattern_at p _ _ is (pat.outs-Typed q t)
-
-pub field_looped : (fs : List PatField) (i : ℕ) (d : PatField) (old now new : List Place) → i < length fs → now ≡ old ++ flat_map field_places (take i fs) → new ≡ now ++ pattern_places (slice_index_or fs i d).pat → new ≡ old ++ flat_map field_places (take (i + 1) fs)
-field_looped fs i d old now new lt is e = looped field_places fs i d old now new lt is (e ∙ ap (λ l. now ++ l) (sym (field_is (slice_index_or fs i d))))
 
 -- ---- expressions
 

@@ -1,34 +1,18 @@
 -- Lists that are appended to in turn.
-use Rattle.std.proofs.Common.{◌≡◌, ℕ, suc, ◌+◌, ◌<◌, List, [], ◌∷◌, ◌++◌, length, map, take, slice_index_or, refl, sym, ◌∙◌, ap, subst, arith, append_assoc, Result, Ok, Err, OnOk}
+use Rattle.std.proofs.Common.{◌≡◌, ℕ, zero, suc, ◌+◌, ◌<◌, ◌≤◌, List, [], ◌∷◌, ◌++◌, length, map, replicate, take, slice_index_or, refl, sym, ◌∙◌, ap, subst, arith, append_assoc}
 use Rattle.std.specs.List.{flat_map}
 use Rattle.std.proofs.lemmas.Grind.{flat_map-append}
-use Rattle.std.proofs.lemmas.List.{length-append}
+use Rattle.std.proofs.lemmas.List.{length-append, replicate-append-replicate}
 use Rattle.std.proofs.Math.Seq.{take-suc}
-
-pub on_ok : {T E P Q : Type 0} (r : Result T E) → (P → Q) → OnOk r P → OnOk r Q
-on_ok (Ok v) f p = f p
-on_ok (Err e) f p = tt
+use Rattle.fut_scalar.specs.declared.place.Place.{Place}
+use Rattle.type_places.specs.declared.noting.Noting.{Noting}
+use Rattle.type_places.specs.Noted.{Noted, full, noted}
+use Rattle.type_places.specs.Places.{one}
 
 module _ {A : Type 0} where
-  append_none : (xs : List A) → xs ++ [] ≡ xs
+  pub append_none : (xs : List A) → xs ++ [] ≡ xs
   append_none [] = refl
   append_none (x ∷ xs) = ap (λ l. x ∷ l) (append_none xs)
-
-  -- one piece, two pieces, and so on
-  pub pieces_1 : (old new x z : List A) → x ≡ z → new ≡ old ++ x → new ≡ old ++ z
-  pieces_1 old new x z is e = e ∙ ap (λ l. old ++ l) is
-
-  pub pieces_2 : (old m1 new x y z : List A) → x ++ y ≡ z → m1 ≡ old ++ x → new ≡ m1 ++ y → new ≡ old ++ z
-  pieces_2 old m1 new x y z is e f = f ∙ ap (λ l. l ++ y) e ∙ append_assoc old x y ∙ ap (λ l. old ++ l) is
-
-  pub pieces_3 : (old m1 m2 new w x y z : List A) → (w ++ x) ++ y ≡ z → m1 ≡ old ++ w → m2 ≡ m1 ++ x → new ≡ m2 ++ y → new ≡ old ++ z
-  pieces_3 old m1 m2 new w x y z is e f g = pieces_2 old m2 new (w ++ x) y z is (pieces_2 old m1 m2 w x (w ++ x) refl e f) g
-
-  pub pieces_4 : (old m1 m2 m3 new v w x y z : List A) → ((v ++ w) ++ x) ++ y ≡ z → m1 ≡ old ++ v → m2 ≡ m1 ++ w → m3 ≡ m2 ++ x → new ≡ m3 ++ y → new ≡ old ++ z
-  pieces_4 old m1 m2 m3 new v w x y z is e f g h = pieces_2 old m3 new ((v ++ w) ++ x) y z is (pieces_3 old m1 m2 m3 v w x ((v ++ w) ++ x) refl e f g) h
-
-  pub pieces_5 : (old m1 m2 m3 m4 new u v w x y z : List A) → (((u ++ v) ++ w) ++ x) ++ y ≡ z → m1 ≡ old ++ u → m2 ≡ m1 ++ v → m3 ≡ m2 ++ w → m4 ≡ m3 ++ x → new ≡ m4 ++ y → new ≡ old ++ z
-  pieces_5 old m1 m2 m3 m4 new u v w x y z is e f g h i = pieces_2 old m4 new (((u ++ v) ++ w) ++ x) y z is (pieces_4 old m1 m2 m3 m4 u v w x (((u ++ v) ++ w) ++ x) refl e f g h) i
 
   -- how long two pieces are
   pub two : (xs ys : List A) (m n : ℕ) → length xs ≡ m → length ys ≡ n → length (xs ++ ys) ≡ m + n
@@ -38,10 +22,38 @@ module _ {A : Type 0} where
   flat_take : {X : Type 0} (f : X → List A) (xs : List X) (i : ℕ) (d : X) → i < length xs → flat_map f (take (suc i) xs) ≡ flat_map f (take i xs) ++ f (slice_index_or xs i d)
   flat_take f xs i d lt = ap (flat_map f) (take-suc xs i d lt) ∙ flat_map-append f (take i xs) (slice_index_or xs i d ∷ []) ∙ ap (λ l. flat_map f (take i xs) ++ l) (append_none (f (slice_index_or xs i d)))
 
-  pub looped : {X : Type 0} (f : X → List A) (xs : List X) (i : ℕ) (d : X) (old now new : List A) → i < length xs → now ≡ old ++ flat_map f (take i xs) → new ≡ now ++ f (slice_index_or xs i d) → new ≡ old ++ flat_map f (take (i + 1) xs)
-  looped f xs i d old now new lt is e = let one_more : suc i ≡ i + 1 = omega arith in subst (λ n. new ≡ old ++ flat_map f (take n xs)) one_more (pieces_2 old now new (flat_map f (take i xs)) (f (slice_index_or xs i d)) (flat_map f (take (suc i) xs)) (sym (flat_take f xs i d lt)) is e)
-
   -- pieces of what is made of each
   pub flat_of_map : {X Y : Type 0} (f : Y → List A) (g : X → Y) (xs : List X) → flat_map f (map g xs) ≡ flat_map (λ x. f (g x)) xs
   flat_of_map f g [] = refl
   flat_of_map f g (x ∷ xs) = ap (λ l. f (g x) ++ l) (flat_of_map f g xs)
+
+module _ {s m t : Noting} where
+  -- one behind the other
+  pub then : {x y : List Place} → Noted s m x → Noted m t y → Noted s t (x ++ y)
+  then {x = x} {y = y} (noted p e) (noted q f) = noted (q ∙ p) (f ∙ ap (λ l. l ++ y) e ∙ append_assoc s.places x y)
+  then (full p) (noted q f) = full (q ∙ p)
+  then p (full q) = full q
+
+pub told_as : {s t : Noting} {x y : List Place} → x ≡ y → Noted s t x → Noted s t y
+told_as {s = s} {t = t} is n = subst (Noted s t) is n
+
+pub none_yet : (s : Noting) → Noted s s []
+none_yet s = noted refl (sym (append_none s.places))
+
+-- one more of so many that are alike
+pub one_again : {s m t : Noting} (n : ℕ) (at : Place) → Noted s m (replicate n at) → Noted m t (one at) → Noted s t (replicate (n + 1) at)
+one_again n at p q = told_as (replicate-append-replicate n 1 at) (then p q)
+
+-- one more part of a list
+pub looped : {X : Type 0} {s m t : Noting} (f : X → List Place) (xs : List X) (i : ℕ) (d : X) → i < length xs → Noted s m (flat_map f (take i xs)) → Noted m t (f (slice_index_or xs i d)) → Noted s t (flat_map f (take (i + 1) xs))
+looped f xs i d lt p q = let one_more : suc i ≡ i + 1 = omega arith in told_as (sym (flat_take f xs i d lt) ∙ ap (λ n. flat_map f (take n xs)) one_more) (then p q)
+
+taken_all : {X : Type 0} (xs : List X) (i : ℕ) → length xs ≤ i → take i xs ≡ xs
+taken_all [] zero le = refl
+taken_all [] (suc i) le = refl
+taken_all (x ∷ xs) zero le = absurd (omega (arith, le))
+taken_all (x ∷ xs) (suc i) le = ap (λ l. x ∷ l) (taken_all xs i (omega (arith, le)))
+
+-- all parts
+pub all_looped : {X : Type 0} {s t : Noting} (f : X → List Place) (xs : List X) (i : ℕ) → length xs ≤ i → Noted s t (flat_map f (take i xs)) → Noted s t (flat_map f xs)
+all_looped f xs i le p = told_as (ap (flat_map f) (taken_all xs i le)) p

@@ -5,8 +5,10 @@ ghost use Rattle.std.specs.Prelude.{◌≡◌, length, IfOk};
 ghost use Rattle.fut_typing.specs.Program.{program_numbers, program_of};
 ghost use Rattle.type_places.specs.Places.{program_places};
 
+mod noting;
 mod terms;
 
+use crate::noting::Noting;
 use crate::terms::note_definitions;
 use fut_flat::Flat;
 use fut_scalar::{List, NoMemory, Place};
@@ -17,7 +19,7 @@ pub fn places(alloc: Global, flat: &Flat<'_>) -> Result<List<Place>, NoMemory>
     ensures places { IfOk result (λ places. places ≡ program_places flat.now.definitions.now) }
     ensures one_each { IfOk result (λ places. length places ≡ program_numbers (program_of flat.now)) }
 {
-    let mut places = List::new(alloc);
-    note_definitions(&mut places, flat.definitions)?;
-    Ok(places)
+    let mut places = Noting::new(alloc);
+    note_definitions(&mut places, flat.definitions);
+    places.noted()
 }

@@ -1,37 +1,38 @@
 // The places of the numbers of trees, in the order of the numbers.
-ghost use Rattle.std.specs.Prelude.{◌≡◌, ◌++◌, replicate, OnOk};
+ghost use Rattle.std.specs.Prelude.{◌≡◌, replicate};
 ghost use Rattle.std.specs.List.{flat_map};
 ghost use Rattle.fut_flat.specs.Erased.{operation_of};
 ghost use Rattle.fut_flat.specs.Numbers.{own_numbers};
+ghost use Rattle.type_places.specs.Noted.{Noted};
 ghost use Rattle.type_places.specs.Places.{definition_places, exp_places, field_places, let_places, loop_places, pattern_places, turn_places};
 
+use crate::noting::Noting;
 use fut_flat::{Act, Definition, Exp, Form, Let, Loop, LoopForm, Pat, PatField, PatForm};
-use fut_scalar::{List, NoMemory, Place};
+use fut_scalar::Place;
 
 /// Notes the place of so many numbers.
-fn note(places: &mut List<Place>, count: u32, at: Place) -> Result<(), NoMemory>
-    ensures { OnOk result (places.new ≡ places.old ++ replicate count at) }
+fn note(places: &mut Noting, count: u32, at: Place)
+    ensures { Noted places.old places.new (replicate count at) }
 {
     for _ in 0..count {
-        places.push(at)?;
+        places.push(at);
     }
-    Ok(())
 }
 
 /// Notes the places of a pattern's numbers.
 #[cycle(pattern)]
-fn note_pattern(places: &mut List<Place>, pat: &Pat<'_>) -> Result<(), NoMemory>
-    ensures { OnOk result (places.new ≡ places.old ++ pattern_places pat.now) }
+fn note_pattern(places: &mut Noting, pat: &Pat<'_>)
+    ensures { Noted places.old places.new (pattern_places pat.now) }
 {
     match pat.form {
         PatForm::Bound(_) => places.push(pat.place),
         PatForm::Wild => places.push(pat.place),
         PatForm::Tuple(parts) => {
-            places.push(pat.place)?;
+            places.push(pat.place);
             note_patterns(places, parts)
         }
         PatForm::Record(fields) => {
-            places.push(pat.place)?;
+            places.push(pat.place);
             note_fields(places, fields)
         }
         PatForm::Typed(inner, _) => note_pattern(places, inner),
@@ -39,23 +40,21 @@ fn note_pattern(places: &mut List<Place>, pat: &Pat<'_>) -> Result<(), NoMemory>
 }
 
 #[cycle(pattern)]
-fn note_patterns(places: &mut List<Place>, parts: &[Pat<'_>]) -> Result<(), NoMemory>
-    ensures { OnOk result (places.new ≡ places.old ++ flat_map pattern_places parts.now) }
+fn note_patterns(places: &mut Noting, parts: &[Pat<'_>])
+    ensures { Noted places.old places.new (flat_map pattern_places parts.now) }
 {
     for part in parts {
-        note_pattern(places, part)?;
+        note_pattern(places, part);
     }
-    Ok(())
 }
 
 #[cycle(pattern)]
-fn note_fields(places: &mut List<Place>, fields: &[PatField<'_>]) -> Result<(), NoMemory>
-    ensures { OnOk result (places.new ≡ places.old ++ flat_map field_places fields.now) }
+fn note_fields(places: &mut Noting, fields: &[PatField<'_>])
+    ensures { Noted places.old places.new (flat_map field_places fields.now) }
 {
     for field in fields {
-        note_pattern(places, &field.pat)?;
+        note_pattern(places, &field.pat);
     }
-    Ok(())
 }
 
 /// How many numbers an operation has beside those of its parts.
@@ -63,60 +62,58 @@ fn own_numbers_of(act: Act<'_>) -> u32
     ensures { result ≡ own_numbers (operation_of act.entry) }
 {
     match act {
-        Act::Binary(_) => 2,
-        Act::Project(_) => 2,
-        Act::Int { .. } => 1,
-        Act::Truth(_) => 1,
-        Act::Tuple => 1,
-        Act::Record(_) => 1,
-        Act::Array => 1,
-        Act::Negate => 1,
-        Act::Complement => 1,
-        Act::Index(_) => 1,
-        Act::Update => 1,
-        Act::Replace(_) => 1,
-        Act::Ascribe(_) => 1,
-        Act::Coerce(_) => 1,
-        Act::Declared(_) => 1,
-        Act::Assert => 1,
-        Act::Range { .. } => 1,
+        Act::Binary(_) | Act::Project(_) => 2,
+        Act::Int { .. }
+        | Act::Truth(_)
+        | Act::Tuple
+        | Act::Record(_)
+        | Act::Array
+        | Act::Negate
+        | Act::Complement
+        | Act::Index(_)
+        | Act::Update
+        | Act::Replace(_)
+        | Act::Ascribe(_)
+        | Act::Coerce(_)
+        | Act::Declared(_)
+        | Act::Assert
+        | Act::Range { .. } => 1,
     }
 }
 
 /// Notes the places of an expression's numbers.
 #[cycle(term)]
-fn note_exp(places: &mut List<Place>, exp: &Exp<'_>) -> Result<(), NoMemory>
-    ensures { OnOk result (places.new ≡ places.old ++ exp_places exp.now) }
+fn note_exp(places: &mut Noting, exp: &Exp<'_>)
+    ensures { Noted places.old places.new (exp_places exp.now) }
 {
     match exp.form {
         Form::Use(_, before) => {
-            places.push(exp.place)?;
-            note(places, before, exp.place)?;
+            places.push(exp.place);
+            note(places, before, exp.place);
             note(places, before, exp.place)
         }
         Form::Strict { act, parts, .. } => {
-            let count = own_numbers_of(act);
-            note(places, count, exp.place)?;
+            note(places, own_numbers_of(act), exp.place);
             note_parts(places, parts)
         }
         Form::Lambda(params, body) => {
-            places.push(exp.place)?;
-            note_patterns(places, params)?;
+            places.push(exp.place);
+            note_patterns(places, params);
             note_exp(places, body)
         }
         Form::Apply(function, argument) => {
-            places.push(exp.place)?;
-            note_exp(places, function)?;
+            places.push(exp.place);
+            note_exp(places, function);
             note_exp(places, argument)
         }
         Form::Lets(lets, body) => {
-            note_lets(places, lets, exp.place)?;
+            note_lets(places, lets, exp.place);
             note_exp(places, body)
         }
         Form::If(test, yes, no) => {
-            places.push(exp.place)?;
-            note_exp(places, test)?;
-            note_exp(places, yes)?;
+            places.push(exp.place);
+            note_exp(places, test);
+            note_exp(places, yes);
             note_exp(places, no)
         }
         Form::Loop(turning) => note_loop(places, turning, exp.place),
@@ -124,74 +121,68 @@ fn note_exp(places: &mut List<Place>, exp: &Exp<'_>) -> Result<(), NoMemory>
 }
 
 #[cycle(term)]
-fn note_parts(places: &mut List<Place>, parts: &[Exp<'_>]) -> Result<(), NoMemory>
-    ensures { OnOk result (places.new ≡ places.old ++ flat_map exp_places parts.now) }
+fn note_parts(places: &mut Noting, parts: &[Exp<'_>])
+    ensures { Noted places.old places.new (flat_map exp_places parts.now) }
 {
     for part in parts {
-        note_exp(places, part)?;
+        note_exp(places, part);
     }
-    Ok(())
 }
 
 /// Notes the places of the numbers of `let`s in a row that stands at `at`.
 #[cycle(term)]
-fn note_lets(places: &mut List<Place>, lets: &[Let<'_>], at: Place) -> Result<(), NoMemory>
-    ensures { OnOk result (places.new ≡ places.old ++ flat_map (let_places at) lets.now) }
+fn note_lets(places: &mut Noting, lets: &[Let<'_>], at: Place)
+    ensures { Noted places.old places.new (flat_map (let_places at) lets.now) }
 {
     for one in lets {
-        note_let(places, one, at)?;
+        note_let(places, one, at);
     }
-    Ok(())
 }
 
 #[cycle(term)]
-fn note_let(places: &mut List<Place>, one: &Let<'_>, at: Place) -> Result<(), NoMemory>
-    ensures { OnOk result (places.new ≡ places.old ++ let_places at one.now) }
+fn note_let(places: &mut Noting, one: &Let<'_>, at: Place)
+    ensures { Noted places.old places.new (let_places at one.now) }
 {
-    places.push(at)?;
-    note_pattern(places, &one.pat)?;
+    places.push(at);
+    note_pattern(places, &one.pat);
     note_exp(places, &one.value)
 }
 
 #[cycle(term)]
-fn note_loop(places: &mut List<Place>, turning: &Loop<'_>, at: Place) -> Result<(), NoMemory>
-    ensures { OnOk result (places.new ≡ places.old ++ loop_places at turning.now) }
+fn note_loop(places: &mut Noting, turning: &Loop<'_>, at: Place)
+    ensures { Noted places.old places.new (loop_places at turning.now) }
 {
-    places.push(at)?;
-    note_pattern(places, &turning.pat)?;
-    note_exp(places, &turning.first)?;
-    note_turns(places, turning, at)?;
+    places.push(at);
+    note_pattern(places, &turning.pat);
+    note_exp(places, &turning.first);
+    note_turns(places, turning, at);
     note_exp(places, &turning.body)
 }
 
 /// Notes the places of the numbers of what says how often a loop turns.
 #[cycle(term)]
-fn note_turns(places: &mut List<Place>, turning: &Loop<'_>, at: Place) -> Result<(), NoMemory>
-    ensures { OnOk result (places.new ≡ places.old ++ turn_places at turning.now.form) }
+fn note_turns(places: &mut Noting, turning: &Loop<'_>, at: Place)
+    ensures { Noted places.old places.new (turn_places at turning.now.form) }
 {
-    match turning.form {
+    match &turning.form {
         LoopForm::For(_, bound) => {
-            places.push(at)?;
-            note_exp(places, &bound)
+            places.push(at);
+            note_exp(places, bound)
         }
         LoopForm::ForIn(pat, over) => {
-            note_pattern(places, &pat)?;
-            note_exp(places, &over)
+            note_pattern(places, pat);
+            note_exp(places, over)
         }
-        LoopForm::While(test) => note_exp(places, &test),
+        LoopForm::While(test) => note_exp(places, test),
     }
 }
 
 /// Notes the places of the numbers of definitions.
-pub(crate) fn note_definitions(
-    places: &mut List<Place>,
-    definitions: &[Definition<'_>],
-) -> Result<(), NoMemory>
-    ensures { OnOk result (places.new ≡ places.old ++ flat_map definition_places definitions.now) }
+pub(crate) fn note_definitions(places: &mut Noting, definitions: &[Definition<'_>])
+    ensures { Noted places.old places.new (flat_map definition_places definitions.now) }
 {
     for definition in definitions {
-        places.push(definition.value.place)?;
-        note_exp(places, definition.value)?;
+        places.push(definition.value.place);
+        note_exp(places, definition.value);
     }
-    Ok(())
 }

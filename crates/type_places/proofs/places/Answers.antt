@@ -1,7 +1,8 @@
-use Rattle.std.proofs.Common.{◌++◌, ◌∙◌, ap, length}
-use Rattle.type_places.specs.Places.{program_places}
-use Rattle.type_places.proofs.Counted.{program_counted}
+use Rattle.type_places.proofs.Counted.{noted_counted, noted_places}
 use Rattle.type_places.proofs.places.Goals as goal
 
+pub returns-clause-places : goal.returns-clause-places
+returns-clause-places c = noted_places _ _ _ _ c.new-places.ensures.places c.note_definitions.ensures c.noted.ensures
+
 pub returns-clause-one_each : goal.returns-clause-one_each
-returns-clause-one_each c = ap length (c.in_ok-note_definitions.ensures ∙ ap (λ l. l ++ program_places c.args.flat.now.definitions.now) c.new-places.ensures) ∙ program_counted c.args.flat.now.definitions.now
+returns-clause-one_each c = noted_counted _ _ _ _ c.new-places.ensures.places c.note_definitions.ensures c.noted.ensures

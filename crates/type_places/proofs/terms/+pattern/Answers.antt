@@ -1,25 +1,38 @@
-use Rattle.std.specs.List.{flat_map}
-use Rattle.type_places.specs.Places.{one, field_places, pattern_places}
-use Rattle.type_places.proofs.Lists.{on_ok, pieces_1, pieces_2}
-use Rattle.type_places.proofs.Layers.{field_looped, places_bound, places_wild, places_tuple, places_record, places_typed}
+use Rattle.std.proofs.Common.{sym}
+use Rattle.type_places.specs.Places.{field_places, pattern_places}
+use Rattle.type_places.proofs.Lists.{all_looped, looped, none_yet, then, told_as}
+use Rattle.type_places.proofs.Layers.{field_is, places_bound, places_wild, places_tuple, places_record, places_typed}
 use Rattle.type_places.proofs.terms.+pattern.Goals as goal
 
+pub note_patterns-loop-part-init : goal.note_patterns-loop-part-init
+note_patterns-loop-part-init t c = none_yet _
+
+pub note_patterns-loop-part-preserved : goal.note_patterns-loop-part-preserved
+note_patterns-loop-part-preserved t c = looped pattern_places _ c.loop-part.part-index _ c.loop-part-test.true c.loop-part.invariant c.note_pattern.ensures
+
+pub note_patterns-returns : goal.note_patterns-returns
+note_patterns-returns t c = all_looped pattern_places _ _ c.loop-part-test.false c.loop-part.invariant
+
+pub note_fields-loop-field-init : goal.note_fields-loop-field-init
+note_fields-loop-field-init t c = none_yet _
+
 pub note_fields-loop-field-preserved : goal.note_fields-loop-field-preserved
-note_fields-loop-field-preserved t c = field_looped c.args.fields.now c.loop-field.field-index _ c.args.places.now c.loop-field.places c.note_pattern.new.places c.loop-field-test.true c.loop-field.invariant c.in_ok-note_pattern.ensures
+note_fields-loop-field-preserved t c = looped field_places _ c.loop-field.field-index _ c.loop-field-test.true c.loop-field.invariant (told_as (sym (field_is _)) c.note_pattern.ensures)
+
+pub note_fields-returns : goal.note_fields-returns
+note_fields-returns t c = all_looped field_places _ _ c.loop-field-test.false c.loop-field.invariant
 
 pub note_pattern-returns-in-Bound : goal.note_pattern-returns-in-Bound
-note_pattern-returns-in-Bound t c = on_ok c.push.result (pieces_1 c.args.places.now c.push.new.self (one c.args.pat.now.place) (pattern_places c.args.pat.now) (places_bound c.args.pat.now c.in-Bound.field-0 c.in-Bound.is)) c.push.ensures.ok
+note_pattern-returns-in-Bound t c = told_as (places_bound _ _ c.in-Bound.is) c.push.ensures
 
 pub note_pattern-returns-in-Wild : goal.note_pattern-returns-in-Wild
-note_pattern-returns-in-Wild t c = on_ok c.push-in-Wild.result (pieces_1 c.args.places.now c.push-in-Wild.new.self (one c.args.pat.now.place) (pattern_places c.args.pat.now) (places_wild c.args.pat.now c.in-Wild.is)) c.push-in-Wild.ensures.ok
+note_pattern-returns-in-Wild t c = told_as (places_wild _ c.in-Wild.is) c.push-in-Wild.ensures
 
-pub note_pattern-returns-in_ok-push-in-Tuple : goal.note_pattern-returns-in_ok-push-in-Tuple
-note_pattern-returns-in_ok-push-in-Tuple t c = on_ok c.note_patterns.result (pieces_2 c.args.places.now c.push-in-Tuple.new.self c.note_patterns.new.places (one c.args.pat.now.place) (flat_map pattern_places c.in-Tuple.parts.now) (pattern_places c.args.pat.now)
-    (places_tuple c.args.pat.now c.in-Tuple.parts c.in-Tuple.is) c.in_ok-push-in-Tuple.ensures.ok) c.note_patterns.ensures
+pub note_pattern-returns-in-Tuple : goal.note_pattern-returns-in-Tuple
+note_pattern-returns-in-Tuple t c = told_as (places_tuple _ _ c.in-Tuple.is) (then c.push-in-Tuple.ensures c.note_patterns.ensures)
 
-pub note_pattern-returns-in_ok-push-in-Record : goal.note_pattern-returns-in_ok-push-in-Record
-note_pattern-returns-in_ok-push-in-Record t c = on_ok c.note_fields.result (pieces_2 c.args.places.now c.push-in-Record.new.self c.note_fields.new.places (one c.args.pat.now.place) (flat_map field_places c.in-Record.fields.now) (pattern_places c.args.pat.now)
-    (places_record c.args.pat.now c.in-Record.fields c.in-Record.is) c.in_ok-push-in-Record.ensures.ok) c.note_fields.ensures
+pub note_pattern-returns-in-Record : goal.note_pattern-returns-in-Record
+note_pattern-returns-in-Record t c = told_as (places_record _ _ c.in-Record.is) (then c.push-in-Record.ensures c.note_fields.ensures)
 
 pub note_pattern-returns-in-Typed : goal.note_pattern-returns-in-Typed
-note_pattern-returns-in-Typed t c = on_ok c.note_pattern.result (pieces_1 c.args.places.now c.note_pattern.new.places (pattern_places c.in-Typed.inner.now) (pattern_places c.args.pat.now) (places_typed c.args.pat.now c.in-Typed.inner c.in-Typed.field-1 c.in-Typed.is)) c.note_pattern.ensures
+note_pattern-returns-in-Typed t c = told_as (places_typed _ _ _ c.in-Typed.is) c.note_pattern.ensures

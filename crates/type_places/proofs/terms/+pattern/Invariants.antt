@@ -1,10 +1,11 @@
-use Rattle.std.proofs.Common.{◌≡◌, ◌++◌, take}
+use Rattle.std.proofs.Common.{take}
 use Rattle.std.specs.List.{flat_map}
+use Rattle.type_places.specs.Noted.{Noted}
 use Rattle.type_places.specs.Places.{field_places, pattern_places}
 use Rattle.type_places.proofs.terms.+pattern.Given as goal
 
 abbrev pub invariant-note_fields-loop-field : goal.invariant-note_fields-loop-field
-invariant-note_fields-loop-field l = l.places ≡ l.fn.places ++ flat_map field_places (take l.field-index l.fields)
+invariant-note_fields-loop-field l = Noted l.fn.places l.places (flat_map field_places (take l.field-index l.fields))
 
 abbrev pub invariant-note_patterns-loop-part : goal.invariant-note_patterns-loop-part
-invariant-note_patterns-loop-part l = l.places ≡ l.fn.places ++ flat_map pattern_places (take l.part-index l.parts)
+invariant-note_patterns-loop-part l = Noted l.fn.places l.places (flat_map pattern_places (take l.part-index l.parts))

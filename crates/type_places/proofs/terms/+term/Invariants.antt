@@ -1,10 +1,11 @@
-use Rattle.std.proofs.Common.{◌≡◌, ◌++◌, take}
+use Rattle.std.proofs.Common.{take}
 use Rattle.std.specs.List.{flat_map}
+use Rattle.type_places.specs.Noted.{Noted}
 use Rattle.type_places.specs.Places.{exp_places, let_places}
 use Rattle.type_places.proofs.terms.+term.Given as goal
 
 abbrev pub invariant-note_parts-loop-part : goal.invariant-note_parts-loop-part
-invariant-note_parts-loop-part l = l.places ≡ l.fn.places ++ flat_map exp_places (take l.part-index l.parts)
+invariant-note_parts-loop-part l = Noted l.fn.places l.places (flat_map exp_places (take l.part-index l.parts))
 
 abbrev pub invariant-note_lets-loop-one : goal.invariant-note_lets-loop-one
-invariant-note_lets-loop-one l = l.places ≡ l.fn.places ++ flat_map (let_places l.at) (take l.one-index l.lets)
+invariant-note_lets-loop-one l = Noted l.fn.places l.places (flat_map (let_places l.at) (take l.one-index l.lets))
