@@ -38,7 +38,7 @@ use Rattle.futhark_core.specs.Acceptance.{Source, Unlexed, UnacceptedTokens, Lex
 use Rattle.futhark_core.specs.Entering.{NotEntered}
 use Rattle.futhark_core.specs.Meaning.{Entered, IsEntered, Outcome, Gives, Fails, Allows, Alone, Answers}
 use Rattle.futhark_core.specs.Row.{Outside, Streams, RunRow, TextRow, NamesRow, TypesRow, LoadRow, FrontRow, Started, InputRow, ActionRow, ProgramRow, CheckRow, status_for}
-use Rattle.futhark_core.specs.Comes.{Accepted, Acted, Agrees, Asked, Done_with, Argued, Built, Comes, Commanded, Complete, Came, Ending, Entering, FileHeld, IsLimit, Lacks, Named, NoFault, Onward, Parsed, ParserRefusal, Ran, Tells, Then, Told, Tokenized, Typed, Unread, refusal_of}
+use Rattle.futhark_core.specs.Comes.{Accepted, Acted, Agrees, AskedRun, Done_with, Argued, Built, Comes, Commanded, Complete, Came, Ending, Entering, FileHeld, IsLimit, Lacks, Named, NoFault, Onward, Parsed, ParserRefusal, Ran, Tells, Then, Told, Tokenized, Typed, Unread, refusal_of}
 use Rattle.futhark_core.proofs.Reading.{types_of_reading}
 use Rattle.futhark_core.proofs.Settling.{EndsAs, Holds, Settles, TypesRefusal, built_err, built_ok, commanded_err, commanded_ok, held_err, held_ok, named_err, named_ok, parsed_none, parsed_ok, then_ends, then_err, then_ok, tokenized_err, tokenized_ok, typed_err, typed_ok}
 
@@ -66,7 +66,7 @@ module _ (source : Source) (name : List ℕ) (turns : ℕ) (resolved : resolve_p
         go (Err status) (inr p) on = absurd (p.1 source refl e is)
 
     -- the files allow this outcome for what the input reads as
-    ran_as : (left : List ℕ) (asked : Asked) → asked ≡ record { flat = flat; name = name; turns = turns; input = left } → (status : Status) (outcome : Outcome) (values : List Scalar) → Reads e.params left values → Allows source e turns values outcome → Tells outcome status ⊎ IsLimit status → Agrees status (Ok (Ran asked))
+    ran_as : (left : List ℕ) (asked : AskedRun) → asked ≡ record { flat = flat; name = name; turns = turns; input = left } → (status : Status) (outcome : Outcome) (values : List Scalar) → Reads e.params left values → Allows source e turns values outcome → Tells outcome status ⊎ IsLimit status → Agrees status (Ok (Ran asked))
     ran_as left asked same status outcome values reads allows tells = subst (λ z. Agrees status (Ok (Ran z))) (sym same)
         (outcome, record { source = source; flat = refl; files = resolved; entered = e; is_entered = is; arguments = values; reads = reads; allows = allows }, tells)
 

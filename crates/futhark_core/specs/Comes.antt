@@ -123,7 +123,7 @@ Accepted files file =
 -- ---- what is done with it
 
 -- what is run: an accepted program from the entry of a name, with a budget of turns, on the bytes of an input
-pub record Asked : Type 0 where
+pub record AskedRun : Type 0 where
   pub flat : FlatProgram
   pub name : Name
   pub turns : ℕ
@@ -133,7 +133,7 @@ pub record Asked : Type 0 where
 -- refused with a status
 pub data Ending : Type 0 where
   Told : Ending
-  Ran : Asked → Ending
+  Ran : AskedRun → Ending
   Came : Outcome → Ending
   Unread : Status → Ending
 
@@ -194,7 +194,7 @@ Tells (Gives components) status = status ≡ Done
 Tells (Fails report) status = (path : Name) × ((status ≡ Failure report path) ⊎ (status ≡ Turns report path))
 
 -- the files allow this outcome for the arguments that the input reads as
-pub record AllowedFor (asked : Asked) (outcome : Outcome) : Type 0 where
+pub record AllowedFor (asked : AskedRun) (outcome : Outcome) : Type 0 where
   pub source : Source
   pub flat : flat_of source.flat ≡ asked.flat
   pub files : resolve_program source.files ≡ Ok asked.flat
