@@ -4,4 +4,5 @@ pub mod ItemLaws
 pub mod LetLaws
 pub mod LoopLaws
 pub mod PartLaws
+pub mod RowLaws
 pub mod SuffixLaws

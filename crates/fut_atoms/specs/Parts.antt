@@ -1,5 +1,5 @@
 -- The parts of atoms, as they are read and found.
-use Rattle.std.specs.Prelude.{ℕ, List, ◌&&◌, ◌||◌, Option, None, Result, Ok, Err, if◌then◌else◌}
+use Rattle.std.specs.Prelude.{ℕ, Bool, true, false, List, ◌&&◌, ◌||◌, Option, None, Result, Ok, Err, if◌then◌else◌}
 use Rattle.std.specs.Borrow.{Bor}
 use Rattle.fut_token.specs.declared.token.Fixed.{Fixed}
 use Rattle.fut_token.specs.declared.token.Fixed.TheVariants as fixed
@@ -7,7 +7,7 @@ use Rattle.fut_token.specs.declared.token.Token.{Token}
 use Rattle.fut_ast.specs.Behind.{begins_operand}
 use Rattle.fut_ast.specs.Nodes.{use_of}
 use Rattle.fut_ast.specs.Parts.{going_back, without}
-use Rattle.fut_ast.specs.Sorts.{Sort, Tree, Text, Path, SourceExp, Operands, Whole}
+use Rattle.fut_ast.specs.Sorts.{Sort, Tree, Text, Path, SourceExp, Let_item, Operands, Whole}
 use Rattle.fut_ast.specs.Tokens.{spot_of, starts, tail}
 use Rattle.fut_ast.specs.declared.exp.Bind.{Bind}
 use Rattle.fut_ast.specs.declared.exp.Ix.{Ix as PlainIx}
@@ -32,6 +32,14 @@ field_found = found_as (λ f. (f.name.now, f.exp.now))
 
 abbrev pub fields_found : Found (Bor (List ExpField)) → List (Text × SourceExp) × ℕ × List Token
 fields_found = found_as (λ fs. exp_fields fs.now)
+
+-- behind a let of a row: whether it is the last one, and the tokens behind the keywords that tell
+unfoldable pub behind_let : List Token → Result (Bool × List Token) Fault
+behind_let ts = if starts fixed.KeyLet ts then Ok (false, tail ts) else (expect fixed.KeyIn ts >>= λ us. if starts fixed.KeyLet us then Ok (false, tail us) else Ok (true, us))
+
+-- one let of a row
+unfoldable pub let_of_row : ((n : Sort) → List Token → Read (Tree n)) → List Token → Read (Bind Path Text × Bool)
+let_of_row read ts = read Let_item ts >>= λ b. behind_let b.2 >>= λ s. Ok ((b.0, s.0), b.1, s.1)
 
 -- parts of an index
 abbrev pub index_found : Found Ix → PlainIx Path Text × ℕ × List Token

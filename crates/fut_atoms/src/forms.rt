@@ -23,7 +23,7 @@ use fut_phrases::found::Found;
 use fut_phrases::params::{maybe_applied_type, several_patterns, size_names};
 use fut_phrases::patterns::whole_pattern;
 use fut_phrases::tokens::{
-    greater, next_spot, refused, rest_of, starts_with, starts_with_word, take, take_word,
+    greater, next_spot, next_word, refused, rest_of, starts_with, starts_with_word, take,
 };
 use fut_token::{Fixed, Token};
 use fut_tree::{Exp, LoopForm, Pat};
@@ -86,17 +86,14 @@ fn function_form<'a, R: ReadExp<'a>>(
     inner: u32,
     tokens: &'a [Token],
 ) -> Result<Found<'a, Ending<'a>>, Stop>
+    requires first { starts Fixed.Backslash tokens.now ≡ true }
     requires law { R.reads read inner }
     requires room { inner < 1000 }
     ensures exact { Gives ending_found result (row_at (phrases (read_at inner)) (of_exp function) tokens.now) }
     ensures low { IfOk result (λ x. x.height ≤ inner + 1) }
 {
     let place = next_spot(tokens).place;
-    let behind = match take(tokens, Fixed::Backslash) {
-        Ok(behind) => behind,
-        Err(stop) => return Err(stop),
-    };
-    let params = match several_patterns(bump, inner, 0, behind) {
+    let params = match several_patterns(bump, inner, 0, rest_of(tokens)) {
         Ok(params) => params,
         Err(stop) => return Err(stop),
     };
@@ -267,16 +264,15 @@ fn counted<'a, R: ReadExp<'a>>(
     tokens: &'a [Token],
 ) -> Result<Found<'a, &'a LoopForm<'a>>, Stop>
     requires first { starts Fixed.KeyFor tokens.now ≡ true }
+    requires counter { (is_word (tail tokens.now) && starts Fixed.Less (tail (tail tokens.now))) ≡ true }
     requires law { R.reads read inner }
     requires room { inner < 1000 }
     ensures exact { Gives (found_as (λ t. loop_of t.now)) result (row_at (items (read_at inner)) (of_exp count) tokens.now) }
     ensures low { IfOk result (λ x. x.height ≤ inner) }
 {
-    let (name, rest) = match take_word(rest_of(tokens)) {
-        Ok(word) => word,
-        Err(stop) => return Err(stop),
-    };
-    match read_behind(read, inner, Fixed::Less, ExpSort::Whole, rest) {
+    let behind = rest_of(tokens);
+    let name = next_word(behind);
+    match read.read(inner, ExpSort::Whole, rest_of(rest_of(behind))) {
         Ok(bound) => loop_made(
             for_loop(bump, name, bound.tree.exp),
             bound.height,

@@ -1,16 +1,14 @@
 // Rows of lets.
-ghost use Rattle.std.specs.Prelude.{◌≡◌, ◌≤◌, ◌<◌, ◌+◌, ◌||◌, suc, length, false, true, [], ◌∷◌, IfOk};
+ghost use Rattle.std.specs.Prelude.{◌≡◌, ◌≤◌, ◌<◌, ◌||◌, suc, length, false, true, IfOk};
 ghost use Rattle.fut_ast.specs.Behind.{begins_pat, is_function_let, is_update_let};
 ghost use Rattle.fut_ast.specs.ExpRows.{let_function, let_pattern, let_update};
-ghost use Rattle.fut_ast.specs.Nodes.{bound, let_one, node, use_of};
-ghost use Rattle.fut_ast.specs.Parts.{Commas, Sign, Sub};
 ghost use Rattle.fut_ast.specs.Rows.{of_exp};
-ghost use Rattle.fut_ast.specs.Sorts.{Let_item, Whole, Written_item};
+ghost use Rattle.fut_ast.specs.Sorts.{Let_item};
 ghost use Rattle.fut_ast.specs.Tokens.{starts, tail};
-ghost use Rattle.fut_ast.specs.declared.exp.Form.TheVariants as form;
+ghost use Rattle.fut_atoms.specs.Parts.{behind_let, let_of_row};
 ghost use Rattle.fut_phrases.specs.Found.{found_as};
 ghost use Rattle.fut_grammar.specs.Phrases.{items, let_at, phrases, read_at, row_of_lets};
-ghost use Rattle.fut_grammar.specs.Reading.{Gives, parts_at, row_at};
+ghost use Rattle.fut_grammar.specs.Reading.{Gives, row_at};
 ghost use Rattle.fut_tree.specs.Exps.{bind_of, binds_of};
 
 use crate::made::bind_made;
@@ -19,7 +17,7 @@ use crate::written::written_list;
 use bumpalo::Bump;
 use bumpalo::collections::into_bump_slice;
 use fut_exp_parts::binds::{function_bound, update_bound};
-use fut_exp_parts::exp_tokens::{begins_function, begins_update, starts_with_tight};
+use fut_exp_parts::exp_tokens::{begins_function, begins_update};
 use fut_grammar::Stop;
 use fut_phrases::found::Found;
 use fut_phrases::params::{
@@ -27,9 +25,8 @@ use fut_phrases::params::{
 };
 use fut_phrases::patterns::whole_pattern;
 use fut_phrases::tokens::{
-    begins_pattern, greater, next_spot, refused, rest_of, starts_with, take, take_word,
+    begins_pattern, greater, next_spot, next_word, refused, rest_of, starts_with, take,
 };
-use fut_scalar::Place;
 use fut_token::{Fixed, Token};
 use fut_tree::Bind;
 
@@ -49,33 +46,81 @@ pub fn lets<'a, R: ReadExp<'a>>(
     let mut height = 0;
     let mut rest = rest_of(tokens);
     'lets: for _turn in 0..tokens.len() {
-        let item = match one_let_item(bump, read, inner, rest) {
+        let item = match let_of_row(bump, read, inner, rest) {
             Ok(item) => item,
             Err(stop) => return Err(stop),
         };
-        match all.push(item.tree) {
+        match all.push(item.tree.bind) {
             Ok(()) => (),
             Err(_) => return Err(Stop::Memory),
         }
         height = greater(height, item.height);
-        if starts_with(item.rest, Fixed::KeyLet) {
-            rest = rest_of(item.rest);
-            continue;
-        }
-        let behind = match take(item.rest, Fixed::KeyIn) {
-            Ok(behind) => behind,
-            Err(stop) => return Err(stop),
-        };
-        if !starts_with(behind, Fixed::KeyLet) {
+        rest = item.rest;
+        if item.tree.is_last {
             return Ok(Found {
                 tree: into_bump_slice(all),
                 height,
-                rest: behind,
+                rest,
             });
         }
-        rest = rest_of(behind);
     }
     Err(Stop::Fault(refused(rest)))
+}
+
+// One let of a row.
+#[derive(Clone, Copy)]
+struct RowLet<'a> {
+    bind: Bind<'a>,
+    is_last: bool,
+}
+
+// One let, and the keywords up to the next one or to the body.
+fn let_of_row<'a, R: ReadExp<'a>>(
+    bump: &'a Bump,
+    read: R,
+    inner: u32,
+    tokens: &'a [Token],
+) -> Result<Found<'a, RowLet<'a>>, Stop>
+    requires law { R.reads read inner }
+    requires room { inner < 1000 }
+    ensures exact { Gives (found_as (λ t. (bind_of t.bind, t.is_last))) result (let_of_row (phrases (read_at inner)) tokens.now) }
+    ensures low { IfOk result (λ x. x.height ≤ inner) }
+{
+    let item = match one_let_item(bump, read, inner, tokens) {
+        Ok(item) => item,
+        Err(stop) => return Err(stop),
+    };
+    match behind_let(item.rest) {
+        Ok((is_last, rest)) => Ok(Found {
+            tree: RowLet {
+                bind: item.tree,
+                is_last,
+            },
+            height: item.height,
+            rest,
+        }),
+        Err(stop) => Err(stop),
+    }
+}
+
+// Whether a let is the last of its row, and the tokens behind the keywords that tell.
+#[tactic(auto, unfolding(crate::specs::Parts::behind_let))]
+fn behind_let(tokens: &[Token]) -> Result<(bool, &[Token]), Stop>
+    ensures { Gives (λ x. (x.0, x.1.now)) result (behind_let tokens.now) }
+{
+    if starts_with(tokens, Fixed::KeyLet) {
+        return Ok((false, rest_of(tokens)));
+    }
+    match take(tokens, Fixed::KeyIn) {
+        Ok(rest) => {
+            if starts_with(rest, Fixed::KeyLet) {
+                Ok((false, rest_of(rest)))
+            } else {
+                Ok((true, rest))
+            }
+        }
+        Err(stop) => Err(stop),
+    }
 }
 
 // Whether a let begins here, behind its keyword or another let.
@@ -158,11 +203,8 @@ fn let_function<'a, R: ReadExp<'a>>(
     ensures low { IfOk result (λ x. x.height ≤ inner) }
 {
     let place = next_spot(tokens).place;
-    let (name, rest) = match take_word(tokens) {
-        Ok(word) => word,
-        Err(stop) => return Err(stop),
-    };
-    let heads = match heads_inside(bump, inner, rest) {
+    let name = next_word(tokens);
+    let heads = match heads_inside(bump, inner, rest_of(tokens)) {
         Ok(heads) => heads,
         Err(stop) => return Err(stop),
     };
@@ -205,40 +247,10 @@ fn let_update<'a, R: ReadExp<'a>>(
     ensures low { IfOk result (λ x. x.height ≤ inner) }
 {
     let place = next_spot(tokens).place;
-    let (name, rest) = match take_word(tokens) {
-        Ok(word) => word,
-        Err(stop) => return Err(stop),
-    };
-    if !starts_with_tight(rest) {
-        return Err(Stop::Fault(refused(rest)));
-    }
-    update_inside(
-        bump,
-        read,
-        inner,
-        place,
-        next_spot(rest).place,
-        name,
-        rest_of(rest),
-    )
-}
-
-// Behind the bracket of an update, its index and the new value.
-fn update_inside<'a, R: ReadExp<'a>>(
-    bump: &'a Bump,
-    read: R,
-    inner: u32,
-    place: Place,
-    mark: Place,
-    name: &'a str,
-    tokens: &'a [Token],
-) -> Result<Found<'a, Bind<'a>>, Stop>
-    requires law { R.reads read inner }
-    requires room { inner < 1000 }
-    ensures exact { Gives (found_as bind_of) result (parts_at (items (read_at inner)) false Let_item (Commas Written_item ∷ Sign Fixed.CloseBracket ∷ Sign Fixed.Equal ∷ Sub Whole ∷ []) (λ indices close_bracket equal e. let_one (bound place name.now) (node place mark (form.Update (use_of place name.now) indices e))) 0 tokens.now) }
-    ensures low { IfOk result (λ x. x.height ≤ inner) }
-{
-    let indices = match written_list(bump, read, inner, 0, tokens) {
+    let name = next_word(tokens);
+    let behind = rest_of(tokens);
+    let mark = next_spot(behind).place;
+    let indices = match written_list(bump, read, inner, 0, rest_of(behind)) {
         Ok(indices) => indices,
         Err(stop) => return Err(stop),
     };

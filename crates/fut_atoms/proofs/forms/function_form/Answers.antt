@@ -11,19 +11,15 @@ use Rattle.fut_atoms.proofs.forms.function_form.Goals as goal
 
 pub returns-in-Err : goal.returns-in-Err
 unfolding row_at parts_at has_at expect sub_at phrases
-returns-in-Err g c = record { exact = fails_as c.in-Err.stop c.in-Err.ensures (λ f read. rw read refl); low = tt }
-
-pub returns-in-Err-several_patterns : goal.returns-in-Err-several_patterns
-unfolding row_at parts_at has_at expect sub_at phrases
-returns-in-Err-several_patterns g c = record { exact = fails_as c.in-Err-several_patterns.stop c.in-Err-several_patterns.ensures.exact (λ f read. rw (c.in-Ok.ensures, read) refl); low = tt }
+returns-in-Err g c = record { exact = fails_as c.in-Err.stop c.in-Err.ensures.exact (λ f read. rw (c.requires.first, sym c.rest_of.ensures, read) refl); low = tt }
 
 pub returns-in-Err-maybe_applied_type : goal.returns-in-Err-maybe_applied_type
 unfolding row_at parts_at has_at expect sub_at phrases
-returns-in-Err-maybe_applied_type g c = record { exact = fails_as c.in-Err-maybe_applied_type.stop c.in-Err-maybe_applied_type.ensures.exact (λ f read. rw (c.in-Ok.ensures, c.in-Ok-several_patterns.ensures.exact, read) refl); low = tt }
+returns-in-Err-maybe_applied_type g c = record { exact = fails_as c.in-Err-maybe_applied_type.stop c.in-Err-maybe_applied_type.ensures.exact (λ f read. rw (c.requires.first, sym c.rest_of.ensures, c.in-Ok.ensures.exact, read) refl); low = tt }
 
 pub returns-in-Err-read_behind : goal.returns-in-Err-read_behind
 unfolding row_at parts_at has_at expect sub_at phrases
-returns-in-Err-read_behind g c = record { exact = behind_fails c.in-Err-read_behind.stop fixed.Arrow (read_at c.args.inner Last) c.in-Ok-maybe_applied_type.ty.rest.now c.in-Err-read_behind.ensures.exact (λ sign f read. rw (c.in-Ok.ensures, c.in-Ok-several_patterns.ensures.exact, c.in-Ok-maybe_applied_type.ensures.exact, sign, read) refl) (λ none. rw (c.in-Ok.ensures, c.in-Ok-several_patterns.ensures.exact, c.in-Ok-maybe_applied_type.ensures.exact, none) refl); low = tt }
+returns-in-Err-read_behind g c = record { exact = behind_fails c.in-Err-read_behind.stop fixed.Arrow (read_at c.args.inner Last) c.in-Ok-maybe_applied_type.ty.rest.now c.in-Err-read_behind.ensures.exact (λ sign f read. rw (c.requires.first, sym c.rest_of.ensures, c.in-Ok.ensures.exact, c.in-Ok-maybe_applied_type.ensures.exact, sign, read) refl) (λ none. rw (c.requires.first, sym c.rest_of.ensures, c.in-Ok.ensures.exact, c.in-Ok-maybe_applied_type.ensures.exact, none) refl); low = tt }
 
 pub returns-in-Ok-read_behind : goal.returns-in-Ok-read_behind
 unfolding row_at parts_at has_at expect sub_at phrases
@@ -32,4 +28,4 @@ returns-in-Ok-read_behind g c =
     let body = rw c.in-Ok-read_behind.ensures.sign at c.in-Ok-read_behind.ensures.exact in
     let one : suc (max c.in-Ok-maybe_applied_type.ty.height c.in-Ok-read_behind.body.height) ≡ c.greater-height.result + 1 = omega (arith, c.greater-height.ensures) in
     let low : c.greater-height.result + 1 ≤ c.args.inner + 1 = omega (arith, c.greater-height.ensures, c.in-Ok-maybe_applied_type.ensures.low, c.in-Ok-read_behind.ensures.low) in
-    record { exact = rw (c.in-Ok.ensures, c.in-Ok-several_patterns.ensures.exact, c.in-Ok-maybe_applied_type.ensures.exact, c.in-Ok-read_behind.ensures.sign, body, at, one) (c.ending_made.ensures.exact _ c.function-node.ensures); low = low_as c.ending_made.result c.ending_made.ensures.low low }
+    record { exact = rw (c.requires.first, sym c.rest_of.ensures, c.in-Ok.ensures.exact, c.in-Ok-maybe_applied_type.ensures.exact, c.in-Ok-read_behind.ensures.sign, body, at, one) (c.ending_made.ensures.exact _ c.function-node.ensures); low = low_as c.ending_made.result c.ending_made.ensures.low low }

@@ -16,7 +16,9 @@ pub returns-then-not-starts_with : goal.returns-then-not-starts_with
 returns-then-not-starts_with g c = record { exact = rw (loop_item_as (read_at c.args.inner) c.args.tokens.now, sym c.starts_with.ensures ∙ c.if-starts_with.false, sym c.starts_with-else-starts_with.ensures ∙ c.if-not-starts_with.true, c.refused.ensures) refl; low = tt }
 
 pub counted-requires : goal.counted-requires
-counted-requires g c = λ k. ((refl, tt), (sym c.starts_with-else-starts_with.ensures ∙ c.if-not-starts_with.false, (c.requires.law, c.requires.room)))
+counted-requires g c =
+    let counts = ap (λ ts. is_word ts && starts fixed.Less (tail ts)) (sym c.rest_of.ensures) ∙ sym c.begins_count.ensures ∙ c.if-begins_count.true in
+    λ k. ((refl, tt), (sym c.starts_with-else-starts_with.ensures ∙ c.if-not-starts_with.false, (counts, (c.requires.law, c.requires.room))))
 
 pub returns-then-begins_count : goal.returns-then-begins_count
 returns-then-begins_count g c =
