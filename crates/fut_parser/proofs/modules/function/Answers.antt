@@ -1,7 +1,6 @@
 -- What stands behind the parameter, on top of its height.
 use Rattle.std.proofs.Common.{sym, ap}
 use Rattle.fut_ast.specs.declared.node.Spot.{Spot}
-use Rattle.fut_grammar.specs.Phrases.{phrases}
 use Rattle.fut_grammar.specs.Reading.{has_at, parts_at, row_at, sub_at}
 use Rattle.fut_module_types.proofs.Stops.{part_stopped}
 use Rattle.fut_parser.proofs.modules.function.Goals as goal
