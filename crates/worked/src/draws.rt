@@ -1,9 +1,9 @@
 // Texts that are drawn by a fixed rule, or cut off: whatever they are, a check of them answers a status and its line.
-use crate::parts::{Parts, behind_word, count, cut, number_of};
+use crate::parts::{Parts, behind_word, count, cut, number_of, text_of};
 use crate::rows::Answers;
+use crate::runs::play;
 use crate::runs::row::Row;
-use crate::runs::stage_of;
-use crate::stage::Stage;
+use crate::stage::Came;
 use crate::tally::Tally;
 use crate::texts::Text;
 use shown::Shown;
@@ -21,11 +21,14 @@ impl Draw {
     fn read(text: &[u8]) -> Option<Draw> {
         let (texts, rest) = cut(text, b' ')?;
         let (pieces, state) = cut(rest, b' ')?;
-        Some(Draw {
-            texts: number_of(texts)?,
-            pieces: number_of(pieces)?,
-            state: number_of(state)?,
-        })
+        match (number_of(texts), number_of(pieces), number_of(state)) {
+            (Some(texts), Some(pieces), Some(state)) => Some(Draw {
+                texts,
+                pieces,
+                state,
+            }),
+            _ => None,
+        }
     }
 
     /// A number below a bound, or 0.
@@ -73,6 +76,7 @@ pub struct Draws {
     text: Text,
     /// The check of a text as a row of a run, in which nothing is wrong.
     row: Text,
+    came: Came,
     tally: Tally,
 }
 
@@ -83,12 +87,13 @@ impl Draws {
             draw: None,
             text: Text::new(alloc),
             row: Text::new(alloc),
+            came: Came::new(alloc),
             tally: Tally::new(alloc),
         }
     }
 
     /// Checks a text, and says whether it is answered.
-    fn is_answered(&mut self, shown: &mut Shown) -> bool {
+    fn is_answered(&mut self) -> bool {
         self.row.bytes.clear();
         self.row.add(b"run check t.fut\nfile t.fut\n> ");
         add_escaped(&mut self.row, self.text.bytes.as_slice());
@@ -96,11 +101,8 @@ impl Draws {
             first: 1,
             text: self.row.bytes.as_slice(),
         };
-        let is_told_well = match stage_of(self.alloc, row, &mut self.tally) {
-            Ok(mut stage) => is_played(self.alloc, &mut stage, shown),
-            Err(_) => false,
-        };
-        is_told_well && self.is_whole()
+        play(self.alloc, row, &mut self.came, &mut self.tally);
+        is_told(&self.came) && self.is_whole()
     }
 
     /// Whether the text and its row are written as they should be.
@@ -109,11 +111,11 @@ impl Draws {
     }
 
     /// How many texts are answered before the first that is not.
-    fn cut(&mut self, text: &[u8], shown: &mut Shown) -> u64 {
+    fn cut(&mut self, text: &[u8]) -> u64 {
         for length in 0..text.len() {
             self.text.bytes.clear();
             self.text.add(&text[..length]);
-            if !self.is_answered(shown) {
+            if !self.is_answered() {
                 return length as u64;
             }
         }
@@ -121,11 +123,11 @@ impl Draws {
     }
 
     /// The same of drawn texts.
-    fn drawn(&mut self, pieces: &[u8], draw: Draw, shown: &mut Shown) -> u64 {
+    fn drawn(&mut self, pieces: &[u8], draw: Draw) -> u64 {
         let mut draw = draw;
         for count in 0..draw.texts {
             draw.text(pieces, &mut self.text);
-            if !self.is_answered(shown) {
+            if !self.is_answered() {
                 return count;
             }
         }
@@ -139,13 +141,13 @@ impl Answers for Draws {
             Some(numbers) => Draw::read(numbers),
             None => None,
         };
-        self.draw.is_some() || matches!(line, b"cut")
+        self.draw.is_some() || text_of(line) == "cut"
     }
 
     fn answer(&mut self, text: &[u8], shown: &mut Shown) -> (&'static [u8], &'static [u8]) {
         let count = match self.draw {
-            None => self.cut(text, shown),
-            Some(draw) => self.drawn(text, draw, shown),
+            None => self.cut(text),
+            Some(draw) => self.drawn(text, draw),
         };
         shown.begin(false);
         shown.numbered("= ", count);
@@ -172,34 +174,21 @@ fn digit_of(value: u8) -> u8 {
     }
 }
 
-/// Plays a check, and says whether it told a status with the line of that status.
-fn is_played(alloc: Global, stage: &mut Stage, shown: &mut Shown) -> bool {
-    let status = stage.play(alloc);
-    stage.show(status, shown);
-    is_told(shown.text.as_str())
-}
-
-fn is_told(told: &str) -> bool {
-    if told == "status 0; out: accepted\n; err: " {
-        return true;
-    }
-    let Some(told) = told.strip_prefix("status ") else {
-        return false;
-    };
-    match told.as_bytes() {
-        [b'3'..=b'7', rest @ ..] => is_line(rest, b"t.fut:"),
-        [b'9', rest @ ..] => is_line(rest, b"limit: "),
+/// Whether a check told that a text is accepted, or a status with its line.
+fn is_told(came: &Came) -> bool {
+    match came.status {
+        0 => came.err.bytes.is_empty() && came.out.bytes.as_slice() == b"accepted\n".as_slice(),
+        3..=7 => is_line(came, b"futhark: t.fut:"),
+        9 => is_line(came, b"futhark: limit: "),
         _ => false,
     }
 }
 
 /// Whether one line came on err, and it begins so, and nothing on out.
-fn is_line(told: &[u8], beginning: &[u8]) -> bool {
-    let Some(told) = told.strip_prefix(b"; out: ; err: futhark: ") else {
-        return false;
-    };
-    match told {
-        [line @ .., b'\n'] => line.starts_with(beginning) && count(line, b'\n') == 0,
-        _ => false,
-    }
+fn is_line(came: &Came, beginning: &[u8]) -> bool {
+    let line = came.err.bytes.as_slice();
+    came.out.bytes.is_empty()
+        && line.starts_with(beginning)
+        && line.ends_with(b"\n")
+        && count(line, b'\n') == 1
 }

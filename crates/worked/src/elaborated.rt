@@ -1,6 +1,6 @@
 // Texts and their flat programs, or the types of their definitions. A line `frame prelude` says that each text stands behind the prelude, `frame alone` that it
 // stands behind no text.
-use crate::parts::behind_word;
+use crate::parts::{behind_word, text_of};
 use crate::rows::Answers;
 use crate::tokens::MOST_BYTES;
 use bumpalo::Bump;
@@ -88,9 +88,9 @@ impl Elaborated {
 
 impl Answers for Elaborated {
     fn takes_heading(&mut self, line: &[u8]) -> bool {
-        match behind_word(line, b"frame") {
-            Some(b"alone") => self.has_prelude = false,
-            Some(b"prelude") => self.has_prelude = true,
+        match text_of(behind_word(line, b"frame").unwrap_or(b"")) {
+            "alone" => self.has_prelude = false,
+            "prelude" => self.has_prelude = true,
             _ => return false,
         }
         true

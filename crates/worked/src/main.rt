@@ -20,7 +20,7 @@ mod trees;
 use crate::draws::Draws;
 use crate::elaborated::Elaborated;
 use crate::fault::{Fault, Wrong};
-use crate::parts::cut;
+use crate::parts::{cut, text_of};
 use crate::rows::{Answers, Rows};
 use crate::runs::check_runs;
 use crate::scalars::Scalars;
@@ -30,7 +30,7 @@ use crate::trees::Trees;
 use shown::Shown;
 use std::alloc::Global;
 use std::process::ExitCode;
-use std::{env, fs, io, str};
+use std::{env, fs, io};
 
 /// Goes through the rows of a text by what answers them.
 fn check_by<A: Answers + Drop>(alloc: Global, answers: A, text: &[u8], tally: &mut Tally) {
@@ -41,7 +41,7 @@ fn check_by<A: Answers + Drop>(alloc: Global, answers: A, text: &[u8], tally: &m
 /// Goes through the rows of a file's text. Its first line says what they are.
 fn check_rows(alloc: Global, text: &[u8], tally: &mut Tally) {
     let (head, rest) = cut(text, b'\n').unwrap_or((text, b""));
-    match str::from_utf8(head).unwrap_or("") {
+    match text_of(head) {
         "rows of runs" => check_runs(alloc, rest, tally),
         "rows of trees" => check_by(alloc, Trees::new(alloc), rest, tally),
         "rows of names" => check_by(alloc, Elaborated::new(alloc, false), rest, tally),

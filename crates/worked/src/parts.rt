@@ -66,12 +66,14 @@ impl<'a> Iterator for Parts<'a> {
     }
 }
 
+/// Bytes as text. What is no UTF-8 is no word that rows have, and is the text without one.
+pub fn text_of(bytes: &[u8]) -> &str {
+    str::from_utf8(bytes).unwrap_or("")
+}
+
 /// The number that digits spell.
 pub fn number_of(digits: &[u8]) -> Option<u64> {
-    match str::from_utf8(digits) {
-        Ok(text) => text.parse::<u64>().ok(),
-        Err(_) => None,
-    }
+    text_of(digits).parse::<u64>().ok()
 }
 
 /// What stands behind a word and a blank, or behind the word alone nothing.

@@ -114,8 +114,8 @@ fn is_wanted(came: &[u8], wanted: &[u8], around: (&[u8], &[u8])) -> bool {
     let Some(came) = came.strip_prefix(before) else {
         return false;
     };
-    match wanted {
-        [beginning @ .., b' ', b'.', b'.', b'.'] => came.starts_with(beginning),
-        _ => came.strip_suffix(behind) == Some(wanted),
+    match wanted.strip_suffix(b" ...") {
+        Some(beginning) => came.starts_with(beginning),
+        None => came.strip_suffix(behind) == Some(wanted),
     }
 }

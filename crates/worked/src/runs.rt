@@ -6,7 +6,7 @@ use crate::fault::Wrong;
 use crate::parts::{Parts, count};
 use crate::runs::given::{loader_of, sinks_of, source_of, words_of};
 use crate::runs::row::Row;
-use crate::stage::Stage;
+use crate::stage::{Came, Stage};
 use crate::tally::Tally;
 use fut_scalar::NoMemory;
 use shown::Shown;
@@ -45,7 +45,7 @@ pub fn check_runs(alloc: Global, text: &[u8], tally: &mut Tally) {
 }
 
 /// What a row gives to a call.
-pub fn stage_of(alloc: Global, row: Row<'_>, tally: &mut Tally) -> Result<Stage, NoMemory> {
+fn stage_of(alloc: Global, row: Row<'_>, tally: &mut Tally) -> Result<Stage, NoMemory> {
     match sinks_of(alloc, row, tally) {
         Ok((out, err)) => Ok(Stage {
             words: words_of(alloc, row, tally),
@@ -58,23 +58,30 @@ pub fn stage_of(alloc: Global, row: Row<'_>, tally: &mut Tally) -> Result<Stage,
     }
 }
 
-/// Plays a row, and compares what comes with what is wanted.
-fn check_row(alloc: Global, row: Row<'_>, tally: &mut Tally) {
-    row.refuse_strangers(tally);
+/// Plays a row, and keeps what comes.
+pub fn play(alloc: Global, row: Row<'_>, came: &mut Came, tally: &mut Tally) {
     match stage_of(alloc, row, tally) {
-        Ok(mut stage) => play_row(alloc, row, &mut stage, tally),
+        Ok(mut stage) => stage.play(alloc, came),
         Err(_) => tally.spend(),
     }
 }
 
-fn play_row(alloc: Global, row: Row<'_>, stage: &mut Stage, tally: &mut Tally) {
+/// Plays a row, and compares what comes with what is wanted.
+fn check_row(alloc: Global, row: Row<'_>, tally: &mut Tally) {
+    let mut came = Came::new(alloc);
     let mut shown = Shown::new(alloc);
-    let status = stage.play(alloc);
-    stage.show(status, &mut shown);
-    let holds = wanted_status(row, tally) == u64::from(status)
-        && is_text(alloc, row, b"out", stage.out.held(), tally)
-        && is_text(alloc, row, b"err", stage.err.held(), tally);
+    row.refuse_strangers(tally);
+    play(alloc, row, &mut came, tally);
+    came.show(&mut shown);
+    let holds = is_wanted(alloc, row, &came, tally);
     tally.add(row.first, holds, shown.text.as_str());
+}
+
+/// Whether what came is what a row wants.
+fn is_wanted(alloc: Global, row: Row<'_>, came: &Came, tally: &mut Tally) -> bool {
+    wanted_status(row, tally) == u64::from(came.status)
+        && is_text(alloc, row, b"out", came.out.bytes.as_slice(), tally)
+        && is_text(alloc, row, b"err", came.err.bytes.as_slice(), tally)
 }
 
 /// The status that a row wants.

@@ -4,7 +4,7 @@ ghost use Rattle.fut_scalar.specs.Integers.{FitsType, width_of};
 ghost use Rattle.fut_scalar.specs.declared.scalar.ScalarType.TheVariants as sort;
 ghost use Rattle.fut_arithmetic.specs.Types.{IsOf, type_of};
 
-use crate::parts::{cut, number_of};
+use crate::parts::{cut, number_of, text_of};
 use crate::rows::Answers;
 use fut_arithmetic::{binop, convert, decode_order, decode_word, encode_order, encode_word, unop};
 use fut_scalar::{BinOp, IntType, Scalar, ScalarFault, ScalarType, UnOp};
@@ -30,16 +30,16 @@ impl Answers for Scalars {
 }
 
 fn type_of(word: &[u8]) -> Option<ScalarType> {
-    match word {
-        b"i8" => Some(ScalarType::Int(IntType::I8)),
-        b"i16" => Some(ScalarType::Int(IntType::I16)),
-        b"i32" => Some(ScalarType::Int(IntType::I32)),
-        b"i64" => Some(ScalarType::Int(IntType::I64)),
-        b"u8" => Some(ScalarType::Int(IntType::U8)),
-        b"u16" => Some(ScalarType::Int(IntType::U16)),
-        b"u32" => Some(ScalarType::Int(IntType::U32)),
-        b"u64" => Some(ScalarType::Int(IntType::U64)),
-        b"bool" => Some(ScalarType::Bool),
+    match text_of(word) {
+        "i8" => Some(ScalarType::Int(IntType::I8)),
+        "i16" => Some(ScalarType::Int(IntType::I16)),
+        "i32" => Some(ScalarType::Int(IntType::I32)),
+        "i64" => Some(ScalarType::Int(IntType::I64)),
+        "u8" => Some(ScalarType::Int(IntType::U8)),
+        "u16" => Some(ScalarType::Int(IntType::U16)),
+        "u32" => Some(ScalarType::Int(IntType::U32)),
+        "u64" => Some(ScalarType::Int(IntType::U64)),
+        "bool" => Some(ScalarType::Bool),
         _ => None,
     }
 }
@@ -62,9 +62,9 @@ fn scalar_of(ty: ScalarType, word: &[u8]) -> Option<Scalar>
 {
     match ty {
         ScalarType::Int(ty) => integer_of(ty, word),
-        ScalarType::Bool => match word {
-            b"true" => Some(Scalar::Bool(true)),
-            b"false" => Some(Scalar::Bool(false)),
+        ScalarType::Bool => match text_of(word) {
+            "true" => Some(Scalar::Bool(true)),
+            "false" => Some(Scalar::Bool(false)),
             _ => None,
         },
     }
@@ -84,15 +84,33 @@ fn integer_of(ty: IntType, word: &[u8]) -> Option<Scalar>
 /// The result of an operation that a text spells.
 fn result_of(text: &[u8]) -> Option<Result<Scalar, ScalarFault>> {
     let (ty, operation) = cut(text, b' ')?;
-    let ty = type_of(ty)?;
     let (first, rest) = cut(operation, b' ')?;
-    match first {
-        b"-" => result_of_one(ty, UnOp::Neg, rest),
-        b"!" => result_of_one(ty, UnOp::Not, rest),
-        b"abs" => result_of_one(ty, UnOp::Abs, rest),
-        b"popc" => result_of_one(ty, UnOp::Popc, rest),
-        b"word" => Some(Ok(decode_word(ty, number_of(rest)?))),
-        b"order" => Some(Ok(decode_order(ty, number_of(rest)?))),
+    let ty = type_of(ty)?;
+    match unary_of(first) {
+        Some(op) => result_of_one(ty, op, rest),
+        None => result_of_other(ty, first, rest),
+    }
+}
+
+fn unary_of(sign: &[u8]) -> Option<UnOp> {
+    match text_of(sign) {
+        "-" => Some(UnOp::Neg),
+        "!" => Some(UnOp::Not),
+        "abs" => Some(UnOp::Abs),
+        "popc" => Some(UnOp::Popc),
+        _ => None,
+    }
+}
+
+/// The scalar of a word, or the result of what follows a value.
+fn result_of_other(
+    ty: ScalarType,
+    first: &[u8],
+    rest: &[u8],
+) -> Option<Result<Scalar, ScalarFault>> {
+    match text_of(first) {
+        "word" => Some(Ok(decode_word(ty, number_of(rest)?))),
+        "order" => Some(Ok(decode_order(ty, number_of(rest)?))),
         _ => result_of_value(scalar_of(ty, first)?, ty, rest),
     }
 }
@@ -114,14 +132,26 @@ fn result_of_value(
 ) -> Option<Result<Scalar, ScalarFault>>
     requires { IsOf ty value }
 {
-    match rest {
-        b"word" => Some(Ok(number(encode_word(value)))),
-        b"order" => Some(Ok(number(encode_order(value)))),
-        [b't', b'o', b' ', to @ ..] => Some(Ok(convert(type_of(to)?, value))),
-        _ => {
-            let (sign, word) = cut(rest, b' ')?;
-            result_of_two(operator_of(sign)?, value, scalar_of(ty, word)?)
-        }
+    match text_of(rest) {
+        "word" => Some(Ok(number(encode_word(value)))),
+        "order" => Some(Ok(number(encode_order(value)))),
+        _ => result_of_longer(value, ty, rest),
+    }
+}
+
+/// The result of a conversion, or of an operator and another value.
+fn result_of_longer(
+    value: Scalar,
+    ty: ScalarType,
+    rest: &[u8],
+) -> Option<Result<Scalar, ScalarFault>>
+    requires { IsOf ty value }
+{
+    let (sign, word) = cut(rest, b' ')?;
+    match operator_of(sign) {
+        Some(op) => result_of_two(op, value, scalar_of(ty, word)?),
+        None if text_of(sign) == "to" => Some(Ok(convert(type_of(word)?, value))),
+        None => None,
     }
 }
 

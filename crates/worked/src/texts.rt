@@ -30,6 +30,12 @@ impl Text {
         }
     }
 
+    /// Puts bytes in the place of the others.
+    pub fn set(&mut self, bytes: &[u8]) {
+        self.bytes.clear();
+        self.add(bytes);
+    }
+
     pub fn push(&mut self, byte: u8) {
         if self.bytes.push(byte).is_err() {
             self.is_spent = true;

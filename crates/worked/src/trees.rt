@@ -1,5 +1,5 @@
 // Texts and their trees. A line `frame value` says that the texts behind it are values of a definition; see `Frame`.
-use crate::parts::behind_word;
+use crate::parts::{behind_word, text_of};
 use crate::rows::Answers;
 use crate::texts::Text;
 use crate::tokens::MOST_BYTES;
@@ -9,7 +9,6 @@ use fut_lexer::{Token, lex};
 use fut_parser::{ParseErr, parse};
 use shown::{Shown, show_program};
 use std::alloc::Global;
-use std::str;
 
 /// What stands around each text, in lines of its own, and around the tree of each.
 #[derive(Clone, Copy)]
@@ -99,7 +98,7 @@ impl Trees {
 impl Answers for Trees {
     fn takes_heading(&mut self, line: &[u8]) -> bool {
         match behind_word(line, b"frame") {
-            Some(name) => self.takes_frame(str::from_utf8(name).unwrap_or("")),
+            Some(name) => self.takes_frame(text_of(name)),
             None => false,
         }
     }

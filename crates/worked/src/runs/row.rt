@@ -1,6 +1,6 @@
 // A row of a run: its lines, and what stands in them.
 use crate::fault::Wrong;
-use crate::parts::{Parts, behind_word, number_of};
+use crate::parts::{Parts, behind_word, number_of, text_of};
 use crate::tally::Tally;
 use crate::texts::{Text, add_text, is_comment, is_text};
 use fut_scalar::List;
@@ -29,7 +29,10 @@ const WORDS: [&[u8]; 9] = [
 
 /// Whether a text stands behind a line.
 fn is_heading(line: &[u8]) -> bool {
-    matches!(line, b"input" | b"out" | b"err") || line.starts_with(b"file ")
+    match text_of(line) {
+        "input" | "out" | "err" => true,
+        _ => line.starts_with(b"file "),
+    }
 }
 
 /// Whether a line begins with one of the words.
