@@ -1,5 +1,5 @@
 // Forms that begin with a keyword and reach far: if, functions, loops.
-ghost use Rattle.std.specs.Prelude.{◌≡◌, true, ◌≤◌, ◌<◌, ◌+◌, ◌&&◌, suc, length, IfOk};
+ghost use Rattle.std.specs.Prelude.{◌≡◌, true, ◌≤◌, ◌<◌, ◌+◌, ◌&&◌, suc, IfOk};
 ghost use Rattle.fut_ast.specs.ExpRows.{count, each, function, if_else, loop, while};
 ghost use Rattle.fut_ast.specs.Rows.{of_exp};
 ghost use Rattle.fut_ast.specs.Behind.{passes};

@@ -7,7 +7,7 @@ ghost use Rattle.fut_ast.specs.Sorts.{Let_item};
 ghost use Rattle.fut_ast.specs.Tokens.{starts, tail};
 ghost use Rattle.fut_atoms.specs.Parts.{behind_let, let_of_row};
 ghost use Rattle.fut_phrases.specs.Found.{found_as};
-ghost use Rattle.fut_grammar.specs.Phrases.{items, let_at, phrases, read_at, row_of_lets};
+ghost use Rattle.fut_grammar.specs.Phrases.{items, phrases, read_at, row_of_lets};
 ghost use Rattle.fut_grammar.specs.Reading.{Gives, row_at};
 ghost use Rattle.fut_tree.specs.Exps.{bind_of, binds_of};
 
