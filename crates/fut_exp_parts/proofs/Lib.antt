@@ -1,4 +1,6 @@
 pub mod FieldLaws
 pub mod IndexLaws
 pub mod ListLaws
+pub mod NamedLaws
 pub mod PatLaws
+pub mod TokenLaws

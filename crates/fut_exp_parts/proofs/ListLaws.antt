@@ -4,13 +4,20 @@ use Rattle.std.proofs.Math.Numerals.{suc-eq-add-one}
 use Rattle.std.proofs.Math.Seq.{take-suc, take-length}
 use Rattle.std.proofs.lemmas.List.{map-append}
 
-module _ {A B C D : Type 0} (view : A → D) (f : C → D) (g : B → C) (made : List A) (parts : List B) (i : ℕ) where
-  pub one_more : (x : A) (y : B) → i < length parts → map view made ≡ map f (map g (take i parts)) → y ≡ get_or parts i y → view x ≡ f (g y) → map view (made ++ x ∷ []) ≡ map f (map g (take (i + 1) parts))
-  one_more x y lt so_far is same =
-      let so : List B = take i parts in
-      let step = ap (λ (z : B). so ++ z ∷ []) is ∙ sym (take-suc parts i y lt) ∙ ap (λ (k : ℕ). take k parts) (suc-eq-add-one i) in
-      map-append view made (x ∷ []) ∙ ap (λ (zs : List D). zs ++ view x ∷ []) so_far ∙ ap (λ (z : D). map f (map g so) ++ z ∷ []) same
-      ∙ sym (map-append f (map g so) (g y ∷ [])) ∙ sym (ap (λ (zs : List C). map f zs) (map-append g so (y ∷ []))) ∙ ap (λ (zs : List B). map f (map g zs)) step
+-- the items so far and one more
+pub so_many : {B : Type 0} (parts : List B) (i : ℕ) (y : B) → i < length parts → y ≡ get_or parts i y → take i parts ++ y ∷ [] ≡ take (i + 1) parts
+so_many parts i y lt is = ap (λ z. take i parts ++ z ∷ []) is ∙ sym (take-suc parts i y lt) ∙ ap (λ (k : ℕ). take k parts) (suc-eq-add-one i)
 
-  pub all_made : length parts ≤ i → i ≤ length parts → map view made ≡ map f (map g (take i parts)) → map view made ≡ map f (map g parts)
-  all_made ge le so_far = let same : i ≡ length parts = omega (arith, ge, le) in so_far ∙ ap (λ (zs : List B). map f (map g zs)) (ap (λ (k : ℕ). take k parts) same ∙ take-length parts)
+-- all of them
+pub so_all : {B : Type 0} (parts : List B) (i : ℕ) → length parts ≤ i → i ≤ length parts → take i parts ≡ parts
+so_all parts i ge le = let same : i ≡ length parts = omega (arith, ge, le) in ap (λ (k : ℕ). take k parts) same ∙ take-length parts
+
+module _ {B C D : Type 0} (f : C → D) (g : B → C) (parts : List B) (i : ℕ) where
+  pub one_more : (old new : List D) (y : B) → i < length parts → old ≡ map f (map g (take i parts)) → y ≡ get_or parts i y → new ≡ old ++ f (g y) ∷ [] → new ≡ map f (map g (take (i + 1) parts))
+  one_more old new y lt so_far is so =
+      let done : List B = take i parts in
+      so ∙ ap (λ (zs : List D). zs ++ f (g y) ∷ []) so_far
+      ∙ sym (map-append f (map g done) (g y ∷ [])) ∙ sym (ap (λ (zs : List C). map f zs) (map-append g done (y ∷ []))) ∙ ap (λ (zs : List B). map f (map g zs)) (so_many parts i y lt is)
+
+  pub all_made : (made : List D) → length parts ≤ i → i ≤ length parts → made ≡ map f (map g (take i parts)) → made ≡ map f (map g parts)
+  all_made made ge le so_far = so_far ∙ ap (λ (zs : List B). map f (map g zs)) (so_all parts i ge le)

@@ -1,10 +1,10 @@
 -- The parts of an index, as they are held.
-use Rattle.std.specs.Prelude.{List, [], Option, Some, None, map}
+use Rattle.std.specs.Prelude.{List, [], ◌∷◌, Option, Some, None, map}
 use Rattle.fut_ast.specs.declared.exp.Bind.{Bind}
 use Rattle.fut_ast.specs.declared.exp.Ix.{Ix}
 use Rattle.fut_ast.specs.declared.exp.Ix.TheVariants as ix
 use Rattle.fut_ast.specs.declared.node.Spot.{Spot}
-use Rattle.fut_ast.specs.Nodes.{index_of, named_index_of, named_slice_of}
+use Rattle.fut_ast.specs.Nodes.{index_of, let_named, named_index_of, named_slice_of, use_named}
 use Rattle.fut_ast.specs.Sorts.{Text, Path, SourceExp}
 use Rattle.fut_tree.specs.Names.{maybe}
 use Rattle.fut_tree.specs.Exps.{binds_of, ix_of}
@@ -36,7 +36,16 @@ plain_from (Some e) upto = index_of e upto
 abbrev pub plain_part : Written → Ix Path Text
 plain_part w = plain_from w.1 w.2
 
--- the same in a section, with the names of its expressions
+-- the use of an expression's name and its binding, where there is an expression
+abbrev pub uses_named : Spot → Option SourceExp → Option SourceExp
+uses_named at None = None
+uses_named at (Some e) = Some (use_named at e)
+
+abbrev pub lets_named : Spot → Option SourceExp → List (Bind Path Text)
+lets_named at None = []
+lets_named at (Some e) = let_named at e ∷ []
+
+-- a part in a section, with the names of its expressions
 abbrev pub section_end_of : Option (Spot × Option SourceExp) → List (Bind Path Text) × Ix Path Text
 section_end_of None = ([], ix.Backwards)
 section_end_of (Some upto) = named_slice_of upto.0 upto.1

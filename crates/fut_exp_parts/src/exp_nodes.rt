@@ -166,19 +166,6 @@ pub fn name_used<'a>(bump: &'a Bump, place: Place, name: &'a str) -> Result<&'a 
 
 // ---- rows of lets, functions and calls
 
-/// A `let` of one pattern.
-pub fn one_let<'a>(pat: &'a Pat<'a>, value: &'a Exp<'a>) -> Bind<'a>
-    ensures { bind_of result ≡ let_one pat.now value.now }
-{
-    Bind {
-        sizes: &[],
-        pat,
-        is_function: false,
-        heads: &[],
-        value,
-    }
-}
-
 /// A `let` of one name.
 pub fn name_let<'a>(
     bump: &'a Bump,
@@ -189,24 +176,14 @@ pub fn name_let<'a>(
     ensures { IfOk result (λ b. bind_of b ≡ let_one (bound place name.now) value.now) }
 {
     match pat_nodes::name(bump, place, name) {
-        Ok(pat) => Ok(one_let(pat, value)),
+        Ok(pat) => Ok(Bind {
+            sizes: &[],
+            pat,
+            is_function: false,
+            heads: &[],
+            value,
+        }),
         Err(none) => Err(none),
-    }
-}
-
-/// One `let` of a name before a body.
-pub fn let_before<'a>(
-    bump: &'a Bump,
-    place: Place,
-    mark: Place,
-    bind: Bind<'a>,
-    body: &'a Exp<'a>,
-) -> Result<&'a Exp<'a>, NoMemory>
-    ensures { IfOk result (λ e. e.now ≡ node place mark (form.Lets (bind_of bind.entry ∷ []) body.now)) }
-{
-    match bump.try_alloc_slice_copy(&[bind]) {
-        Ok(row) => lets(bump, place, mark, row, body),
-        Err(_) => Err(NoMemory),
     }
 }
 
@@ -223,7 +200,10 @@ pub fn let_name<'a>(
 {
     match body {
         Ok(body) => match name_let(bump, mark, name, value) {
-            Ok(bind) => let_before(bump, from, mark, bind, body),
+            Ok(bind) => match bump.try_alloc_slice_copy(&[bind]) {
+                Ok(row) => lets(bump, from, mark, row, body),
+                Err(_) => Err(NoMemory),
+            },
             Err(none) => Err(none),
         },
         Err(none) => Err(none),
@@ -270,21 +250,6 @@ pub fn function<'a>(
     )
 }
 
-/// A function of one parameter.
-pub fn lambda<'a>(
-    bump: &'a Bump,
-    place: Place,
-    param: &'a Pat<'a>,
-    body: &'a Exp<'a>,
-) -> Result<&'a Exp<'a>, NoMemory>
-    ensures { IfOk result (λ e. e.now ≡ exp_at place (form.Lambda (param.now ∷ []) None body.now)) }
-{
-    match bump.try_alloc_slice_copy(&[Held { at: param }]) {
-        Ok(params) => function(bump, place, params, None, body),
-        Err(_) => Err(NoMemory),
-    }
-}
-
 /// A function of one name, if there was memory for its body.
 pub fn function_of_name<'a>(
     bump: &'a Bump,
@@ -297,7 +262,10 @@ pub fn function_of_name<'a>(
 {
     match body {
         Ok(body) => match pat_nodes::name(bump, at, name) {
-            Ok(param) => lambda(bump, place, param, body),
+            Ok(param) => match bump.try_alloc_slice_copy(&[Held { at: param }]) {
+                Ok(params) => function(bump, place, params, None, body),
+                Err(_) => Err(NoMemory),
+            },
             Err(none) => Err(none),
         },
         Err(none) => Err(none),
@@ -362,27 +330,6 @@ pub fn unary<'a>(
             place,
             mark: place,
             form: Form::Unary(operator, operand),
-        },
-    )
-}
-
-/// An operator between its operands.
-pub fn binary<'a>(
-    bump: &'a Bump,
-    place: Place,
-    mark: Place,
-    operator: Oper,
-    left: &'a Exp<'a>,
-    right: &'a Exp<'a>,
-) -> Result<&'a Exp<'a>, NoMemory>
-    ensures { IfOk result (λ e. e.now ≡ node place mark (form.Binary operator left.now right.now)) }
-{
-    held(
-        bump,
-        Exp {
-            place,
-            mark,
-            form: Form::Binary(operator, left, right),
         },
     )
 }

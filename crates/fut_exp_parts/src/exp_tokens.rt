@@ -32,9 +32,9 @@ ghost use Rattle.fut_ast.specs.Operators.{
   section_at,
 };
 ghost use Rattle.fut_ast.specs.Parts.{going_back};
-ghost use Rattle.fut_ast.specs.Tokens.{is_digits, is_one, is_tight, starts_loose, starts_tight};
+ghost use Rattle.fut_ast.specs.Tokens.{is_digits, is_tight, starts_loose, starts_tight};
 ghost use Rattle.fut_grammar.specs.Phrases.{operator_between};
-ghost use Rattle.fut_grammar.specs.Reading.{Gives, backtick_at, digits_at, end_at, look_at, one_at, operator_taken};
+ghost use Rattle.fut_grammar.specs.Reading.{Gives, digits_at, end_at, look_at, one_at, operator_taken};
 ghost use Rattle.fut_grammar.specs.Reading.{operator_from as named_from};
 
 use fut_ast::{End, Ended, Spot, What};
@@ -230,24 +230,20 @@ pub fn past_operator(fixed: Fixed, tokens: &[Token]) -> &[Token]
     }
 }
 
-fn operator_if(least: u8, fixed: Fixed) -> Option<Fixed>
-    ensures { result ≡ operator_from least fixed }
-{
-    let level = level_of(fixed);
-    if 1 <= level && least <= level {
-        Some(fixed)
-    } else {
-        None
-    }
-}
-
 /// The operator of a level or tighter that stands next.
 pub fn next_operator(least: u8, tokens: &[Token]) -> Option<Fixed>
     ensures { result ≡ operator_at least tokens.now }
 {
     match tokens {
         [token, ..] => match &token.kind {
-            TokenKind::Fixed(fixed) => operator_if(least, *fixed),
+            TokenKind::Fixed(fixed) => {
+                let level = level_of(*fixed);
+                if 1 <= level && least <= level {
+                    Some(*fixed)
+                } else {
+                    None
+                }
+            }
             _ => None,
         },
         [] => None,
@@ -274,19 +270,7 @@ pub fn next_fitting(ended: Ended, least: u8, tokens: &[Token]) -> Option<Fixed>
 pub fn next_any_operator(tokens: &[Token]) -> Option<Fixed>
     ensures { result ≡ any_operator tokens.now }
 {
-    match tokens {
-        [token, ..] => match &token.kind {
-            TokenKind::Fixed(fixed) => {
-                if 1 <= level_of(*fixed) {
-                    Some(*fixed)
-                } else {
-                    None
-                }
-            }
-            _ => None,
-        },
-        [] => None,
-    }
+    next_operator(1, tokens)
 }
 
 // Whether a name and a backtick stand behind a backtick.
@@ -411,15 +395,6 @@ pub fn take_end(tokens: &[Token]) -> Result<(End, &[Token]), Stop>
     }
 }
 
-fn starts_with_one(tokens: &[Token]) -> bool
-    ensures { result ≡ is_one tokens.now }
-{
-    match tokens {
-        [token, ..] => matches!(&token.kind, TokenKind::Int { value: 1, .. }),
-        [] => false,
-    }
-}
-
 // Whether "-1" stands next, or the tokens end before it.
 fn goes_backwards(tokens: &[Token]) -> bool
     ensures { result ≡ goes_back tokens.now }
@@ -427,7 +402,10 @@ fn goes_backwards(tokens: &[Token]) -> bool
     match tokens {
         [] => true,
         [_] => starts_with(tokens, Fixed::Minus),
-        [_, rest @ ..] => starts_with(tokens, Fixed::Minus) && starts_with_one(rest),
+        [_, next, ..] => {
+            starts_with(tokens, Fixed::Minus)
+                && matches!(&next.kind, TokenKind::Int { value: 1, .. })
+        }
     }
 }
 
@@ -462,15 +440,6 @@ pub fn take_one(tokens: &[Token]) -> Result<&[Token], Stop>
 }
 
 #[tactic(auto, unfolding(fut_grammar::specs::Reading::backtick_at, fut_grammar::specs::Reading::expect))]
-fn quoted_operator<'a>(tokens: &'a [Token]) -> Result<((Spot, &'a str), &'a [Token]), Stop>
-    ensures { Gives (λ x. ((x.0.0, x.0.1.now), x.1.now)) result (backtick_at tokens.now) }
-{
-    match take_word_before(tokens, Fixed::Backtick) {
-        Ok((name, rest)) => Ok(((next_spot(tokens), name), rest)),
-        Err(stop) => Err(stop),
-    }
-}
-
 fn operator_behind<'a>(
     fixed: Fixed,
     at: Spot,
@@ -479,7 +448,10 @@ fn operator_behind<'a>(
     ensures { Gives (λ x. ((x.0.0, x.0.1.now), x.1.now)) result (named_from fixed at tokens.now) }
 {
     match fixed {
-        Fixed::Backtick => quoted_operator(tokens),
+        Fixed::Backtick => match take_word_before(tokens, Fixed::Backtick) {
+            Ok((name, rest)) => Ok(((next_spot(tokens), name), rest)),
+            Err(stop) => Err(stop),
+        },
         _ => Ok(((at, ""), tokens)),
     }
 }

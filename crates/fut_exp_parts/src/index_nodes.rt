@@ -1,5 +1,5 @@
 // The parts of an index, also in a section, where each expression gets a name.
-ghost use Rattle.std.specs.Prelude.{◌≡◌, ◌+◌, ◌%◌, ◌∷◌, [], None, Some, IfOk, map};
+ghost use Rattle.std.specs.Prelude.{◌≡◌, ◌+◌, ◌%◌, ◌++◌, ◌∷◌, [], None, IfOk, OnOk, map};
 ghost use Rattle.fut_ast.specs.Nodes.{
   behind_lets,
   bound,
@@ -7,17 +7,15 @@ ghost use Rattle.fut_ast.specs.Nodes.{
   flat,
   held_name,
   index_section,
-  let_named,
   name_of_position,
-  named_index_of,
   node,
-  use_named,
   use_of,
 };
+ghost use Rattle.fut_ast.specs.Sorts.{SourceExp};
 ghost use Rattle.fut_ast.specs.declared.exp.Form.TheVariants as form;
-ghost use Rattle.fut_ast.specs.declared.exp.Ix.TheVariants as ix;
-ghost use Rattle.fut_exp_parts.specs.Parts.{named_all, named_of, plain_part, section_end_of, section_part, upto_of, written_of};
-ghost use Rattle.fut_tree.specs.Exps.{bind_of, binds_of, ix_of, ixs_of};
+ghost use Rattle.fut_exp_parts.specs.Parts.{lets_named, named_all, named_of, plain_part, section_part, uses_named, written_of};
+ghost use Rattle.fut_tree.specs.Exps.{binds_of, ix_of, ixs_of};
+ghost use Rattle.fut_tree.specs.Names.{maybe};
 
 use crate::exp_nodes::{function_of_name, index, lets, name_let, name_used};
 use crate::new_names::name_of_held;
@@ -53,15 +51,12 @@ pub struct NamedPart<'a> {
 pub fn index_part<'a>(part: WrittenPart<'a>) -> Ix<'a>
     ensures { ix_of result ≡ plain_part (written_of part.entry) }
 {
-    match part.first {
-        None => match part.upto {
+    match part.upto {
+        None => match part.first {
             None => Ix::Backwards,
-            Some(upto) => Ix::Slice(None, upto.end),
+            Some(e) => Ix::At(e),
         },
-        Some(e) => match part.upto {
-            None => Ix::At(e),
-            Some(upto) => Ix::Slice(Some(e), upto.end),
-        },
+        Some(upto) => Ix::Slice(part.first, upto.end),
     }
 }
 
@@ -96,24 +91,31 @@ fn position_name<'a>(bump: &'a Bump, position: u64) -> Result<&'a str, NoMemory>
     }
 }
 
-// An expression bound to a name, and the use of that name.
-#[derive(Clone, Copy)]
-struct NamedExp<'a> {
-    bind: Bind<'a>,
-    used: &'a Exp<'a>,
-}
-
-fn named<'a>(bump: &'a Bump, at: Spot, e: &'a Exp<'a>) -> Result<NamedExp<'a>, NoMemory>
-    ensures { IfOk result (λ x. (bind_of x.bind ≡ let_named at e.now) × (x.used.now ≡ use_named at e.now)) }
+// The name of an expression, if there is one, is bound behind the row, and its use stands for the expression.
+fn named<'a>(
+    bump: &'a Bump,
+    at: Spot,
+    e: Option<&'a Exp<'a>>,
+    row: &mut Vec<Bind<'a>, &'a Bump>,
+) -> Result<Option<&'a Exp<'a>>, NoMemory>
+    ensures used { IfOk result (λ x. maybe x ≡ uses_named at (maybe e.entry)) }
+    ensures row { OnOk result (binds_of row.new.items ≡ binds_of row.old.items ++ lets_named at (maybe e.entry)) }
 {
+    let e = match e {
+        None => return Ok(None),
+        Some(e) => e,
+    };
     let name = match position_name(bump, at.start) {
         Ok(name) => name,
         Err(none) => return Err(none),
     };
-    match name_used(bump, e.place, name) {
-        Ok(used) => match name_let(bump, at.place, name, e) {
-            Ok(bind) => Ok(NamedExp { bind, used }),
-            Err(none) => Err(none),
+    match name_let(bump, at.place, name, e) {
+        Ok(bind) => match row.push(bind) {
+            Ok(()) => match name_used(bump, e.place, name) {
+                Ok(used) => Ok(Some(used)),
+                Err(none) => Err(none),
+            },
+            Err(_) => Err(NoMemory),
         },
         Err(none) => Err(none),
     }
@@ -125,105 +127,38 @@ fn named<'a>(bump: &'a Bump, at: Spot, e: &'a Exp<'a>) -> Result<NamedExp<'a>, N
 pub fn named_part<'a>(bump: &'a Bump, part: WrittenPart<'a>) -> Result<NamedPart<'a>, NoMemory>
     ensures { IfOk result (λ p. named_of p ≡ section_part (written_of part.entry)) }
 {
-    match part.first {
-        None => named_end(bump, part.upto),
-        Some(e) => named_from(bump, part.at, e, part.upto),
+    let mut row = Vec::new(bump);
+    match part_of_names(bump, part, &mut row) {
+        Ok(part) => Ok(NamedPart {
+            binds: into_bump_slice(row),
+            part,
+        }),
+        Err(none) => Err(none),
     }
 }
 
-// The part, with a name more, which is the only one.
-fn with_name<'a>(
+// The part with the names in their places, which are bound behind the row.
+fn part_of_names<'a>(
     bump: &'a Bump,
-    bind: Bind<'a>,
-    part: NamedPart<'a>,
-) -> Result<NamedPart<'a>, NoMemory>
-    ensures { IfOk result (λ p. named_of p ≡ (bind_of bind.entry ∷ [], ix_of part.entry.part)) }
+    part: WrittenPart<'a>,
+    row: &mut Vec<Bind<'a>, &'a Bump>,
+) -> Result<Ix<'a>, NoMemory>
+    ensures part { IfOk result (λ i. ix_of i ≡ (section_part (written_of part.entry)).1) }
+    ensures row { OnOk result (binds_of row.new.items ≡ binds_of row.old.items ++ (section_part (written_of part.entry)).0) }
 {
-    match bump.try_alloc_slice_copy(&[bind]) {
-        Ok(binds) => Ok(NamedPart {
-            binds,
-            part: part.part,
-        }),
-        Err(_) => Err(NoMemory),
-    }
-}
-
-// A part without a first expression.
-fn named_end<'a>(bump: &'a Bump, upto: Option<Upto<'a>>) -> Result<NamedPart<'a>, NoMemory>
-    ensures { IfOk result (λ p. named_of p ≡ section_end_of (upto_of upto.entry)) }
-{
-    match upto {
-        None => Ok(NamedPart {
-            binds: &[],
-            part: Ix::Backwards,
-        }),
-        Some(Upto { end: None, .. }) => Ok(NamedPart {
-            binds: &[],
-            part: Ix::Slice(None, None),
-        }),
-        Some(
-            Upto {
-                colon,
-                end: Some(end),
-            },
-        ) => match named(bump, colon, end) {
-            Ok(NamedExp { bind, used }) => {
-                let part = Ix::Slice(None, Some(used));
-                with_name(bump, bind, NamedPart { binds: &[], part })
-            }
-            Err(none) => Err(none),
-        },
-    }
-}
-
-// A part, of its first expression and what stands behind it.
-fn named_from<'a>(
-    bump: &'a Bump,
-    at: Spot,
-    e: &'a Exp<'a>,
-    upto: Option<Upto<'a>>,
-) -> Result<NamedPart<'a>, NoMemory>
-    ensures { IfOk result (λ p. named_of p ≡ named_index_of at e.now (upto_of upto.entry)) }
-{
-    let NamedExp { bind, used } = match named(bump, at, e) {
+    let first = match named(bump, part.at, part.first, row) {
         Ok(first) => first,
         Err(none) => return Err(none),
     };
-    match upto {
-        None => {
-            let part = Ix::At(used);
-            with_name(bump, bind, NamedPart { binds: &[], part })
-        }
-        Some(Upto { end: None, .. }) => {
-            let part = Ix::Slice(Some(used), None);
-            with_name(bump, bind, NamedPart { binds: &[], part })
-        }
-        Some(
-            Upto {
-                colon,
-                end: Some(end),
-            },
-        ) => match named(bump, colon, end) {
-            Ok(last) => named_slice(bump, NamedExp { bind, used }, last),
+    match part.upto {
+        None => match first {
+            None => Ok(Ix::Backwards),
+            Some(used) => Ok(Ix::At(used)),
+        },
+        Some(upto) => match named(bump, upto.colon, upto.end, row) {
+            Ok(end) => Ok(Ix::Slice(first, end)),
             Err(none) => Err(none),
         },
-    }
-}
-
-// A part of two named expressions.
-fn named_slice<'a>(
-    bump: &'a Bump,
-    first: NamedExp<'a>,
-    last: NamedExp<'a>,
-) -> Result<NamedPart<'a>, NoMemory>
-    ensures { IfOk result (λ p. named_of p ≡ (bind_of first.entry.bind ∷ bind_of last.entry.bind ∷ [], ix.Slice (Some first.entry.used.now) (Some last.entry.used.now))) }
-{
-    match bump.try_alloc_slice_copy(&[first.bind, last.bind]) {
-        Ok(binds) => Ok(NamedPart {
-            binds,
-            part: Ix::Slice(Some(first.used), Some(last.used)),
-        }),
-        Err(_) => Err(NoMemory),
     }
 }
 
@@ -236,30 +171,55 @@ pub fn section_of_index<'a>(
 ) -> Result<&'a Exp<'a>, NoMemory>
     ensures { IfOk result (λ s. s.now ≡ index_section paren bracket (named_all parts.now)) }
 {
-    let indices = match indices_of(bump, parts) {
-        Ok(indices) => indices,
-        Err(none) => return Err(none),
-    };
-    match row_of(bump, parts) {
-        Ok(row) => match function_of_array(bump, paren, bracket, indices) {
-            Ok(function) => behind_row(bump, paren, row, function),
-            Err(none) => Err(none),
-        },
+    let mut row = Vec::new(bump);
+    let mut indices = Vec::new(bump);
+    match take_apart(parts, &mut row, &mut indices) {
+        Ok(()) => {
+            let function = function_of_array(bump, paren, bracket, into_bump_slice(indices));
+            behind_row(bump, paren, into_bump_slice(row), function)
+        }
         Err(none) => Err(none),
     }
 }
 
+// The names of all parts, and the parts.
+fn take_apart<'a>(
+    parts: &[NamedPart<'a>],
+    row: &mut Vec<Bind<'a>, &'a Bump>,
+    indices: &mut Vec<Ix<'a>, &'a Bump>,
+) -> Result<(), NoMemory>
+    requires no_row { row.old.items ≡ [] }
+    requires no_indices { indices.old.items ≡ [] }
+    ensures row { OnOk result (binds_of row.new.items ≡ flat (map (λ i. i.0) (named_all parts.now))) }
+    ensures indices { OnOk result (ixs_of indices.new.items ≡ map (λ i. i.1) (named_all parts.now)) }
+{
+    'parts: for part in parts {
+        match row.extend_from_slice(part.binds) {
+            Ok(()) => match indices.push(part.part) {
+                Ok(()) => (),
+                Err(_) => return Err(NoMemory),
+            },
+            Err(_) => return Err(NoMemory),
+        }
+    }
+    Ok(())
+}
+
+// The row of names before a body, if there was memory for the body.
 fn behind_row<'a>(
     bump: &'a Bump,
     place: Place,
     row: &'a [Bind<'a>],
-    body: &'a Exp<'a>,
+    body: Result<&'a Exp<'a>, NoMemory>,
 ) -> Result<&'a Exp<'a>, NoMemory>
-    ensures { IfOk result (λ e. e.now ≡ behind_lets place (binds_of row.now) body.now) }
+    ensures { (b : SourceExp) → IfOk body.entry (λ x. x.now ≡ b) → IfOk result (λ e. e.now ≡ behind_lets place (binds_of row.now) b) }
 {
-    match row {
-        [] => Ok(body),
-        [_, ..] => lets(bump, place, place, row, body),
+    match body {
+        Ok(body) => match row {
+            [] => Ok(body),
+            [_, ..] => lets(bump, place, place, row, body),
+        },
+        Err(none) => Err(none),
     }
 }
 
@@ -278,24 +238,4 @@ fn function_of_array<'a>(
         }
         Err(none) => Err(none),
     }
-}
-
-fn row_of<'a>(bump: &'a Bump, parts: &'a [NamedPart<'a>]) -> Result<&'a [Bind<'a>], NoMemory>
-    ensures { IfOk result (λ bs. binds_of bs.now ≡ flat (map (λ i. i.0) (named_all parts.now))) }
-{
-    let mut row = Vec::new(bump);
-    'parts: for part in parts {
-        row.extend_from_slice(part.binds)?;
-    }
-    Ok(into_bump_slice(row))
-}
-
-fn indices_of<'a>(bump: &'a Bump, parts: &'a [NamedPart<'a>]) -> Result<&'a [Ix<'a>], NoMemory>
-    ensures { IfOk result (λ ixs. ixs_of ixs.now ≡ map (λ i. i.1) (named_all parts.now)) }
-{
-    let mut indices = Vec::new(bump);
-    'parts: for part in parts {
-        indices.push(part.part)?;
-    }
-    Ok(into_bump_slice(indices))
 }

@@ -1,14 +1,14 @@
 // Operators between their operands.
-ghost use Rattle.std.specs.Prelude.{◌≡◌, IfOk, []};
-ghost use Rattle.fut_ast.specs.Nodes.{joined, joined_by, joined_names_by, joining, oper_of};
+ghost use Rattle.std.specs.Prelude.{◌≡◌, IfOk, [], if◌then◌else◌};
+ghost use Rattle.fut_ast.specs.Nodes.{joined, joined_by, joined_names_by, joining, oper_of, use_of};
 
-use crate::exp_nodes::{binary, call, choice, let_name, name_used, truth};
+use crate::exp_nodes::{call, choice, held, let_name, name_used, truth};
 use crate::new_names::name_of_piped;
 use bumpalo::Bump;
 use fut_ast::{Joining, Oper};
 use fut_scalar::{BinOp, NoMemory, Place};
 use fut_token::Fixed;
-use fut_tree::Exp;
+use fut_tree::{Exp, Form};
 
 fn oper_for(fixed: Fixed) -> Oper
     ensures { result ≡ oper_of fixed }
@@ -52,32 +52,25 @@ fn joining_of(fixed: Fixed) -> Joining
     }
 }
 
-fn both<'a>(
+// `a && b` and `a || b`, of which the value of `a` that ends it is the value.
+fn cut_short<'a>(
     bump: &'a Bump,
+    ending: bool,
     from: Place,
     mark: Place,
     a: &'a Exp<'a>,
     b: &'a Exp<'a>,
 ) -> Result<&'a Exp<'a>, NoMemory>
-    ensures { IfOk result (λ e. e.now ≡ joined_by Joining.Both from mark [] a.now b.now) }
+    ensures { IfOk result (λ e. e.now ≡ joined_by (if ending then Joining.Either else Joining.Both) from mark [] a.now b.now) }
 {
-    match truth(bump, mark, false) {
-        Ok(no) => choice(bump, from, mark, a, b, no),
-        Err(none) => Err(none),
-    }
-}
-
-fn either<'a>(
-    bump: &'a Bump,
-    from: Place,
-    mark: Place,
-    a: &'a Exp<'a>,
-    b: &'a Exp<'a>,
-) -> Result<&'a Exp<'a>, NoMemory>
-    ensures { IfOk result (λ e. e.now ≡ joined_by Joining.Either from mark [] a.now b.now) }
-{
-    match truth(bump, mark, true) {
-        Ok(yes) => choice(bump, from, mark, a, yes, b),
+    match truth(bump, mark, ending) {
+        Ok(known) => {
+            if ending {
+                choice(bump, from, mark, a, known, b)
+            } else {
+                choice(bump, from, mark, a, b, known)
+            }
+        }
         Err(none) => Err(none),
     }
 }
@@ -119,27 +112,6 @@ fn named_call<'a>(
     }
 }
 
-fn joined_as<'a>(
-    bump: &'a Bump,
-    how: Joining,
-    from: Place,
-    mark: Place,
-    name: &'a str,
-    a: &'a Exp<'a>,
-    b: &'a Exp<'a>,
-) -> Result<&'a Exp<'a>, NoMemory>
-    ensures { IfOk result (λ e. e.now ≡ joined_by how from mark name.now a.now b.now) }
-{
-    match how {
-        Joining::Both => both(bump, from, mark, a, b),
-        Joining::Either => either(bump, from, mark, a, b),
-        Joining::Piped => piped(bump, from, mark, a, b),
-        Joining::PipedBack => call(bump, from, mark, a, b),
-        Joining::Named => named_call(bump, from, mark, name, a, b),
-        Joining::Plain(operator) => binary(bump, from, mark, operator, a, b),
-    }
-}
-
 /// Two operands and an operator between them; the name is that of an operator in backticks.
 pub fn join<'a>(
     bump: &'a Bump,
@@ -152,37 +124,65 @@ pub fn join<'a>(
 ) -> Result<&'a Exp<'a>, NoMemory>
     ensures { IfOk result (λ e. e.now ≡ joined fixed from mark name.now a.now b.now) }
 {
-    joined_as(bump, joining_of(fixed), from, mark, name, a, b)
-}
-
-fn names_joined_as<'a>(
-    bump: &'a Bump,
-    how: Joining,
-    from: Place,
-    mark: Place,
-    name: &'a str,
-    a: &'a Exp<'a>,
-    b: &'a Exp<'a>,
-) -> Result<&'a Exp<'a>, NoMemory>
-    ensures { IfOk result (λ e. e.now ≡ joined_names_by how from mark name.now a.now b.now) }
-{
-    match how {
-        Joining::Piped => call(bump, from, mark, b, a),
-        _ => joined_as(bump, how, from, mark, name, a, b),
+    match joining_of(fixed) {
+        Joining::Both => cut_short(bump, false, from, mark, a, b),
+        Joining::Either => cut_short(bump, true, from, mark, a, b),
+        Joining::Piped => piped(bump, from, mark, a, b),
+        Joining::PipedBack => call(bump, from, mark, a, b),
+        Joining::Named => named_call(bump, from, mark, name, a, b),
+        Joining::Plain(operator) => held(
+            bump,
+            Exp {
+                place: from,
+                mark,
+                form: Form::Binary(operator, a, b),
+            },
+        ),
     }
 }
 
-/// The same between two names, of which `|>` needs no other.
+/// A name, and where it is used.
+#[derive(Clone, Copy)]
+pub struct NameAt<'a> {
+    pub place: Place,
+    pub name: &'a str,
+}
+
+/// The same between the uses of two names.
+pub fn join_uses<'a>(
+    bump: &'a Bump,
+    fixed: Fixed,
+    from: Place,
+    mark: Place,
+    name: &'a str,
+    left: NameAt<'a>,
+    right: NameAt<'a>,
+) -> Result<&'a Exp<'a>, NoMemory>
+    ensures { IfOk result (λ e. e.now ≡ joined fixed from mark name.now (use_of left.entry.place left.entry.name.now) (use_of right.entry.place right.entry.name.now)) }
+{
+    match name_used(bump, left.place, left.name) {
+        Ok(a) => match name_used(bump, right.place, right.name) {
+            Ok(b) => join(bump, fixed, from, mark, name, a, b),
+            Err(none) => Err(none),
+        },
+        Err(none) => Err(none),
+    }
+}
+
+/// The same where `|>` needs no other name.
 pub fn join_names<'a>(
     bump: &'a Bump,
     fixed: Fixed,
     from: Place,
     mark: Place,
     name: &'a str,
-    a: &'a Exp<'a>,
-    b: &'a Exp<'a>,
+    left: NameAt<'a>,
+    right: NameAt<'a>,
 ) -> Result<&'a Exp<'a>, NoMemory>
-    ensures { IfOk result (λ e. e.now ≡ joined_names_by (joining fixed) from mark name.now a.now b.now) }
+    ensures { IfOk result (λ e. e.now ≡ joined_names_by (joining fixed) from mark name.now (use_of left.entry.place left.entry.name.now) (use_of right.entry.place right.entry.name.now)) }
 {
-    names_joined_as(bump, joining_of(fixed), from, mark, name, a, b)
+    match joining_of(fixed) {
+        Joining::Piped => join_uses(bump, Fixed::PipeLeft, from, mark, name, right, left),
+        _ => join_uses(bump, fixed, from, mark, name, left, right),
+    }
 }

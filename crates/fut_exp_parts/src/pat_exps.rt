@@ -1,14 +1,14 @@
 // The expression of a loop's pattern, which is its first value where none is written.
 ghost use Rattle.std.specs.Prelude.{◌≡◌, IfOk, map};
-ghost use Rattle.fut_ast.specs.Nodes.{any_wild, exp_of_pat, has_wild};
-ghost use Rattle.fut_tree.specs.Exps.{exp_fields};
+ghost use Rattle.fut_ast.specs.Nodes.{any_wild, exp_at, exp_of_pat, has_wild};
+ghost use Rattle.fut_ast.specs.declared.exp.Form.TheVariants as form;
 ghost use Rattle.fut_tree.specs.Names.{all};
 ghost use Rattle.fut_tree.specs.Pats.{pat_fields};
 
 use crate::exp_nodes::{name_used, record, tuple, unit};
 use bumpalo::Bump;
 use bumpalo::collections::into_bump_slice;
-use fut_scalar::NoMemory;
+use fut_scalar::{NoMemory, Place};
 use fut_tree::{Exp, ExpField, Held, Pat, PatField, PatForm};
 
 /// Whether a `_` stands in the pattern.
@@ -59,40 +59,52 @@ pub fn exp_of_pattern<'a>(bump: &'a Bump, pattern: &'a Pat<'a>) -> Result<&'a Ex
 {
     match pattern.form {
         PatForm::Var(name) => name_used(bump, pattern.place, name),
-        PatForm::Wild => unit(bump, pattern.place),
-        PatForm::Unit => unit(bump, pattern.place),
-        PatForm::Tuple(parts) => tuple(bump, pattern.place, exps_of(bump, parts)?),
-        PatForm::Record(fields) => record(bump, pattern.place, fields_of(bump, fields)?),
+        PatForm::Wild | PatForm::Unit => unit(bump, pattern.place),
+        PatForm::Tuple(parts) => tuple_of(bump, pattern.place, parts),
+        PatForm::Record(fields) => record_of(bump, pattern.place, fields),
         PatForm::Ascribe(inside, _) => exp_of_pattern(bump, inside),
     }
 }
 
 #[cycle(patexps)]
-fn exps_of<'a>(
+fn tuple_of<'a>(
     bump: &'a Bump,
+    place: Place,
     parts: &'a [Held<'a, Pat<'a>>],
-) -> Result<&'a [Held<'a, Exp<'a>>], NoMemory>
-    ensures { IfOk result (λ es. all es.now ≡ map exp_of_pat (all parts.now)) }
+) -> Result<&'a Exp<'a>, NoMemory>
+    ensures { IfOk result (λ e. e.now ≡ exp_at place (form.Tuple (map exp_of_pat (all parts.now)))) }
 {
     let mut made = Vec::new(bump);
     'parts: for part in parts {
-        let at = exp_of_pattern(bump, part.at)?;
-        made.push(Held { at })?;
+        match exp_of_pattern(bump, part.at) {
+            Ok(at) => match made.push(Held { at }) {
+                Ok(()) => (),
+                Err(_) => return Err(NoMemory),
+            },
+            Err(none) => return Err(none),
+        }
     }
-    Ok(into_bump_slice(made))
+    tuple(bump, place, into_bump_slice(made))
 }
 
 #[cycle(patexps)]
-fn fields_of<'a>(bump: &'a Bump, fields: &'a [PatField<'a>]) -> Result<&'a [ExpField<'a>], NoMemory>
-    ensures { IfOk result (λ fs. exp_fields fs.now ≡ map (λ f. (f.0, exp_of_pat f.1)) (pat_fields fields.now)) }
+fn record_of<'a>(
+    bump: &'a Bump,
+    place: Place,
+    fields: &'a [PatField<'a>],
+) -> Result<&'a Exp<'a>, NoMemory>
+    ensures { IfOk result (λ e. e.now ≡ exp_at place (form.Record (map (λ f. (f.0, exp_of_pat f.1)) (pat_fields fields.now)))) }
 {
     let mut made = Vec::new(bump);
     'fields: for field in fields {
-        let exp = exp_of_pattern(bump, field.pat)?;
-        made.push(ExpField {
-            name: field.name,
-            exp,
-        })?;
+        let name = field.name;
+        match exp_of_pattern(bump, field.pat) {
+            Ok(exp) => match made.push(ExpField { name, exp }) {
+                Ok(()) => (),
+                Err(_) => return Err(NoMemory),
+            },
+            Err(none) => return Err(none),
+        }
     }
-    Ok(into_bump_slice(made))
+    record(bump, place, into_bump_slice(made))
 }

@@ -1,6 +1,7 @@
 // Fields replaced: a record with another value of a field inside.
 ghost use Rattle.std.specs.Prelude.{◌≡◌, IfOk, [], ◌∷◌};
 ghost use Rattle.fut_ast.specs.Nodes.{bound, exp_at, held_name, let_one, replaced, use_of};
+ghost use Rattle.fut_ast.specs.Sorts.{SourceExp};
 ghost use Rattle.fut_ast.specs.declared.exp.Form.TheVariants as form;
 ghost use Rattle.fut_tree.specs.Names.{names};
 
@@ -12,6 +13,7 @@ use fut_tree::Exp;
 
 /// A record with another value of a field inside, where a path leads to it.
 #[cycle(replacing)]
+#[tactic(auto, using(crate::proofs::FieldLaws::replaced_inside))]
 pub fn with_field_replaced<'a>(
     bump: &'a Bump,
     from: Place,
@@ -23,35 +25,14 @@ pub fn with_field_replaced<'a>(
 {
     match fields {
         [] => Ok(e),
-        [field, rest @ ..] => field_replaced(bump, from, holder, field, rest, e),
-    }
-}
-
-// The same, of a path that goes on behind a field.
-#[cycle(replacing)]
-#[tactic(auto, using(crate::proofs::FieldLaws::replaced_inside))]
-fn field_replaced<'a>(
-    bump: &'a Bump,
-    from: Place,
-    holder: &'a Exp<'a>,
-    field: &'a str,
-    fields: &'a [&'a str],
-    e: &'a Exp<'a>,
-) -> Result<&'a Exp<'a>, NoMemory>
-    ensures { IfOk result (λ s. s.now ≡ replaced from holder.now (field.now ∷ names fields.now) e.now) }
-{
-    match fields {
-        [] => replace(bump, from, holder, field, e),
-        [_, ..] => {
-            let inner = match field_used(bump, from, field) {
-                Ok(inner) => inner,
-                Err(none) => return Err(none),
-            };
-            match with_field_replaced(bump, from, inner, fields, e) {
-                Ok(value) => inside_replaced(bump, from, holder, field, value),
-                Err(none) => Err(none),
+        [field] => replace(bump, from, holder, field, e),
+        [field, rest @ ..] => match field_used(bump, from, field) {
+            Ok(inner) => {
+                let value = with_field_replaced(bump, from, inner, rest, e);
+                inside_replaced(bump, from, holder, field, value)
             }
-        }
+            Err(none) => Err(none),
+        },
     }
 }
 
@@ -64,21 +45,24 @@ fn field_used<'a>(bump: &'a Bump, from: Place, field: &'a str) -> Result<&'a Exp
     }
 }
 
-// The record has a name, since its field is used in its new value.
+// The record has a name, since its field is used in its new value, if there was memory for that.
 fn inside_replaced<'a>(
     bump: &'a Bump,
     from: Place,
     holder: &'a Exp<'a>,
     field: &'a str,
-    value: &'a Exp<'a>,
+    value: Result<&'a Exp<'a>, NoMemory>,
 ) -> Result<&'a Exp<'a>, NoMemory>
-    ensures { IfOk result (λ s. s.now ≡ exp_at from (form.Lets (let_one (bound from held_name) holder.now ∷ []) (exp_at from (form.Replace (use_of from held_name) field.now value.now)))) }
+    ensures { (v : SourceExp) → IfOk value.entry (λ x. x.now ≡ v) → IfOk result (λ s. s.now ≡ exp_at from (form.Lets (let_one (bound from held_name) holder.now ∷ []) (exp_at from (form.Replace (use_of from held_name) field.now v)))) }
 {
-    match name_used(bump, from, name_of_held()) {
-        Ok(record) => {
-            let body = replace(bump, from, record, field, value);
-            let_name(bump, from, from, name_of_held(), holder, body)
-        }
+    match value {
+        Ok(value) => match name_used(bump, from, name_of_held()) {
+            Ok(record) => {
+                let body = replace(bump, from, record, field, value);
+                let_name(bump, from, from, name_of_held(), holder, body)
+            }
+            Err(none) => Err(none),
+        },
         Err(none) => Err(none),
     }
 }

@@ -6,52 +6,25 @@ ghost use Rattle.fut_ast.specs.Nodes.{
   field_section,
   first_name,
   held_name,
-  joined,
   left_section,
   let_one,
   operator_section,
   right_section,
   second_name,
-  use_of,
 };
 ghost use Rattle.fut_ast.specs.declared.exp.Form.TheVariants as form;
 ghost use Rattle.fut_ast.specs.Sorts.{SourceExp};
-ghost use Rattle.fut_tree.specs.Names.{all, names};
+ghost use Rattle.fut_tree.specs.Names.{names};
 
 use crate::binds::path_behind;
-use crate::exp_nodes::{function, function_of_name, let_before, name_let, name_used, path};
-use crate::joins::{join, join_names};
+use crate::exp_nodes::{function, function_of_name, let_name, path};
+use crate::joins::{NameAt, join_names, join_uses};
 use crate::new_names::{name_of_first, name_of_held, name_of_second};
 use bumpalo::Bump;
 use fut_phrases::pat_nodes;
 use fut_scalar::{NoMemory, Place};
 use fut_token::Fixed;
-use fut_tree::{Exp, Held, Pat};
-
-/// Two names, used on the left and on the right of an operator.
-#[derive(Clone, Copy)]
-struct Sides<'a> {
-    left: &'a Exp<'a>,
-    right: &'a Exp<'a>,
-}
-
-fn operands<'a>(
-    bump: &'a Bump,
-    at_left: Place,
-    left: &'a str,
-    at_right: Place,
-    right: &'a str,
-) -> Result<Sides<'a>, NoMemory>
-    ensures { IfOk result (λ o. (o.left.now ≡ use_of at_left left.now) × (o.right.now ≡ use_of at_right right.now)) }
-{
-    match name_used(bump, at_left, left) {
-        Ok(left) => match name_used(bump, at_right, right) {
-            Ok(right) => Ok(Sides { left, right }),
-            Err(none) => Err(none),
-        },
-        Err(none) => Err(none),
-    }
-}
+use fut_tree::{Exp, Held};
 
 /// An operator alone in parentheses.
 pub fn operator_alone<'a>(
@@ -63,13 +36,16 @@ pub fn operator_alone<'a>(
 ) -> Result<&'a Exp<'a>, NoMemory>
     ensures { IfOk result (λ e. e.now ≡ operator_section fixed paren mark name.now) }
 {
-    match operands(bump, paren, name_of_first(), paren, name_of_second()) {
-        Ok(Sides { left, right }) => {
-            let body = join_names(bump, fixed, paren, mark, name, left, right);
-            function_of_operands(bump, paren, body)
-        }
-        Err(none) => Err(none),
-    }
+    let first = NameAt {
+        place: paren,
+        name: name_of_first(),
+    };
+    let second = NameAt {
+        place: paren,
+        name: name_of_second(),
+    };
+    let body = join_names(bump, fixed, paren, mark, name, first, second);
+    function_of_operands(bump, paren, body)
 }
 
 // A function of the names of both operands, if there was memory for its body.
@@ -80,18 +56,6 @@ fn function_of_operands<'a>(
 ) -> Result<&'a Exp<'a>, NoMemory>
     ensures { (b : SourceExp) → IfOk body.entry (λ x. x.now ≡ b) → IfOk result (λ e. e.now ≡ exp_at place (form.Lambda (bound place first_name ∷ bound place second_name ∷ []) None b)) }
 {
-    match body {
-        Ok(body) => match names_of_operands(bump, place) {
-            Ok(params) => function(bump, place, params, None, body),
-            Err(none) => Err(none),
-        },
-        Err(none) => Err(none),
-    }
-}
-
-fn names_of_operands<'a>(bump: &'a Bump, place: Place) -> Result<&'a [Held<'a, Pat<'a>>], NoMemory>
-    ensures { IfOk result (λ ps. all ps.now ≡ bound place first_name ∷ bound place second_name ∷ []) }
-{
     let first = match pat_nodes::name(bump, place, name_of_first()) {
         Ok(first) => first,
         Err(none) => return Err(none),
@@ -101,7 +65,10 @@ fn names_of_operands<'a>(bump: &'a Bump, place: Place) -> Result<&'a [Held<'a, P
         Err(none) => return Err(none),
     };
     match bump.try_alloc_slice_copy(&[Held { at: first }, Held { at: second }]) {
-        Ok(params) => Ok(params),
+        Ok(params) => match body {
+            Ok(body) => function(bump, place, params, None, body),
+            Err(none) => Err(none),
+        },
         Err(_) => Err(NoMemory),
     }
 }
@@ -116,13 +83,8 @@ fn section<'a>(
 ) -> Result<&'a Exp<'a>, NoMemory>
     ensures { (b : SourceExp) → IfOk body.entry (λ x. x.now ≡ b) → IfOk result (λ s. s.now ≡ exp_at paren (form.Lets (let_one (bound paren held_name) e.now ∷ []) (exp_at paren (form.Lambda (bound paren name.now ∷ []) None b)))) }
 {
-    match function_of_name(bump, paren, paren, name, body) {
-        Ok(function) => match name_let(bump, paren, name_of_held(), e) {
-            Ok(bind) => let_before(bump, paren, paren, bind, function),
-            Err(none) => Err(none),
-        },
-        Err(none) => Err(none),
-    }
+    let function = function_of_name(bump, paren, paren, name, body);
+    let_name(bump, paren, paren, name_of_held(), e, function)
 }
 
 /// An operator and its right operand in parentheses.
@@ -136,13 +98,16 @@ pub fn section_of_right<'a>(
 ) -> Result<&'a Exp<'a>, NoMemory>
     ensures { IfOk result (λ s. s.now ≡ right_section fixed paren mark name.now e.now) }
 {
-    match operands(bump, paren, name_of_first(), e.place, name_of_held()) {
-        Ok(Sides { left, right }) => {
-            let body = join(bump, fixed, paren, mark, name, left, right);
-            section(bump, paren, e, name_of_first(), body)
-        }
-        Err(none) => Err(none),
-    }
+    let first = NameAt {
+        place: paren,
+        name: name_of_first(),
+    };
+    let held = NameAt {
+        place: e.place,
+        name: name_of_held(),
+    };
+    let body = join_uses(bump, fixed, paren, mark, name, first, held);
+    section(bump, paren, e, first.name, body)
 }
 
 /// An operator and its left operand in parentheses.
@@ -156,13 +121,16 @@ pub fn section_of_left<'a>(
 ) -> Result<&'a Exp<'a>, NoMemory>
     ensures { IfOk result (λ s. s.now ≡ left_section fixed paren e.now mark name.now) }
 {
-    match operands(bump, e.place, name_of_held(), paren, name_of_second()) {
-        Ok(Sides { left, right }) => {
-            let body = join(bump, fixed, e.place, mark, name, left, right);
-            section(bump, paren, e, name_of_second(), body)
-        }
-        Err(none) => Err(none),
-    }
+    let held = NameAt {
+        place: e.place,
+        name: name_of_held(),
+    };
+    let second = NameAt {
+        place: paren,
+        name: name_of_second(),
+    };
+    let body = join_uses(bump, fixed, e.place, mark, name, held, second);
+    section(bump, paren, e, second.name, body)
 }
 
 /// Fields behind a point in parentheses.

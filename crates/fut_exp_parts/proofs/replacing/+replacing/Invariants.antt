@@ -1,9 +1,6 @@
 -- Each turn is at a shorter path.
-use Rattle.std.proofs.Common.{◌+◌, ◌*◌, length}
+use Rattle.std.proofs.Common.{length}
 use Rattle.fut_exp_parts.proofs.replacing.+replacing.Given as goal
 
 abbrev pub decreases-with_field_replaced : goal.decreases-with_field_replaced
-decreases-with_field_replaced l = 2 * length l.fields.now
-
-abbrev pub decreases-field_replaced : goal.decreases-field_replaced
-decreases-field_replaced l = 2 * length l.fields.now + 1
+decreases-with_field_replaced l = length l.fields.now
