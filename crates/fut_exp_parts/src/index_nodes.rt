@@ -18,7 +18,7 @@ ghost use Rattle.fut_tree.specs.Exps.{binds_of, ix_of, ixs_of};
 ghost use Rattle.fut_tree.specs.Names.{maybe};
 
 use crate::exp_nodes::{function_of_name, index, lets, name_let, name_used};
-use crate::new_names::name_of_held;
+use crate::new_names::HELD_NAME;
 use bumpalo::Bump;
 use bumpalo::collections::into_bump_slice;
 use fut_ast::Spot;
@@ -231,10 +231,10 @@ fn function_of_array<'a>(
 ) -> Result<&'a Exp<'a>, NoMemory>
     ensures { IfOk result (λ s. s.now ≡ exp_at paren (form.Lambda (bound paren held_name ∷ []) None (node paren bracket (form.Index (use_of paren held_name) (ixs_of parts.now))))) }
 {
-    match name_used(bump, paren, name_of_held()) {
+    match name_used(bump, paren, HELD_NAME) {
         Ok(array) => {
             let body = index(bump, paren, bracket, array, parts);
-            function_of_name(bump, paren, paren, name_of_held(), body)
+            function_of_name(bump, paren, paren, HELD_NAME, body)
         }
         Err(none) => Err(none),
     }

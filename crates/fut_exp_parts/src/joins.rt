@@ -3,7 +3,7 @@ ghost use Rattle.std.specs.Prelude.{◌≡◌, IfOk, [], if◌then◌else◌};
 ghost use Rattle.fut_ast.specs.Nodes.{joined, joined_by, joined_names_by, joining, oper_of, use_of};
 
 use crate::exp_nodes::{call, choice, held, let_name, name_used, truth};
-use crate::new_names::name_of_piped;
+use crate::new_names::PIPED_NAME;
 use bumpalo::Bump;
 use fut_ast::{Joining, Oper};
 use fut_scalar::{BinOp, NoMemory, Place};
@@ -84,10 +84,10 @@ fn piped<'a>(
 ) -> Result<&'a Exp<'a>, NoMemory>
     ensures { IfOk result (λ e. e.now ≡ joined_by Joining.Piped from mark [] a.now b.now) }
 {
-    match name_used(bump, a.place, name_of_piped()) {
+    match name_used(bump, a.place, PIPED_NAME) {
         Ok(value) => {
             let called = call(bump, b.place, mark, b, value);
-            let_name(bump, from, mark, name_of_piped(), a, called)
+            let_name(bump, from, mark, PIPED_NAME, a, called)
         }
         Err(none) => Err(none),
     }

@@ -1,31 +1,13 @@
 // The names that sugar makes. No text can spell one, since they are of blanks alone.
-ghost use Rattle.std.specs.Prelude.{◌≡◌};
-ghost use Rattle.fut_ast.specs.Nodes.{first_name, held_name, piped_name, second_name};
 
 /// The name of a value that is held.
-pub fn name_of_held<'a>() -> &'a str
-    ensures { result.now ≡ held_name }
-{
-    " "
-}
+pub const HELD_NAME: &str = " ";
 
 /// The name of a function's first parameter.
-pub fn name_of_first<'a>() -> &'a str
-    ensures { result.now ≡ first_name }
-{
-    "  "
-}
+pub const FIRST_NAME: &str = "  ";
 
 /// The name of a function's second parameter.
-pub fn name_of_second<'a>() -> &'a str
-    ensures { result.now ≡ second_name }
-{
-    "   "
-}
+pub const SECOND_NAME: &str = "   ";
 
 /// The name of what `|>` hands on.
-pub fn name_of_piped<'a>() -> &'a str
-    ensures { result.now ≡ piped_name }
-{
-    "    "
-}
+pub const PIPED_NAME: &str = "    ";

@@ -6,7 +6,7 @@ ghost use Rattle.fut_ast.specs.declared.exp.Form.TheVariants as form;
 ghost use Rattle.fut_tree.specs.Names.{names};
 
 use crate::exp_nodes::{let_name, name_used, path, replace};
-use crate::new_names::name_of_held;
+use crate::new_names::HELD_NAME;
 use bumpalo::Bump;
 use fut_scalar::{NoMemory, Place};
 use fut_tree::Exp;
@@ -39,7 +39,7 @@ pub fn with_field_replaced<'a>(
 fn field_used<'a>(bump: &'a Bump, from: Place, field: &'a str) -> Result<&'a Exp<'a>, NoMemory>
     ensures { IfOk result (λ e. e.now ≡ exp_at from (form.Path (held_name ∷ field.now ∷ []))) }
 {
-    match bump.try_alloc_slice_copy(&[name_of_held(), field]) {
+    match bump.try_alloc_slice_copy(&[HELD_NAME, field]) {
         Ok(names) => path(bump, from, names),
         Err(_) => Err(NoMemory),
     }
@@ -56,10 +56,10 @@ fn inside_replaced<'a>(
     ensures { (v : SourceExp) → IfOk value.entry (λ x. x.now ≡ v) → IfOk result (λ s. s.now ≡ exp_at from (form.Lets (let_one (bound from held_name) holder.now ∷ []) (exp_at from (form.Replace (use_of from held_name) field.now v)))) }
 {
     match value {
-        Ok(value) => match name_used(bump, from, name_of_held()) {
+        Ok(value) => match name_used(bump, from, HELD_NAME) {
             Ok(record) => {
                 let body = replace(bump, from, record, field, value);
-                let_name(bump, from, from, name_of_held(), holder, body)
+                let_name(bump, from, from, HELD_NAME, holder, body)
             }
             Err(none) => Err(none),
         },

@@ -19,7 +19,7 @@ ghost use Rattle.fut_tree.specs.Names.{names};
 use crate::binds::path_behind;
 use crate::exp_nodes::{function, function_of_name, let_name, path};
 use crate::joins::{NameAt, join_names, join_uses};
-use crate::new_names::{name_of_first, name_of_held, name_of_second};
+use crate::new_names::{FIRST_NAME, HELD_NAME, SECOND_NAME};
 use bumpalo::Bump;
 use fut_phrases::pat_nodes;
 use fut_scalar::{NoMemory, Place};
@@ -38,11 +38,11 @@ pub fn operator_alone<'a>(
 {
     let first = NameAt {
         place: paren,
-        name: name_of_first(),
+        name: FIRST_NAME,
     };
     let second = NameAt {
         place: paren,
-        name: name_of_second(),
+        name: SECOND_NAME,
     };
     let body = join_names(bump, fixed, paren, mark, name, first, second);
     function_of_operands(bump, paren, body)
@@ -56,11 +56,11 @@ fn function_of_operands<'a>(
 ) -> Result<&'a Exp<'a>, NoMemory>
     ensures { (b : SourceExp) → IfOk body.entry (λ x. x.now ≡ b) → IfOk result (λ e. e.now ≡ exp_at place (form.Lambda (bound place first_name ∷ bound place second_name ∷ []) None b)) }
 {
-    let first = match pat_nodes::name(bump, place, name_of_first()) {
+    let first = match pat_nodes::name(bump, place, FIRST_NAME) {
         Ok(first) => first,
         Err(none) => return Err(none),
     };
-    let second = match pat_nodes::name(bump, place, name_of_second()) {
+    let second = match pat_nodes::name(bump, place, SECOND_NAME) {
         Ok(second) => second,
         Err(none) => return Err(none),
     };
@@ -84,7 +84,7 @@ fn section<'a>(
     ensures { (b : SourceExp) → IfOk body.entry (λ x. x.now ≡ b) → IfOk result (λ s. s.now ≡ exp_at paren (form.Lets (let_one (bound paren held_name) e.now ∷ []) (exp_at paren (form.Lambda (bound paren name.now ∷ []) None b)))) }
 {
     let function = function_of_name(bump, paren, paren, name, body);
-    let_name(bump, paren, paren, name_of_held(), e, function)
+    let_name(bump, paren, paren, HELD_NAME, e, function)
 }
 
 /// An operator and its right operand in parentheses.
@@ -100,11 +100,11 @@ pub fn section_of_right<'a>(
 {
     let first = NameAt {
         place: paren,
-        name: name_of_first(),
+        name: FIRST_NAME,
     };
     let held = NameAt {
         place: e.place,
-        name: name_of_held(),
+        name: HELD_NAME,
     };
     let body = join_uses(bump, fixed, paren, mark, name, first, held);
     section(bump, paren, e, first.name, body)
@@ -123,11 +123,11 @@ pub fn section_of_left<'a>(
 {
     let held = NameAt {
         place: e.place,
-        name: name_of_held(),
+        name: HELD_NAME,
     };
     let second = NameAt {
         place: paren,
-        name: name_of_second(),
+        name: SECOND_NAME,
     };
     let body = join_uses(bump, fixed, e.place, mark, name, held, second);
     section(bump, paren, e, second.name, body)
@@ -142,10 +142,10 @@ pub fn section_of_fields<'a>(
 ) -> Result<&'a Exp<'a>, NoMemory>
     ensures { IfOk result (λ s. s.now ≡ field_section paren dot (names fields.now)) }
 {
-    match path_behind(bump, name_of_held(), fields) {
+    match path_behind(bump, HELD_NAME, fields) {
         Ok(names) => {
             let body = path(bump, dot, names);
-            function_of_name(bump, paren, dot, name_of_held(), body)
+            function_of_name(bump, paren, dot, HELD_NAME, body)
         }
         Err(none) => Err(none),
     }
