@@ -85,24 +85,6 @@ pub fn unit<'a>(bump: &'a Bump, place: Place) -> Result<&'a Exp<'a>, NoMemory>
     )
 }
 
-/// Several expressions in parentheses.
-pub fn tuple<'a>(
-    bump: &'a Bump,
-    place: Place,
-    parts: &'a [Held<'a, Exp<'a>>],
-) -> Result<&'a Exp<'a>, NoMemory>
-    ensures { IfOk result (λ e. e.now ≡ exp_at place (form.Tuple (all parts.now))) }
-{
-    held(
-        bump,
-        Exp {
-            place,
-            mark: place,
-            form: Form::Tuple(parts),
-        },
-    )
-}
-
 /// Expressions in parentheses: one alone is that expression.
 pub fn round<'a>(
     bump: &'a Bump,
@@ -114,7 +96,14 @@ pub fn round<'a>(
     match expressions {
         [] => unit(bump, place),
         [only] => Ok(only.at),
-        [_, _, ..] => tuple(bump, place, expressions),
+        [_, _, ..] => held(
+            bump,
+            Exp {
+                place,
+                mark: place,
+                form: Form::Tuple(expressions),
+            },
+        ),
     }
 }
 
@@ -477,26 +466,6 @@ pub fn coerced<'a>(
             place,
             mark,
             form: Form::Coerce(e, ty),
-        },
-    )
-}
-
-/// A record with another field.
-pub fn replace<'a>(
-    bump: &'a Bump,
-    place: Place,
-    holder: &'a Exp<'a>,
-    name: &'a str,
-    value: &'a Exp<'a>,
-) -> Result<&'a Exp<'a>, NoMemory>
-    ensures { IfOk result (λ e. e.now ≡ exp_at place (form.Replace holder.now name.now value.now)) }
-{
-    held(
-        bump,
-        Exp {
-            place,
-            mark: place,
-            form: Form::Replace(holder, name, value),
         },
     )
 }

@@ -67,15 +67,6 @@ fn starts_with_loose(tokens: &[Token]) -> bool
     starts_with(tokens, Fixed::OpenBracket) && !stands_tight(tokens)
 }
 
-fn starts_with_digits(tokens: &[Token]) -> bool
-    ensures { result ≡ is_digits tokens.now }
-{
-    match tokens {
-        [token, ..] => matches!(&token.kind, TokenKind::Field(_)),
-        [] => false,
-    }
-}
-
 /// Whether an argument of an application begins here.
 pub fn begins_exp_argument(tokens: &[Token]) -> bool
     ensures { result ≡ begins_argument tokens.now }
@@ -120,7 +111,9 @@ pub fn begins_exp_big(tokens: &[Token]) -> bool
 pub fn goes_on_atom(tokens: &[Token]) -> bool
     ensures { result ≡ behind_atom tokens.now }
 {
-    starts_with_tight(tokens) || starts_with(tokens, Fixed::Dot) || starts_with_digits(tokens)
+    starts_with_tight(tokens)
+        || starts_with(tokens, Fixed::Dot)
+        || matches!(tokens, [token, ..] if matches!(&token.kind, TokenKind::Field(_)))
 }
 
 /// The same, or an argument.

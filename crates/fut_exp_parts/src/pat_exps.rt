@@ -5,11 +5,11 @@ ghost use Rattle.fut_ast.specs.declared.exp.Form.TheVariants as form;
 ghost use Rattle.fut_tree.specs.Names.{all};
 ghost use Rattle.fut_tree.specs.Pats.{pat_fields};
 
-use crate::exp_nodes::{name_used, record, tuple, unit};
+use crate::exp_nodes::{held, name_used, record, unit};
 use bumpalo::Bump;
 use bumpalo::collections::into_bump_slice;
 use fut_scalar::{NoMemory, Place};
-use fut_tree::{Exp, ExpField, Held, Pat, PatField, PatForm};
+use fut_tree::{Exp, ExpField, Form, Held, Pat, PatField, PatForm};
 
 /// Whether a `_` stands in the pattern.
 #[cycle(wildcards)]
@@ -84,7 +84,14 @@ fn tuple_of<'a>(
             Err(none) => return Err(none),
         }
     }
-    tuple(bump, place, into_bump_slice(made))
+    held(
+        bump,
+        Exp {
+            place,
+            mark: place,
+            form: Form::Tuple(into_bump_slice(made)),
+        },
+    )
 }
 
 #[cycle(patexps)]

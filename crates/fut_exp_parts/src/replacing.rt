@@ -5,11 +5,11 @@ ghost use Rattle.fut_ast.specs.Sorts.{SourceExp};
 ghost use Rattle.fut_ast.specs.declared.exp.Form.TheVariants as form;
 ghost use Rattle.fut_tree.specs.Names.{names};
 
-use crate::exp_nodes::{let_name, name_used, path, replace};
+use crate::exp_nodes::{held, let_name, name_used, path};
 use crate::new_names::HELD_NAME;
 use bumpalo::Bump;
 use fut_scalar::{NoMemory, Place};
-use fut_tree::Exp;
+use fut_tree::{Exp, Form};
 
 /// A record with another value of a field inside, where a path leads to it.
 #[cycle(replacing)]
@@ -25,7 +25,14 @@ pub fn with_field_replaced<'a>(
 {
     match fields {
         [] => Ok(e),
-        [field] => replace(bump, from, holder, field, e),
+        [field] => held(
+            bump,
+            Exp {
+                place: from,
+                mark: from,
+                form: Form::Replace(holder, field, e),
+            },
+        ),
         [field, rest @ ..] => match field_used(bump, from, field) {
             Ok(inner) => {
                 let value = with_field_replaced(bump, from, inner, rest, e);
@@ -58,7 +65,14 @@ fn inside_replaced<'a>(
     match value {
         Ok(value) => match name_used(bump, from, HELD_NAME) {
             Ok(record) => {
-                let body = replace(bump, from, record, field, value);
+                let body = held(
+                    bump,
+                    Exp {
+                        place: from,
+                        mark: from,
+                        form: Form::Replace(record, field, value),
+                    },
+                );
                 let_name(bump, from, from, HELD_NAME, holder, body)
             }
             Err(none) => Err(none),

@@ -21,7 +21,7 @@ pub tuple_of-parts-preserved : goal.tuple_of-parts-preserved
 tuple_of-parts-preserved t c = one_more exp_of_pat _ c.args.parts.now c.parts.part-index _ _ c.part-item.result c.parts-test.true c.parts.invariant c.part-item.is (ap all c.in-Ok-push.ensures.items ∙ map-append (λ (h : Held SourceExp). h.at.now) c.parts.made.items _ ∙ ap (λ (e : SourceExp). all c.parts.made.items ++ e ∷ []) c.in-Ok.ensures)
 
 pub tuple_of-returns : goal.tuple_of-returns
-tuple_of-returns t c = rw (sym (ap all c.into_bump_slice.ensures ∙ all_made exp_of_pat _ c.args.parts.now c.parts.part-index _ c.parts-test.false c.parts.auto.part-index-end c.parts.invariant)) c.tuple.ensures
+tuple_of-returns t c = rw (sym (ap all c.into_bump_slice.ensures ∙ all_made exp_of_pat _ c.args.parts.now c.parts.part-index _ c.parts-test.false c.parts.auto.part-index-end c.parts.invariant)) c.held.ensures
 
 pub record_of-fields-preserved : goal.record_of-fields-preserved
 record_of-fields-preserved t c = one_more (λ (f : Text × SourcePat). (f.0, exp_of_pat f.1)) _ c.args.fields.now c.fields.field-index _ _ c.field-item.result c.fields-test.true c.fields.invariant c.field-item.is (ap exp_fields c.in-Ok-push.ensures.items ∙ map-append (λ (f : ExpField). (f.name.now, f.exp.now)) c.fields.made.items _ ∙ ap (λ (e : SourceExp). exp_fields c.fields.made.items ++ (c.field-item.result.name.now, e) ∷ []) c.in-Ok.ensures)
