@@ -1,6 +1,6 @@
 // The nodes of expressions.
 ghost use Rattle.std.specs.Prelude.{◌≡◌, IfOk, [], ◌∷◌, None};
-ghost use Rattle.fut_ast.specs.Nodes.{bound, exp_at, held_name, let_one, node, round_exp_of, use_of};
+ghost use Rattle.fut_ast.specs.Nodes.{bound, exp_at, let_one, node, round_exp_of, use_of};
 ghost use Rattle.fut_ast.specs.Sorts.{SourceExp};
 ghost use Rattle.fut_ast.specs.declared.exp.Form.TheVariants as form;
 ghost use Rattle.fut_tree.specs.Exps.{bind_of, binds_of, exp_fields, ixs_of};

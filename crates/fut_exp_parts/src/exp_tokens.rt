@@ -27,15 +27,13 @@ ghost use Rattle.fut_ast.specs.Operators.{
   left_level,
   level,
   operator_at,
-  operator_from,
   right_level,
   section_at,
 };
 ghost use Rattle.fut_ast.specs.Parts.{going_back};
-ghost use Rattle.fut_ast.specs.Tokens.{is_digits, is_tight, starts_loose, starts_tight};
+ghost use Rattle.fut_ast.specs.Tokens.{is_tight, starts_loose, starts_tight};
 ghost use Rattle.fut_grammar.specs.Phrases.{operator_between};
 ghost use Rattle.fut_grammar.specs.Reading.{Gives, digits_at, end_at, look_at, one_at, operator_taken};
-ghost use Rattle.fut_grammar.specs.Reading.{operator_from as named_from};
 
 use fut_ast::{End, Ended, Spot, What};
 use fut_grammar::{Fault, Stop};
@@ -432,34 +430,23 @@ pub fn take_one(tokens: &[Token]) -> Result<&[Token], Stop>
     }
 }
 
-#[tactic(auto, unfolding(fut_grammar::specs::Reading::backtick_at, fut_grammar::specs::Reading::expect))]
-fn operator_behind<'a>(
-    fixed: Fixed,
-    at: Spot,
-    tokens: &'a [Token],
-) -> Result<((Spot, &'a str), &'a [Token]), Stop>
-    ensures { Gives (λ x. ((x.0.0, x.0.1.now), x.1.now)) result (named_from fixed at tokens.now) }
-{
-    match fixed {
-        Fixed::Backtick => match take_word_before(tokens, Fixed::Backtick) {
-            Ok((name, rest)) => Ok(((next_spot(tokens), name), rest)),
-            Err(stop) => Err(stop),
-        },
-        _ => Ok(((at, ""), tokens)),
-    }
-}
-
 /// An operator, and the name where it is one in backticks.
-#[tactic(auto, unfolding(fut_grammar::specs::Reading::operator_taken, fut_grammar::specs::Reading::expect))]
+#[tactic(auto, unfolding(fut_grammar::specs::Reading::operator_taken, fut_grammar::specs::Reading::backtick_at, fut_grammar::specs::Reading::expect))]
 pub fn take_operator<'a>(
     fixed: Fixed,
     tokens: &'a [Token],
 ) -> Result<((Spot, &'a str), &'a [Token]), Stop>
     ensures { Gives (λ x. ((x.0.0, x.0.1.now), x.1.now)) result (operator_taken fixed tokens.now) }
 {
-    if starts_with(tokens, fixed) && 1 <= level_of(fixed) {
-        operator_behind(fixed, next_spot(tokens), rest_of(tokens))
-    } else {
-        Err(Stop::Fault(refused(tokens)))
+    if !starts_with(tokens, fixed) || level_of(fixed) < 1 {
+        return Err(Stop::Fault(refused(tokens)));
+    }
+    let rest = rest_of(tokens);
+    match fixed {
+        Fixed::Backtick => match take_word_before(rest, Fixed::Backtick) {
+            Ok((name, after)) => Ok(((next_spot(rest), name), after)),
+            Err(stop) => Err(stop),
+        },
+        _ => Ok(((next_spot(tokens), ""), rest)),
     }
 }

@@ -1,5 +1,5 @@
 // Operators between their operands.
-ghost use Rattle.std.specs.Prelude.{◌≡◌, IfOk, [], if◌then◌else◌};
+ghost use Rattle.std.specs.Prelude.{◌≡◌, IfOk, []};
 ghost use Rattle.fut_ast.specs.Nodes.{joined, joined_by, joined_names_by, joining, oper_of, use_of};
 
 use crate::exp_nodes::{call, choice, held, let_name, name_used, truth};
@@ -49,29 +49,6 @@ fn joining_of(fixed: Fixed) -> Joining
         Fixed::PipeLeft => Joining::PipedBack,
         Fixed::Backtick => Joining::Named,
         _ => Joining::Plain(oper_for(fixed)),
-    }
-}
-
-// `a && b` and `a || b`, of which the value of `a` that ends it is the value.
-fn cut_short<'a>(
-    bump: &'a Bump,
-    ending: bool,
-    from: Place,
-    mark: Place,
-    a: &'a Exp<'a>,
-    b: &'a Exp<'a>,
-) -> Result<&'a Exp<'a>, NoMemory>
-    ensures { IfOk result (λ e. e.now ≡ joined_by (if ending then Joining.Either else Joining.Both) from mark [] a.now b.now) }
-{
-    match truth(bump, mark, ending) {
-        Ok(known) => {
-            if ending {
-                choice(bump, from, mark, a, known, b)
-            } else {
-                choice(bump, from, mark, a, b, known)
-            }
-        }
-        Err(none) => Err(none),
     }
 }
 
@@ -125,8 +102,14 @@ pub fn join<'a>(
     ensures { IfOk result (λ e. e.now ≡ joined fixed from mark name.now a.now b.now) }
 {
     match joining_of(fixed) {
-        Joining::Both => cut_short(bump, false, from, mark, a, b),
-        Joining::Either => cut_short(bump, true, from, mark, a, b),
+        Joining::Both => match truth(bump, mark, false) {
+            Ok(no) => choice(bump, from, mark, a, b, no),
+            Err(none) => Err(none),
+        },
+        Joining::Either => match truth(bump, mark, true) {
+            Ok(yes) => choice(bump, from, mark, a, yes, b),
+            Err(none) => Err(none),
+        },
         Joining::Piped => piped(bump, from, mark, a, b),
         Joining::PipedBack => call(bump, from, mark, a, b),
         Joining::Named => named_call(bump, from, mark, name, a, b),
