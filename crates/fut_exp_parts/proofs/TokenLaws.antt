@@ -1,5 +1,5 @@
 -- Any operator is one of the loosest level or tighter.
-use Rattle.std.proofs.Common.{◌≡◌, ℕ, Bool, true, false, ◌&&◌, nat_le, List, [], ◌∷◌, Some, None, if◌then◌else◌, refl}
+use Rattle.std.proofs.Common.{◌≡◌, Bool, true, false, ◌&&◌, nat_le, List, [], ◌∷◌, Some, None, if◌then◌else◌, refl}
 use Rattle.fut_token.specs.declared.token.Fixed.{Fixed}
 use Rattle.fut_token.specs.declared.token.Token.{Token}
 use Rattle.fut_token.specs.declared.token.TokenKind.{TokenKind}
