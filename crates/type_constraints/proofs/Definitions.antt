@@ -1,5 +1,6 @@
 -- Definitions, and lets that are written as functions.
 use Rattle.std.proofs.Common.{◌≡◌, ℕ, ◌+◌, ◌≤◌, ◌<◌, true, List, [], ◌∷◌, ◌++◌, length, refl, sym, ◌∙◌, subst, arith}
+use mathlib.Core.Logic.{inl, inr}
 use Rattle.fut_ast.specs.Sorts.{Text}
 use Rattle.fut_scalar.specs.declared.place.BindId.{BindId}
 use Rattle.fut_types.specs.declared.Kind.{Kind}
@@ -28,7 +29,7 @@ use Rattle.type_definitions.proofs.Gone.{Value_claim, Value_homes, behind_later,
 use Rattle.type_definitions.proofs.Gone.{behind as put_back}
 use Rattle.type_definitions.proofs.Meeting.{all_later, all_more}
 use Rattle.type_uses.specs.Uses.{type_numbers}
-use Rattle.type_constraints.specs.Parts.{Term_claim, Term_homes, Constrained, Unconstrained, Row_claim, Row_homes, env_row}
+use Rattle.type_constraints.specs.Parts.{Term_claim, Term_homes, Constrained, Unconstrained, Ruled, Unruled, Row_claim, Row_homes, env_row}
 use Rattle.type_constraints.proofs.Depending.{depends_term}
 use Rattle.type_constraints.proofs.Forms.{anywhere, ruled, unruled}
 use Rattle.type_constraints.proofs.Values.{same_allowed, same_says}
@@ -46,7 +47,7 @@ module _ (places : Kind) (base d lo : ℕ) (b : BindId) (ps : List (Parameter Bi
   abbrev mid : ℕ
   mid = 1 + lo + numbers v
 
-  pub definition_err1 : (i2 : Inference) → Unconstrained places base (1 + d) (1 + lo) v i1 i2 → Refused places base d lo claim homes i0 i2
+  definition_err1 : (i2 : Inference) → Unconstrained places base (1 + d) (1 + lo) v i1 i2 → Refused places base d lo claim homes i0 i2
   definition_err1 i2 c = value_refused places base d lo b ps v i0 i1 i2 s m room
       (refused_as places base (1 + d) (1 + lo) (Term_claim places v (1 + lo)) (Value_claim places v lo) (Term_homes (1 + d) v (1 + lo)) (Value_homes (1 + d) v lo) i1 i2 (λ N E K a h. h.0) (λ home h. h) c)
 
@@ -54,7 +55,7 @@ module _ (places : Kind) (base d lo : ℕ) (b : BindId) (ps : List (Parameter Bi
     safe1 : Safe base i1
     safe1 = (all_later places base (1 + d) ps i0 i1 s m).safe
 
-    pub definition_err2 : ((places : Kind) (d lo' : ℕ) → Refused places base d lo' (λ N scope K a. All_met N.shapes K a (demand.Same lo (1 + lo) ∷ [])) (λ home. All_allow home (demand.Same lo (1 + lo) ∷ [])) i2 i3) → Refused places base d lo claim homes i0 i3
+    definition_err2 : ((places : Kind) (d lo' : ℕ) → Refused places base d lo' (λ N scope K a. All_met N.shapes K a (demand.Same lo (1 + lo) ∷ [])) (λ home. All_allow home (demand.Same lo (1 + lo) ∷ [])) i2 i3) → Refused places base d lo claim homes i0 i3
     definition_err2 r = value_refused places base d lo b ps v i0 i1 i3 s m room
         (refused_then places base (1 + d) (1 + lo) mid (Term_claim places v (1 + lo)) same (Value_claim places v lo) (Term_homes (1 + d) v (1 + lo)) anywhere (Value_homes (1 + d) v lo) i1 i2 i3 safe1 (omega arith) (depends_term places v (1 + lo) mid refl)
         (λ N E K a h. h) (λ home h. (h, tt)) c (unruled places base (1 + d) mid (demand.Same lo (1 + lo) ∷ []) (λ K a. a lo ≡ a (1 + lo)) (same_says lo (1 + lo)) (same_allowed lo (1 + lo)) i2 i3 (r places (1 + d) mid)))
@@ -86,6 +87,10 @@ module _ (places : Kind) (base d lo : ℕ) (b : BindId) (ps : List (Parameter Bi
 
         pub definition_ok : (i6 : Inference) → Generalises own lo d b.0 i4 i6 → Opened places base d lo (lo + (1 + numbers v)) claim homes (env_definition (named b ps v) lo) i0 i6
         definition_ok i6 g = definition_opened places base d lo b ps v i0 i1 i3 s m room value inside i6 (subst (λ (i : Inference). Generalises (type_numbers ps) lo d b.0 i i6) is (subst (λ ns. Generalises ns lo d b.0 i4 i6) eo g))
+
+  pub definition_unruled : (i3 : Inference) → Unruled places base (1 + d) (1 + lo) v (demand.Same lo (1 + lo) ∷ []) i1 i3 → Refused places base d lo claim homes i0 i3
+  definition_unruled i3 (inl u) = definition_err1 i3 u
+  definition_unruled i3 (inr w) = definition_err2 w.0 i3 w.1.0 w.1.1
 
 -- a let that is written as a function
 abbrev pub function_row : List BindId → List (Parameter BindId) → FlatPattern → FlatTerm → Row

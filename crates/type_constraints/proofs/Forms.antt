@@ -1,5 +1,6 @@
 -- The forms of expressions.
 use Rattle.std.proofs.Common.{◌≡◌, ℕ, ◌+◌, ◌<◌, List, [], ◌∷◌, refl, sym, subst, arith}
+use mathlib.Core.Logic.{inl, inr}
 use Rattle.fut_types.specs.declared.Kind.{Kind}
 use Rattle.fut_types.specs.Types.{Sub, Kinds, HasKind, fun_ty}
 use Rattle.fut_scalar.specs.declared.place.Place.{Place}
@@ -17,7 +18,7 @@ use Rattle.type_rules.specs.Demands.{All_below, All_met, All_allow, Say, Always_
 use Rattle.type_scopes.specs.declared.Inference.{Inference}
 use Rattle.type_scopes.specs.Scopes.{Around, Claim, Homes, Safe, Claimed, Refused, Depends}
 use Rattle.type_scopes.proofs.Claiming.{depends_wider, depends_both, claimed_low, refused_low, claimed_as, refused_as, claimed_then, refused_then}
-use Rattle.type_constraints.specs.Parts.{Term_claim, Term_homes, Constrained, Unconstrained, use_term}
+use Rattle.type_constraints.specs.Parts.{Term_claim, Term_homes, Constrained, Unconstrained, Ruled, Unruled, use_term}
 use Rattle.type_constraints.proofs.Depending.{depends_term}
 
 abbrev pub Same_claim : Kind → Claim → Claim → Type 0
@@ -66,14 +67,14 @@ module _ (places : Kind) (base d lo mid : ℕ) (f x : FlatTerm) (i0 i1 i2 i3 : I
   apply_homes : (home : ℕ → ℕ) → Term_homes d (Apply f x) lo home → two_homes places base d lo mid f x i0 i1 i2 i3 s eq home
   apply_homes home h = (h.0, (h.1.1, h.1.2))
 
-  pub apply_ok : Constrained places base d (1 + lo) f i0 i1 → Constrained places base d mid x i1 i2
+  apply_ok : Constrained places base d (1 + lo) f i0 i1 → Constrained places base d mid x i1 i2
       → ((places : Kind) (d lo : ℕ) → Claimed places base d lo (λ N scope K a. All_met N.shapes K a ds) (λ home. All_allow home ds) i2 i3) → Constrained places base d lo (Apply f x) i0 i3
   apply_ok c1 c2 c3 = claimed_then places base d lo (1 + lo + numbers f + numbers x) (two_claim places base d lo mid f x i0 i1 i2 i3 s eq) (λ N scope K a. a (1 + lo) ≡ fun_ty (a mid) (a lo)) (Term_claim places (Apply f x) lo)
       (two_homes places base d lo mid f x i0 i1 i2 i3 s eq) anywhere (Term_homes d (Apply f x) lo) i0 i2 i3 s (omega arith) (two_depends places base d lo mid f x i0 i1 i2 i3 s eq (1 + lo + numbers f + numbers x) refl)
       (λ N E K a h. (h.0, subst (λ m. a (1 + lo) ≡ fun_ty (a m) (a lo)) (sym eq) h.1)) (λ home h. (apply_homes home h, tt)) (both places base d lo mid f x i0 i1 i2 i3 s eq c1 c2)
       (λ N E K a p q. (p, subst (λ m. a (1 + lo) ≡ fun_ty (a m) (a lo)) eq q)) (ruled places base d (1 + lo + numbers f + numbers x) ds (λ K a. a (1 + lo) ≡ fun_ty (a mid) (a lo)) say allowed i2 i3 (c3 places d (1 + lo + numbers f + numbers x)))
 
-  pub apply_err3 : Constrained places base d (1 + lo) f i0 i1 → Constrained places base d mid x i1 i2
+  apply_err3 : Constrained places base d (1 + lo) f i0 i1 → Constrained places base d mid x i1 i2
       → ((places : Kind) (d lo : ℕ) → Refused places base d lo (λ N scope K a. All_met N.shapes K a ds) (λ home. All_allow home ds) i2 i3) → Unconstrained places base d lo (Apply f x) i0 i3
   apply_err3 c1 c2 c3 = refused_then places base d lo (1 + lo + numbers f + numbers x) (two_claim places base d lo mid f x i0 i1 i2 i3 s eq) (λ N scope K a. a (1 + lo) ≡ fun_ty (a mid) (a lo)) (Term_claim places (Apply f x) lo)
       (two_homes places base d lo mid f x i0 i1 i2 i3 s eq) anywhere (Term_homes d (Apply f x) lo) i0 i2 i3 s (omega arith) (two_depends places base d lo mid f x i0 i1 i2 i3 s eq (1 + lo + numbers f + numbers x) refl)
@@ -115,12 +116,12 @@ module _ (places : Kind) (base d lo m1 m2 : ℕ) (c t e : FlatTerm) (i0 i1 i2 i3
   split : (N : Names) (E : Env) (K : Kinds) (a : Sub) → Typed N places (If c t e) lo (scope_of N places E) K a → three_claim N (scope_of N places E) K a × Choice places lo (1 + lo) m1 m2 K a
   split N E K a h = (h.0, (h.1, subst (λ m. a lo ≡ a m) (sym eq1) h.2, subst (λ m. a lo ≡ a m) (sym eq2) h.3, h.4))
 
-  pub if_ok : Constrained places base d (1 + lo) c i0 i1 → Constrained places base d m1 t i1 i2 → Constrained places base d m2 e i2 i3
+  if_ok : Constrained places base d (1 + lo) c i0 i1 → Constrained places base d m1 t i1 i2 → Constrained places base d m2 e i2 i3
       → ((places : Kind) (d lo : ℕ) → Claimed places base d lo (λ N scope K a. All_met N.shapes K a ds) (λ home. All_allow home ds) i3 i4) → Constrained places base d lo (If c t e) i0 i4
   if_ok c1 c2 c3 c4 = claimed_then places base d lo end three_claim (λ N scope K a. Choice places lo (1 + lo) m1 m2 K a) (Term_claim places (If c t e) lo) three_homes anywhere (Term_homes d (If c t e) lo) i0 i3 i4 s (omega arith) three_depends
       split (λ home h. (if_homes home h, tt)) (three c1 c2 c3) (λ N E K a p q. (p, q.0, subst (λ m. a lo ≡ a m) eq1 q.1, subst (λ m. a lo ≡ a m) eq2 q.2, q.3)) (ruled places base d end ds (Choice places lo (1 + lo) m1 m2) say allowed i3 i4 (c4 places d end))
 
-  pub if_err4 : Constrained places base d (1 + lo) c i0 i1 → Constrained places base d m1 t i1 i2 → Constrained places base d m2 e i2 i3
+  if_err4 : Constrained places base d (1 + lo) c i0 i1 → Constrained places base d m1 t i1 i2 → Constrained places base d m2 e i2 i3
       → ((places : Kind) (d lo : ℕ) → Refused places base d lo (λ N scope K a. All_met N.shapes K a ds) (λ home. All_allow home ds) i3 i4) → Unconstrained places base d lo (If c t e) i0 i4
   if_err4 c1 c2 c3 x = refused_then places base d lo end three_claim (λ N scope K a. Choice places lo (1 + lo) m1 m2 K a) (Term_claim places (If c t e) lo) three_homes anywhere (Term_homes d (If c t e) lo) i0 i3 i4 s (omega arith) three_depends
       split (λ home h. (if_homes home h, tt)) (three c1 c2 c3) (unruled places base d end ds (Choice places lo (1 + lo) m1 m2) say allowed i3 i4 (x places d end))
@@ -154,13 +155,31 @@ module _ (places : Kind) (base d lo : ℕ) (c t e : FlatTerm) (i0 i1 : Inference
   refused_if x = refused_as places base d lo (Term_claim places c (1 + lo)) (Term_claim places (If c t e) lo) (Term_homes d c (1 + lo)) (Term_homes d (If c t e) lo) i0 i1 (λ N E K a h. h.0.0.0) (λ home h. (h.0, h.1.1))
       (refused_low places base d lo (1 + lo) (Term_claim places c (1 + lo)) (Term_homes d c (1 + lo)) i0 i1 (omega arith) x)
 
-pub refused_apply2 : (places : Kind) (base d lo mid : ℕ) (f x : FlatTerm) (i0 i1 i2 : Inference) → Safe base i0 → mid ≡ 1 + lo + numbers f → Constrained places base d (1 + lo) f i0 i1 → Unconstrained places base d mid x i1 i2 → Unconstrained places base d lo (Apply f x) i0 i2
+refused_apply2 : (places : Kind) (base d lo mid : ℕ) (f x : FlatTerm) (i0 i1 i2 : Inference) → Safe base i0 → mid ≡ 1 + lo + numbers f → Constrained places base d (1 + lo) f i0 i1 → Unconstrained places base d mid x i1 i2 → Unconstrained places base d lo (Apply f x) i0 i2
 refused_apply2 places base d lo mid f x i0 i1 i2 s eq c1 c2 = two_refused2 places base d lo mid f x i0 i1 i2 i2 s eq (Term_claim places (Apply f x) lo) (Term_homes d (Apply f x) lo) (λ N E K a h. h.0) (λ home h. (h.0, (h.1.1, h.1.2))) c1 c2
 
 pub refused_if2 : (places : Kind) (base d lo mid : ℕ) (c t e : FlatTerm) (i0 i1 i2 : Inference) → Safe base i0 → mid ≡ 1 + lo + numbers c → Constrained places base d (1 + lo) c i0 i1 → Unconstrained places base d mid t i1 i2 → Unconstrained places base d lo (If c t e) i0 i2
 refused_if2 places base d lo mid c t e i0 i1 i2 s eq c1 x = two_refused2 places base d lo mid c t i0 i1 i2 i2 s eq (Term_claim places (If c t e) lo) (Term_homes d (If c t e) lo) (λ N E K a h. h.0.0) (λ home h. (h.0, (h.1.1, h.1.2))) c1 x
 
-pub refused_if3 : (places : Kind) (base d lo m1 m2 : ℕ) (c t e : FlatTerm) (i0 i1 i2 i3 : Inference) → Safe base i0 → m1 ≡ 1 + lo + numbers c → m2 ≡ 1 + lo + numbers c + numbers t
+refused_if3 : (places : Kind) (base d lo m1 m2 : ℕ) (c t e : FlatTerm) (i0 i1 i2 i3 : Inference) → Safe base i0 → m1 ≡ 1 + lo + numbers c → m2 ≡ 1 + lo + numbers c + numbers t
     → Constrained places base d (1 + lo) c i0 i1 → Constrained places base d m1 t i1 i2 → Unconstrained places base d m2 e i2 i3 → Unconstrained places base d lo (If c t e) i0 i3
 refused_if3 places base d lo m1 m2 c t e i0 i1 i2 i3 s eq1 eq2 c1 c2 x = refused_then places base d lo m2 (two_claim places base d lo m1 c t i0 i1 i2 i3 s eq1) (Term_claim places e m2) (Term_claim places (If c t e) lo) (two_homes places base d lo m1 c t i0 i1 i2 i3 s eq1) (Term_homes d e m2) (Term_homes d (If c t e) lo) i0 i2 i3 s (omega arith)
     (two_depends places base d lo m1 c t i0 i1 i2 i3 s eq1 m2 eq2) (λ N E K a h. (h.0.0, subst (λ m. Typed N places e m (scope_of N places E) K a) (sym eq2) h.0.1)) (λ home h. ((h.0, (h.1.1, h.1.2)), (h.0, subst (λ m. Homed home d h.0.0 e m) (sym eq2) h.1.3))) (both places base d lo m1 c t i0 i1 i2 i3 s eq1 c1 c2) x
+
+-- the last part and the rule together
+module _ (places : Kind) (base d lo mid : ℕ) (f x : FlatTerm) (i0 i1 i3 : Inference) (s : Safe base i0) (eq : mid ≡ 1 + lo + numbers f) (ds : List Demand) (say : Say ds (λ K a. a (1 + lo) ≡ fun_ty (a mid) (a lo))) (allowed : Always_allowed ds) (c : Constrained places base d (1 + lo) f i0 i1) where
+  pub apply_ruled : Ruled places base d mid x ds i1 i3 → Constrained places base d lo (Apply f x) i0 i3
+  apply_ruled r = apply_ok places base d lo mid f x i0 i1 r.0 i3 s eq ds say allowed c r.1.0 r.1.1
+
+  pub apply_unruled : Unruled places base d mid x ds i1 i3 → Unconstrained places base d lo (Apply f x) i0 i3
+  apply_unruled (inl u) = refused_apply2 places base d lo mid f x i0 i1 i3 s eq c u
+  apply_unruled (inr w) = apply_err3 places base d lo mid f x i0 i1 w.0 i3 s eq ds say allowed c w.1.0 w.1.1
+
+module _ (places : Kind) (base d lo m1 m2 : ℕ) (c t e : FlatTerm) (i0 i1 i2 i4 : Inference) (s : Safe base i0) (eq1 : m1 ≡ 1 + lo + numbers c) (eq2 : m2 ≡ 1 + lo + numbers c + numbers t) (ds : List Demand) (say : Say ds (Choice places lo (1 + lo) m1 m2)) (allowed : Always_allowed ds)
+    (c1 : Constrained places base d (1 + lo) c i0 i1) (c2 : Constrained places base d m1 t i1 i2) where
+  pub if_ruled : Ruled places base d m2 e ds i2 i4 → Constrained places base d lo (If c t e) i0 i4
+  if_ruled r = if_ok places base d lo m1 m2 c t e i0 i1 i2 r.0 i4 s eq1 eq2 ds say allowed c1 c2 r.1.0 r.1.1
+
+  pub if_unruled : Unruled places base d m2 e ds i2 i4 → Unconstrained places base d lo (If c t e) i0 i4
+  if_unruled (inl u) = refused_if3 places base d lo m1 m2 c t e i0 i1 i2 i4 s eq1 eq2 c1 c2 u
+  if_unruled (inr w) = if_err4 places base d lo m1 m2 c t e i0 i1 i2 w.0 i4 s eq1 eq2 ds say allowed c1 c2 w.1.0 w.1.1

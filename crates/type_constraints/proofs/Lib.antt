@@ -1,4 +1,5 @@
 pub mod Depending
+pub mod Ends
 pub mod Forms
 pub mod Rows
 pub mod Functions
@@ -7,7 +8,6 @@ pub mod Lets
 pub mod Graphs
 pub mod Ruling
 pub mod Labelling
-pub mod Chains
 pub mod Loops
 pub mod Tuples
 pub mod Overs

@@ -24,10 +24,10 @@ use Rattle.type_scopes.specs.Table.{undone}
 use Rattle.type_scopes.specs.Scopes.{Around, Claim, Homes, Safe, Claimed, Opened, Refused, Binds, Depends, nothing_claimed}
 use Rattle.type_scopes.proofs.Claiming.{depends_both, depends_wider, claimed_then, refused_as, refused_then}
 use Rattle.type_scopes.proofs.Opening.{closed, opened_both, opened_refused, opened_then, then_opened}
-use Rattle.type_constraints.specs.Parts.{Term_claim, Term_homes, Pattern_claim, Constrained, Unconstrained, value_row, Row_claim, Row_homes, env_row, behind_first, behind_head, Head_claim, Head_homes, env_head}
+use Rattle.type_constraints.specs.Parts.{Constrained, Head_claim, Head_homes, Pattern_claim, Row_claim, Row_homes, Ruled, Term_claim, Term_homes, Unconstrained, Unruled, behind_first, behind_head, env_head, env_row, value_row}
 use Rattle.type_constraints.proofs.Depending.{depends_term, depends_pattern}
 use Rattle.type_constraints.proofs.Forms.{anywhere, ruled, unruled}
-use Rattle.type_constraints.proofs.Values.{depends_row, names}
+use Rattle.type_constraints.proofs.Values.{depends_row}
 use Rattle.type_constraints.proofs.Loops.{scope_carried}
 
 module _ (places : Kind) (base d lo from middle : ℕ) (sizes : List BindId) (p : FlatPattern) (first : FlatTerm) (q : FlatPattern) (e : FlatTerm) (eq : from ≡ behind_first p first lo) (eq2 : middle ≡ from + pattern_numbers q) where
@@ -116,18 +116,18 @@ module _ (places : Kind) (base d lo from middle : ℕ) (sizes : List BindId) (p 
           (opened_then places base d lo from first_claim (Pattern_claim places q from) two first_homes part_homes (over_homes from) carried i0 i1 i2 split apart at_from middle (omega (arith, eq2)) (depends_pattern places q from middle eq2) join (c d)) back
 
   module _ (i0 i3 i4 : Inference) (s : Safe base i0) (x : Claimed places base d lo two (over_homes from) i0 i3) where
-    pub over_err3 : Unconstrained places base d middle e i3 i4 → Refused places base d lo (Head_claim places sizes p first (Over q e) lo) (Head_homes d sizes p first (Over q e) lo) i0 i4
+    over_err3 : Unconstrained places base d middle e i3 i4 → Refused places base d lo (Head_claim places sizes p first (Over q e) lo) (Head_homes d sizes p first (Over q e) lo) i0 i4
     over_err3 c = placed i0 i4 (refused_then places base d lo middle two (Term_claim places e middle) (over_claim from) (over_homes from) (Term_homes d e middle) (over_homes from) i0 i3 i4 s (omega (arith, eq, eq2)) depends_two (λ N E K a h. (into_three N E K a h).0) (λ home h. (h, array_home home h)) x c)
 
     module _ (i5 : Inference) (c : Constrained places base d middle e i3 i4) (ds : List Demand) (say : Say ds (λ K a. IsArray places K (a middle) (a from))) (allowed : Always_allowed ds) where
       all_three : Claimed places base d lo three (over_homes from) i0 i4
       all_three = claimed_then places base d lo middle two (Term_claim places e middle) three (over_homes from) (Term_homes d e middle) (over_homes from) i0 i3 i4 s (omega (arith, eq, eq2)) depends_two (λ N E K a h. h) (λ home h. (h, array_home home h)) x (λ N E K a u v. (u, v)) c
 
-      pub over_err4 : ((places : Kind) (d lo' : ℕ) → Refused places base d lo' (λ N scope K a. All_met N.shapes K a ds) (λ home. All_allow home ds) i4 i5) → Refused places base d lo (Head_claim places sizes p first (Over q e) lo) (Head_homes d sizes p first (Over q e) lo) i0 i5
+      over_err4 : ((places : Kind) (d lo' : ℕ) → Refused places base d lo' (λ N scope K a. All_met N.shapes K a ds) (λ home. All_allow home ds) i4 i5) → Refused places base d lo (Head_claim places sizes p first (Over q e) lo) (Head_homes d sizes p first (Over q e) lo) i0 i5
       over_err4 r = placed i0 i5 (refused_then places base d lo end three rule (over_claim from) (over_homes from) anywhere (over_homes from) i0 i4 i5 s (omega (arith, eq, eq2)) depends_three into_three (λ home h. (h, tt)) all_three
           (unruled places base d end ds (λ K a. IsArray places K (a middle) (a from)) say allowed i4 i5 (r places d end)))
 
-      module _ (i6 i7 i8 : Inference) (r : (places : Kind) (d lo' : ℕ) → Claimed places base d lo' (λ N scope K a. All_met N.shapes K a ds) (λ home. All_allow home ds) i4 i5) (y : (lo : ℕ) → Binds base lo 0 (env_sizes sizes) i5 i6) (z : Binds base (1 + lo) (pattern_numbers p) (env_pattern p (1 + lo)) i6 i7) (v : Binds base from (pattern_numbers q) (env_pattern q from) i7 i8) where
+      module _ (i7 i8 : Inference) (r : (places : Kind) (d lo' : ℕ) → Claimed places base d lo' (λ N scope K a. All_met N.shapes K a ds) (λ home. All_allow home ds) i4 i5) (names : Binds base (1 + lo) (pattern_numbers p) carried i5 i7) (v : Binds base from (pattern_numbers q) (env_pattern q from) i7 i8) where
         whole : Claimed places base d lo (over_claim from) (over_homes from) i0 i5
         whole = claimed_then places base d lo end three rule (over_claim from) (over_homes from) anywhere (over_homes from) i0 i4 i5 s (omega (arith, eq, eq2)) depends_three into_three (λ home h. (h, tt)) all_three from_three
             (ruled places base d end ds (λ K a. IsArray places K (a middle) (a from)) say allowed i4 i5 (r places d end))
@@ -137,12 +137,20 @@ module _ (places : Kind) (base d lo from middle : ℕ) (sizes : List BindId) (p 
 
         named : Opened places base d end end nothing_claimed name_homes (λ E. env_pattern q from (carried E)) i5 i8
         named = opened_both places base d end end nothing_claimed nothing_claimed nothing_claimed (λ home. At_home home d (1 + lo) (pattern_numbers p)) part_homes name_homes carried i5 i7 i8 (λ N E K a h. (tt, tt)) (λ home h. h)
-            (names places base d lo (1 + lo + pattern_numbers p) sizes p first refl i5 i6 i7 y z places d end (omega (arith, eq, eq2))) end (env_pattern q from) (λ N E K a u w. tt) (v places d end (omega (arith, eq2)))
+            (names places d end (omega (arith, eq, eq2))) end (env_pattern q from) (λ N E K a u w. tt) (v places d end (omega (arith, eq2)))
 
         opened : Opened places base d lo end (over_claim from) (over_homes from) (λ E. env_pattern q from (carried E)) i0 i8
         opened = then_opened places base d lo end end (over_claim from) nothing_claimed (over_claim from) (over_homes from) name_homes (over_homes from) (λ E. env_pattern q from (carried E)) i0 i5 i8 s (omega (arith, eq, eq2)) depends_over
             (λ home h. (h, (h.1.0.1, h.1.1.0))) whole (λ N E K a h. (h, tt)) (λ N E K a u w. u) named
 
-        pub over_ok : Opened places base d lo (behind_head p first (Over q e) lo) (Head_claim places sizes p first (Over q e) lo) (Head_homes d sizes p first (Over q e) lo) (env_head sizes p first (Over q e) lo) i0 i8
+        over_ok : Opened places base d lo (behind_head p first (Over q e) lo) (Head_claim places sizes p first (Over q e) lo) (Head_homes d sizes p first (Over q e) lo) (env_head sizes p first (Over q e) lo) i0 i8
         over_ok = subst (λ m. Opened places base d lo (m + (pattern_numbers q + numbers e)) (over_claim m) (over_homes m) (λ E. env_pattern q m (carried E)) i0 i8) eq
             (subst (λ m. Opened places base d lo m (over_claim from) (over_homes from) (λ E. env_pattern q from (carried E)) i0 i8) (let z : middle + numbers e ≡ from + (pattern_numbers q + numbers e) = omega (arith, eq2) in z) opened)
+
+  module _ (i0 i3 i5 : Inference) (s : Safe base i0) (x : Claimed places base d lo two (over_homes from) i0 i3) (ds : List Demand) (say : Say ds (λ K a. IsArray places K (a middle) (a from))) (allowed : Always_allowed ds) where
+    pub over_unruled : Unruled places base d middle e ds i3 i5 → Refused places base d lo (Head_claim places sizes p first (Over q e) lo) (Head_homes d sizes p first (Over q e) lo) i0 i5
+    over_unruled (inl u) = over_err3 i0 i3 i5 s x u
+    over_unruled (inr w) = over_err4 i0 i3 w.0 s x i5 w.1.0 ds say allowed w.1.1
+
+    pub over_ruled : Ruled places base d middle e ds i3 i5 → (i7 i8 : Inference) → Binds base (1 + lo) (pattern_numbers p) carried i5 i7 → Binds base from (pattern_numbers q) (env_pattern q from) i7 i8 → Opened places base d lo (behind_head p first (Over q e) lo) (Head_claim places sizes p first (Over q e) lo) (Head_homes d sizes p first (Over q e) lo) (env_head sizes p first (Over q e) lo) i0 i8
+    over_ruled r i7 i8 names v = over_ok i0 i3 r.0 s x i5 r.1.0 ds say allowed i7 i8 r.1.1 names v

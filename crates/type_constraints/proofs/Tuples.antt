@@ -1,5 +1,5 @@
 -- Patterns of parts in a row, and patterns with written types.
-use Rattle.std.proofs.Common.{◌≡◌, ℕ, ◌+◌, ◌*◌, ◌≤◌, ◌<◌, List, [], ◌∷◌, ◌++◌, length, map, slice_index_or, refl, sym, ◌∙◌, ap, subst, arith, append_assoc, Bor}
+use Rattle.std.proofs.Common.{◌≡◌, ℕ, ◌+◌, ◌*◌, ◌≤◌, ◌<◌, List, [], ◌∷◌, ◌++◌, length, map, take, slice_index_or, refl, sym, ◌∙◌, ap, subst, arith, append_assoc, Bor}
 use mathlib.Core.Logic.{◌⊎◌, inl, inr}
 use Rattle.fut_scalar.specs.declared.place.BindId.{BindId}
 use Rattle.fut_types.specs.declared.Kind.{Kind}
@@ -11,9 +11,9 @@ use Rattle.fut_flat.specs.Numbers.{pattern_numbers, all_pattern_numbers}
 use Rattle.fut_flat.specs.declared.pat.Pat.{Pat}
 use Rattle.fut_flat.specs.declared.pat.PatField.{PatField, fold_out-PatField}
 use Rattle.fut_flat.specs.declared.pat.PatForm.TheVariants as form
-use Rattle.fut_flat.specs.Erased.{FlatType, FlatPattern, pattern_form, pattern_of, patterns}
+use Rattle.fut_flat.specs.Erased.{FlatType, FlatPattern, pattern_form, pattern_of, patterns, texts}
 use Rattle.fut_flat.proofs.ErasedPatterns.{pattern_field}
-use Rattle.fut_typing.specs.Names.{Names}
+use Rattle.fut_typing.specs.Names.{IsRecord, Names}
 use Rattle.fut_typing.specs.Scopes.{Scope}
 use Rattle.fut_typing.specs.Patterns.{pattern_types, Pattern_typed, Patterns_typed}
 use Rattle.fut_typing.specs.Homes.{Env, Needs, At_home, scope_of}
@@ -22,7 +22,8 @@ use Rattle.fut_typing.proofs.Cong.{scope_local}
 use Rattle.type_claims.specs.Claims.{types_of}
 use Rattle.type_scopes.specs.declared.Inference.{Inference}
 use Rattle.type_patterns.specs.Asking.{Type_claim}
-use Rattle.type_patterns.proofs.Forms.{Making}
+use Rattle.type_patterns.proofs.Forms.{Making, texts_next}
+use Rattle.type_patterns.proofs.Rows.{map_next}
 use Rattle.type_scopes.specs.Scopes.{Claim, Homes, Safe, Claimed, Refused, Depends, field_pattern}
 use Rattle.type_scopes.proofs.Claiming.{depends_wider, claimed_low, claimed_none, claimed_then, refused_as, refused_low, refused_then}
 use Rattle.type_scopes.proofs.Binding.{record_is, weigh, weigh_all, falls_in}
@@ -82,6 +83,22 @@ module _ (places : Kind) (base lo at : ℕ) (qs : List FlatPattern) (p : FlatPat
       (refused_then places base d lo here (Patterns_claim places (patterns qs) lo) (Pattern_claim places p here) (Patterns_claim places (patterns (qs ++ p ∷ rest)) lo) (row_homes qs lo d) (λ home. At_home home d here (pattern_numbers p)) (row_homes (qs ++ p ∷ rest) lo d) i0 i1 i2 s (omega arith)
       (depends_patterns places (patterns qs) lo here refl) (λ N E K a h. patterns_split N places K a (scope_of N places E) qs p rest lo h) (parted d rest) (g.claimed d)
       (subst (λ m. Refused places base d m (Pattern_claim places p m) (λ home. At_home home d m (pattern_numbers p)) i1 i2) g.next (c d)))
+
+-- the names of fields in a row
+pub names_none : {X : Type 0} (xs : List X) → xs ≡ xs ++ []
+names_none [] = refl
+names_none (x ∷ xs) = ap (λ l. x ∷ l) (names_none xs)
+
+pub names_more : (fields : List PatField) (n : ℕ) (d : PatField) (before names names' : List (Bor Text)) → n < length fields → names' ≡ names ++ (slice_index_or fields n d).name ∷ [] → texts names ≡ texts before ++ map pattern_name (take n fields) → texts names' ≡ texts before ++ map pattern_name (take (n + 1) fields)
+names_more fields n d before names names' lt e h = texts_next names names' (slice_index_or fields n d).name (texts before ++ map pattern_name (take n fields)) e h
+    ∙ append_assoc (texts before) (map pattern_name (take n fields)) (pattern_name (slice_index_or fields n d) ∷ []) ∙ ap (λ l. texts before ++ l) (map_next pattern_name fields n d lt)
+
+module _ (base number : ℕ) (fs gs : List Text) (parts : List ℕ) (i i' : Inference) (e : fs ≡ gs) where
+  pub named_ok : ((places : Kind) (d lo : ℕ) → Claimed places base d lo (λ N scope K a. IsRecord N fs (a number) (types_of a parts)) (λ home. Unit {0}) i i') → (places : Kind) (d lo : ℕ) → Claimed places base d lo (λ N scope K a. IsRecord N gs (a number) (types_of a parts)) (λ home. Unit {0}) i i'
+  named_ok f places d lo = subst (λ (hs : List Text). Claimed places base d lo (λ N scope K a. IsRecord N hs (a number) (types_of a parts)) (λ home. Unit {0}) i i') e (f places d lo)
+
+  pub named_err : ((places : Kind) (d lo : ℕ) → Refused places base d lo (λ N scope K a. IsRecord N fs (a number) (types_of a parts)) (λ home. Unit {0}) i i') → (places : Kind) (d lo : ℕ) → Refused places base d lo (λ N scope K a. IsRecord N gs (a number) (types_of a parts)) (λ home. Unit {0}) i i'
+  named_err f places d lo = subst (λ (hs : List Text). Refused places base d lo (λ N scope K a. IsRecord N hs (a number) (types_of a parts)) (λ home. Unit {0}) i i') e (f places d lo)
 
 -- a pattern whose type is made of those of a row
 module _ (places : Kind) (base lo : ℕ) (q : FlatPattern) (ps : Patterns Ref BindId) (M : Making) (many : pattern_numbers q ≡ 1 + all_pattern_numbers ps)

@@ -26,7 +26,7 @@ use Rattle.type_scopes.specs.Scopes.{Claim, Homes, Safe, Claimed, Opened, Refuse
 use Rattle.type_scopes.proofs.Claiming.{depends_wider, claimed_low, claimed_then, refused_as, refused_low, refused_then}
 use Rattle.type_scopes.proofs.Opening.{opened_refused, opened_then, then_opened, closed}
 use Rattle.type_scopes.proofs.Binding.{binds_then, binds_within}
-use Rattle.type_constraints.specs.Parts.{Term_claim, Term_homes, Constrained, Unconstrained, Pattern_claim, value_row, Row_claim, Row_homes, env_row}
+use Rattle.type_constraints.specs.Parts.{Term_claim, Term_homes, Constrained, Unconstrained, Pattern_claim, Ruled, Unruled, value_row, Row_claim, Row_homes, env_row}
 use Rattle.type_constraints.proofs.Depending.{depends_term, depends_pattern}
 use Rattle.type_constraints.proofs.Forms.{anywhere, ruled, unruled}
 
@@ -97,7 +97,7 @@ module _ (places : Kind) (base d lo from : ℕ) (sizes : List BindId) (p : FlatP
 
   -- the value
   module _ (i0 i3 : Inference) (s : Safe base i0) (x : Claimed places base d lo sized homes_p i0 i3) where
-    pub value_err2 : (i4 : Inference) → Unconstrained places base d from v i3 i4 → Refused places base d lo row_claim row_homes i0 i4
+    value_err2 : (i4 : Inference) → Unconstrained places base d from v i3 i4 → Refused places base d lo row_claim row_homes i0 i4
     value_err2 i4 c = refused_then places base d lo from sized (Term_claim places v from) row_claim homes_p (Term_homes d v from) row_homes i0 i3 i4 s (omega arith) (depends_sized from eq)
         (λ N E K a h. (h.0.0, subst (λ m. Typed N places v m (scope_of N places E) K a) (sym eq) h.0.1)) homes_of x c
 
@@ -112,27 +112,31 @@ module _ (places : Kind) (base d lo from : ℕ) (sizes : List BindId) (p : FlatP
       split : (N : Names) (E : Env) (K : Kinds) (a : Sub) → row_claim N (scope_of N places E) K a → bound N (scope_of N places E) K a × rule N (scope_of N places E) K a
       split N E K a h = ((h.0.0, h.0.1), subst (λ m. a (1 + lo) ≡ a m) (sym eq) h.1)
 
-      pub value_err3 : (i5 : Inference) → ((places : Kind) (d lo' : ℕ) → Refused places base d lo' (λ N scope K a. All_met N.shapes K a ds) (λ home. All_allow home ds) i4 i5) → Refused places base d lo row_claim row_homes i0 i5
+      value_err3 : (i5 : Inference) → ((places : Kind) (d lo' : ℕ) → Refused places base d lo' (λ N scope K a. All_met N.shapes K a ds) (λ home. All_allow home ds) i4 i5) → Refused places base d lo row_claim row_homes i0 i5
       value_err3 i5 r = refused_then places base d lo end bound rule row_claim row_homes anywhere row_homes i0 i4 i5 s (omega arith) depends_bound split (λ home h. (h, tt)) both (unruled places base d end ds (λ K a. a (1 + lo) ≡ a from) say allowed i4 i5 (r places d end))
 
       module _ (i5 : Inference) (r : (places : Kind) (d lo' : ℕ) → Claimed places base d lo' (λ N scope K a. All_met N.shapes K a ds) (λ home. All_allow home ds) i4 i5) where
-        pub row : Claimed places base d lo row_claim row_homes i0 i5
+        row : Claimed places base d lo row_claim row_homes i0 i5
         row = claimed_then places base d lo end bound rule row_claim row_homes anywhere row_homes i0 i4 i5 s (omega arith) depends_bound split (λ home h. (h, tt)) both
             (λ N E K a p q. (p, subst (λ m. a (1 + lo) ≡ a m) eq q)) (ruled places base d end ds (λ K a. a (1 + lo) ≡ a from) say allowed i4 i5 (r places d end))
 
-  -- what it binds
-  module _ (i5 i6 i7 : Inference) (y : (lo : ℕ) → Binds base lo 0 (env_sizes sizes) i5 i6) (z : Binds base (1 + lo) (pattern_numbers p) (env_pattern p (1 + lo)) i6 i7) where
-    pub names : Binds base (1 + lo) (pattern_numbers p) (env_row (value_row sizes p v) lo) i5 i7
-    names = binds_within base (1 + lo + 0) (1 + lo) (pattern_numbers p) (pattern_numbers p) (λ E. env_pattern p (1 + lo) (env_sizes sizes E)) (env_row (value_row sizes p v) lo) i5 i7 (omega arith) (omega arith) refl
-        (subst (λ m. Binds base m (pattern_numbers p) (λ E. env_pattern p (1 + lo) (env_sizes sizes E)) i5 i7) (let e : 1 + lo ≡ 1 + lo + 0 = omega arith in e) (binds_all y z))
-      where
-        binds_all : ((lo : ℕ) → Binds base lo 0 (env_sizes sizes) i5 i6) → Binds base (1 + lo) (pattern_numbers p) (env_pattern p (1 + lo)) i6 i7 → Binds base (1 + lo) (pattern_numbers p) (λ E. env_pattern p (1 + lo) (env_sizes sizes E)) i5 i7
-        binds_all y z = binds_within base (1 + lo) (1 + lo) (0 + pattern_numbers p) (pattern_numbers p) (λ E. env_pattern p (1 + lo) (env_sizes sizes E)) (λ E. env_pattern p (1 + lo) (env_sizes sizes E)) i5 i7 (omega arith) (omega arith) refl
-            (binds_then base (1 + lo) 0 (pattern_numbers p) (env_sizes sizes) (env_pattern p (1 + lo)) i5 i6 i7 (y (1 + lo)) (subst (λ m. Binds base m (pattern_numbers p) (env_pattern p (1 + lo)) i6 i7) (let e : 1 + lo ≡ 1 + lo + 0 = omega arith in e) z))
+    module _ (i5 : Inference) (ds : List Demand) (say : Say ds (λ K a. a (1 + lo) ≡ a from)) (allowed : Always_allowed ds) where
+      pub value_unruled : Unruled places base d from v ds i3 i5 → Refused places base d lo row_claim row_homes i0 i5
+      value_unruled (inl u) = value_err2 i5 u
+      value_unruled (inr w) = value_err3 w.0 w.1.0 ds say allowed i5 w.1.1
 
-    pub value_ok : (i0 : Inference) → Safe base i0 → Claimed places base d lo row_claim row_homes i0 i5 → Opened places base d lo end row_claim row_homes (env_row (value_row sizes p v) lo) i0 i7
-    value_ok i0 s gone = then_opened places base d lo end end row_claim nothing_claimed row_claim row_homes homes_p row_homes (env_row (value_row sizes p v) lo) i0 i5 i7 s (omega arith) depends_row (λ home h. (h, (homes_of home h).0)) gone (λ N E K a h. (h, tt)) (λ N E K a x y. x)
-        (names places d end (omega arith))
+      pub value_ruled : Ruled places base d from v ds i3 i5 → Claimed places base d lo row_claim row_homes i0 i5
+      value_ruled r = row r.0 r.1.0 ds say allowed i5 r.1.1
+
+  -- what it binds
+  pub value_ok : (i0 i5 i7 : Inference) → Binds base (1 + lo) (pattern_numbers p) (env_row (value_row sizes p v) lo) i5 i7 → Safe base i0 → Claimed places base d lo row_claim row_homes i0 i5 → Opened places base d lo end row_claim row_homes (env_row (value_row sizes p v) lo) i0 i7
+  value_ok i0 i5 i7 names s gone = then_opened places base d lo end end row_claim nothing_claimed row_claim row_homes homes_p row_homes (env_row (value_row sizes p v) lo) i0 i5 i7 s (omega arith) depends_row (λ home h. (h, (homes_of home h).0)) gone (λ N E K a h. (h, tt)) (λ N E K a x y. x)
+      (names places d end (omega arith))
+
+-- size names, and a pattern that sees them
+pub bound_names : (base lo : ℕ) (sizes : List BindId) (p : FlatPattern) (i0 i1 i2 : Inference) → ((lo : ℕ) → Binds base lo 0 (env_sizes sizes) i0 i1) → Binds base lo (pattern_numbers p) (env_pattern p lo) i1 i2 → Binds base lo (pattern_numbers p) (λ E. env_pattern p lo (env_sizes sizes E)) i0 i2
+bound_names base lo sizes p i0 i1 i2 y z = binds_within base lo lo (0 + pattern_numbers p) (pattern_numbers p) (λ E. env_pattern p lo (env_sizes sizes E)) (λ E. env_pattern p lo (env_sizes sizes E)) i0 i2 (omega arith) (omega arith) refl
+    (binds_then base lo 0 (pattern_numbers p) (env_sizes sizes) (env_pattern p lo) i0 i1 i2 (y lo) (subst (λ m. Binds base m (pattern_numbers p) (env_pattern p lo) i1 i2) (let e : lo ≡ lo + 0 = omega arith in e) z))
 
 -- that two numbers have one type
 pub same_within : (table : ShapeTable) (base i j : ℕ) → i < base → j < base → Are_demands table base (demand.Same i j ∷ [])

@@ -1,5 +1,6 @@
 -- What the parts of an expression claim of the types of its numbers.
 use Rattle.std.specs.Prelude.{◌≡◌, ℕ, ◌+◌, false, List, [], ◌∷◌}
+use mathlib.Core.Logic.{◌⊎◌}
 use Rattle.fut_scalar.specs.declared.place.BindId.{BindId}
 use Rattle.fut_scalar.specs.declared.place.Place.{Place}
 use Rattle.fut_types.specs.declared.Kind.{Kind}
@@ -9,7 +10,6 @@ use Rattle.fut_flat.specs.declared.prim.Ref.{Ref}
 use Rattle.fut_flat.specs.Terms.{Patterns, no_pattern, pattern_and, Operation, Use, Terms, no_term, term_and}
 use Rattle.fut_flat.specs.Numbers.{pattern_numbers, own_numbers, numbers, turn_numbers}
 use Rattle.fut_flat.specs.Erased.{FlatTerm, FlatPattern, FlatTurns, Row}
-use Rattle.fut_types.specs.Types.{Sub}
 use Rattle.fut_typing.specs.Rules.{Rule, Written}
 use Rattle.fut_typing.specs.Free.{differs}
 use Rattle.fut_typing.specs.Homes.{Env, env_bound, env_pattern, env_sizes, env_turns, At_home, home_in, Homed, All_homed, Turns_homed}
@@ -18,6 +18,8 @@ use Rattle.fut_typing.specs.Rows.{behind, row_scheme, with_row, Row_homed, Rows_
 use Rattle.fut_typing.specs.Patterns.{with_pattern, Pattern_typed, Patterns_typed, Parameters_typed}
 use Rattle.fut_typing.specs.Typing.{operand, Function_name, Let_typed, Typed, All_typed, Turns_typed}
 use Rattle.type_claims.specs.Claims.{types_of}
+use Rattle.type_rules.specs.declared.demand.Demand.{Demand}
+use Rattle.type_rules.specs.Demands.{All_allow, All_met}
 use Rattle.type_scopes.specs.declared.Inference.{Inference}
 use Rattle.type_scopes.specs.Scopes.{Around, Claim, Homes, Claimed, Refused}
 
@@ -38,6 +40,21 @@ Constrained places base d lo t i i' = Claimed places base d lo (Term_claim place
 -- no types that are possible meet them
 abbrev pub Unconstrained : Kind → ℕ → ℕ → ℕ → FlatTerm → Inference → Inference → Type 0
 Unconstrained places base d lo t i i' = Refused places base d lo (Term_claim places t lo) (Term_homes d t lo) i i'
+
+-- demands are put in, wherever they are made
+abbrev pub Demands_put : ℕ → List Demand → Inference → Inference → Type 0
+Demands_put base ds i i' = (places : Kind) (d lo : ℕ) → Claimed places base d lo (λ N scope K a. All_met N.shapes K a ds) (λ home. All_allow home ds) i i'
+
+abbrev pub Demands_refused : ℕ → List Demand → Inference → Inference → Type 0
+Demands_refused base ds i i' = (places : Kind) (d lo : ℕ) → Refused places base d lo (λ N scope K a. All_met N.shapes K a ds) (λ home. All_allow home ds) i i'
+
+-- the rules of all numbers of a term are put in, and then a rule's demands
+abbrev pub Ruled : Kind → ℕ → ℕ → ℕ → FlatTerm → List Demand → Inference → Inference → Type 0
+Ruled places base d lo t ds i i' = (between : Inference) × (Constrained places base d lo t i between × Demands_put base ds between i')
+
+-- no types that are possible meet the rules of the term; or they are put in, and none meet the demands
+abbrev pub Unruled : Kind → ℕ → ℕ → ℕ → FlatTerm → List Demand → Inference → Inference → Type 0
+Unruled places base d lo t ds i i' = Unconstrained places base d lo t i i' ⊎ ((between : Inference) × (Constrained places base d lo t i between × Demands_refused base ds between i'))
 
 -- the same of terms in a row
 abbrev pub Terms_claim : Kind → Terms Ref BindId → ℕ → Claim
@@ -92,27 +109,13 @@ Row_homes d l lo home = (w : Around d) × Row_homed home d w.0 l lo
 abbrev pub env_row : Row → ℕ → Env → Env
 env_row l lo E = env_bound l.0.is_function l.0 l.1 (1 + lo) E
 
-unfoldable pub Rows_claim : Kind → List Row → ℕ → Claim
-Rows_claim places [] lo N scope K a = Unit {0}
-Rows_claim places (l ∷ ls) lo N scope K a = Row_claim places l lo N scope K a × Rows_claim places ls (behind l lo) N (with_row N places l lo scope) K a
+-- the same of lets in a row, the whole of each of which has the type of a number
+unfoldable pub Rows_claim : Kind → ℕ → List Row → ℕ → Claim
+Rows_claim places whole [] lo N scope K a = Unit {0}
+Rows_claim places whole (l ∷ ls) lo N scope K a = (Row_claim places l lo N scope K a × (a whole ≡ a lo)) × Rows_claim places whole ls (behind l lo) N (with_row N places l lo scope) K a
 
 abbrev pub Rows_homes : ℕ → List Row → ℕ → Homes
 Rows_homes d ls lo home = (w : Around d) × Rows_homed home d w.0 ls lo
-
--- where the numbers of lets in a row begin
-unfoldable pub row_starts : List Row → ℕ → List ℕ
-row_starts [] lo = []
-row_starts (l ∷ ls) lo = lo ∷ row_starts ls (behind l lo)
-
--- the first of these numbers, or else the last
-abbrev pub first_of : List ℕ → ℕ → ℕ
-first_of [] last = last
-first_of (n ∷ ns) last = n
-
--- these numbers and the last have one type
-unfoldable pub Chained : Sub → List ℕ → ℕ → Type 0
-Chained a [] last = Unit {0}
-Chained a (n ∷ ns) last = (a n ≡ a (first_of ns last)) × Chained a ns last
 
 -- a loop's pattern with its first value is as a let is
 abbrev pub behind_first : FlatPattern → FlatTerm → ℕ → ℕ

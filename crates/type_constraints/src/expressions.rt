@@ -1,17 +1,19 @@
 // Expressions.
-ghost use Rattle.std.specs.Prelude.{◌≡◌, ◌≤◌, ◌<◌, ◌+◌, ◌++◌, ℕ, map, true, OnOk, IfOk, IfErr};
+ghost use Rattle.std.specs.Prelude.{◌≡◌, ◌≤◌, ◌<◌, ◌+◌, ◌++◌, ℕ, map, OnOk, IfOk, IfErr};
 ghost use Rattle.fut_flat.specs.Terms.{Apply, Counted, If, Lambda, Over, Strict, While};
 ghost use Rattle.fut_flat.specs.Numbers.{all_numbers, numbers};
 ghost use Rattle.fut_flat.specs.Erased.{lets as lets_term, operation_of, parameters, pattern_of, patterns, term_of, terms};
 ghost use Rattle.fut_flat.proofs.ErasedForms.{loop_of, row_of, turns_of};
 ghost use Rattle.fut_typing.specs.Rows.{behind, behind_all, env_rows};
 ghost use Rattle.type_definitions.specs.Definitions.{Definition_claim, Definition_homes, env_definition, named};
+ghost use Rattle.fut_types.specs.declared.shapes.ShapeTable.{ShapeTable};
 ghost use Rattle.type_graph.specs.Graph.{Each, Tells};
+ghost use Rattle.type_rules.specs.Demands.{Are_demands};
 ghost use Rattle.type_scopes.specs.Scopes.{Claimed, Opened, Refused, Safe};
-ghost use Rattle.type_constraints.specs.Parts.{Constrained, Head_claim, Head_homes, Row_claim, Row_homes, Rows_claim, Rows_homes, Terms_claim, Terms_homes, Unconstrained, behind_head, env_head, env_row, row_starts, starts, use_term, value_row};
+ghost use Rattle.type_constraints.specs.Parts.{Constrained, Head_claim, Head_homes, Row_claim, Row_homes, Rows_claim, Rows_homes, Ruled, Terms_claim, Terms_homes, Unconstrained, Unruled, behind_head, env_head, env_row, starts, use_term, value_row};
 
 use crate::operations::{constrain_rule, own_numbers_of};
-use crate::patterns::{constrain_arrows, constrain_chain, constrain_parameters, constrain_pattern};
+use crate::patterns::{constrain_arrows, constrain_parameters, constrain_pattern, enter_bound};
 use crate::setting::Setting;
 use crate::uses::use_name;
 use fut_flat::{Act, Exp, Form, Head, Let, Loop, LoopForm, Pat, PatForm, Ref};
@@ -70,17 +72,7 @@ fn constrain_use(
     ensures err { IfErr result (Tells (Unconstrained setting.places setting.base setting.depth lo (use_term reference place before) inference.old inference.new)) }
 {
     let _place = place;
-    match use_name(
-        setting.alloc,
-        setting.places,
-        setting.base,
-        reference,
-        lo,
-        inference,
-    ) {
-        Ok(()) => Ok(lo + (1 + (before + before))),
-        Err(error) => Err(error),
-    }
+    use_name(setting, reference, lo, inference).and(Ok(lo + (1 + (before + before))))
 }
 
 // Parts from left to right, and an operation on them.
@@ -106,19 +98,7 @@ fn constrain_strict<'a>(
         Ok(next) => next,
         Err(error) => return Err(error),
     };
-    match constrain_rule(
-        setting.alloc,
-        setting.places,
-        setting.base,
-        act,
-        setting.depth,
-        lo,
-        begins.as_slice(),
-        inference,
-    ) {
-        Ok(()) => Ok(next),
-        Err(error) => Err(error),
-    }
+    constrain_rule(setting, act, lo, begins.as_slice(), inference).and(Ok(next))
 }
 
 // Expressions in a row. Where the numbers of each begin is noted.
@@ -151,6 +131,29 @@ fn constrain_parts<'a>(
     Ok(at)
 }
 
+// An expression, and then a rule's demands.
+#[cycle(constrain)]
+fn constrain_ruled<'a>(
+    setting: Setting,
+    exp: &Exp<'a>,
+    lo: u32,
+    rule: &[Demand],
+    inference: &mut Inference<'a>,
+) -> Result<u32, UnifyErr>
+    requires safe { Safe setting.base inference.old }
+    requires room { lo + numbers (term_of exp.now) ≤ setting.base }
+    requires within { (table : ShapeTable) → Are_demands table setting.base rule.now }
+    ensures next { IfOk result (λ next. next ≡ lo + numbers (term_of exp.now)) }
+    ensures ok { OnOk result (Ruled setting.places setting.base setting.depth lo (term_of exp.now) rule.now inference.old inference.new) }
+    ensures err { IfErr result (Tells (Unruled setting.places setting.base setting.depth lo (term_of exp.now) rule.now inference.old inference.new)) }
+{
+    let next = match constrain(setting, exp, lo, inference) {
+        Ok(next) => next,
+        Err(error) => return Err(error),
+    };
+    demand(setting.alloc, setting.base, inference, rule).and(Ok(next))
+}
+
 // A function and its argument.
 #[cycle(constrain)]
 fn constrain_apply<'a>(
@@ -170,19 +173,8 @@ fn constrain_apply<'a>(
         Ok(next) => next,
         Err(error) => return Err(error),
     };
-    let next = match constrain(setting, argument, middle, inference) {
-        Ok(next) => next,
-        Err(error) => return Err(error),
-    };
-    match demand(
-        setting.alloc,
-        setting.base,
-        inference,
-        &application(lo, 1 + lo, middle),
-    ) {
-        Ok(()) => Ok(next),
-        Err(error) => Err(error),
-    }
+    let rule = application(lo, 1 + lo, middle);
+    constrain_ruled(setting, argument, middle, &rule, inference)
 }
 
 // A condition and two branches.
@@ -209,19 +201,8 @@ fn constrain_if<'a>(
         Ok(next) => next,
         Err(error) => return Err(error),
     };
-    let next = match constrain(setting, no, third, inference) {
-        Ok(next) => next,
-        Err(error) => return Err(error),
-    };
-    match demand(
-        setting.alloc,
-        setting.base,
-        inference,
-        &choice(lo, 1 + lo, second, third, setting.places),
-    ) {
-        Ok(()) => Ok(next),
-        Err(error) => Err(error),
-    }
+    let rule = choice(lo, 1 + lo, second, third, setting.places);
+    constrain_ruled(setting, no, third, &rule, inference)
 }
 
 // A function of parameters. Its body sees their names.
@@ -241,16 +222,7 @@ fn constrain_lambda<'a>(
 {
     let mark = mark_of(inference);
     let mut begins = List::new(setting.alloc);
-    let from = match constrain_parameters(
-        setting.alloc,
-        setting.places,
-        setting.base,
-        params,
-        setting.depth,
-        1 + lo,
-        &mut begins,
-        inference,
-    ) {
+    let from = match constrain_parameters(setting, params, 1 + lo, &mut begins, inference) {
         Ok(next) => next,
         Err(error) => return Err(error),
     };
@@ -259,17 +231,15 @@ fn constrain_lambda<'a>(
         Err(error) => return Err(error),
     };
     take_back(inference, mark);
-    match constrain_arrows(
+    constrain_arrows(
         setting.alloc,
         setting.base,
         lo,
         begins.as_slice(),
         from,
         inference,
-    ) {
-        Ok(()) => Ok(next),
-        Err(error) => Err(error),
-    }
+    )
+    .and(Ok(next))
 }
 
 // A row of lets, and the body behind it. Elaboration makes no row without a let.
@@ -291,55 +261,49 @@ fn constrain_lets<'a>(
         return Err(UnifyErr::Memory);
     }
     let mark = mark_of(inference);
-    let mut begins = List::new(setting.alloc);
-    let from = match constrain_rows(setting, lets, lo, &mut begins, inference) {
+    let from = match constrain_rows(setting, lets, lo, inference) {
         Ok(next) => next,
         Err(error) => return Err(error),
     };
-    let next = match constrain(setting, body, from, inference) {
+    let rule = [Demand::Same(lo, from)];
+    let next = match constrain_ruled(setting, body, from, &rule, inference) {
         Ok(next) => next,
         Err(error) => return Err(error),
     };
-    match constrain_chain(
-        setting.alloc,
-        setting.base,
-        begins.as_slice(),
-        from,
-        inference,
-    ) {
-        Ok(()) => {}
-        Err(error) => return Err(error),
-    }
     take_back(inference, mark);
     Ok(next)
 }
 
-// Lets in a row, each of which sees the names of those before it. Where the numbers of each begin is noted.
+// Lets in a row, each of which sees the names of those before it. The whole of each has the type of the whole of the first.
 #[cycle(constrain)]
 fn constrain_rows<'a>(
     setting: Setting,
     lets: &[Let<'a>],
     lo: u32,
-    begins: &mut List<u32>,
     inference: &mut Inference<'a>,
 ) -> Result<u32, UnifyErr>
     requires safe { Safe setting.base inference.old }
     requires room { behind_all (map row_of lets.now) lo ≤ setting.base }
     ensures next { IfOk result (λ next. next ≡ behind_all (map row_of lets.now) lo) }
-    ensures begins { OnOk result (begins.new ≡ begins.old ++ row_starts (map row_of lets.now) lo) }
-    ensures ok { OnOk result (Opened setting.places setting.base setting.depth lo (behind_all (map row_of lets.now) lo) (Rows_claim setting.places (map row_of lets.now) lo) (Rows_homes setting.depth (map row_of lets.now) lo) (env_rows (map row_of lets.now) lo) inference.old inference.new) }
-    ensures err { IfErr result (Tells (Refused setting.places setting.base setting.depth lo (Rows_claim setting.places (map row_of lets.now) lo) (Rows_homes setting.depth (map row_of lets.now) lo) inference.old inference.new)) }
+    ensures ok { OnOk result (Opened setting.places setting.base setting.depth lo (behind_all (map row_of lets.now) lo) (Rows_claim setting.places lo (map row_of lets.now) lo) (Rows_homes setting.depth (map row_of lets.now) lo) (env_rows (map row_of lets.now) lo) inference.old inference.new) }
+    ensures err { IfErr result (Tells (Refused setting.places setting.base setting.depth lo (Rows_claim setting.places lo (map row_of lets.now) lo) (Rows_homes setting.depth (map row_of lets.now) lo) inference.old inference.new)) }
 {
     let mut at = lo;
     for one in lets {
-        match begins.push(at) {
-            Ok(()) => {}
-            Err(_) => return Err(UnifyErr::Memory),
-        }
-        at = match constrain_row(setting, one, at, inference) {
+        let next = match constrain_row(setting, one, at, inference) {
             Ok(next) => next,
             Err(error) => return Err(error),
         };
+        match demand(
+            setting.alloc,
+            setting.base,
+            inference,
+            &[Demand::Same(lo, at)],
+        ) {
+            Ok(()) => {}
+            Err(error) => return Err(error),
+        }
+        at = next;
     }
     Ok(at)
 }
@@ -358,31 +322,14 @@ fn constrain_row<'a>(
     ensures ok { OnOk result (Opened setting.places setting.base setting.depth lo (behind (row_of one.now) lo) (Row_claim setting.places (row_of one.now) lo) (Row_homes setting.depth (row_of one.now) lo) (env_row (row_of one.now) lo) inference.old inference.new) }
     ensures err { IfErr result (Tells (Refused setting.places setting.base setting.depth lo (Row_claim setting.places (row_of one.now) lo) (Row_homes setting.depth (row_of one.now) lo) inference.old inference.new)) }
 {
-    if one.is_function {
-        return constrain_function(setting, one, lo, inference);
+    if !one.is_function {
+        // Only a function has parameters.
+        if one.heads.len() > 0 {
+            return Err(UnifyErr::Memory);
+        }
+        return constrain_value(setting, one.sizes, &one.pat, &one.value, lo, inference);
     }
-    // Only a function has parameters.
-    if one.heads.len() > 0 {
-        return Err(UnifyErr::Memory);
-    }
-    constrain_value(setting, one.sizes, &one.pat, &one.value, lo, inference)
-}
-
-// A let that is written as a function: a definition of a name.
-#[cycle(constrain)]
-fn constrain_function<'a>(
-    setting: Setting,
-    one: &Let<'a>,
-    lo: u32,
-    inference: &mut Inference<'a>,
-) -> Result<u32, UnifyErr>
-    requires safe { Safe setting.base inference.old }
-    requires room { behind (row_of one.now) lo ≤ setting.base }
-    requires function { one.now.is_function ≡ true }
-    ensures next { IfOk result (λ next. next ≡ behind (row_of one.now) lo) }
-    ensures ok { OnOk result (Opened setting.places setting.base setting.depth lo (behind (row_of one.now) lo) (Row_claim setting.places (row_of one.now) lo) (Row_homes setting.depth (row_of one.now) lo) (env_row (row_of one.now) lo) inference.old inference.new) }
-    ensures err { IfErr result (Tells (Refused setting.places setting.base setting.depth lo (Row_claim setting.places (row_of one.now) lo) (Row_homes setting.depth (row_of one.now) lo) inference.old inference.new)) }
-{
+    // A function is a definition of a name, and has no size names.
     if one.sizes.len() > 0 {
         return Err(UnifyErr::Clash(lo, lo));
     }
@@ -440,24 +387,13 @@ pub fn constrain_definition<'a>(
         Ok(()) => {}
         Err(_) => return Err(UnifyErr::Memory),
     }
-    let next = match constrain(inside, value, 1 + lo, inference) {
+    let rule = [Demand::Same(lo, 1 + lo)];
+    let next = match constrain_ruled(inside, value, 1 + lo, &rule, inference) {
         Ok(next) => next,
         Err(error) => return Err(error),
     };
-    match demand(
-        setting.alloc,
-        setting.base,
-        inference,
-        &[Demand::Same(lo, 1 + lo)],
-    ) {
-        Ok(()) => {}
-        Err(error) => return Err(error),
-    }
     take_back(inference, mark);
-    match generalise(own.as_slice(), lo, depth, name.0, inference) {
-        Ok(()) => Ok(next),
-        Err(error) => Err(error),
-    }
+    generalise(own.as_slice(), lo, depth, name.0, inference).and(Ok(next))
 }
 
 // A let that is not written as a function.
@@ -480,12 +416,8 @@ fn constrain_value<'a>(
         Ok(next) => next,
         Err(error) => return Err(error),
     };
-    match enter_sizes(setting.base, sizes, inference) {
-        Ok(()) => {}
-        Err(_) => return Err(UnifyErr::Memory),
-    }
-    match enter_pattern(setting.base, pat, 1 + lo, inference) {
-        Ok(_) => Ok(next),
+    match enter_bound(setting.base, sizes, pat, 1 + lo, inference) {
+        Ok(()) => Ok(next),
         Err(_) => Err(UnifyErr::Memory),
     }
 }
@@ -511,31 +443,13 @@ fn constrain_bound<'a>(
         Ok(()) => {}
         Err(_) => return Err(UnifyErr::Memory),
     }
-    let from = match constrain_pattern(
-        setting.alloc,
-        setting.places,
-        setting.base,
-        pat,
-        1 + lo,
-        inference,
-    ) {
+    let from = match constrain_pattern(setting, pat, 1 + lo, inference) {
         Ok(next) => next,
         Err(error) => return Err(error),
     };
     take_back(inference, mark);
-    let next = match constrain(setting, value, from, inference) {
-        Ok(next) => next,
-        Err(error) => return Err(error),
-    };
-    match demand(
-        setting.alloc,
-        setting.base,
-        inference,
-        &[Demand::Same(1 + lo, from)],
-    ) {
-        Ok(()) => Ok(next),
-        Err(error) => Err(error),
-    }
+    let rule = [Demand::Same(1 + lo, from)];
+    constrain_ruled(setting, value, from, &rule, inference)
 }
 
 // A loop: what it carries and its turns, and its body.
@@ -557,19 +471,11 @@ fn constrain_loop<'a>(
         Ok(next) => next,
         Err(error) => return Err(error),
     };
-    let next = match constrain(setting, &whole.body, from, inference) {
+    let rule = carried(lo, 1 + lo, from, setting.places);
+    let next = match constrain_ruled(setting, &whole.body, from, &rule, inference) {
         Ok(next) => next,
         Err(error) => return Err(error),
     };
-    match demand(
-        setting.alloc,
-        setting.base,
-        inference,
-        &carried(lo, 1 + lo, from, setting.places),
-    ) {
-        Ok(()) => {}
-        Err(error) => return Err(error),
-    }
     take_back(inference, mark);
     Ok(next)
 }
@@ -589,35 +495,13 @@ fn constrain_head<'a>(
     ensures err { IfErr result (Tells (Refused setting.places setting.base setting.depth lo (Head_claim setting.places whole.now.sizes.now (pattern_of whole.now.pat) (term_of whole.now.first) (turns_of whole.now.form) lo) (Head_homes setting.depth whole.now.sizes.now (pattern_of whole.now.pat) (term_of whole.now.first) (turns_of whole.now.form) lo) inference.old inference.new)) }
 {
     match whole.form {
-        LoopForm::While(ref test) => constrain_while(
-            setting,
-            whole.sizes,
-            &whole.pat,
-            &whole.first,
-            test,
-            lo,
-            inference,
-        ),
-        LoopForm::For(name, ref bound) => constrain_counted(
-            setting,
-            whole.sizes,
-            &whole.pat,
-            &whole.first,
-            name,
-            bound,
-            lo,
-            inference,
-        ),
-        LoopForm::ForIn(ref part, ref array) => constrain_over(
-            setting,
-            whole.sizes,
-            &whole.pat,
-            &whole.first,
-            part,
-            array,
-            lo,
-            inference,
-        ),
+        LoopForm::While(ref test) => constrain_while(setting, whole, test, lo, inference),
+        LoopForm::For(name, ref bound) => {
+            constrain_counted(setting, whole, name, bound, lo, inference)
+        }
+        LoopForm::ForIn(ref part, ref array) => {
+            constrain_over(setting, whole, part, array, lo, inference)
+        }
     }
 }
 
@@ -625,79 +509,66 @@ fn constrain_head<'a>(
 #[cycle(constrain)]
 fn constrain_while<'a>(
     setting: Setting,
-    sizes: &[BindId],
-    pat: &Pat<'a>,
-    first: &Exp<'a>,
+    whole: &Loop<'a>,
     test: &Exp<'a>,
     lo: u32,
     inference: &mut Inference<'a>,
 ) -> Result<u32, UnifyErr>
     requires safe { Safe setting.base inference.old }
-    requires room { behind_head (pattern_of pat.now) (term_of first.now) (While (term_of test.now)) lo ≤ setting.base }
-    ensures next { IfOk result (λ next. next ≡ behind_head (pattern_of pat.now) (term_of first.now) (While (term_of test.now)) lo) }
-    ensures ok { OnOk result (Opened setting.places setting.base setting.depth lo (behind_head (pattern_of pat.now) (term_of first.now) (While (term_of test.now)) lo) (Head_claim setting.places sizes.now (pattern_of pat.now) (term_of first.now) (While (term_of test.now)) lo) (Head_homes setting.depth sizes.now (pattern_of pat.now) (term_of first.now) (While (term_of test.now)) lo) (env_head sizes.now (pattern_of pat.now) (term_of first.now) (While (term_of test.now)) lo) inference.old inference.new) }
-    ensures err { IfErr result (Tells (Refused setting.places setting.base setting.depth lo (Head_claim setting.places sizes.now (pattern_of pat.now) (term_of first.now) (While (term_of test.now)) lo) (Head_homes setting.depth sizes.now (pattern_of pat.now) (term_of first.now) (While (term_of test.now)) lo) inference.old inference.new)) }
+    requires room { behind_head (pattern_of whole.now.pat) (term_of whole.now.first) (While (term_of test.now)) lo ≤ setting.base }
+    ensures next { IfOk result (λ next. next ≡ behind_head (pattern_of whole.now.pat) (term_of whole.now.first) (While (term_of test.now)) lo) }
+    ensures ok { OnOk result (Opened setting.places setting.base setting.depth lo (behind_head (pattern_of whole.now.pat) (term_of whole.now.first) (While (term_of test.now)) lo) (Head_claim setting.places whole.now.sizes.now (pattern_of whole.now.pat) (term_of whole.now.first) (While (term_of test.now)) lo) (Head_homes setting.depth whole.now.sizes.now (pattern_of whole.now.pat) (term_of whole.now.first) (While (term_of test.now)) lo) (env_head whole.now.sizes.now (pattern_of whole.now.pat) (term_of whole.now.first) (While (term_of test.now)) lo) inference.old inference.new) }
+    ensures err { IfErr result (Tells (Refused setting.places setting.base setting.depth lo (Head_claim setting.places whole.now.sizes.now (pattern_of whole.now.pat) (term_of whole.now.first) (While (term_of test.now)) lo) (Head_homes setting.depth whole.now.sizes.now (pattern_of whole.now.pat) (term_of whole.now.first) (While (term_of test.now)) lo) inference.old inference.new)) }
 {
-    let from = match constrain_value(setting, sizes, pat, first, lo, inference) {
-        Ok(next) => next,
-        Err(error) => return Err(error),
-    };
-    let next = match constrain(setting, test, from, inference) {
-        Ok(next) => next,
-        Err(error) => return Err(error),
-    };
-    match demand(
-        setting.alloc,
-        setting.base,
+    let from = match constrain_value(
+        setting,
+        whole.sizes,
+        &whole.pat,
+        &whole.first,
+        lo,
         inference,
-        &[Demand::Is(from, ScalarType::Bool)],
     ) {
-        Ok(()) => Ok(next),
-        Err(error) => Err(error),
-    }
+        Ok(next) => next,
+        Err(error) => return Err(error),
+    };
+    let rule = [Demand::Is(from, ScalarType::Bool)];
+    constrain_ruled(setting, test, from, &rule, inference)
 }
 
 // A loop that counts its turns. Their number does not see the names that the loop carries.
 #[cycle(constrain)]
 fn constrain_counted<'a>(
     setting: Setting,
-    sizes: &[BindId],
-    pat: &Pat<'a>,
-    first: &Exp<'a>,
+    whole: &Loop<'a>,
     name: BindId,
     bound: &Exp<'a>,
     lo: u32,
     inference: &mut Inference<'a>,
 ) -> Result<u32, UnifyErr>
     requires safe { Safe setting.base inference.old }
-    requires room { behind_head (pattern_of pat.now) (term_of first.now) (Counted name (term_of bound.now)) lo ≤ setting.base }
-    ensures next { IfOk result (λ next. next ≡ behind_head (pattern_of pat.now) (term_of first.now) (Counted name (term_of bound.now)) lo) }
-    ensures ok { OnOk result (Opened setting.places setting.base setting.depth lo (behind_head (pattern_of pat.now) (term_of first.now) (Counted name (term_of bound.now)) lo) (Head_claim setting.places sizes.now (pattern_of pat.now) (term_of first.now) (Counted name (term_of bound.now)) lo) (Head_homes setting.depth sizes.now (pattern_of pat.now) (term_of first.now) (Counted name (term_of bound.now)) lo) (env_head sizes.now (pattern_of pat.now) (term_of first.now) (Counted name (term_of bound.now)) lo) inference.old inference.new) }
-    ensures err { IfErr result (Tells (Refused setting.places setting.base setting.depth lo (Head_claim setting.places sizes.now (pattern_of pat.now) (term_of first.now) (Counted name (term_of bound.now)) lo) (Head_homes setting.depth sizes.now (pattern_of pat.now) (term_of first.now) (Counted name (term_of bound.now)) lo) inference.old inference.new)) }
+    requires room { behind_head (pattern_of whole.now.pat) (term_of whole.now.first) (Counted name (term_of bound.now)) lo ≤ setting.base }
+    ensures next { IfOk result (λ next. next ≡ behind_head (pattern_of whole.now.pat) (term_of whole.now.first) (Counted name (term_of bound.now)) lo) }
+    ensures ok { OnOk result (Opened setting.places setting.base setting.depth lo (behind_head (pattern_of whole.now.pat) (term_of whole.now.first) (Counted name (term_of bound.now)) lo) (Head_claim setting.places whole.now.sizes.now (pattern_of whole.now.pat) (term_of whole.now.first) (Counted name (term_of bound.now)) lo) (Head_homes setting.depth whole.now.sizes.now (pattern_of whole.now.pat) (term_of whole.now.first) (Counted name (term_of bound.now)) lo) (env_head whole.now.sizes.now (pattern_of whole.now.pat) (term_of whole.now.first) (Counted name (term_of bound.now)) lo) inference.old inference.new) }
+    ensures err { IfErr result (Tells (Refused setting.places setting.base setting.depth lo (Head_claim setting.places whole.now.sizes.now (pattern_of whole.now.pat) (term_of whole.now.first) (Counted name (term_of bound.now)) lo) (Head_homes setting.depth whole.now.sizes.now (pattern_of whole.now.pat) (term_of whole.now.first) (Counted name (term_of bound.now)) lo) inference.old inference.new)) }
 {
-    let from = match constrain_bound(setting, sizes, pat, first, lo, inference) {
-        Ok(next) => next,
-        Err(error) => return Err(error),
-    };
-    let next = match constrain(setting, bound, 1 + from, inference) {
-        Ok(next) => next,
-        Err(error) => return Err(error),
-    };
-    match demand(
-        setting.alloc,
-        setting.base,
+    let from = match constrain_bound(
+        setting,
+        whole.sizes,
+        &whole.pat,
+        &whole.first,
+        lo,
         inference,
-        &counted(from, 1 + from),
     ) {
-        Ok(()) => {}
+        Ok(next) => next,
         Err(error) => return Err(error),
-    }
-    match enter_sizes(setting.base, sizes, inference) {
+    };
+    let rule = counted(from, 1 + from);
+    let next = match constrain_ruled(setting, bound, 1 + from, &rule, inference) {
+        Ok(next) => next,
+        Err(error) => return Err(error),
+    };
+    match enter_bound(setting.base, whole.sizes, &whole.pat, 1 + lo, inference) {
         Ok(()) => {}
-        Err(_) => return Err(UnifyErr::Memory),
-    }
-    match enter_pattern(setting.base, pat, 1 + lo, inference) {
-        Ok(_) => {}
         Err(_) => return Err(UnifyErr::Memory),
     }
     match enter(inference, name.0, Known::Number(from)) {
@@ -710,56 +581,42 @@ fn constrain_counted<'a>(
 #[cycle(constrain)]
 fn constrain_over<'a>(
     setting: Setting,
-    sizes: &[BindId],
-    pat: &Pat<'a>,
-    first: &Exp<'a>,
+    whole: &Loop<'a>,
     part: &Pat<'a>,
     array: &Exp<'a>,
     lo: u32,
     inference: &mut Inference<'a>,
 ) -> Result<u32, UnifyErr>
     requires safe { Safe setting.base inference.old }
-    requires room { behind_head (pattern_of pat.now) (term_of first.now) (Over (pattern_of part.now) (term_of array.now)) lo ≤ setting.base }
-    ensures next { IfOk result (λ next. next ≡ behind_head (pattern_of pat.now) (term_of first.now) (Over (pattern_of part.now) (term_of array.now)) lo) }
-    ensures ok { OnOk result (Opened setting.places setting.base setting.depth lo (behind_head (pattern_of pat.now) (term_of first.now) (Over (pattern_of part.now) (term_of array.now)) lo) (Head_claim setting.places sizes.now (pattern_of pat.now) (term_of first.now) (Over (pattern_of part.now) (term_of array.now)) lo) (Head_homes setting.depth sizes.now (pattern_of pat.now) (term_of first.now) (Over (pattern_of part.now) (term_of array.now)) lo) (env_head sizes.now (pattern_of pat.now) (term_of first.now) (Over (pattern_of part.now) (term_of array.now)) lo) inference.old inference.new) }
-    ensures err { IfErr result (Tells (Refused setting.places setting.base setting.depth lo (Head_claim setting.places sizes.now (pattern_of pat.now) (term_of first.now) (Over (pattern_of part.now) (term_of array.now)) lo) (Head_homes setting.depth sizes.now (pattern_of pat.now) (term_of first.now) (Over (pattern_of part.now) (term_of array.now)) lo) inference.old inference.new)) }
+    requires room { behind_head (pattern_of whole.now.pat) (term_of whole.now.first) (Over (pattern_of part.now) (term_of array.now)) lo ≤ setting.base }
+    ensures next { IfOk result (λ next. next ≡ behind_head (pattern_of whole.now.pat) (term_of whole.now.first) (Over (pattern_of part.now) (term_of array.now)) lo) }
+    ensures ok { OnOk result (Opened setting.places setting.base setting.depth lo (behind_head (pattern_of whole.now.pat) (term_of whole.now.first) (Over (pattern_of part.now) (term_of array.now)) lo) (Head_claim setting.places whole.now.sizes.now (pattern_of whole.now.pat) (term_of whole.now.first) (Over (pattern_of part.now) (term_of array.now)) lo) (Head_homes setting.depth whole.now.sizes.now (pattern_of whole.now.pat) (term_of whole.now.first) (Over (pattern_of part.now) (term_of array.now)) lo) (env_head whole.now.sizes.now (pattern_of whole.now.pat) (term_of whole.now.first) (Over (pattern_of part.now) (term_of array.now)) lo) inference.old inference.new) }
+    ensures err { IfErr result (Tells (Refused setting.places setting.base setting.depth lo (Head_claim setting.places whole.now.sizes.now (pattern_of whole.now.pat) (term_of whole.now.first) (Over (pattern_of part.now) (term_of array.now)) lo) (Head_homes setting.depth whole.now.sizes.now (pattern_of whole.now.pat) (term_of whole.now.first) (Over (pattern_of part.now) (term_of array.now)) lo) inference.old inference.new)) }
 {
     let mark = mark_of(inference);
-    let from = match constrain_value(setting, sizes, pat, first, lo, inference) {
+    let from = match constrain_value(
+        setting,
+        whole.sizes,
+        &whole.pat,
+        &whole.first,
+        lo,
+        inference,
+    ) {
         Ok(next) => next,
         Err(error) => return Err(error),
     };
-    let middle = match constrain_pattern(
-        setting.alloc,
-        setting.places,
-        setting.base,
-        part,
-        from,
-        inference,
-    ) {
+    let middle = match constrain_pattern(setting, part, from, inference) {
         Ok(next) => next,
         Err(error) => return Err(error),
     };
     take_back(inference, mark);
-    let next = match constrain(setting, array, middle, inference) {
+    let rule = gone_over(from, middle, setting.places);
+    let next = match constrain_ruled(setting, array, middle, &rule, inference) {
         Ok(next) => next,
         Err(error) => return Err(error),
     };
-    match demand(
-        setting.alloc,
-        setting.base,
-        inference,
-        &gone_over(from, middle, setting.places),
-    ) {
+    match enter_bound(setting.base, whole.sizes, &whole.pat, 1 + lo, inference) {
         Ok(()) => {}
-        Err(error) => return Err(error),
-    }
-    match enter_sizes(setting.base, sizes, inference) {
-        Ok(()) => {}
-        Err(_) => return Err(UnifyErr::Memory),
-    }
-    match enter_pattern(setting.base, pat, 1 + lo, inference) {
-        Ok(_) => {}
         Err(_) => return Err(UnifyErr::Memory),
     }
     match enter_pattern(setting.base, part, from, inference) {

@@ -10,8 +10,8 @@ ghost use Rattle.type_constraints.specs.Parts.{Rule_claim, Rule_homes};
 ghost use Rattle.type_constraints.specs.Counts.{Works_on};
 
 use crate::plain::plain_rule;
+use crate::setting::Setting;
 use fut_flat::Act;
-use fut_types::Kind;
 use std::alloc::Global;
 use type_graph::UnifyErr;
 use type_labels::label;
@@ -46,62 +46,106 @@ fn works_on(act: &Act<'_>, count: usize) -> bool
 
 /// Asks for the rule of an operation on parts of these numbers.
 pub fn constrain_rule<'a>(
-    alloc: Global,
-    places: Kind,
-    base: u32,
+    setting: Setting,
     act: &Act<'a>,
-    depth: u32,
     lo: u32,
     parts: &[u32],
     inference: &mut Inference<'a>,
 ) -> Result<(), UnifyErr>
-    requires safe { Safe base inference.old }
-    requires room { lo + own_numbers (operation_of act.now) ≤ base }
-    requires parts { Each (λ part. part < base) parts.now }
-    ensures ok { OnOk result ((from : ℕ) → lo < from → Claimed places base depth from (Rule_claim places (operation_of act.now) lo parts.now) (Rule_homes depth (operation_of act.now) lo) inference.old inference.new) }
-    ensures err { IfErr result (Tells ((from : ℕ) → lo < from → Refused places base depth from (Rule_claim places (operation_of act.now) lo parts.now) (Rule_homes depth (operation_of act.now) lo) inference.old inference.new)) }
+    requires safe { Safe setting.base inference.old }
+    requires room { lo + own_numbers (operation_of act.now) ≤ setting.base }
+    requires parts { Each (λ part. part < setting.base) parts.now }
+    ensures ok { OnOk result ((from : ℕ) → lo < from → Claimed setting.places setting.base setting.depth from (Rule_claim setting.places (operation_of act.now) lo parts.now) (Rule_homes setting.depth (operation_of act.now) lo) inference.old inference.new) }
+    ensures err { IfErr result (Tells ((from : ℕ) → lo < from → Refused setting.places setting.base setting.depth from (Rule_claim setting.places (operation_of act.now) lo parts.now) (Rule_homes setting.depth (operation_of act.now) lo) inference.old inference.new)) }
 {
-    let _depth = depth;
     if !works_on(act, parts.len()) {
         return Err(UnifyErr::Clash(lo, lo));
     }
     match *act {
         Act::Tuple | Act::Array | Act::Index(_) | Act::Update => {
-            constrain_any(alloc, places, base, act, lo, parts, inference)
+            constrain_any(setting, act, lo, parts, inference)
         }
-        Act::Record(names) => constrain_fields(alloc, base, lo, names, parts, inference),
-        Act::Project(name) => constrain_project(alloc, base, name, lo, parts, inference),
-        Act::Replace(name) => constrain_replace(alloc, base, name, lo, parts, inference),
+        Act::Record(names) => constrain_fields(
+            setting.alloc,
+            setting.base,
+            lo,
+            names,
+            parts,
+            inference,
+        ),
+        Act::Project(name) => constrain_project(
+            setting.alloc,
+            setting.base,
+            name,
+            lo,
+            parts,
+            inference,
+        ),
+        Act::Replace(name) => constrain_replace(
+            setting.alloc,
+            setting.base,
+            name,
+            lo,
+            parts,
+            inference,
+        ),
         Act::Ascribe(ty) => {
-            constrain_ascription(alloc, places, base, ty, lo, parts[0], inference)
+            constrain_ascription(
+                setting.alloc,
+                setting.places,
+                setting.base,
+                ty,
+                lo,
+                parts[0],
+                inference,
+            )
         }
-        Act::Coerce(ty) => constrain_ascription(alloc, places, base, ty, lo, parts[0], inference),
+        Act::Coerce(ty) => {
+            constrain_ascription(
+                setting.alloc,
+                setting.places,
+                setting.base,
+                ty,
+                lo,
+                parts[0],
+                inference,
+            )
+        }
         Act::Declared(ty) => {
-            constrain_ascription(alloc, places, base, ty, lo, parts[0], inference)
+            constrain_ascription(
+                setting.alloc,
+                setting.places,
+                setting.base,
+                ty,
+                lo,
+                parts[0],
+                inference,
+            )
         }
         _ => {
             let rule = plain_rule(act, lo, parts);
-            demand(alloc, base, inference, rule.as_slice())
+            demand(setting.alloc, setting.base, inference, rule.as_slice())
         }
     }
 }
 
 // An operation on any number of parts.
 fn constrain_any(
-    alloc: Global,
-    places: Kind,
-    base: u32,
+    setting: Setting,
     act: &Act<'_>,
     lo: u32,
     parts: &[u32],
     inference: &mut Inference,
 ) -> Result<(), UnifyErr>
-    requires safe { Safe base inference.old }
-    requires room { lo + own_numbers (operation_of act.now) ≤ base }
-    requires parts { Each (λ part. part < base) parts.now }
-    ensures ok { OnOk result ((depth from : ℕ) → Claimed places base depth from (Rule_claim places (operation_of act.now) lo parts.now) (Rule_homes depth (operation_of act.now) lo) inference.old inference.new) }
-    ensures err { IfErr result (Tells ((depth from : ℕ) → Refused places base depth from (Rule_claim places (operation_of act.now) lo parts.now) (Rule_homes depth (operation_of act.now) lo) inference.old inference.new)) }
+    requires safe { Safe setting.base inference.old }
+    requires room { lo + own_numbers (operation_of act.now) ≤ setting.base }
+    requires parts { Each (λ part. part < setting.base) parts.now }
+    ensures ok { OnOk result ((depth from : ℕ) → Claimed setting.places setting.base depth from (Rule_claim setting.places (operation_of act.now) lo parts.now) (Rule_homes depth (operation_of act.now) lo) inference.old inference.new) }
+    ensures err { IfErr result (Tells ((depth from : ℕ) → Refused setting.places setting.base depth from (Rule_claim setting.places (operation_of act.now) lo parts.now) (Rule_homes depth (operation_of act.now) lo) inference.old inference.new)) }
 {
+    let alloc = setting.alloc;
+    let base = setting.base;
+    let places = setting.places;
     let table = &inference.table;
     let nodes = &mut inference.nodes;
     let entries = &mut inference.entries;

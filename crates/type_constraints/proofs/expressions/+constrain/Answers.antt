@@ -1,15 +1,15 @@
 use Rattle.std.proofs.Common.{◌≡◌, ◌≤◌, ◌<◌, ◌+◌, ◌++◌, List, [], ◌∷◌, map, take, slice_index_or, subst, sym, ◌∙◌, ap, refl, arith}
 use Rattle.fut_flat.specs.Numbers.{numbers, all_numbers}
-use Rattle.fut_flat.specs.Erased.{FlatTerm, operation_of, parameters, term_of, terms}
+use Rattle.fut_flat.specs.Erased.{FlatPattern, FlatTerm, operation_of, parameters, term_of, terms}
 use Rattle.type_uses.specs.Uses.{type_numbers}
-use Rattle.type_constraints.proofs.Definitions.{definition_err1, definition_err2, definition_err3, definition_ok, definition_own, definition_root, definition_sound, function_err, function_ok, function_refused, no_record, no_sizes, no_tuple, no_typed, no_wild, row_numbers}
+use Rattle.type_constraints.proofs.Definitions.{definition_err3, definition_ok, definition_own, definition_root, definition_sound, definition_unruled, function_err, function_ok, function_refused, no_record, no_sizes, no_tuple, no_typed, no_wild, row_numbers}
 use Rattle.fut_flat.proofs.ErasedForms.{term_use, term_strict, term_apply, term_if, term_lambda, term_lets}
-use Rattle.fut_typing.proofs.Ranges.{numbers_some, own_some}
-use Rattle.fut_flat.proofs.ErasedPatterns.{pattern_bound, pattern_wild, pattern_tuple, pattern_typed}
-use Rattle.fut_flat.specs.Erased.{FlatPattern}
+use Rattle.fut_typing.proofs.Ranges.{numbers_some, own_some, pattern_some}
+use Rattle.fut_flat.proofs.ErasedPatterns.{pattern_bound, pattern_tuple, pattern_typed, pattern_wild}
 use Rattle.fut_typing.specs.Typing.{Function_name}
-use Rattle.type_rules.proofs.Adding.{tells, tells_both, on_ok, if_err}
-use Rattle.type_constraints.proofs.Forms.{apply_ok, apply_err3, refused_apply, refused_apply2, if_ok, if_err4, refused_if, refused_if2, refused_if3, below_two, below_four}
+use Rattle.type_rules.proofs.Adding.{tells, on_ok, if_err}
+use Rattle.type_constraints.proofs.Ends.{end_both, end_err, end_next, end_ok}
+use Rattle.type_constraints.proofs.Forms.{apply_ruled, apply_unruled, refused_apply, if_ruled, if_unruled, refused_if, refused_if2, below_two, below_four}
 use Rattle.type_constraints.proofs.Rows.{gone_none, gone_more, gone_refused, falls_in, room_in, take_more, at_place, starts_below, Gone_over, strict_ok, refused_strict, strict_err2}
 use Rattle.fut_flat.specs.declared.exp.Exp.{Exp}
 use Rattle.type_graph.specs.Graph.{Each}
@@ -21,17 +21,18 @@ use Rattle.fut_flat.proofs.ErasedForms.{row_of}
 use Rattle.fut_typing.specs.Rows.{behind, behind_all, env_rows}
 use Rattle.type_scopes.specs.Scopes.{Claimed, Opened}
 use Rattle.type_scopes.proofs.Binding.{if_ok as ok_also, record_is, take_all}
-use Rattle.type_constraints.specs.Parts.{Rows_claim, Rows_homes, row_starts}
-use Rattle.type_constraints.proofs.Lets.{Lets_open, lets_none, lets_more, lets_refused, lets_err1, lets_err2, lets_err3, lets_ok, numbers_lets, behind_from, some_rows, row_starts_below, row_falls, row_room, row_split, row_more, value_is}
-use Rattle.type_constraints.proofs.Values.{pattern_claimed, value_err1, value_err2, value_err3, row, value_ok, same_within, same_says, same_allowed}
+use Rattle.type_constraints.specs.Parts.{Rows_claim, Rows_homes}
+use Rattle.type_constraints.proofs.Lets.{Lets_open, lets_asked, lets_err1, lets_more, lets_none, lets_refused, lets_ruled, lets_unruled, numbers_lets, behind_from, some_rows, row_falls, row_more, row_room, row_same, row_split, value_is}
+use Rattle.type_constraints.proofs.Values.{pattern_claimed, value_err1, value_ok, value_ruled, value_unruled, same_within, same_says, same_allowed}
 use Rattle.type_rules.specs.declared.demand.Demand.TheVariants as demand
 use Rattle.fut_flat.specs.Numbers.{pattern_numbers}
 use Rattle.fut_flat.specs.Numbers.{turn_numbers}
 use Rattle.fut_flat.specs.Erased.{FlatTurns}
 use Rattle.fut_flat.proofs.ErasedForms.{loop_is, turns_of, turns_counted, turns_over, turns_while, term_loop}
 use Rattle.type_constraints.specs.Parts.{behind_first, behind_head, Constrained, Unconstrained}
-use Rattle.type_constraints.proofs.Loops.{loop_ok, loop_err1, loop_err2, loop_err3, while_ok, while_err1, while_err2, while_err3, truth_within, counted_ok, counted_err1, counted_err2, counted_err3}
-use Rattle.type_constraints.proofs.Overs.{two_claimed, over_ok, over_err1, over_err2, over_err3, over_err4}
+use Rattle.type_constraints.proofs.Loops.{loop_err1, loop_ruled, loop_unruled, while_err1, while_ruled, while_unruled, truth_within, counted_err1, counted_ruled, counted_unruled}
+use Rattle.type_constraints.proofs.Overs.{two_claimed, over_err1, over_err2, over_ruled, over_unruled}
+use mathlib.Core.Logic.{inl, inr}
 use Rattle.type_constraints.proofs.expressions.+constrain.Goals as goal
 
 pub constrain-constrain_use-requires-clause-room : goal.constrain-constrain_use-requires-clause-room
@@ -70,23 +71,23 @@ constrain-constrain_lambda-requires t c = let e = ap (λ (x : FlatTerm). numbers
 pub constrain-returns-in-Lambda : goal.constrain-returns-in-Lambda
 constrain-returns-in-Lambda t c = record { next = rw (term_lambda c.args.exp.now c.in-Lambda.params c.in-Lambda.body c.in-Lambda.is) c.constrain_lambda.ensures.next; ok = rw (term_lambda c.args.exp.now c.in-Lambda.params c.in-Lambda.body c.in-Lambda.is) c.constrain_lambda.ensures.ok; err = rw (term_lambda c.args.exp.now c.in-Lambda.params c.in-Lambda.body c.in-Lambda.is) c.constrain_lambda.ensures.err }
 
+pub constrain_ruled-returns-in-Err : goal.constrain_ruled-returns-in-Err
+constrain_ruled-returns-in-Err t c = record { next = tt; ok = tt; err = tells c.in-Err.error (λ u. inl u) c.in-Err.ensures.err }
+
+pub constrain_ruled-demand-requires-clause-within : goal.constrain_ruled-demand-requires-clause-within
+constrain_ruled-demand-requires-clause-within t c = c.requires.within _
+
+pub constrain_ruled-returns : goal.constrain_ruled-returns
+constrain_ruled-returns t c = record { next = rw c.and.ensures (end_next _ c.demand.result c.in-Ok.next (c.in-Ok.ensures.next)); ok = rw c.and.ensures (end_ok c.demand.result c.in-Ok.next (λ r. (c.constrain.new.inference, (c.in-Ok.ensures.ok, r))) c.demand.ensures.ok); err = rw c.and.ensures (end_err c.demand.result c.in-Ok.next (λ r. inr (c.constrain.new.inference, (c.in-Ok.ensures.ok, r))) c.demand.ensures.err) }
+
 pub constrain_apply-returns-in-Err : goal.constrain_apply-returns-in-Err
 constrain_apply-returns-in-Err t c = record { next = tt; ok = tt; err = tells c.in-Err.error (refused_apply c.args.setting.places c.args.setting.base c.args.setting.depth c.args.lo (term_of c.args.function.now) (term_of c.args.argument.now) c.args.inference.now c.constrain.new.inference) c.in-Err.ensures.err }
 
-pub constrain_apply-constrain-requires-2 : goal.constrain_apply-constrain-requires-2
-constrain_apply-constrain-requires-2 t c = (omega arith, (c.in-Ok.ensures.ok.later.safe, omega (arith, c.requires.room, c.in-Ok.ensures.next)))
+pub constrain_apply-constrain_ruled-requires : goal.constrain_apply-constrain_ruled-requires
+constrain_apply-constrain_ruled-requires t c = (omega arith, (c.in-Ok.ensures.ok.later.safe, (omega (arith, c.requires.room, c.in-Ok.ensures.next), λ table. c.application-rule.ensures.within table c.args.setting.base (below_two c.args.setting.base _ _ _ (omega (arith, c.requires.room)) (omega (arith, c.requires.room, numbers_some (term_of c.args.function.now), numbers_some (term_of c.args.argument.now))) (omega (arith, c.requires.room, c.in-Ok.ensures.next, numbers_some (term_of c.args.argument.now)))))))
 
-pub constrain_apply-returns-in-Err-constrain : goal.constrain_apply-returns-in-Err-constrain
-constrain_apply-returns-in-Err-constrain t c = record { next = tt; ok = tt; err = tells c.in-Err-constrain.error (refused_apply2 c.args.setting.places c.args.setting.base c.args.setting.depth c.args.lo c.in-Ok.next (term_of c.args.function.now) (term_of c.args.argument.now) c.args.inference.now c.constrain.new.inference c.constrain-2.new.inference c.requires.safe c.in-Ok.ensures.next c.in-Ok.ensures.ok) c.in-Err-constrain.ensures.err }
-
-pub constrain_apply-demand-requires-clause-within : goal.constrain_apply-demand-requires-clause-within
-constrain_apply-demand-requires-clause-within t c = c.application.ensures.within _ c.args.setting.base (below_two c.args.setting.base _ _ _ (omega (arith, c.requires.room)) (omega (arith, c.requires.room, numbers_some (term_of c.args.function.now), numbers_some (term_of c.args.argument.now))) (omega (arith, c.requires.room, c.in-Ok.ensures.next, numbers_some (term_of c.args.argument.now))))
-
-pub constrain_apply-returns-in-Ok-demand : goal.constrain_apply-returns-in-Ok-demand
-constrain_apply-returns-in-Ok-demand t c = record { next = omega (arith, c.in-Ok.ensures.next, c.in-Ok-constrain.ensures.next); ok = apply_ok c.args.setting.places c.args.setting.base c.args.setting.depth c.args.lo c.in-Ok.next (term_of c.args.function.now) (term_of c.args.argument.now) c.args.inference.now c.constrain.new.inference c.constrain-2.new.inference c.demand.new.inference c.requires.safe c.in-Ok.ensures.next c.application.result c.application.ensures.says c.application.ensures.allowed c.in-Ok.ensures.ok c.in-Ok-constrain.ensures.ok c.in-Ok-demand.ensures.ok; err = tt }
-
-pub constrain_apply-returns-in-Err-demand : goal.constrain_apply-returns-in-Err-demand
-constrain_apply-returns-in-Err-demand t c = record { next = tt; ok = tt; err = tells c.in-Err-demand.error (apply_err3 c.args.setting.places c.args.setting.base c.args.setting.depth c.args.lo c.in-Ok.next (term_of c.args.function.now) (term_of c.args.argument.now) c.args.inference.now c.constrain.new.inference c.constrain-2.new.inference c.demand.new.inference c.requires.safe c.in-Ok.ensures.next c.application.result c.application.ensures.says c.application.ensures.allowed c.in-Ok.ensures.ok c.in-Ok-constrain.ensures.ok) c.in-Err-demand.ensures.err }
+pub constrain_apply-returns : goal.constrain_apply-returns
+constrain_apply-returns t c = record { next = ok_also c.constrain_ruled.result (λ n e. omega (arith, e, c.in-Ok.ensures.next)) c.constrain_ruled.ensures.next; ok = on_ok c.constrain_ruled.result (apply_ruled c.args.setting.places c.args.setting.base c.args.setting.depth c.args.lo c.in-Ok.next (term_of c.args.function.now) (term_of c.args.argument.now) c.args.inference.now c.constrain.new.inference c.constrain_ruled.new.inference c.requires.safe c.in-Ok.ensures.next c.application-rule.result c.application-rule.ensures.says c.application-rule.ensures.allowed c.in-Ok.ensures.ok) c.constrain_ruled.ensures.ok; err = if_err c.constrain_ruled.result (apply_unruled c.args.setting.places c.args.setting.base c.args.setting.depth c.args.lo c.in-Ok.next (term_of c.args.function.now) (term_of c.args.argument.now) c.args.inference.now c.constrain.new.inference c.constrain_ruled.new.inference c.requires.safe c.in-Ok.ensures.next c.application-rule.result c.application-rule.ensures.says c.application-rule.ensures.allowed c.in-Ok.ensures.ok) c.constrain_ruled.ensures.err }
 
 pub constrain_if-returns-in-Err : goal.constrain_if-returns-in-Err
 constrain_if-returns-in-Err t c = record { next = tt; ok = tt; err = tells c.in-Err.error (refused_if c.args.setting.places c.args.setting.base c.args.setting.depth c.args.lo (term_of c.args.test.now) (term_of c.args.yes.now) (term_of c.args.no.now) c.args.inference.now c.constrain.new.inference) c.in-Err.ensures.err }
@@ -97,20 +98,11 @@ constrain_if-returns-in-Err-constrain t c = record { next = tt; ok = tt; err = t
 pub constrain_if-constrain-requires-2 : goal.constrain_if-constrain-requires-2
 constrain_if-constrain-requires-2 t c = (omega arith, (c.in-Ok.ensures.ok.later.safe, omega (arith, c.requires.room, c.in-Ok.ensures.next)))
 
-pub constrain_if-constrain-requires-3 : goal.constrain_if-constrain-requires-3
-constrain_if-constrain-requires-3 t c = (omega arith, (c.in-Ok-constrain.ensures.ok.later.safe, omega (arith, c.requires.room, c.in-Ok.ensures.next, c.in-Ok-constrain.ensures.next)))
+pub constrain_if-constrain_ruled-requires : goal.constrain_if-constrain_ruled-requires
+constrain_if-constrain_ruled-requires t c = (omega arith, (c.in-Ok-constrain.ensures.ok.later.safe, (omega (arith, c.requires.room, c.in-Ok.ensures.next, c.in-Ok-constrain.ensures.next), λ table. c.choice-rule.ensures.within table c.args.setting.base (below_four c.args.setting.base _ _ _ _ (omega (arith, c.requires.room)) (omega (arith, c.requires.room, numbers_some (term_of c.args.test.now))) (omega (arith, c.requires.room, c.in-Ok.ensures.next, numbers_some (term_of c.args.yes.now))) (omega (arith, c.requires.room, c.in-Ok.ensures.next, c.in-Ok-constrain.ensures.next, numbers_some (term_of c.args.no.now)))))))
 
-pub constrain_if-returns-in-Err-constrain-2 : goal.constrain_if-returns-in-Err-constrain-2
-constrain_if-returns-in-Err-constrain-2 t c = record { next = tt; ok = tt; err = tells c.in-Err-constrain-2.error (refused_if3 c.args.setting.places c.args.setting.base c.args.setting.depth c.args.lo c.in-Ok.next c.in-Ok-constrain.next (term_of c.args.test.now) (term_of c.args.yes.now) (term_of c.args.no.now) c.args.inference.now c.constrain.new.inference c.constrain-2.new.inference c.constrain-3.new.inference c.requires.safe c.in-Ok.ensures.next (c.in-Ok-constrain.ensures.next ∙ ap (λ m. m + numbers (term_of c.args.yes.now)) c.in-Ok.ensures.next) c.in-Ok.ensures.ok c.in-Ok-constrain.ensures.ok) c.in-Err-constrain-2.ensures.err }
-
-pub constrain_if-demand-requires-clause-within : goal.constrain_if-demand-requires-clause-within
-constrain_if-demand-requires-clause-within t c = c.choice.ensures.within _ c.args.setting.base (below_four c.args.setting.base _ _ _ _ (omega (arith, c.requires.room)) (omega (arith, c.requires.room, numbers_some (term_of c.args.test.now))) (omega (arith, c.requires.room, c.in-Ok.ensures.next, numbers_some (term_of c.args.yes.now))) (omega (arith, c.requires.room, c.in-Ok.ensures.next, c.in-Ok-constrain.ensures.next, numbers_some (term_of c.args.no.now))))
-
-pub constrain_if-returns-in-Ok-demand : goal.constrain_if-returns-in-Ok-demand
-constrain_if-returns-in-Ok-demand t c = record { next = omega (arith, c.in-Ok.ensures.next, c.in-Ok-constrain.ensures.next, c.in-Ok-constrain-2.ensures.next); ok = if_ok c.args.setting.places c.args.setting.base c.args.setting.depth c.args.lo c.in-Ok.next c.in-Ok-constrain.next (term_of c.args.test.now) (term_of c.args.yes.now) (term_of c.args.no.now) c.args.inference.now c.constrain.new.inference c.constrain-2.new.inference c.constrain-3.new.inference c.demand.new.inference c.requires.safe c.in-Ok.ensures.next (c.in-Ok-constrain.ensures.next ∙ ap (λ m. m + numbers (term_of c.args.yes.now)) c.in-Ok.ensures.next) c.choice.result c.choice.ensures.says c.choice.ensures.allowed c.in-Ok.ensures.ok c.in-Ok-constrain.ensures.ok c.in-Ok-constrain-2.ensures.ok c.in-Ok-demand.ensures.ok; err = tt }
-
-pub constrain_if-returns-in-Err-demand : goal.constrain_if-returns-in-Err-demand
-constrain_if-returns-in-Err-demand t c = record { next = tt; ok = tt; err = tells c.in-Err-demand.error (if_err4 c.args.setting.places c.args.setting.base c.args.setting.depth c.args.lo c.in-Ok.next c.in-Ok-constrain.next (term_of c.args.test.now) (term_of c.args.yes.now) (term_of c.args.no.now) c.args.inference.now c.constrain.new.inference c.constrain-2.new.inference c.constrain-3.new.inference c.demand.new.inference c.requires.safe c.in-Ok.ensures.next (c.in-Ok-constrain.ensures.next ∙ ap (λ m. m + numbers (term_of c.args.yes.now)) c.in-Ok.ensures.next) c.choice.result c.choice.ensures.says c.choice.ensures.allowed c.in-Ok.ensures.ok c.in-Ok-constrain.ensures.ok c.in-Ok-constrain-2.ensures.ok) c.in-Err-demand.ensures.err }
+pub constrain_if-returns : goal.constrain_if-returns
+constrain_if-returns t c = record { next = ok_also c.constrain_ruled.result (λ n e. omega (arith, e, c.in-Ok.ensures.next, c.in-Ok-constrain.ensures.next)) c.constrain_ruled.ensures.next; ok = on_ok c.constrain_ruled.result (if_ruled c.args.setting.places c.args.setting.base c.args.setting.depth c.args.lo c.in-Ok.next c.in-Ok-constrain.next (term_of c.args.test.now) (term_of c.args.yes.now) (term_of c.args.no.now) c.args.inference.now c.constrain.new.inference c.constrain-2.new.inference c.constrain_ruled.new.inference c.requires.safe c.in-Ok.ensures.next (c.in-Ok-constrain.ensures.next ∙ ap (λ m. m + numbers (term_of c.args.yes.now)) c.in-Ok.ensures.next) c.choice-rule.result c.choice-rule.ensures.says c.choice-rule.ensures.allowed c.in-Ok.ensures.ok c.in-Ok-constrain.ensures.ok) c.constrain_ruled.ensures.ok; err = if_err c.constrain_ruled.result (if_unruled c.args.setting.places c.args.setting.base c.args.setting.depth c.args.lo c.in-Ok.next c.in-Ok-constrain.next (term_of c.args.test.now) (term_of c.args.yes.now) (term_of c.args.no.now) c.args.inference.now c.constrain.new.inference c.constrain-2.new.inference c.constrain_ruled.new.inference c.requires.safe c.in-Ok.ensures.next (c.in-Ok-constrain.ensures.next ∙ ap (λ m. m + numbers (term_of c.args.yes.now)) c.in-Ok.ensures.next) c.choice-rule.result c.choice-rule.ensures.says c.choice-rule.ensures.allowed c.in-Ok.ensures.ok c.in-Ok-constrain.ensures.ok) c.constrain_ruled.ensures.err }
 
 pub constrain_parts-loop-part-init : goal.constrain_parts-loop-part-init
 constrain_parts-loop-part-init t c = gone_none c.args.setting.places c.args.setting.base c.args.setting.depth c.args.lo c.args.begins.now c.args.inference.now c.requires.safe
@@ -130,11 +122,8 @@ constrain_strict-returns-in-Err t c = record { next = tt; ok = tt; err = tells c
 pub constrain_strict-constrain_rule-requires-clause-parts : goal.constrain_strict-constrain_rule-requires-clause-parts
 constrain_strict-constrain_rule-requires-clause-parts t c = subst (λ l. Each (λ n. n < c.args.setting.base) l) (sym (c.as_slice.ensures ∙ c.in-Ok.ensures.begins ∙ ap (λ l. l ++ starts (terms (map term_of c.args.parts.now)) (c.args.lo + c.own_numbers_of.result)) c.new-begins.ensures)) (starts_below c.args.setting.base (terms (map term_of c.args.parts.now)) (c.args.lo + c.own_numbers_of.result) (omega (arith, c.requires.room, c.own_numbers_of.ensures)))
 
-pub constrain_strict-returns-in-Ok-constrain_rule : goal.constrain_strict-returns-in-Ok-constrain_rule
-constrain_strict-returns-in-Ok-constrain_rule t c = record { next = omega (arith, c.in-Ok.ensures.next, c.own_numbers_of.ensures); ok = strict_ok c.args.setting.places c.args.setting.base c.args.setting.depth c.args.lo (c.args.lo + c.own_numbers_of.result) (operation_of c.args.act.now) c.args.mark (terms (map term_of c.args.parts.now)) c.args.inference.now c.constrain_parts.new.inference c.constrain_rule.new.inference c.requires.safe (ap (λ n. c.args.lo + n) c.own_numbers_of.ensures) c.as_slice.result.now (c.as_slice.ensures ∙ c.in-Ok.ensures.begins ∙ ap (λ l. l ++ starts (terms (map term_of c.args.parts.now)) (c.args.lo + c.own_numbers_of.result)) c.new-begins.ensures) c.in-Ok.ensures.ok (c.in-Ok-constrain_rule.ensures.ok (c.args.lo + c.own_numbers_of.result + all_numbers (terms (map term_of c.args.parts.now))) (omega (arith, own_some (operation_of c.args.act.now), c.own_numbers_of.ensures))); err = tt }
-
 pub constrain_strict-returns : goal.constrain_strict-returns
-constrain_strict-returns t c = record { next = tt; ok = tt; err = tells c.in-Err-constrain_rule.error (λ r. strict_err2 c.args.setting.places c.args.setting.base c.args.setting.depth c.args.lo (c.args.lo + c.own_numbers_of.result) (operation_of c.args.act.now) c.args.mark (terms (map term_of c.args.parts.now)) c.args.inference.now c.constrain_parts.new.inference c.constrain_rule.new.inference c.requires.safe (ap (λ n. c.args.lo + n) c.own_numbers_of.ensures) c.as_slice.result.now (c.as_slice.ensures ∙ c.in-Ok.ensures.begins ∙ ap (λ l. l ++ starts (terms (map term_of c.args.parts.now)) (c.args.lo + c.own_numbers_of.result)) c.new-begins.ensures) c.in-Ok.ensures.ok (r (c.args.lo + c.own_numbers_of.result + all_numbers (terms (map term_of c.args.parts.now))) (omega (arith, own_some (operation_of c.args.act.now), c.own_numbers_of.ensures)))) c.in-Err-constrain_rule.ensures.err }
+constrain_strict-returns t c = record { next = rw c.and.ensures (end_next _ c.constrain_rule.result c.in-Ok.next (omega (arith, c.in-Ok.ensures.next, c.own_numbers_of.ensures))); ok = rw c.and.ensures (end_ok c.constrain_rule.result c.in-Ok.next (λ r. strict_ok c.args.setting.places c.args.setting.base c.args.setting.depth c.args.lo (c.args.lo + c.own_numbers_of.result) (operation_of c.args.act.now) c.args.mark (terms (map term_of c.args.parts.now)) c.args.inference.now c.constrain_parts.new.inference c.constrain_rule.new.inference c.requires.safe (ap (λ n. c.args.lo + n) c.own_numbers_of.ensures) c.as_slice.result.now (c.as_slice.ensures ∙ c.in-Ok.ensures.begins ∙ ap (λ l. l ++ starts (terms (map term_of c.args.parts.now)) (c.args.lo + c.own_numbers_of.result)) c.new-begins.ensures) c.in-Ok.ensures.ok (r (c.args.lo + c.own_numbers_of.result + all_numbers (terms (map term_of c.args.parts.now))) (omega (arith, own_some (operation_of c.args.act.now), c.own_numbers_of.ensures)))) c.constrain_rule.ensures.ok); err = rw c.and.ensures (end_err c.constrain_rule.result c.in-Ok.next (λ r. strict_err2 c.args.setting.places c.args.setting.base c.args.setting.depth c.args.lo (c.args.lo + c.own_numbers_of.result) (operation_of c.args.act.now) c.args.mark (terms (map term_of c.args.parts.now)) c.args.inference.now c.constrain_parts.new.inference c.constrain_rule.new.inference c.requires.safe (ap (λ n. c.args.lo + n) c.own_numbers_of.ensures) c.as_slice.result.now (c.as_slice.ensures ∙ c.in-Ok.ensures.begins ∙ ap (λ l. l ++ starts (terms (map term_of c.args.parts.now)) (c.args.lo + c.own_numbers_of.result)) c.new-begins.ensures) c.in-Ok.ensures.ok (r (c.args.lo + c.own_numbers_of.result + all_numbers (terms (map term_of c.args.parts.now))) (omega (arith, own_some (operation_of c.args.act.now), c.own_numbers_of.ensures)))) c.constrain_rule.ensures.err) }
 
 pub constrain_lambda-returns-in-Err : goal.constrain_lambda-returns-in-Err
 constrain_lambda-returns-in-Err t c = record { next = tt; ok = tt; err = tells c.in-Err.error (lambda_err1 c.args.setting.places c.args.setting.base c.args.setting.depth c.args.lo (1 + c.args.lo + all_pattern_numbers (patterns (map pattern_of c.args.params.now))) (patterns (map pattern_of c.args.params.now)) (term_of c.args.body.now) refl c.args.inference.now c.constrain_parameters.new.inference) c.in-Err.ensures.err }
@@ -157,11 +146,8 @@ constrain_lambda-constrain_arrows-requires-clause-params t c = subst (λ l. Each
 pub constrain_lambda-constrain_arrows-requires-clause-body : goal.constrain_lambda-constrain_arrows-requires-clause-body
 constrain_lambda-constrain_arrows-requires-clause-body t c = omega (arith, c.requires.room, c.in-Ok.ensures.next, numbers_some (term_of c.args.body.now))
 
-pub constrain_lambda-returns-in-Ok-constrain_arrows : goal.constrain_lambda-returns-in-Ok-constrain_arrows
-constrain_lambda-returns-in-Ok-constrain_arrows t c = record { next = omega (arith, c.in-Ok.ensures.next, c.in-Ok-constrain.ensures.next); ok = lambda_ok c.args.setting.places c.args.setting.base c.args.setting.depth c.args.lo c.in-Ok.next (patterns (map pattern_of c.args.params.now)) (term_of c.args.body.now) c.in-Ok.ensures.next c.args.inference.now c.constrain_parameters.new.inference c.in-Ok.ensures.ok c.constrain.new.inference c.take_back.new.inference c.requires.safe c.in-Ok-constrain.ensures.ok (λ before added e l. c.take_back.ensures before added e (l ∙ sym c.mark_of-mark.ensures)) c.constrain_arrows.new.inference c.as_slice.result.now (c.as_slice.ensures ∙ c.in-Ok.ensures.begins ∙ ap (λ l. l ++ pattern_starts (patterns (map pattern_of c.args.params.now)) (1 + c.args.lo)) c.new-begins.ensures) c.in-Ok-constrain_arrows.ensures.ok; err = tt }
-
 pub constrain_lambda-returns : goal.constrain_lambda-returns
-constrain_lambda-returns t c = record { next = tt; ok = tt; err = tells c.in-Err-constrain_arrows.error (lambda_err3 c.args.setting.places c.args.setting.base c.args.setting.depth c.args.lo c.in-Ok.next (patterns (map pattern_of c.args.params.now)) (term_of c.args.body.now) c.in-Ok.ensures.next c.args.inference.now c.constrain_parameters.new.inference c.in-Ok.ensures.ok c.constrain.new.inference c.take_back.new.inference c.requires.safe c.in-Ok-constrain.ensures.ok (λ before added e l. c.take_back.ensures before added e (l ∙ sym c.mark_of-mark.ensures)) c.constrain_arrows.new.inference c.as_slice.result.now (c.as_slice.ensures ∙ c.in-Ok.ensures.begins ∙ ap (λ l. l ++ pattern_starts (patterns (map pattern_of c.args.params.now)) (1 + c.args.lo)) c.new-begins.ensures)) c.in-Err-constrain_arrows.ensures.err }
+constrain_lambda-returns t c = record { next = rw c.and.ensures (end_next _ c.constrain_arrows.result c.in-Ok-constrain.next (omega (arith, c.in-Ok.ensures.next, c.in-Ok-constrain.ensures.next))); ok = rw c.and.ensures (end_ok c.constrain_arrows.result c.in-Ok-constrain.next (lambda_ok c.args.setting.places c.args.setting.base c.args.setting.depth c.args.lo c.in-Ok.next (patterns (map pattern_of c.args.params.now)) (term_of c.args.body.now) c.in-Ok.ensures.next c.args.inference.now c.constrain_parameters.new.inference c.in-Ok.ensures.ok c.constrain.new.inference c.take_back.new.inference c.requires.safe c.in-Ok-constrain.ensures.ok (λ before added e l. c.take_back.ensures before added e (l ∙ sym c.mark_of-mark.ensures)) c.constrain_arrows.new.inference c.as_slice.result.now (c.as_slice.ensures ∙ c.in-Ok.ensures.begins ∙ ap (λ l. l ++ pattern_starts (patterns (map pattern_of c.args.params.now)) (1 + c.args.lo)) c.new-begins.ensures)) c.constrain_arrows.ensures.ok); err = rw c.and.ensures (end_err c.constrain_arrows.result c.in-Ok-constrain.next (lambda_err3 c.args.setting.places c.args.setting.base c.args.setting.depth c.args.lo c.in-Ok.next (patterns (map pattern_of c.args.params.now)) (term_of c.args.body.now) c.in-Ok.ensures.next c.args.inference.now c.constrain_parameters.new.inference c.in-Ok.ensures.ok c.constrain.new.inference c.take_back.new.inference c.requires.safe c.in-Ok-constrain.ensures.ok (λ before added e l. c.take_back.ensures before added e (l ∙ sym c.mark_of-mark.ensures)) c.constrain_arrows.new.inference c.as_slice.result.now (c.as_slice.ensures ∙ c.in-Ok.ensures.begins ∙ ap (λ l. l ++ pattern_starts (patterns (map pattern_of c.args.params.now)) (1 + c.args.lo)) c.new-begins.ensures)) c.constrain_arrows.ensures.err) }
 
 pub constrain_lets-constrain_rows-requires : goal.constrain_lets-constrain_rows-requires
 constrain_lets-constrain_rows-requires t c = (omega (arith, numbers_lets (map row_of c.args.lets.now) (term_of c.args.body.now), numbers_some (term_of c.args.body.now)), (c.requires.safe, omega (arith, c.requires.room, numbers_lets (map row_of c.args.lets.now) (term_of c.args.body.now), behind_from (map row_of c.args.lets.now) c.args.lo)))
@@ -169,68 +155,44 @@ constrain_lets-constrain_rows-requires t c = (omega (arith, numbers_lets (map ro
 pub constrain_lets-returns-in-Err : goal.constrain_lets-returns-in-Err
 constrain_lets-returns-in-Err t c = record { next = tt; ok = tt; err = tells c.in-Err.error (lets_err1 c.args.setting.places c.args.setting.base c.args.setting.depth c.args.lo (behind_all (map row_of c.args.lets.now) c.args.lo) (map row_of c.args.lets.now) (term_of c.args.body.now) refl c.args.inference.now c.constrain_rows.new.inference) c.in-Err.ensures.err }
 
-pub constrain_lets-constrain-requires : goal.constrain_lets-constrain-requires
-constrain_lets-constrain-requires t c = (omega (arith, numbers_lets (map row_of c.args.lets.now) (term_of c.args.body.now), (some_rows c.args.lets.now (omega (arith, c.if-lets-eq0.false)))), (c.in-Ok.ensures.ok.later.safe, omega (arith, c.requires.room, c.in-Ok.ensures.next, numbers_lets (map row_of c.args.lets.now) (term_of c.args.body.now), behind_from (map row_of c.args.lets.now) c.args.lo)))
+pub constrain_lets-constrain_ruled-requires : goal.constrain_lets-constrain_ruled-requires
+constrain_lets-constrain_ruled-requires t c = (omega (arith, numbers_lets (map row_of c.args.lets.now) (term_of c.args.body.now), some_rows c.args.lets.now (omega (arith, c.if-lets-eq0.false))), (c.in-Ok.ensures.ok.later.safe, (omega (arith, c.requires.room, c.in-Ok.ensures.next, numbers_lets (map row_of c.args.lets.now) (term_of c.args.body.now), behind_from (map row_of c.args.lets.now) c.args.lo), λ table. same_within table c.args.setting.base c.args.lo c.in-Ok.next (omega (arith, c.requires.room, numbers_lets (map row_of c.args.lets.now) (term_of c.args.body.now), behind_from (map row_of c.args.lets.now) c.args.lo, numbers_some (term_of c.args.body.now))) (omega (arith, c.requires.room, c.in-Ok.ensures.next, numbers_lets (map row_of c.args.lets.now) (term_of c.args.body.now), behind_from (map row_of c.args.lets.now) c.args.lo, numbers_some (term_of c.args.body.now))))))
 
-pub constrain_lets-returns-in-Err-constrain : goal.constrain_lets-returns-in-Err-constrain
-constrain_lets-returns-in-Err-constrain t c = record { next = tt; ok = tt; err = tells c.in-Err-constrain.error (lets_err2 c.args.setting.places c.args.setting.base c.args.setting.depth c.args.lo c.in-Ok.next (map row_of c.args.lets.now) (term_of c.args.body.now) c.in-Ok.ensures.next c.args.inference.now c.constrain_rows.new.inference c.in-Ok.ensures.ok c.constrain.new.inference) c.in-Err-constrain.ensures.err }
-
-pub constrain_lets-constrain_chain-requires-clause-numbers : goal.constrain_lets-constrain_chain-requires-clause-numbers
-constrain_lets-constrain_chain-requires-clause-numbers t c = subst (λ l. Each (λ n. n < c.args.setting.base) l) (sym (c.as_slice.ensures ∙ c.in-Ok.ensures.begins ∙ ap (λ l. l ++ row_starts (map row_of c.args.lets.now) c.args.lo) c.new-begins.ensures)) (row_starts_below c.args.setting.base (map row_of c.args.lets.now) c.args.lo (omega (arith, c.requires.room, numbers_lets (map row_of c.args.lets.now) (term_of c.args.body.now), behind_from (map row_of c.args.lets.now) c.args.lo)))
-
-pub constrain_lets-constrain_chain-requires-clause-last : goal.constrain_lets-constrain_chain-requires-clause-last
-constrain_lets-constrain_chain-requires-clause-last t c = omega (arith, c.requires.room, c.in-Ok.ensures.next, numbers_lets (map row_of c.args.lets.now) (term_of c.args.body.now), behind_from (map row_of c.args.lets.now) c.args.lo, numbers_some (term_of c.args.body.now))
-
-pub constrain_lets-returns-in-Err-constrain_chain : goal.constrain_lets-returns-in-Err-constrain_chain
-constrain_lets-returns-in-Err-constrain_chain t c = record { next = tt; ok = tt; err = tells c.in-Err-constrain_chain.error (lets_err3 c.args.setting.places c.args.setting.base c.args.setting.depth c.args.lo c.in-Ok.next (map row_of c.args.lets.now) (term_of c.args.body.now) c.in-Ok.ensures.next c.args.inference.now c.constrain_rows.new.inference c.in-Ok.ensures.ok c.constrain.new.inference c.in-Ok-constrain.ensures.ok c.as_slice.result.now (c.as_slice.ensures ∙ c.in-Ok.ensures.begins ∙ ap (λ l. l ++ row_starts (map row_of c.args.lets.now) c.args.lo) c.new-begins.ensures) c.constrain_chain.new.inference) c.in-Err-constrain_chain.ensures.err }
+pub constrain_lets-returns-in-Err-constrain_ruled : goal.constrain_lets-returns-in-Err-constrain_ruled
+constrain_lets-returns-in-Err-constrain_ruled t c = record { next = tt; ok = tt; err = tells c.in-Err-constrain_ruled.error (lets_unruled c.args.setting.places c.args.setting.base c.args.setting.depth c.args.lo c.in-Ok.next (map row_of c.args.lets.now) (term_of c.args.body.now) c.in-Ok.ensures.next c.args.inference.now c.constrain_rows.new.inference c.in-Ok.ensures.ok c.constrain_ruled.new.inference) c.in-Err-constrain_ruled.ensures.err }
 
 pub constrain_lets-returns : goal.constrain_lets-returns
-constrain_lets-returns t c = record { next = omega (arith, c.in-Ok-constrain.ensures.next, c.in-Ok.ensures.next, numbers_lets (map row_of c.args.lets.now) (term_of c.args.body.now), behind_from (map row_of c.args.lets.now) c.args.lo); ok = lets_ok c.args.setting.places c.args.setting.base c.args.setting.depth c.args.lo c.in-Ok.next (map row_of c.args.lets.now) (term_of c.args.body.now) c.in-Ok.ensures.next c.args.inference.now c.constrain_rows.new.inference c.in-Ok.ensures.ok c.constrain.new.inference c.in-Ok-constrain.ensures.ok c.as_slice.result.now (c.as_slice.ensures ∙ c.in-Ok.ensures.begins ∙ ap (λ l. l ++ row_starts (map row_of c.args.lets.now) c.args.lo) c.new-begins.ensures) c.constrain_chain.new.inference c.take_back.new.inference c.requires.safe c.in-Ok-constrain_chain.ensures.ok (λ before added e l. c.take_back.ensures before added e (l ∙ sym c.mark_of-mark.ensures)); err = tt }
+constrain_lets-returns t c = record { next = omega (arith, c.in-Ok-constrain_ruled.ensures.next, c.in-Ok.ensures.next, numbers_lets (map row_of c.args.lets.now) (term_of c.args.body.now), behind_from (map row_of c.args.lets.now) c.args.lo); ok = lets_ruled c.args.setting.places c.args.setting.base c.args.setting.depth c.args.lo c.in-Ok.next (map row_of c.args.lets.now) (term_of c.args.body.now) c.in-Ok.ensures.next c.args.inference.now c.constrain_rows.new.inference c.in-Ok.ensures.ok c.constrain_ruled.new.inference c.take_back.new.inference c.requires.safe c.in-Ok-constrain_ruled.ensures.ok (λ before added e l. c.take_back.ensures before added e (l ∙ sym c.mark_of-mark.ensures)); err = tt }
 
 pub constrain_rows-loop-one-init : goal.constrain_rows-loop-one-init
-constrain_rows-loop-one-init t c = lets_none c.args.setting.places c.args.setting.base c.args.setting.depth c.args.lo c.args.begins.now c.args.inference.now c.requires.safe
+constrain_rows-loop-one-init t c = lets_none c.args.setting.places c.args.setting.base c.args.setting.depth c.args.lo c.args.inference.now c.requires.safe
 
 pub constrain_rows-constrain_row-requires : goal.constrain_rows-constrain_row-requires
 constrain_rows-constrain_row-requires t c = (row_falls c.args.lets.now c.loop-one.one-index _ t c.loop-one-test.true (omega arith), (c.loop-one.invariant.opened.later.safe, row_room c.args.lets.now c.loop-one.one-index _ c.args.lo c.loop-one.at c.args.setting.base c.loop-one-test.true c.loop-one.invariant.next c.requires.room))
 
-pub constrain_rows-returns-in-Err-constrain_row : goal.constrain_rows-returns-in-Err-constrain_row
-constrain_rows-returns-in-Err-constrain_row t c = record { next = tt; begins = tt; ok = tt; err = let w = row_split c.args.lets.now c.loop-one.one-index _ c.loop-one-test.true in tells c.in-Err-constrain_row.error (lets_refused c.args.setting.places c.args.setting.base c.args.setting.depth c.args.lo c.loop-one.at (map row_of (take c.loop-one.one-index c.args.lets.now)) _ c.args.begins.now c.loop-one.begins c.args.inference.now c.loop-one.inference c.constrain_row.new.inference c.loop-one.invariant (map row_of c.args.lets.now) w.0 w.1) c.in-Err-constrain_row.ensures.err }
-
 pub constrain_rows-loop-one-preserved : goal.constrain_rows-loop-one-preserved
-constrain_rows-loop-one-preserved t c = subst (λ l. Lets_open c.args.setting.places c.args.setting.base c.args.setting.depth c.args.lo c.in-Ok-constrain_row.next l c.args.begins.now c.push.new.self c.args.inference.now c.constrain_row.new.inference) (row_more c.args.lets.now c.loop-one.one-index _ c.loop-one-test.true) (lets_more c.args.setting.places c.args.setting.base c.args.setting.depth c.args.lo c.loop-one.at (map row_of (take c.loop-one.one-index c.args.lets.now)) _ c.args.begins.now c.loop-one.begins c.args.inference.now c.loop-one.inference c.constrain_row.new.inference c.loop-one.invariant c.in-Ok-constrain_row.next c.push.new.self c.in-Ok.ensures.ok c.in-Ok-constrain_row.ensures.next c.in-Ok-constrain_row.ensures.ok)
+constrain_rows-loop-one-preserved t c = subst (λ l. Lets_open c.args.setting.places c.args.setting.base c.args.setting.depth c.args.lo c.in-Ok.next l c.args.inference.now c.demand.new.inference) (row_more c.args.lets.now c.loop-one.one-index _ c.loop-one-test.true) (lets_more c.args.setting.places c.args.setting.base c.args.setting.depth c.args.lo c.loop-one.at (map row_of (take c.loop-one.one-index c.args.lets.now)) _ c.args.inference.now c.loop-one.inference c.constrain_row.new.inference c.loop-one.invariant c.demand.new.inference c.in-Ok.ensures.ok c.in-Ok.next c.in-Ok.ensures.next c.in-Ok-demand.ensures.ok)
 
 pub constrain_rows-returns : goal.constrain_rows-returns
-constrain_rows-returns t c = record { next = subst (λ l. c.loop-one.at ≡ behind_all (map row_of l) c.args.lo) (take_all c.args.lets.now c.loop-one.one-index c.loop-one-test.false) c.loop-one.invariant.next; begins = subst (λ l. c.loop-one.begins ≡ c.args.begins.now ++ row_starts (map row_of l) c.args.lo) (take_all c.args.lets.now c.loop-one.one-index c.loop-one-test.false) c.loop-one.invariant.noted; ok = subst (λ l. Opened c.args.setting.places c.args.setting.base c.args.setting.depth c.args.lo (behind_all (map row_of l) c.args.lo) (Rows_claim c.args.setting.places (map row_of l) c.args.lo) (Rows_homes c.args.setting.depth (map row_of l) c.args.lo) (env_rows (map row_of l) c.args.lo) c.args.inference.now c.loop-one.inference) (take_all c.args.lets.now c.loop-one.one-index c.loop-one-test.false) c.loop-one.invariant.opened; err = tt }
-
-pub constrain_row-constrain_value-requires : goal.constrain_row-constrain_value-requires
-constrain_row-constrain_value-requires t c = let e = ap (λ (l : Row). behind l 0) (value_is c.args.one.now c.if-one.false (omega (arith, c.if-one-gt0.false))) in (omega (arith, e), (c.requires.safe, subst (λ (l : Row). behind l c.args.lo ≤ c.args.setting.base) (value_is c.args.one.now c.if-one.false (omega (arith, c.if-one-gt0.false))) c.requires.room))
-
-pub constrain_row-returns : goal.constrain_row-returns
-constrain_row-returns t c = record { next = rw (value_is c.args.one.now c.if-one.false (omega (arith, c.if-one-gt0.false))) c.constrain_value.ensures.next; ok = rw (value_is c.args.one.now c.if-one.false (omega (arith, c.if-one-gt0.false))) c.constrain_value.ensures.ok; err = rw (value_is c.args.one.now c.if-one.false (omega (arith, c.if-one-gt0.false))) c.constrain_value.ensures.err }
+constrain_rows-returns t c = record { next = subst (λ l. c.loop-one.at ≡ behind_all (map row_of l) c.args.lo) (take_all c.args.lets.now c.loop-one.one-index c.loop-one-test.false) c.loop-one.invariant.next; ok = subst (λ l. Opened c.args.setting.places c.args.setting.base c.args.setting.depth c.args.lo (behind_all (map row_of l) c.args.lo) (Rows_claim c.args.setting.places c.args.lo (map row_of l) c.args.lo) (Rows_homes c.args.setting.depth (map row_of l) c.args.lo) (env_rows (map row_of l) c.args.lo) c.args.inference.now c.loop-one.inference) (take_all c.args.lets.now c.loop-one.one-index c.loop-one-test.false) c.loop-one.invariant.opened; err = tt }
 
 pub constrain_bound-returns-in-Err-constrain_pattern : goal.constrain_bound-returns-in-Err-constrain_pattern
 constrain_bound-returns-in-Err-constrain_pattern t c = record { next = tt; ok = tt; err = tells c.in-Err-constrain_pattern.error (value_err1 c.args.setting.places c.args.setting.base c.args.setting.depth c.args.lo (1 + c.args.lo + pattern_numbers (pattern_of c.args.pat.now)) c.args.sizes.now (pattern_of c.args.pat.now) (term_of c.args.value.now) refl c.args.inference.now c.enter_sizes.new.inference (c.in-Ok.ensures.ok (1 + c.args.lo)) c.constrain_pattern.new.inference) c.in-Err-constrain_pattern.ensures.err }
 
-pub constrain_bound-constrain-requires : goal.constrain_bound-constrain-requires
-constrain_bound-constrain-requires t c = (omega arith, ((pattern_claimed c.args.setting.places c.args.setting.base c.args.setting.depth c.args.lo c.in-Ok-constrain_pattern.next c.args.sizes.now (pattern_of c.args.pat.now) (term_of c.args.value.now) c.in-Ok-constrain_pattern.ensures.next c.args.inference.now c.enter_sizes.new.inference (c.in-Ok.ensures.ok (1 + c.args.lo)) c.constrain_pattern.new.inference c.take_back.new.inference c.requires.safe c.in-Ok-constrain_pattern.ensures.ok (λ before added e l. c.take_back.ensures before added e (l ∙ sym c.mark_of-mark.ensures))).later.safe, omega (arith, c.requires.room, c.in-Ok-constrain_pattern.ensures.next)))
+pub constrain_bound-constrain_ruled-requires : goal.constrain_bound-constrain_ruled-requires
+constrain_bound-constrain_ruled-requires t c = (omega (arith, pattern_some (pattern_of c.args.pat.now)), ((pattern_claimed c.args.setting.places c.args.setting.base c.args.setting.depth c.args.lo c.in-Ok-constrain_pattern.next c.args.sizes.now (pattern_of c.args.pat.now) (term_of c.args.value.now) c.in-Ok-constrain_pattern.ensures.next c.args.inference.now c.enter_sizes.new.inference (c.in-Ok.ensures.ok (1 + c.args.lo)) c.constrain_pattern.new.inference c.take_back.new.inference c.requires.safe c.in-Ok-constrain_pattern.ensures.ok (λ before added e l. c.take_back.ensures before added e (l ∙ sym c.mark_of-mark.ensures))).later.safe, (omega (arith, c.requires.room, c.in-Ok-constrain_pattern.ensures.next), λ table. same_within table c.args.setting.base (1 + c.args.lo) c.in-Ok-constrain_pattern.next (omega (arith, c.requires.room, c.in-Ok-constrain_pattern.ensures.next, numbers_some (term_of c.args.value.now))) (omega (arith, c.requires.room, c.in-Ok-constrain_pattern.ensures.next, numbers_some (term_of c.args.value.now))))))
 
-pub constrain_bound-returns-in-Err-constrain : goal.constrain_bound-returns-in-Err-constrain
-constrain_bound-returns-in-Err-constrain t c = record { next = tt; ok = tt; err = tells c.in-Err-constrain.error (value_err2 c.args.setting.places c.args.setting.base c.args.setting.depth c.args.lo c.in-Ok-constrain_pattern.next c.args.sizes.now (pattern_of c.args.pat.now) (term_of c.args.value.now) c.in-Ok-constrain_pattern.ensures.next c.args.inference.now c.take_back.new.inference c.requires.safe (pattern_claimed c.args.setting.places c.args.setting.base c.args.setting.depth c.args.lo c.in-Ok-constrain_pattern.next c.args.sizes.now (pattern_of c.args.pat.now) (term_of c.args.value.now) c.in-Ok-constrain_pattern.ensures.next c.args.inference.now c.enter_sizes.new.inference (c.in-Ok.ensures.ok (1 + c.args.lo)) c.constrain_pattern.new.inference c.take_back.new.inference c.requires.safe c.in-Ok-constrain_pattern.ensures.ok (λ before added e l. c.take_back.ensures before added e (l ∙ sym c.mark_of-mark.ensures))) c.constrain.new.inference) c.in-Err-constrain.ensures.err }
-
-pub constrain_bound-demand-requires-clause-within : goal.constrain_bound-demand-requires-clause-within
-constrain_bound-demand-requires-clause-within t c = same_within c.constrain.new.inference.table c.args.setting.base (1 + c.args.lo) c.in-Ok-constrain_pattern.next (omega (arith, c.requires.room, c.in-Ok-constrain_pattern.ensures.next, numbers_some (term_of c.args.value.now))) (omega (arith, c.requires.room, c.in-Ok-constrain_pattern.ensures.next, numbers_some (term_of c.args.value.now)))
-
-pub constrain_bound-returns-in-Err-demand : goal.constrain_bound-returns-in-Err-demand
-constrain_bound-returns-in-Err-demand t c = record { next = tt; ok = tt; err = tells c.in-Err-demand.error (value_err3 c.args.setting.places c.args.setting.base c.args.setting.depth c.args.lo c.in-Ok-constrain_pattern.next c.args.sizes.now (pattern_of c.args.pat.now) (term_of c.args.value.now) c.in-Ok-constrain_pattern.ensures.next c.args.inference.now c.take_back.new.inference c.requires.safe (pattern_claimed c.args.setting.places c.args.setting.base c.args.setting.depth c.args.lo c.in-Ok-constrain_pattern.next c.args.sizes.now (pattern_of c.args.pat.now) (term_of c.args.value.now) c.in-Ok-constrain_pattern.ensures.next c.args.inference.now c.enter_sizes.new.inference (c.in-Ok.ensures.ok (1 + c.args.lo)) c.constrain_pattern.new.inference c.take_back.new.inference c.requires.safe c.in-Ok-constrain_pattern.ensures.ok (λ before added e l. c.take_back.ensures before added e (l ∙ sym c.mark_of-mark.ensures))) c.constrain.new.inference c.in-Ok-constrain.ensures.ok (demand.Same (1 + c.args.lo) c.in-Ok-constrain_pattern.next ∷ []) (same_says (1 + c.args.lo) c.in-Ok-constrain_pattern.next) (same_allowed (1 + c.args.lo) c.in-Ok-constrain_pattern.next) c.demand.new.inference) c.in-Err-demand.ensures.err }
-
-pub constrain_bound-returns-in-Ok-demand : goal.constrain_bound-returns-in-Ok-demand
-constrain_bound-returns-in-Ok-demand t c = record { next = omega (arith, c.in-Ok-constrain_pattern.ensures.next, c.in-Ok-constrain.ensures.next); ok = row c.args.setting.places c.args.setting.base c.args.setting.depth c.args.lo c.in-Ok-constrain_pattern.next c.args.sizes.now (pattern_of c.args.pat.now) (term_of c.args.value.now) c.in-Ok-constrain_pattern.ensures.next c.args.inference.now c.take_back.new.inference c.requires.safe (pattern_claimed c.args.setting.places c.args.setting.base c.args.setting.depth c.args.lo c.in-Ok-constrain_pattern.next c.args.sizes.now (pattern_of c.args.pat.now) (term_of c.args.value.now) c.in-Ok-constrain_pattern.ensures.next c.args.inference.now c.enter_sizes.new.inference (c.in-Ok.ensures.ok (1 + c.args.lo)) c.constrain_pattern.new.inference c.take_back.new.inference c.requires.safe c.in-Ok-constrain_pattern.ensures.ok (λ before added e l. c.take_back.ensures before added e (l ∙ sym c.mark_of-mark.ensures))) c.constrain.new.inference c.in-Ok-constrain.ensures.ok (demand.Same (1 + c.args.lo) c.in-Ok-constrain_pattern.next ∷ []) (same_says (1 + c.args.lo) c.in-Ok-constrain_pattern.next) (same_allowed (1 + c.args.lo) c.in-Ok-constrain_pattern.next) c.demand.new.inference c.in-Ok-demand.ensures.ok; err = tt }
+pub constrain_bound-returns : goal.constrain_bound-returns
+constrain_bound-returns t c = record { next = ok_also c.constrain_ruled.result (λ n e. omega (arith, e, c.in-Ok-constrain_pattern.ensures.next)) c.constrain_ruled.ensures.next; ok = on_ok c.constrain_ruled.result (value_ruled c.args.setting.places c.args.setting.base c.args.setting.depth c.args.lo c.in-Ok-constrain_pattern.next c.args.sizes.now (pattern_of c.args.pat.now) (term_of c.args.value.now) c.in-Ok-constrain_pattern.ensures.next c.args.inference.now c.take_back.new.inference c.requires.safe (pattern_claimed c.args.setting.places c.args.setting.base c.args.setting.depth c.args.lo c.in-Ok-constrain_pattern.next c.args.sizes.now (pattern_of c.args.pat.now) (term_of c.args.value.now) c.in-Ok-constrain_pattern.ensures.next c.args.inference.now c.enter_sizes.new.inference (c.in-Ok.ensures.ok (1 + c.args.lo)) c.constrain_pattern.new.inference c.take_back.new.inference c.requires.safe c.in-Ok-constrain_pattern.ensures.ok (λ before added e l. c.take_back.ensures before added e (l ∙ sym c.mark_of-mark.ensures))) c.constrain_ruled.new.inference (demand.Same (1 + c.args.lo) c.in-Ok-constrain_pattern.next ∷ []) (same_says (1 + c.args.lo) c.in-Ok-constrain_pattern.next) (same_allowed (1 + c.args.lo) c.in-Ok-constrain_pattern.next)) c.constrain_ruled.ensures.ok; err = if_err c.constrain_ruled.result (value_unruled c.args.setting.places c.args.setting.base c.args.setting.depth c.args.lo c.in-Ok-constrain_pattern.next c.args.sizes.now (pattern_of c.args.pat.now) (term_of c.args.value.now) c.in-Ok-constrain_pattern.ensures.next c.args.inference.now c.take_back.new.inference c.requires.safe (pattern_claimed c.args.setting.places c.args.setting.base c.args.setting.depth c.args.lo c.in-Ok-constrain_pattern.next c.args.sizes.now (pattern_of c.args.pat.now) (term_of c.args.value.now) c.in-Ok-constrain_pattern.ensures.next c.args.inference.now c.enter_sizes.new.inference (c.in-Ok.ensures.ok (1 + c.args.lo)) c.constrain_pattern.new.inference c.take_back.new.inference c.requires.safe c.in-Ok-constrain_pattern.ensures.ok (λ before added e l. c.take_back.ensures before added e (l ∙ sym c.mark_of-mark.ensures))) c.constrain_ruled.new.inference (demand.Same (1 + c.args.lo) c.in-Ok-constrain_pattern.next ∷ []) (same_says (1 + c.args.lo) c.in-Ok-constrain_pattern.next) (same_allowed (1 + c.args.lo) c.in-Ok-constrain_pattern.next)) c.constrain_ruled.ensures.err }
 
 pub constrain_value-constrain_bound-requires : goal.constrain_value-constrain_bound-requires
 constrain_value-constrain_bound-requires t c = (omega arith, (c.requires.safe, omega (arith, c.requires.room)))
 
-pub constrain_value-returns-in-Ok-enter_pattern : goal.constrain_value-returns-in-Ok-enter_pattern
-constrain_value-returns-in-Ok-enter_pattern t c = record { next = c.in-Ok.ensures.next; ok = value_ok c.args.setting.places c.args.setting.base c.args.setting.depth c.args.lo (1 + c.args.lo + pattern_numbers (pattern_of c.args.pat.now)) c.args.sizes.now (pattern_of c.args.pat.now) (term_of c.args.value.now) refl c.constrain_bound.new.inference c.enter_sizes.new.inference c.enter_pattern.new.inference c.in-Ok-enter_sizes.ensures.ok c.in-Ok-enter_pattern.ensures.ok c.args.inference.now c.requires.safe c.in-Ok.ensures.ok; err = tt }
+pub constrain_value-returns-in-Ok-enter_bound : goal.constrain_value-returns-in-Ok-enter_bound
+constrain_value-returns-in-Ok-enter_bound t c = record { next = c.in-Ok.ensures.next; ok = value_ok c.args.setting.places c.args.setting.base c.args.setting.depth c.args.lo (1 + c.args.lo + pattern_numbers (pattern_of c.args.pat.now)) c.args.sizes.now (pattern_of c.args.pat.now) (term_of c.args.value.now) refl c.args.inference.now c.constrain_bound.new.inference c.enter_bound.new.inference c.in-Ok-enter_bound.ensures.ok c.requires.safe c.in-Ok.ensures.ok; err = tt }
+
+pub constrain_value-returns-in-Err-enter_bound : goal.constrain_value-returns-in-Err-enter_bound
+constrain_value-returns-in-Err-enter_bound t c = record { next = tt; ok = tt; err = tt }
 
 pub constrain-constrain_loop-requires : goal.constrain-constrain_loop-requires
 constrain-constrain_loop-requires t c = let e = ap (λ (x : FlatTerm). numbers x) (term_loop c.args.exp.now c.in-Loop.whole c.in-Loop.is) in (omega (arith, e), (c.requires.safe, subst (λ (x : FlatTerm). c.args.lo + numbers x ≤ c.args.setting.base) (term_loop c.args.exp.now c.in-Loop.whole c.in-Loop.is) c.requires.room))
@@ -244,38 +206,23 @@ constrain_loop-constrain_head-requires t c = let e = (ap (λ (x : FlatTerm). num
 pub constrain_loop-returns-in-Err : goal.constrain_loop-returns-in-Err
 constrain_loop-returns-in-Err t c = record { next = tt; ok = tt; err = tells c.in-Err.error (λ r. subst (λ (x : FlatTerm). Unconstrained c.args.setting.places c.args.setting.base c.args.setting.depth c.args.lo x c.args.inference.now c.constrain_head.new.inference) (sym (loop_is c.args.whole.now)) (loop_err1 c.args.setting.places c.args.setting.base c.args.setting.depth c.args.lo (behind_head (pattern_of c.args.whole.now.pat) (term_of c.args.whole.now.first) (turns_of c.args.whole.now.form) c.args.lo) c.args.whole.now.mark c.args.whole.now.sizes.now (pattern_of c.args.whole.now.pat) (term_of c.args.whole.now.first) (turns_of c.args.whole.now.form) (term_of c.args.whole.now.body) refl c.args.inference.now c.constrain_head.new.inference r)) c.in-Err.ensures.err }
 
-pub constrain_loop-constrain-requires : goal.constrain_loop-constrain-requires
-constrain_loop-constrain-requires t c = let e = (ap (λ (x : FlatTerm). numbers x) (loop_is c.args.whole.now)) in (omega (arith, e, numbers_some (term_of c.args.whole.now.first)), (c.in-Ok.ensures.ok.later.safe, omega (arith, e, c.requires.room, c.in-Ok.ensures.next)))
+pub constrain_loop-constrain_ruled-requires : goal.constrain_loop-constrain_ruled-requires
+constrain_loop-constrain_ruled-requires t c = let e = (ap (λ (x : FlatTerm). numbers x) (loop_is c.args.whole.now)) in (omega (arith, e, numbers_some (term_of c.args.whole.now.first)), (c.in-Ok.ensures.ok.later.safe, (omega (arith, e, c.requires.room, c.in-Ok.ensures.next), λ table. c.carried-rule.ensures.within table c.args.setting.base (below_two c.args.setting.base _ _ _ (omega (arith, e, c.requires.room)) (omega (arith, e, c.requires.room, numbers_some (term_of c.args.whole.now.body))) (omega (arith, e, c.requires.room, c.in-Ok.ensures.next, numbers_some (term_of c.args.whole.now.body)))))))
 
-pub constrain_loop-returns-in-Err-constrain : goal.constrain_loop-returns-in-Err-constrain
-constrain_loop-returns-in-Err-constrain t c = record { next = tt; ok = tt; err = tells c.in-Err-constrain.error (λ r. subst (λ (x : FlatTerm). Unconstrained c.args.setting.places c.args.setting.base c.args.setting.depth c.args.lo x c.args.inference.now c.constrain.new.inference) (sym (loop_is c.args.whole.now)) (loop_err2 c.args.setting.places c.args.setting.base c.args.setting.depth c.args.lo c.in-Ok.next c.args.whole.now.mark c.args.whole.now.sizes.now (pattern_of c.args.whole.now.pat) (term_of c.args.whole.now.first) (turns_of c.args.whole.now.form) (term_of c.args.whole.now.body) c.in-Ok.ensures.next c.args.inference.now c.constrain_head.new.inference c.in-Ok.ensures.ok c.constrain.new.inference r)) c.in-Err-constrain.ensures.err }
-
-pub constrain_loop-demand-requires-clause-within : goal.constrain_loop-demand-requires-clause-within
-constrain_loop-demand-requires-clause-within t c = let e = (ap (λ (x : FlatTerm). numbers x) (loop_is c.args.whole.now)) in c.carried.ensures.within _ c.args.setting.base (below_two c.args.setting.base _ _ _ (omega (arith, e, c.requires.room)) (omega (arith, e, c.requires.room, numbers_some (term_of c.args.whole.now.body))) (omega (arith, e, c.requires.room, c.in-Ok.ensures.next, numbers_some (term_of c.args.whole.now.body))))
-
-pub constrain_loop-returns-in-Err-demand : goal.constrain_loop-returns-in-Err-demand
-constrain_loop-returns-in-Err-demand t c = record { next = tt; ok = tt; err = tells c.in-Err-demand.error (λ r. subst (λ (x : FlatTerm). Unconstrained c.args.setting.places c.args.setting.base c.args.setting.depth c.args.lo x c.args.inference.now c.demand.new.inference) (sym (loop_is c.args.whole.now)) (loop_err3 c.args.setting.places c.args.setting.base c.args.setting.depth c.args.lo c.in-Ok.next c.args.whole.now.mark c.args.whole.now.sizes.now (pattern_of c.args.whole.now.pat) (term_of c.args.whole.now.first) (turns_of c.args.whole.now.form) (term_of c.args.whole.now.body) c.in-Ok.ensures.next c.args.inference.now c.constrain_head.new.inference c.in-Ok.ensures.ok c.constrain.new.inference c.demand.new.inference c.in-Ok-constrain.ensures.ok c.carried.result c.carried.ensures.says c.carried.ensures.allowed r)) c.in-Err-demand.ensures.err }
+pub constrain_loop-returns-in-Err-constrain_ruled : goal.constrain_loop-returns-in-Err-constrain_ruled
+constrain_loop-returns-in-Err-constrain_ruled t c = record { next = tt; ok = tt; err = tells c.in-Err-constrain_ruled.error (λ r. subst (λ (x : FlatTerm). Unconstrained c.args.setting.places c.args.setting.base c.args.setting.depth c.args.lo x c.args.inference.now c.constrain_ruled.new.inference) (sym (loop_is c.args.whole.now)) (loop_unruled c.args.setting.places c.args.setting.base c.args.setting.depth c.args.lo c.in-Ok.next c.args.whole.now.mark c.args.whole.now.sizes.now (pattern_of c.args.whole.now.pat) (term_of c.args.whole.now.first) (turns_of c.args.whole.now.form) (term_of c.args.whole.now.body) c.in-Ok.ensures.next c.args.inference.now c.constrain_head.new.inference c.in-Ok.ensures.ok c.carried-rule.result c.carried-rule.ensures.says c.carried-rule.ensures.allowed c.constrain_ruled.new.inference r)) c.in-Err-constrain_ruled.ensures.err }
 
 pub constrain_loop-returns : goal.constrain_loop-returns
-constrain_loop-returns t c = record { next = let e = (ap (λ (x : FlatTerm). numbers x) (loop_is c.args.whole.now)) in omega (arith, e, c.in-Ok.ensures.next, c.in-Ok-constrain.ensures.next); ok = subst (λ (x : FlatTerm). Constrained c.args.setting.places c.args.setting.base c.args.setting.depth c.args.lo x c.args.inference.now c.take_back.new.inference) (sym (loop_is c.args.whole.now)) (loop_ok c.args.setting.places c.args.setting.base c.args.setting.depth c.args.lo c.in-Ok.next c.args.whole.now.mark c.args.whole.now.sizes.now (pattern_of c.args.whole.now.pat) (term_of c.args.whole.now.first) (turns_of c.args.whole.now.form) (term_of c.args.whole.now.body) c.in-Ok.ensures.next c.args.inference.now c.constrain_head.new.inference c.in-Ok.ensures.ok c.constrain.new.inference c.demand.new.inference c.in-Ok-constrain.ensures.ok c.carried.result c.carried.ensures.says c.carried.ensures.allowed c.take_back.new.inference c.requires.safe c.in-Ok-demand.ensures.ok (λ before added e l. c.take_back.ensures before added e (l ∙ sym c.mark_of-mark.ensures))); err = tt }
+constrain_loop-returns t c = record { next = let e = (ap (λ (x : FlatTerm). numbers x) (loop_is c.args.whole.now)) in omega (arith, e, c.in-Ok.ensures.next, c.in-Ok-constrain_ruled.ensures.next); ok = subst (λ (x : FlatTerm). Constrained c.args.setting.places c.args.setting.base c.args.setting.depth c.args.lo x c.args.inference.now c.take_back.new.inference) (sym (loop_is c.args.whole.now)) (loop_ruled c.args.setting.places c.args.setting.base c.args.setting.depth c.args.lo c.in-Ok.next c.args.whole.now.mark c.args.whole.now.sizes.now (pattern_of c.args.whole.now.pat) (term_of c.args.whole.now.first) (turns_of c.args.whole.now.form) (term_of c.args.whole.now.body) c.in-Ok.ensures.next c.args.inference.now c.constrain_head.new.inference c.in-Ok.ensures.ok c.carried-rule.result c.carried-rule.ensures.says c.carried-rule.ensures.allowed c.constrain_ruled.new.inference c.take_back.new.inference c.requires.safe c.in-Ok-constrain_ruled.ensures.ok (λ before added e l. c.take_back.ensures before added e (l ∙ sym c.mark_of-mark.ensures))); err = tt }
 
 pub constrain_while-returns-in-Err : goal.constrain_while-returns-in-Err
-constrain_while-returns-in-Err t c = record { next = tt; ok = tt; err = tells c.in-Err.error (while_err1 c.args.setting.places c.args.setting.base c.args.setting.depth c.args.lo (behind_first (pattern_of c.args.pat.now) (term_of c.args.first.now) c.args.lo) c.args.sizes.now (pattern_of c.args.pat.now) (term_of c.args.first.now) (term_of c.args.test.now) refl c.args.inference.now c.constrain_value.new.inference) c.in-Err.ensures.err }
+constrain_while-returns-in-Err t c = record { next = tt; ok = tt; err = tells c.in-Err.error (while_err1 c.args.setting.places c.args.setting.base c.args.setting.depth c.args.lo (behind_first (pattern_of c.args.whole.now.pat) (term_of c.args.whole.now.first) c.args.lo) c.args.whole.now.sizes.now (pattern_of c.args.whole.now.pat) (term_of c.args.whole.now.first) (term_of c.args.test.now) refl c.args.inference.now c.constrain_value.new.inference) c.in-Err.ensures.err }
 
-pub constrain_while-constrain-requires : goal.constrain_while-constrain-requires
-constrain_while-constrain-requires t c = (omega (arith, numbers_some (term_of c.args.first.now)), (c.in-Ok.ensures.ok.later.safe, omega (arith, c.requires.room, c.in-Ok.ensures.next)))
+pub constrain_while-constrain_ruled-requires : goal.constrain_while-constrain_ruled-requires
+constrain_while-constrain_ruled-requires t c = (omega (arith, numbers_some (term_of c.args.whole.now.first)), (c.in-Ok.ensures.ok.later.safe, (omega (arith, c.requires.room, c.in-Ok.ensures.next), λ table. truth_within table c.args.setting.base c.in-Ok.next (omega (arith, c.requires.room, c.in-Ok.ensures.next, numbers_some (term_of c.args.test.now))))))
 
-pub constrain_while-returns-in-Err-constrain : goal.constrain_while-returns-in-Err-constrain
-constrain_while-returns-in-Err-constrain t c = record { next = tt; ok = tt; err = tells c.in-Err-constrain.error (while_err2 c.args.setting.places c.args.setting.base c.args.setting.depth c.args.lo c.in-Ok.next c.args.sizes.now (pattern_of c.args.pat.now) (term_of c.args.first.now) (term_of c.args.test.now) c.in-Ok.ensures.next c.args.inference.now c.constrain_value.new.inference c.in-Ok.ensures.ok c.constrain.new.inference) c.in-Err-constrain.ensures.err }
-
-pub constrain_while-demand-requires-clause-within : goal.constrain_while-demand-requires-clause-within
-constrain_while-demand-requires-clause-within t c = truth_within _ c.args.setting.base c.in-Ok.next (omega (arith, c.requires.room, c.in-Ok.ensures.next, numbers_some (term_of c.args.test.now)))
-
-pub constrain_while-returns-in-Ok-demand : goal.constrain_while-returns-in-Ok-demand
-constrain_while-returns-in-Ok-demand t c = record { next = omega (arith, c.in-Ok.ensures.next, c.in-Ok-constrain.ensures.next); ok = while_ok c.args.setting.places c.args.setting.base c.args.setting.depth c.args.lo c.in-Ok.next c.args.sizes.now (pattern_of c.args.pat.now) (term_of c.args.first.now) (term_of c.args.test.now) c.in-Ok.ensures.next c.args.inference.now c.constrain_value.new.inference c.in-Ok.ensures.ok c.constrain.new.inference c.demand.new.inference c.in-Ok-constrain.ensures.ok c.in-Ok-demand.ensures.ok; err = tt }
-
-pub constrain_while-returns-in-Err-demand : goal.constrain_while-returns-in-Err-demand
-constrain_while-returns-in-Err-demand t c = record { next = tt; ok = tt; err = tells c.in-Err-demand.error (while_err3 c.args.setting.places c.args.setting.base c.args.setting.depth c.args.lo c.in-Ok.next c.args.sizes.now (pattern_of c.args.pat.now) (term_of c.args.first.now) (term_of c.args.test.now) c.in-Ok.ensures.next c.args.inference.now c.constrain_value.new.inference c.in-Ok.ensures.ok c.constrain.new.inference c.demand.new.inference c.in-Ok-constrain.ensures.ok) c.in-Err-demand.ensures.err }
+pub constrain_while-returns : goal.constrain_while-returns
+constrain_while-returns t c = record { next = ok_also c.constrain_ruled.result (λ n e. omega (arith, e, c.in-Ok.ensures.next)) c.constrain_ruled.ensures.next; ok = on_ok c.constrain_ruled.result (while_ruled c.args.setting.places c.args.setting.base c.args.setting.depth c.args.lo c.in-Ok.next c.args.whole.now.sizes.now (pattern_of c.args.whole.now.pat) (term_of c.args.whole.now.first) (term_of c.args.test.now) c.in-Ok.ensures.next c.args.inference.now c.constrain_value.new.inference c.in-Ok.ensures.ok c.constrain_ruled.new.inference) c.constrain_ruled.ensures.ok; err = if_err c.constrain_ruled.result (while_unruled c.args.setting.places c.args.setting.base c.args.setting.depth c.args.lo c.in-Ok.next c.args.whole.now.sizes.now (pattern_of c.args.whole.now.pat) (term_of c.args.whole.now.first) (term_of c.args.test.now) c.in-Ok.ensures.next c.args.inference.now c.constrain_value.new.inference c.in-Ok.ensures.ok c.constrain_ruled.new.inference) c.constrain_ruled.ensures.err }
 
 pub constrain_while-constrain_value-requires : goal.constrain_while-constrain_value-requires
 constrain_while-constrain_value-requires t c = (omega (arith, numbers_some (term_of c.args.test.now)), (c.requires.safe, omega (arith, c.requires.room)))
@@ -296,25 +243,22 @@ pub constrain_counted-constrain_bound-requires : goal.constrain_counted-constrai
 constrain_counted-constrain_bound-requires t c = (omega arith, (c.requires.safe, omega (arith, c.requires.room)))
 
 pub constrain_counted-returns-in-Err : goal.constrain_counted-returns-in-Err
-constrain_counted-returns-in-Err t c = record { next = tt; ok = tt; err = tells c.in-Err.error (counted_err1 c.args.setting.places c.args.setting.base c.args.setting.depth c.args.lo (behind_first (pattern_of c.args.pat.now) (term_of c.args.first.now) c.args.lo) c.args.sizes.now (pattern_of c.args.pat.now) (term_of c.args.first.now) (term_of c.args.bound.now) c.args.name refl c.args.inference.now c.constrain_bound.new.inference) c.in-Err.ensures.err }
+constrain_counted-returns-in-Err t c = record { next = tt; ok = tt; err = tells c.in-Err.error (counted_err1 c.args.setting.places c.args.setting.base c.args.setting.depth c.args.lo (behind_first (pattern_of c.args.whole.now.pat) (term_of c.args.whole.now.first) c.args.lo) c.args.whole.now.sizes.now (pattern_of c.args.whole.now.pat) (term_of c.args.whole.now.first) (term_of c.args.bound.now) c.args.name refl c.args.inference.now c.constrain_bound.new.inference) c.in-Err.ensures.err }
 
-pub constrain_counted-constrain-requires : goal.constrain_counted-constrain-requires
-constrain_counted-constrain-requires t c = (omega arith, (c.in-Ok.ensures.ok.later.safe, omega (arith, c.requires.room, c.in-Ok.ensures.next)))
+pub constrain_counted-constrain_ruled-requires : goal.constrain_counted-constrain_ruled-requires
+constrain_counted-constrain_ruled-requires t c = (omega arith, (c.in-Ok.ensures.ok.later.safe, (omega (arith, c.requires.room, c.in-Ok.ensures.next), λ table. c.counted-rule.ensures.within table c.args.setting.base (omega (arith, c.requires.room, c.in-Ok.ensures.next), (omega (arith, c.requires.room, c.in-Ok.ensures.next, numbers_some (term_of c.args.bound.now)), tt)))))
 
-pub constrain_counted-returns-in-Err-constrain : goal.constrain_counted-returns-in-Err-constrain
-constrain_counted-returns-in-Err-constrain t c = record { next = tt; ok = tt; err = tells c.in-Err-constrain.error (counted_err2 c.args.setting.places c.args.setting.base c.args.setting.depth c.args.lo c.in-Ok.next c.args.sizes.now (pattern_of c.args.pat.now) (term_of c.args.first.now) (term_of c.args.bound.now) c.args.name c.in-Ok.ensures.next c.args.inference.now c.constrain_bound.new.inference c.constrain.new.inference c.requires.safe c.in-Ok.ensures.ok) c.in-Err-constrain.ensures.err }
+pub constrain_counted-returns-in-Err-constrain_ruled : goal.constrain_counted-returns-in-Err-constrain_ruled
+constrain_counted-returns-in-Err-constrain_ruled t c = record { next = tt; ok = tt; err = tells c.in-Err-constrain_ruled.error (counted_unruled c.args.setting.places c.args.setting.base c.args.setting.depth c.args.lo c.in-Ok.next c.args.whole.now.sizes.now (pattern_of c.args.whole.now.pat) (term_of c.args.whole.now.first) (term_of c.args.bound.now) c.args.name c.in-Ok.ensures.next c.args.inference.now c.constrain_bound.new.inference c.constrain_ruled.new.inference c.requires.safe c.in-Ok.ensures.ok c.counted-rule.result c.counted-rule.ensures.says c.counted-rule.ensures.allowed) c.in-Err-constrain_ruled.ensures.err }
 
-pub constrain_counted-demand-requires-clause-within : goal.constrain_counted-demand-requires-clause-within
-constrain_counted-demand-requires-clause-within t c = c.counted.ensures.within _ c.args.setting.base (omega (arith, c.requires.room, c.in-Ok.ensures.next), (omega (arith, c.requires.room, c.in-Ok.ensures.next, numbers_some (term_of c.args.bound.now)), tt))
+pub constrain_counted-enter_bound-requires : goal.constrain_counted-enter_bound-requires
+constrain_counted-enter_bound-requires t c = record { safe = (c.in-Ok-constrain_ruled.ensures.ok.1.1 c.args.setting.places 0 0).later.safe; room = omega (arith, c.requires.room) }
 
-pub constrain_counted-returns-in-Err-demand : goal.constrain_counted-returns-in-Err-demand
-constrain_counted-returns-in-Err-demand t c = record { next = tt; ok = tt; err = tells c.in-Err-demand.error (counted_err3 c.args.setting.places c.args.setting.base c.args.setting.depth c.args.lo c.in-Ok.next c.args.sizes.now (pattern_of c.args.pat.now) (term_of c.args.first.now) (term_of c.args.bound.now) c.args.name c.in-Ok.ensures.next c.args.inference.now c.constrain_bound.new.inference c.constrain.new.inference c.requires.safe c.in-Ok.ensures.ok c.demand.new.inference c.in-Ok-constrain.ensures.ok c.counted.result c.counted.ensures.says c.counted.ensures.allowed) c.in-Err-demand.ensures.err }
-
-pub constrain_counted-enter_sizes-requires : goal.constrain_counted-enter_sizes-requires
-constrain_counted-enter_sizes-requires t c = record { safe = (c.in-Ok-demand.ensures.ok c.args.setting.places 0 0).later.safe }
+pub constrain_counted-returns-in-Err-enter_bound : goal.constrain_counted-returns-in-Err-enter_bound
+constrain_counted-returns-in-Err-enter_bound t c = record { next = tt; ok = tt; err = tt }
 
 pub constrain_counted-returns-in-Ok-enter : goal.constrain_counted-returns-in-Ok-enter
-constrain_counted-returns-in-Ok-enter t c = record { next = omega (arith, c.in-Ok.ensures.next, c.in-Ok-constrain.ensures.next); ok = counted_ok c.args.setting.places c.args.setting.base c.args.setting.depth c.args.lo c.in-Ok.next c.args.sizes.now (pattern_of c.args.pat.now) (term_of c.args.first.now) (term_of c.args.bound.now) c.args.name c.in-Ok.ensures.next c.args.inference.now c.constrain_bound.new.inference c.constrain.new.inference c.requires.safe c.in-Ok.ensures.ok c.demand.new.inference c.in-Ok-constrain.ensures.ok c.counted.result c.counted.ensures.says c.counted.ensures.allowed c.in-Ok-demand.ensures.ok c.enter_sizes.new.inference c.enter_pattern.new.inference c.enter.new.inference c.in-Ok-enter_sizes.ensures.ok c.in-Ok-enter_pattern.ensures.ok c.in-Ok-enter_pattern.ensures.safe (omega (arith, c.requires.room, c.in-Ok.ensures.next)) c.in-Ok-enter.ensures.within c.in-Ok-enter.ensures.fresh c.in-Ok-enter.ensures.ok; err = tt }
+constrain_counted-returns-in-Ok-enter t c = record { next = omega (arith, c.in-Ok.ensures.next, c.in-Ok-constrain_ruled.ensures.next); ok = counted_ruled c.args.setting.places c.args.setting.base c.args.setting.depth c.args.lo c.in-Ok.next c.args.whole.now.sizes.now (pattern_of c.args.whole.now.pat) (term_of c.args.whole.now.first) (term_of c.args.bound.now) c.args.name c.in-Ok.ensures.next c.args.inference.now c.constrain_bound.new.inference c.constrain_ruled.new.inference c.requires.safe c.in-Ok.ensures.ok c.counted-rule.result c.counted-rule.ensures.says c.counted-rule.ensures.allowed c.in-Ok-constrain_ruled.ensures.ok c.enter_bound.new.inference c.enter.new.inference c.in-Ok-enter_bound.ensures.ok c.in-Ok-enter_bound.ensures.safe (omega (arith, c.requires.room, c.in-Ok.ensures.next)) c.in-Ok-enter.ensures.within c.in-Ok-enter.ensures.fresh c.in-Ok-enter.ensures.ok; err = tt }
 
 pub constrain_head-constrain_over-requires : goal.constrain_head-constrain_over-requires
 constrain_head-constrain_over-requires t c = let e = ap (λ (x : FlatTurns). turn_numbers x) (ap turns_of c.in-ForIn.is ∙ turns_over c.in-ForIn.part c.in-ForIn.array) in (omega (arith, e), (c.requires.safe, omega (arith, e, c.requires.room)))
@@ -326,7 +270,7 @@ pub constrain_over-constrain_value-requires : goal.constrain_over-constrain_valu
 constrain_over-constrain_value-requires t c = (omega (arith, numbers_some (term_of c.args.array.now)), (c.requires.safe, omega (arith, c.requires.room)))
 
 pub constrain_over-returns-in-Err : goal.constrain_over-returns-in-Err
-constrain_over-returns-in-Err t c = record { next = tt; ok = tt; err = tells c.in-Err.error (over_err1 c.args.setting.places c.args.setting.base c.args.setting.depth c.args.lo (behind_first (pattern_of c.args.pat.now) (term_of c.args.first.now) c.args.lo) ((behind_first (pattern_of c.args.pat.now) (term_of c.args.first.now) c.args.lo) + pattern_numbers (pattern_of c.args.part.now)) c.args.sizes.now (pattern_of c.args.pat.now) (term_of c.args.first.now) (pattern_of c.args.part.now) (term_of c.args.array.now) refl refl c.args.inference.now c.constrain_value.new.inference) c.in-Err.ensures.err }
+constrain_over-returns-in-Err t c = record { next = tt; ok = tt; err = tells c.in-Err.error (over_err1 c.args.setting.places c.args.setting.base c.args.setting.depth c.args.lo (behind_first (pattern_of c.args.whole.now.pat) (term_of c.args.whole.now.first) c.args.lo) ((behind_first (pattern_of c.args.whole.now.pat) (term_of c.args.whole.now.first) c.args.lo) + pattern_numbers (pattern_of c.args.part.now)) c.args.whole.now.sizes.now (pattern_of c.args.whole.now.pat) (term_of c.args.whole.now.first) (pattern_of c.args.part.now) (term_of c.args.array.now) refl refl c.args.inference.now c.constrain_value.new.inference) c.in-Err.ensures.err }
 
 pub constrain_over-constrain_pattern-requires-clause-safe : goal.constrain_over-constrain_pattern-requires-clause-safe
 constrain_over-constrain_pattern-requires-clause-safe t c = c.in-Ok.ensures.ok.later.safe
@@ -335,72 +279,38 @@ pub constrain_over-constrain_pattern-requires-clause-room : goal.constrain_over-
 constrain_over-constrain_pattern-requires-clause-room t c = omega (arith, c.requires.room, c.in-Ok.ensures.next)
 
 pub constrain_over-returns-in-Err-constrain_pattern : goal.constrain_over-returns-in-Err-constrain_pattern
-constrain_over-returns-in-Err-constrain_pattern t c = record { next = tt; ok = tt; err = tells c.in-Err-constrain_pattern.error (over_err2 c.args.setting.places c.args.setting.base c.args.setting.depth c.args.lo c.in-Ok.next (c.in-Ok.next + pattern_numbers (pattern_of c.args.part.now)) c.args.sizes.now (pattern_of c.args.pat.now) (term_of c.args.first.now) (pattern_of c.args.part.now) (term_of c.args.array.now) c.in-Ok.ensures.next refl c.args.inference.now c.constrain_value.new.inference c.in-Ok.ensures.ok c.constrain_pattern.new.inference) c.in-Err-constrain_pattern.ensures.err }
+constrain_over-returns-in-Err-constrain_pattern t c = record { next = tt; ok = tt; err = tells c.in-Err-constrain_pattern.error (over_err2 c.args.setting.places c.args.setting.base c.args.setting.depth c.args.lo c.in-Ok.next (c.in-Ok.next + pattern_numbers (pattern_of c.args.part.now)) c.args.whole.now.sizes.now (pattern_of c.args.whole.now.pat) (term_of c.args.whole.now.first) (pattern_of c.args.part.now) (term_of c.args.array.now) c.in-Ok.ensures.next refl c.args.inference.now c.constrain_value.new.inference c.in-Ok.ensures.ok c.constrain_pattern.new.inference) c.in-Err-constrain_pattern.ensures.err }
 
-pub constrain_over-constrain-requires : goal.constrain_over-constrain-requires
-constrain_over-constrain-requires t c = (omega (arith, numbers_some (term_of c.args.first.now)), ((two_claimed c.args.setting.places c.args.setting.base c.args.setting.depth c.args.lo c.in-Ok.next c.in-Ok-constrain_pattern.next c.args.sizes.now (pattern_of c.args.pat.now) (term_of c.args.first.now) (pattern_of c.args.part.now) (term_of c.args.array.now) c.in-Ok.ensures.next c.in-Ok-constrain_pattern.ensures.next c.args.inference.now c.constrain_value.new.inference c.in-Ok.ensures.ok c.constrain_pattern.new.inference c.take_back.new.inference c.requires.safe c.in-Ok-constrain_pattern.ensures.ok (λ before added e l. c.take_back.ensures before added e (l ∙ sym c.mark_of-mark.ensures))).later.safe, omega (arith, c.requires.room, c.in-Ok.ensures.next, c.in-Ok-constrain_pattern.ensures.next)))
+pub constrain_over-constrain_ruled-requires : goal.constrain_over-constrain_ruled-requires
+constrain_over-constrain_ruled-requires t c = (omega (arith, numbers_some (term_of c.args.whole.now.first)), ((two_claimed c.args.setting.places c.args.setting.base c.args.setting.depth c.args.lo c.in-Ok.next c.in-Ok-constrain_pattern.next c.args.whole.now.sizes.now (pattern_of c.args.whole.now.pat) (term_of c.args.whole.now.first) (pattern_of c.args.part.now) (term_of c.args.array.now) c.in-Ok.ensures.next c.in-Ok-constrain_pattern.ensures.next c.args.inference.now c.constrain_value.new.inference c.in-Ok.ensures.ok c.constrain_pattern.new.inference c.take_back.new.inference c.requires.safe c.in-Ok-constrain_pattern.ensures.ok (λ before added e l. c.take_back.ensures before added e (l ∙ sym c.mark_of-mark.ensures))).later.safe, (omega (arith, c.requires.room, c.in-Ok.ensures.next, c.in-Ok-constrain_pattern.ensures.next), λ table. c.gone_over-rule.ensures.within table c.args.setting.base (omega (arith, c.requires.room, c.in-Ok.ensures.next, numbers_some (term_of c.args.array.now)), (omega (arith, c.requires.room, c.in-Ok.ensures.next, c.in-Ok-constrain_pattern.ensures.next, numbers_some (term_of c.args.array.now)), tt)))))
 
-pub constrain_over-returns-in-Err-constrain : goal.constrain_over-returns-in-Err-constrain
-constrain_over-returns-in-Err-constrain t c = record { next = tt; ok = tt; err = tells c.in-Err-constrain.error (over_err3 c.args.setting.places c.args.setting.base c.args.setting.depth c.args.lo c.in-Ok.next c.in-Ok-constrain_pattern.next c.args.sizes.now (pattern_of c.args.pat.now) (term_of c.args.first.now) (pattern_of c.args.part.now) (term_of c.args.array.now) c.in-Ok.ensures.next c.in-Ok-constrain_pattern.ensures.next c.args.inference.now c.take_back.new.inference c.constrain.new.inference c.requires.safe (two_claimed c.args.setting.places c.args.setting.base c.args.setting.depth c.args.lo c.in-Ok.next c.in-Ok-constrain_pattern.next c.args.sizes.now (pattern_of c.args.pat.now) (term_of c.args.first.now) (pattern_of c.args.part.now) (term_of c.args.array.now) c.in-Ok.ensures.next c.in-Ok-constrain_pattern.ensures.next c.args.inference.now c.constrain_value.new.inference c.in-Ok.ensures.ok c.constrain_pattern.new.inference c.take_back.new.inference c.requires.safe c.in-Ok-constrain_pattern.ensures.ok (λ before added e l. c.take_back.ensures before added e (l ∙ sym c.mark_of-mark.ensures)))) c.in-Err-constrain.ensures.err }
+pub constrain_over-returns-in-Err-constrain_ruled : goal.constrain_over-returns-in-Err-constrain_ruled
+constrain_over-returns-in-Err-constrain_ruled t c = record { next = tt; ok = tt; err = tells c.in-Err-constrain_ruled.error (over_unruled c.args.setting.places c.args.setting.base c.args.setting.depth c.args.lo c.in-Ok.next c.in-Ok-constrain_pattern.next c.args.whole.now.sizes.now (pattern_of c.args.whole.now.pat) (term_of c.args.whole.now.first) (pattern_of c.args.part.now) (term_of c.args.array.now) c.in-Ok.ensures.next c.in-Ok-constrain_pattern.ensures.next c.args.inference.now c.take_back.new.inference c.constrain_ruled.new.inference c.requires.safe (two_claimed c.args.setting.places c.args.setting.base c.args.setting.depth c.args.lo c.in-Ok.next c.in-Ok-constrain_pattern.next c.args.whole.now.sizes.now (pattern_of c.args.whole.now.pat) (term_of c.args.whole.now.first) (pattern_of c.args.part.now) (term_of c.args.array.now) c.in-Ok.ensures.next c.in-Ok-constrain_pattern.ensures.next c.args.inference.now c.constrain_value.new.inference c.in-Ok.ensures.ok c.constrain_pattern.new.inference c.take_back.new.inference c.requires.safe c.in-Ok-constrain_pattern.ensures.ok (λ before added e l. c.take_back.ensures before added e (l ∙ sym c.mark_of-mark.ensures))) c.gone_over-rule.result c.gone_over-rule.ensures.says c.gone_over-rule.ensures.allowed) c.in-Err-constrain_ruled.ensures.err }
 
-pub constrain_over-demand-requires-clause-within : goal.constrain_over-demand-requires-clause-within
-constrain_over-demand-requires-clause-within t c = c.gone_over.ensures.within _ c.args.setting.base (omega (arith, c.requires.room, c.in-Ok.ensures.next, numbers_some (term_of c.args.array.now)), (omega (arith, c.requires.room, c.in-Ok.ensures.next, c.in-Ok-constrain_pattern.ensures.next, numbers_some (term_of c.args.array.now)), tt))
+pub constrain_over-enter_bound-requires : goal.constrain_over-enter_bound-requires
+constrain_over-enter_bound-requires t c = record { safe = (c.in-Ok-constrain_ruled.ensures.ok.1.1 c.args.setting.places 0 0).later.safe; room = omega (arith, c.requires.room) }
 
-pub constrain_over-returns-in-Err-demand : goal.constrain_over-returns-in-Err-demand
-constrain_over-returns-in-Err-demand t c = record { next = tt; ok = tt; err = tells c.in-Err-demand.error (over_err4 c.args.setting.places c.args.setting.base c.args.setting.depth c.args.lo c.in-Ok.next c.in-Ok-constrain_pattern.next c.args.sizes.now (pattern_of c.args.pat.now) (term_of c.args.first.now) (pattern_of c.args.part.now) (term_of c.args.array.now) c.in-Ok.ensures.next c.in-Ok-constrain_pattern.ensures.next c.args.inference.now c.take_back.new.inference c.constrain.new.inference c.requires.safe (two_claimed c.args.setting.places c.args.setting.base c.args.setting.depth c.args.lo c.in-Ok.next c.in-Ok-constrain_pattern.next c.args.sizes.now (pattern_of c.args.pat.now) (term_of c.args.first.now) (pattern_of c.args.part.now) (term_of c.args.array.now) c.in-Ok.ensures.next c.in-Ok-constrain_pattern.ensures.next c.args.inference.now c.constrain_value.new.inference c.in-Ok.ensures.ok c.constrain_pattern.new.inference c.take_back.new.inference c.requires.safe c.in-Ok-constrain_pattern.ensures.ok (λ before added e l. c.take_back.ensures before added e (l ∙ sym c.mark_of-mark.ensures))) c.demand.new.inference c.in-Ok-constrain.ensures.ok c.gone_over.result c.gone_over.ensures.says c.gone_over.ensures.allowed) c.in-Err-demand.ensures.err }
+pub constrain_over-returns-in-Err-enter_bound : goal.constrain_over-returns-in-Err-enter_bound
+constrain_over-returns-in-Err-enter_bound t c = record { next = tt; ok = tt; err = tt }
 
-pub constrain_over-enter_sizes-requires : goal.constrain_over-enter_sizes-requires
-constrain_over-enter_sizes-requires t c = record { safe = (c.in-Ok-demand.ensures.ok c.args.setting.places 0 0).later.safe }
+pub constrain_over-enter_pattern-requires-clause-room : goal.constrain_over-enter_pattern-requires-clause-room
+constrain_over-enter_pattern-requires-clause-room t c = omega (arith, c.requires.room, c.in-Ok.ensures.next)
 
-pub constrain_over-returns-in-Ok-enter_pattern-2 : goal.constrain_over-returns-in-Ok-enter_pattern-2
-constrain_over-returns-in-Ok-enter_pattern-2 t c = record { next = omega (arith, c.in-Ok.ensures.next, c.in-Ok-constrain_pattern.ensures.next, c.in-Ok-constrain.ensures.next); ok = over_ok c.args.setting.places c.args.setting.base c.args.setting.depth c.args.lo c.in-Ok.next c.in-Ok-constrain_pattern.next c.args.sizes.now (pattern_of c.args.pat.now) (term_of c.args.first.now) (pattern_of c.args.part.now) (term_of c.args.array.now) c.in-Ok.ensures.next c.in-Ok-constrain_pattern.ensures.next c.args.inference.now c.take_back.new.inference c.constrain.new.inference c.requires.safe (two_claimed c.args.setting.places c.args.setting.base c.args.setting.depth c.args.lo c.in-Ok.next c.in-Ok-constrain_pattern.next c.args.sizes.now (pattern_of c.args.pat.now) (term_of c.args.first.now) (pattern_of c.args.part.now) (term_of c.args.array.now) c.in-Ok.ensures.next c.in-Ok-constrain_pattern.ensures.next c.args.inference.now c.constrain_value.new.inference c.in-Ok.ensures.ok c.constrain_pattern.new.inference c.take_back.new.inference c.requires.safe c.in-Ok-constrain_pattern.ensures.ok (λ before added e l. c.take_back.ensures before added e (l ∙ sym c.mark_of-mark.ensures))) c.demand.new.inference c.in-Ok-constrain.ensures.ok c.gone_over.result c.gone_over.ensures.says c.gone_over.ensures.allowed c.enter_sizes.new.inference c.enter_pattern.new.inference c.enter_pattern-2.new.inference c.in-Ok-demand.ensures.ok c.in-Ok-enter_sizes.ensures.ok c.in-Ok-enter_pattern.ensures.ok c.in-Ok-enter_pattern-2.ensures.ok; err = tt }
+pub constrain_over-returns-in-Ok-enter_pattern : goal.constrain_over-returns-in-Ok-enter_pattern
+constrain_over-returns-in-Ok-enter_pattern t c = record { next = omega (arith, c.in-Ok.ensures.next, c.in-Ok-constrain_pattern.ensures.next, c.in-Ok-constrain_ruled.ensures.next); ok = over_ruled c.args.setting.places c.args.setting.base c.args.setting.depth c.args.lo c.in-Ok.next c.in-Ok-constrain_pattern.next c.args.whole.now.sizes.now (pattern_of c.args.whole.now.pat) (term_of c.args.whole.now.first) (pattern_of c.args.part.now) (term_of c.args.array.now) c.in-Ok.ensures.next c.in-Ok-constrain_pattern.ensures.next c.args.inference.now c.take_back.new.inference c.constrain_ruled.new.inference c.requires.safe (two_claimed c.args.setting.places c.args.setting.base c.args.setting.depth c.args.lo c.in-Ok.next c.in-Ok-constrain_pattern.next c.args.whole.now.sizes.now (pattern_of c.args.whole.now.pat) (term_of c.args.whole.now.first) (pattern_of c.args.part.now) (term_of c.args.array.now) c.in-Ok.ensures.next c.in-Ok-constrain_pattern.ensures.next c.args.inference.now c.constrain_value.new.inference c.in-Ok.ensures.ok c.constrain_pattern.new.inference c.take_back.new.inference c.requires.safe c.in-Ok-constrain_pattern.ensures.ok (λ before added e l. c.take_back.ensures before added e (l ∙ sym c.mark_of-mark.ensures))) c.gone_over-rule.result c.gone_over-rule.ensures.says c.gone_over-rule.ensures.allowed c.in-Ok-constrain_ruled.ensures.ok c.enter_bound.new.inference c.enter_pattern.new.inference c.in-Ok-enter_bound.ensures.ok c.in-Ok-enter_pattern.ensures.ok; err = tt }
 
-pub constrain_definition-constrain-requires : goal.constrain_definition-constrain-requires
-constrain_definition-constrain-requires t c = (omega arith, (c.in-Ok.ensures.safe, omega (arith, c.requires.room)))
-
-pub constrain_definition-returns-in-Err-constrain : goal.constrain_definition-returns-in-Err-constrain
-constrain_definition-returns-in-Err-constrain t c = record { next = tt; ok = tt; err = tells c.in-Err-constrain.error (definition_err1 c.args.setting.places c.args.setting.base c.args.setting.depth c.args.lo c.args.name (parameters c.args.heads.now) (term_of c.args.value.now) c.args.inference.now c.enter_parameters.new.inference c.requires.safe c.in-Ok.ensures.ok (omega (arith, c.if-depth-ge4294967294.false)) c.constrain.new.inference) c.in-Err-constrain.ensures.err }
-
-pub constrain_definition-demand-requires-clause-within : goal.constrain_definition-demand-requires-clause-within
-constrain_definition-demand-requires-clause-within t c = same_within c.constrain.new.inference.table c.args.setting.base c.args.lo (1 + c.args.lo) (omega (arith, c.requires.room, numbers_some (term_of c.args.value.now))) (omega (arith, c.requires.room, numbers_some (term_of c.args.value.now)))
-
-pub constrain_definition-returns-in-Err-demand : goal.constrain_definition-returns-in-Err-demand
-constrain_definition-returns-in-Err-demand t c = record { next = tt; ok = tt; err = tells c.in-Err-demand.error (definition_err2 c.args.setting.places c.args.setting.base c.args.setting.depth c.args.lo c.args.name (parameters c.args.heads.now) (term_of c.args.value.now) c.args.inference.now c.enter_parameters.new.inference c.requires.safe c.in-Ok.ensures.ok (omega (arith, c.if-depth-ge4294967294.false)) c.constrain.new.inference c.demand.new.inference c.in-Ok-constrain.ensures.ok) c.in-Err-demand.ensures.err }
+pub constrain_over-returns-in-Err-enter_pattern : goal.constrain_over-returns-in-Err-enter_pattern
+constrain_over-returns-in-Err-enter_pattern t c = record { next = tt; ok = tt; err = tt }
 
 pub constrain_definition-generalise-requires : goal.constrain_definition-generalise-requires
 constrain_definition-generalise-requires t c = record {
-  sound = definition_sound c.args.setting.places c.args.setting.base c.args.setting.depth c.args.lo c.args.name (parameters c.args.heads.now) (term_of c.args.value.now) c.args.inference.now c.enter_parameters.new.inference c.requires.safe c.in-Ok.ensures.ok (omega (arith, c.if-depth-ge4294967294.false)) c.constrain.new.inference c.demand.new.inference c.in-Ok-constrain.ensures.ok c.in-Ok-demand.ensures.ok c.requires.room c.take_back.new.inference (λ before added e l. c.take_back.ensures before added e (l ∙ sym c.mark_of-mark.ensures)) c.as_slice.result.now (c.as_slice.ensures ∙ c.in-Ok.ensures.own ∙ ap (λ l. l ++ type_numbers (parameters c.args.heads.now)) c.new-own.ensures);
-  root = definition_root c.args.setting.places c.args.setting.base c.args.setting.depth c.args.lo c.args.name (parameters c.args.heads.now) (term_of c.args.value.now) c.args.inference.now c.enter_parameters.new.inference c.requires.safe c.in-Ok.ensures.ok (omega (arith, c.if-depth-ge4294967294.false)) c.constrain.new.inference c.demand.new.inference c.in-Ok-constrain.ensures.ok c.in-Ok-demand.ensures.ok c.requires.room c.take_back.new.inference (λ before added e l. c.take_back.ensures before added e (l ∙ sym c.mark_of-mark.ensures)) c.as_slice.result.now (c.as_slice.ensures ∙ c.in-Ok.ensures.own ∙ ap (λ l. l ++ type_numbers (parameters c.args.heads.now)) c.new-own.ensures);
-  own = definition_own c.args.setting.places c.args.setting.base c.args.setting.depth c.args.lo c.args.name (parameters c.args.heads.now) (term_of c.args.value.now) c.args.inference.now c.enter_parameters.new.inference c.requires.safe c.in-Ok.ensures.ok (omega (arith, c.if-depth-ge4294967294.false)) c.constrain.new.inference c.demand.new.inference c.in-Ok-constrain.ensures.ok c.in-Ok-demand.ensures.ok c.requires.room c.take_back.new.inference (λ before added e l. c.take_back.ensures before added e (l ∙ sym c.mark_of-mark.ensures)) c.as_slice.result.now (c.as_slice.ensures ∙ c.in-Ok.ensures.own ∙ ap (λ l. l ++ type_numbers (parameters c.args.heads.now)) c.new-own.ensures);
+  sound = definition_sound c.args.setting.places c.args.setting.base c.args.setting.depth c.args.lo c.args.name (parameters c.args.heads.now) (term_of c.args.value.now) c.args.inference.now c.enter_parameters.new.inference c.requires.safe c.in-Ok.ensures.ok (omega (arith, c.if-depth-ge4294967294.false)) c.in-Ok-constrain_ruled.ensures.ok.0 c.constrain_ruled.new.inference c.in-Ok-constrain_ruled.ensures.ok.1.0 c.in-Ok-constrain_ruled.ensures.ok.1.1 c.requires.room c.take_back.new.inference (λ before added e l. c.take_back.ensures before added e (l ∙ sym c.mark_of-mark.ensures)) c.as_slice.result.now (c.as_slice.ensures ∙ c.in-Ok.ensures.own ∙ ap (λ l. l ++ type_numbers (parameters c.args.heads.now)) c.new-own.ensures);
+  root = definition_root c.args.setting.places c.args.setting.base c.args.setting.depth c.args.lo c.args.name (parameters c.args.heads.now) (term_of c.args.value.now) c.args.inference.now c.enter_parameters.new.inference c.requires.safe c.in-Ok.ensures.ok (omega (arith, c.if-depth-ge4294967294.false)) c.in-Ok-constrain_ruled.ensures.ok.0 c.constrain_ruled.new.inference c.in-Ok-constrain_ruled.ensures.ok.1.0 c.in-Ok-constrain_ruled.ensures.ok.1.1 c.requires.room c.take_back.new.inference (λ before added e l. c.take_back.ensures before added e (l ∙ sym c.mark_of-mark.ensures)) c.as_slice.result.now (c.as_slice.ensures ∙ c.in-Ok.ensures.own ∙ ap (λ l. l ++ type_numbers (parameters c.args.heads.now)) c.new-own.ensures);
+  own = definition_own c.args.setting.places c.args.setting.base c.args.setting.depth c.args.lo c.args.name (parameters c.args.heads.now) (term_of c.args.value.now) c.args.inference.now c.enter_parameters.new.inference c.requires.safe c.in-Ok.ensures.ok (omega (arith, c.if-depth-ge4294967294.false)) c.in-Ok-constrain_ruled.ensures.ok.0 c.constrain_ruled.new.inference c.in-Ok-constrain_ruled.ensures.ok.1.0 c.in-Ok-constrain_ruled.ensures.ok.1.1 c.requires.room c.take_back.new.inference (λ before added e l. c.take_back.ensures before added e (l ∙ sym c.mark_of-mark.ensures)) c.as_slice.result.now (c.as_slice.ensures ∙ c.in-Ok.ensures.own ∙ ap (λ l. l ++ type_numbers (parameters c.args.heads.now)) c.new-own.ensures);
 }
 
-pub constrain_definition-returns-in-Ok-generalise : goal.constrain_definition-returns-in-Ok-generalise
-constrain_definition-returns-in-Ok-generalise t c = record { next = omega (arith, c.in-Ok-constrain.ensures.next); ok = definition_ok c.args.setting.places c.args.setting.base c.args.setting.depth c.args.lo c.args.name (parameters c.args.heads.now) (term_of c.args.value.now) c.args.inference.now c.enter_parameters.new.inference c.requires.safe c.in-Ok.ensures.ok (omega (arith, c.if-depth-ge4294967294.false)) c.constrain.new.inference c.demand.new.inference c.in-Ok-constrain.ensures.ok c.in-Ok-demand.ensures.ok c.requires.room c.take_back.new.inference (λ before added e l. c.take_back.ensures before added e (l ∙ sym c.mark_of-mark.ensures)) c.as_slice.result.now (c.as_slice.ensures ∙ c.in-Ok.ensures.own ∙ ap (λ l. l ++ type_numbers (parameters c.args.heads.now)) c.new-own.ensures) c.generalise.new.inference c.in-Ok-generalise.ensures.ok; err = tt }
-
 pub constrain_definition-returns : goal.constrain_definition-returns
-constrain_definition-returns t c = record { next = tt; ok = tt; err = tells_both c.in-Err-generalise.error (λ x e. definition_err3 c.args.setting.places c.args.setting.base c.args.setting.depth c.args.lo c.args.name (parameters c.args.heads.now) (term_of c.args.value.now) c.args.inference.now c.enter_parameters.new.inference c.requires.safe c.in-Ok.ensures.ok (omega (arith, c.if-depth-ge4294967294.false)) c.constrain.new.inference c.demand.new.inference c.in-Ok-constrain.ensures.ok c.in-Ok-demand.ensures.ok c.requires.room c.take_back.new.inference (λ before added e l. c.take_back.ensures before added e (l ∙ sym c.mark_of-mark.ensures)) c.as_slice.result.now (c.as_slice.ensures ∙ c.in-Ok.ensures.own ∙ ap (λ l. l ++ type_numbers (parameters c.args.heads.now)) c.new-own.ensures) c.generalise.new.inference x e) c.in-Err-generalise.ensures.err c.in-Err-generalise.ensures.same }
-
-pub constrain_function-returns-then-one-gt0 : goal.constrain_function-returns-then-one-gt0
-constrain_function-returns-then-one-gt0 t c = record { next = tt; ok = tt; err = function_refused c.args.setting.places c.args.setting.base c.args.setting.depth c.args.lo c.args.one.now c.requires.function c.args.inference.now c.requires.safe (no_sizes c.args.one.now.sizes.now (pattern_of c.args.one.now.pat) (omega (arith, c.if-one-gt0.true))) }
-
-pub constrain_function-constrain_definition-requires : goal.constrain_function-constrain_definition-requires
-constrain_function-constrain_definition-requires t c = let e = row_numbers c.args.setting.places c.args.setting.base c.args.setting.depth 0 c.args.one.now c.requires.function c.args.inference.now c.in-Bound.bind (pattern_bound c.args.one.now.pat c.in-Bound.bind c.in-Bound.is) (omega (arith, c.if-one-gt0.false)) c.args.inference.now in
-    let z = row_numbers c.args.setting.places c.args.setting.base c.args.setting.depth c.args.lo c.args.one.now c.requires.function c.args.inference.now c.in-Bound.bind (pattern_bound c.args.one.now.pat c.in-Bound.bind c.in-Bound.is) (omega (arith, c.if-one-gt0.false)) c.args.inference.now in (omega (arith, e), (c.requires.safe, omega (arith, z, c.requires.room)))
-
-pub constrain_function-returns-in-Bound : goal.constrain_function-returns-in-Bound
-constrain_function-returns-in-Bound t c = record { next = ok_also c.constrain_definition.result (λ n e. e ∙ sym (row_numbers c.args.setting.places c.args.setting.base c.args.setting.depth c.args.lo c.args.one.now c.requires.function c.args.inference.now c.in-Bound.bind (pattern_bound c.args.one.now.pat c.in-Bound.bind c.in-Bound.is) (omega (arith, c.if-one-gt0.false)) c.constrain_definition.new.inference)) c.constrain_definition.ensures.next; ok = on_ok c.constrain_definition.result (function_ok c.args.setting.places c.args.setting.base c.args.setting.depth c.args.lo c.args.one.now c.requires.function c.args.inference.now c.in-Bound.bind (pattern_bound c.args.one.now.pat c.in-Bound.bind c.in-Bound.is) (omega (arith, c.if-one-gt0.false)) c.constrain_definition.new.inference) c.constrain_definition.ensures.ok; err = if_err c.constrain_definition.result (function_err c.args.setting.places c.args.setting.base c.args.setting.depth c.args.lo c.args.one.now c.requires.function c.args.inference.now c.in-Bound.bind (pattern_bound c.args.one.now.pat c.in-Bound.bind c.in-Bound.is) (omega (arith, c.if-one-gt0.false)) c.constrain_definition.new.inference) c.constrain_definition.ensures.err }
-
-pub constrain_function-returns-in-Wild : goal.constrain_function-returns-in-Wild
-constrain_function-returns-in-Wild t c = record { next = tt; ok = tt; err = function_refused c.args.setting.places c.args.setting.base c.args.setting.depth c.args.lo c.args.one.now c.requires.function c.args.inference.now c.requires.safe (subst (λ (p : FlatPattern). Function_name c.args.one.now.sizes.now p → ⊥) (sym (pattern_wild c.args.one.now.pat c.in-Wild.is)) (no_wild c.args.one.now.sizes.now)) }
-
-pub constrain_function-returns-in-Tuple : goal.constrain_function-returns-in-Tuple
-constrain_function-returns-in-Tuple t c = record { next = tt; ok = tt; err = function_refused c.args.setting.places c.args.setting.base c.args.setting.depth c.args.lo c.args.one.now c.requires.function c.args.inference.now c.requires.safe (subst (λ (p : FlatPattern). Function_name c.args.one.now.sizes.now p → ⊥) (sym (pattern_tuple c.args.one.now.pat c.in-Tuple.field-0 c.in-Tuple.is)) (no_tuple c.args.one.now.sizes.now _)) }
-
-pub constrain_function-returns-in-Record : goal.constrain_function-returns-in-Record
-constrain_function-returns-in-Record t c = record { next = tt; ok = tt; err = function_refused c.args.setting.places c.args.setting.base c.args.setting.depth c.args.lo c.args.one.now c.requires.function c.args.inference.now c.requires.safe (subst (λ (p : FlatPattern). Function_name c.args.one.now.sizes.now p → ⊥) (sym (record_is c.args.one.now.pat c.in-Record.field-0 c.in-Record.is)) (no_record c.args.one.now.sizes.now _ _)) }
-
-pub constrain_function-returns-in-Typed : goal.constrain_function-returns-in-Typed
-constrain_function-returns-in-Typed t c = record { next = tt; ok = tt; err = function_refused c.args.setting.places c.args.setting.base c.args.setting.depth c.args.lo c.args.one.now c.requires.function c.args.inference.now c.requires.safe (subst (λ (p : FlatPattern). Function_name c.args.one.now.sizes.now p → ⊥) (sym (pattern_typed c.args.one.now.pat c.in-Typed.field-0 c.in-Typed.field-1 c.in-Typed.is)) (no_typed c.args.one.now.sizes.now _ _)) }
+constrain_definition-returns t c = record { next = rw c.and.ensures (end_next _ c.generalise.result c.in-Ok-constrain_ruled.next (omega (arith, c.in-Ok-constrain_ruled.ensures.next))); ok = rw c.and.ensures (end_ok c.generalise.result c.in-Ok-constrain_ruled.next (definition_ok c.args.setting.places c.args.setting.base c.args.setting.depth c.args.lo c.args.name (parameters c.args.heads.now) (term_of c.args.value.now) c.args.inference.now c.enter_parameters.new.inference c.requires.safe c.in-Ok.ensures.ok (omega (arith, c.if-depth-ge4294967294.false)) c.in-Ok-constrain_ruled.ensures.ok.0 c.constrain_ruled.new.inference c.in-Ok-constrain_ruled.ensures.ok.1.0 c.in-Ok-constrain_ruled.ensures.ok.1.1 c.requires.room c.take_back.new.inference (λ before added e l. c.take_back.ensures before added e (l ∙ sym c.mark_of-mark.ensures)) c.as_slice.result.now (c.as_slice.ensures ∙ c.in-Ok.ensures.own ∙ ap (λ l. l ++ type_numbers (parameters c.args.heads.now)) c.new-own.ensures) c.generalise.new.inference) c.generalise.ensures.ok); err = rw c.and.ensures (end_both c.generalise.result c.in-Ok-constrain_ruled.next (λ x e. definition_err3 c.args.setting.places c.args.setting.base c.args.setting.depth c.args.lo c.args.name (parameters c.args.heads.now) (term_of c.args.value.now) c.args.inference.now c.enter_parameters.new.inference c.requires.safe c.in-Ok.ensures.ok (omega (arith, c.if-depth-ge4294967294.false)) c.in-Ok-constrain_ruled.ensures.ok.0 c.constrain_ruled.new.inference c.in-Ok-constrain_ruled.ensures.ok.1.0 c.in-Ok-constrain_ruled.ensures.ok.1.1 c.requires.room c.take_back.new.inference (λ before added e l. c.take_back.ensures before added e (l ∙ sym c.mark_of-mark.ensures)) c.as_slice.result.now (c.as_slice.ensures ∙ c.in-Ok.ensures.own ∙ ap (λ l. l ++ type_numbers (parameters c.args.heads.now)) c.new-own.ensures) c.generalise.new.inference x e) c.generalise.ensures.err c.generalise.ensures.same) }
 
 pub constrain_apply-constrain-requires : goal.constrain_apply-constrain-requires
 constrain_apply-constrain-requires t c = (omega arith, (c.requires.safe, omega (arith, c.requires.room)))
@@ -414,56 +324,26 @@ constrain_parts-returns t c = record { next = subst (λ (l : List Exp). c.loop-p
 pub constrain_strict-constrain_parts-requires : goal.constrain_strict-constrain_parts-requires
 constrain_strict-constrain_parts-requires t c = (omega (arith, own_some (operation_of c.args.act.now)), (c.requires.safe, omega (arith, c.requires.room, c.own_numbers_of.ensures)))
 
-pub constrain_row-constrain_function-requires : goal.constrain_row-constrain_function-requires
-constrain_row-constrain_function-requires t c = (omega arith, (c.requires.safe, (c.requires.room, c.if-one.true)))
-
-pub constrain_counted-enter_pattern-requires-clause-room : goal.constrain_counted-enter_pattern-requires-clause-room
-constrain_counted-enter_pattern-requires-clause-room t c = omega (arith, c.requires.room)
-
-pub constrain_over-enter_pattern-requires-clause-room : goal.constrain_over-enter_pattern-requires-clause-room
-constrain_over-enter_pattern-requires-clause-room t c = omega (arith, c.requires.room)
-
-pub constrain_over-enter_pattern-requires-2-clause-room : goal.constrain_over-enter_pattern-requires-2-clause-room
-constrain_over-enter_pattern-requires-2-clause-room t c = omega (arith, c.requires.room, c.in-Ok.ensures.next)
-
 pub constrain_parts-returns-in-Err : goal.constrain_parts-returns-in-Err
 constrain_parts-returns-in-Err t c = record { next = tt; begins = tt; ok = tt; err = tt }
 
 pub constrain_rows-returns-in-Err : goal.constrain_rows-returns-in-Err
-constrain_rows-returns-in-Err t c = record { next = tt; begins = tt; ok = tt; err = tt }
+constrain_rows-returns-in-Err t c = record { next = tt; ok = tt; err = let w = row_split c.args.lets.now c.loop-one.one-index _ c.loop-one-test.true in tells c.in-Err.error (lets_refused c.args.setting.places c.args.setting.base c.args.setting.depth c.args.lo c.loop-one.at (map row_of (take c.loop-one.one-index c.args.lets.now)) _ c.args.inference.now c.loop-one.inference c.constrain_row.new.inference c.loop-one.invariant (map row_of c.args.lets.now) w.0 w.1) c.in-Err.ensures.err }
+
+pub constrain_rows-demand-requires-clause-within : goal.constrain_rows-demand-requires-clause-within
+constrain_rows-demand-requires-clause-within t c = row_same c.args.lets.now c.loop-one.one-index c.args.lo c.loop-one.at c.args.setting.base _ c.loop-one-test.true c.loop-one.invariant.next c.requires.room
+
+pub constrain_rows-returns-in-Err-demand : goal.constrain_rows-returns-in-Err-demand
+constrain_rows-returns-in-Err-demand t c = record { next = tt; ok = tt; err = let w = row_split c.args.lets.now c.loop-one.one-index _ c.loop-one-test.true in tells c.in-Err-demand.error (lets_asked c.args.setting.places c.args.setting.base c.args.setting.depth c.args.lo c.loop-one.at (map row_of (take c.loop-one.one-index c.args.lets.now)) _ c.args.inference.now c.loop-one.inference c.constrain_row.new.inference c.loop-one.invariant c.demand.new.inference c.in-Ok.ensures.ok (map row_of c.args.lets.now) w.0 w.1) c.in-Err-demand.ensures.err }
 
 pub constrain_lets-returns-then-lets-eq0 : goal.constrain_lets-returns-then-lets-eq0
 constrain_lets-returns-then-lets-eq0 t c = record { next = tt; ok = tt; err = tt }
 
-pub constrain_row-returns-then-one-gt0 : goal.constrain_row-returns-then-one-gt0
-constrain_row-returns-then-one-gt0 t c = record { next = tt; ok = tt; err = tt }
-
-pub constrain_value-returns-in-Err-enter_sizes : goal.constrain_value-returns-in-Err-enter_sizes
-constrain_value-returns-in-Err-enter_sizes t c = record { next = tt; ok = tt; err = tt }
-
-pub constrain_value-returns-in-Err-enter_pattern : goal.constrain_value-returns-in-Err-enter_pattern
-constrain_value-returns-in-Err-enter_pattern t c = record { next = tt; ok = tt; err = tt }
-
 pub constrain_bound-returns-in-Err : goal.constrain_bound-returns-in-Err
 constrain_bound-returns-in-Err t c = record { next = tt; ok = tt; err = tt }
 
-pub constrain_counted-returns-in-Err-enter_sizes : goal.constrain_counted-returns-in-Err-enter_sizes
-constrain_counted-returns-in-Err-enter_sizes t c = record { next = tt; ok = tt; err = tt }
-
-pub constrain_counted-returns-in-Err-enter_pattern : goal.constrain_counted-returns-in-Err-enter_pattern
-constrain_counted-returns-in-Err-enter_pattern t c = record { next = tt; ok = tt; err = tt }
-
 pub constrain_counted-returns-in-Err-enter : goal.constrain_counted-returns-in-Err-enter
 constrain_counted-returns-in-Err-enter t c = record { next = tt; ok = tt; err = tt }
-
-pub constrain_over-returns-in-Err-enter_sizes : goal.constrain_over-returns-in-Err-enter_sizes
-constrain_over-returns-in-Err-enter_sizes t c = record { next = tt; ok = tt; err = tt }
-
-pub constrain_over-returns-in-Err-enter_pattern : goal.constrain_over-returns-in-Err-enter_pattern
-constrain_over-returns-in-Err-enter_pattern t c = record { next = tt; ok = tt; err = tt }
-
-pub constrain_over-returns-in-Err-enter_pattern-2 : goal.constrain_over-returns-in-Err-enter_pattern-2
-constrain_over-returns-in-Err-enter_pattern-2 t c = record { next = tt; ok = tt; err = tt }
 
 pub constrain_definition-returns-then-depth-ge4294967294 : goal.constrain_definition-returns-then-depth-ge4294967294
 constrain_definition-returns-then-depth-ge4294967294 t c = record { next = tt; ok = tt; err = tt }
@@ -471,8 +351,42 @@ constrain_definition-returns-then-depth-ge4294967294 t c = record { next = tt; o
 pub constrain_definition-returns-in-Err : goal.constrain_definition-returns-in-Err
 constrain_definition-returns-in-Err t c = record { next = tt; ok = tt; err = tt }
 
+pub constrain_row-returns-then-one-gt0 : goal.constrain_row-returns-then-one-gt0
+constrain_row-returns-then-one-gt0 t c = record { next = tt; ok = tt; err = tt }
+
+pub constrain_row-constrain_value-requires : goal.constrain_row-constrain_value-requires
+constrain_row-constrain_value-requires t c = let e = ap (λ (l : Row). behind l 0) (value_is c.args.one.now c.if-not-one.true (omega (arith, c.if-one-gt0.false))) in (omega (arith, e), (c.requires.safe, subst (λ (l : Row). behind l c.args.lo ≤ c.args.setting.base) (value_is c.args.one.now c.if-not-one.true (omega (arith, c.if-one-gt0.false))) c.requires.room))
+
+pub constrain_row-returns-then-not-one : goal.constrain_row-returns-then-not-one
+constrain_row-returns-then-not-one t c = record { next = rw (value_is c.args.one.now c.if-not-one.true (omega (arith, c.if-one-gt0.false))) c.constrain_value.ensures.next; ok = rw (value_is c.args.one.now c.if-not-one.true (omega (arith, c.if-one-gt0.false))) c.constrain_value.ensures.ok; err = rw (value_is c.args.one.now c.if-not-one.true (omega (arith, c.if-one-gt0.false))) c.constrain_value.ensures.err }
+
+pub constrain_row-returns-then-one-gt0-2 : goal.constrain_row-returns-then-one-gt0-2
+constrain_row-returns-then-one-gt0-2 t c = record { next = tt; ok = tt; err = function_refused c.args.setting.places c.args.setting.base c.args.setting.depth c.args.lo c.args.one.now c.if-not-one.false c.args.inference.now c.requires.safe (no_sizes c.args.one.now.sizes.now (pattern_of c.args.one.now.pat) (omega (arith, c.if-one-gt0-2.true))) }
+
+pub constrain_row-constrain_definition-requires : goal.constrain_row-constrain_definition-requires
+constrain_row-constrain_definition-requires t c = let e = row_numbers c.args.setting.places c.args.setting.base c.args.setting.depth 0 c.args.one.now c.if-not-one.false c.args.inference.now c.in-Bound.bind (pattern_bound c.args.one.now.pat c.in-Bound.bind c.in-Bound.is) (omega (arith, c.if-one-gt0-2.false)) c.args.inference.now in
+    let z = row_numbers c.args.setting.places c.args.setting.base c.args.setting.depth c.args.lo c.args.one.now c.if-not-one.false c.args.inference.now c.in-Bound.bind (pattern_bound c.args.one.now.pat c.in-Bound.bind c.in-Bound.is) (omega (arith, c.if-one-gt0-2.false)) c.args.inference.now in (omega (arith, e), (c.requires.safe, omega (arith, z, c.requires.room)))
+
+pub constrain_row-returns-in-Bound : goal.constrain_row-returns-in-Bound
+constrain_row-returns-in-Bound t c = record { next = ok_also c.constrain_definition.result (λ n e. e ∙ sym (row_numbers c.args.setting.places c.args.setting.base c.args.setting.depth c.args.lo c.args.one.now c.if-not-one.false c.args.inference.now c.in-Bound.bind (pattern_bound c.args.one.now.pat c.in-Bound.bind c.in-Bound.is) (omega (arith, c.if-one-gt0-2.false)) c.constrain_definition.new.inference)) c.constrain_definition.ensures.next; ok = on_ok c.constrain_definition.result (function_ok c.args.setting.places c.args.setting.base c.args.setting.depth c.args.lo c.args.one.now c.if-not-one.false c.args.inference.now c.in-Bound.bind (pattern_bound c.args.one.now.pat c.in-Bound.bind c.in-Bound.is) (omega (arith, c.if-one-gt0-2.false)) c.constrain_definition.new.inference) c.constrain_definition.ensures.ok; err = if_err c.constrain_definition.result (function_err c.args.setting.places c.args.setting.base c.args.setting.depth c.args.lo c.args.one.now c.if-not-one.false c.args.inference.now c.in-Bound.bind (pattern_bound c.args.one.now.pat c.in-Bound.bind c.in-Bound.is) (omega (arith, c.if-one-gt0-2.false)) c.constrain_definition.new.inference) c.constrain_definition.ensures.err }
+
+pub constrain_row-returns-in-Wild : goal.constrain_row-returns-in-Wild
+constrain_row-returns-in-Wild t c = record { next = tt; ok = tt; err = function_refused c.args.setting.places c.args.setting.base c.args.setting.depth c.args.lo c.args.one.now c.if-not-one.false c.args.inference.now c.requires.safe (subst (λ (p : FlatPattern). Function_name c.args.one.now.sizes.now p → ⊥) (sym (pattern_wild c.args.one.now.pat c.in-Wild.is)) (no_wild c.args.one.now.sizes.now)) }
+
+pub constrain_row-returns-in-Tuple : goal.constrain_row-returns-in-Tuple
+constrain_row-returns-in-Tuple t c = record { next = tt; ok = tt; err = function_refused c.args.setting.places c.args.setting.base c.args.setting.depth c.args.lo c.args.one.now c.if-not-one.false c.args.inference.now c.requires.safe (subst (λ (p : FlatPattern). Function_name c.args.one.now.sizes.now p → ⊥) (sym (pattern_tuple c.args.one.now.pat c.in-Tuple.field-0 c.in-Tuple.is)) (no_tuple c.args.one.now.sizes.now _)) }
+
+pub constrain_row-returns-in-Record : goal.constrain_row-returns-in-Record
+constrain_row-returns-in-Record t c = record { next = tt; ok = tt; err = function_refused c.args.setting.places c.args.setting.base c.args.setting.depth c.args.lo c.args.one.now c.if-not-one.false c.args.inference.now c.requires.safe (subst (λ (p : FlatPattern). Function_name c.args.one.now.sizes.now p → ⊥) (sym (record_is c.args.one.now.pat c.in-Record.field-0 c.in-Record.is)) (no_record c.args.one.now.sizes.now _ _)) }
+
+pub constrain_row-returns-in-Typed : goal.constrain_row-returns-in-Typed
+constrain_row-returns-in-Typed t c = record { next = tt; ok = tt; err = function_refused c.args.setting.places c.args.setting.base c.args.setting.depth c.args.lo c.args.one.now c.if-not-one.false c.args.inference.now c.requires.safe (subst (λ (p : FlatPattern). Function_name c.args.one.now.sizes.now p → ⊥) (sym (pattern_typed c.args.one.now.pat c.in-Typed.field-0 c.in-Typed.field-1 c.in-Typed.is)) (no_typed c.args.one.now.sizes.now _ _)) }
+
+pub constrain_definition-constrain_ruled-requires : goal.constrain_definition-constrain_ruled-requires
+constrain_definition-constrain_ruled-requires t c = (omega arith, (c.in-Ok.ensures.safe, (omega (arith, c.requires.room), λ table. same_within table c.args.setting.base c.args.lo (1 + c.args.lo) (omega (arith, c.requires.room, numbers_some (term_of c.args.value.now))) (omega (arith, c.requires.room, numbers_some (term_of c.args.value.now))))))
+
+pub constrain_definition-returns-in-Err-constrain_ruled : goal.constrain_definition-returns-in-Err-constrain_ruled
+constrain_definition-returns-in-Err-constrain_ruled t c = record { next = tt; ok = tt; err = tells c.in-Err-constrain_ruled.error (definition_unruled c.args.setting.places c.args.setting.base c.args.setting.depth c.args.lo c.args.name (parameters c.args.heads.now) (term_of c.args.value.now) c.args.inference.now c.enter_parameters.new.inference c.requires.safe c.in-Ok.ensures.ok (omega (arith, c.if-depth-ge4294967294.false)) c.constrain_ruled.new.inference) c.in-Err-constrain_ruled.ensures.err }
+
 pub constrain_value-returns-in-Err : goal.constrain_value-returns-in-Err
 constrain_value-returns-in-Err t c = record { next = tt; ok = tt; err = c.in-Err.ensures.err }
-
-pub constrain_row-returns-then-one : goal.constrain_row-returns-then-one
-constrain_row-returns-then-one t c = record { next = c.constrain_function.ensures.next; ok = c.constrain_function.ensures.ok; err = c.constrain_function.ensures.err }

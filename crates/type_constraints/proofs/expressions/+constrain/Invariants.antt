@@ -43,7 +43,7 @@ abbrev pub decreases-constrain_value : goal.decreases-constrain_value
 decreases-constrain_value l = 3 * behind (value_row l.sizes.now (pattern_of l.pat.now) (term_of l.value.now)) 0
 
 abbrev pub invariant-constrain_rows-loop-one : goal.invariant-constrain_rows-loop-one
-invariant-constrain_rows-loop-one l = Lets_open l.setting.places l.setting.base l.setting.depth l.lo l.at (map row_of (take l.one-index l.lets)) l.fn.begins l.begins l.fn.inference l.inference
+invariant-constrain_rows-loop-one l = Lets_open l.setting.places l.setting.base l.setting.depth l.lo l.at (map row_of (take l.one-index l.lets)) l.fn.inference l.inference
 
 abbrev pub decreases-constrain_loop : goal.decreases-constrain_loop
 decreases-constrain_loop l = 3 * numbers (loop_of l.whole.now)
@@ -52,19 +52,19 @@ abbrev pub decreases-constrain_head : goal.decreases-constrain_head
 decreases-constrain_head l = 3 * (pattern_numbers (pattern_of l.whole.now.pat) + numbers (term_of l.whole.now.first) + turn_numbers (turns_of l.whole.now.form)) + 2
 
 abbrev pub decreases-constrain_while : goal.decreases-constrain_while
-decreases-constrain_while l = 3 * (pattern_numbers (pattern_of l.pat.now) + numbers (term_of l.first.now) + numbers (term_of l.test.now)) + 1
+decreases-constrain_while l = 3 * (pattern_numbers (pattern_of l.whole.now.pat) + numbers (term_of l.whole.now.first) + numbers (term_of l.test.now)) + 1
 
 abbrev pub decreases-constrain_bound : goal.decreases-constrain_bound
 decreases-constrain_bound l = 3 * (pattern_numbers (pattern_of l.pat.now) + numbers (term_of l.value.now)) + 2
 
 abbrev pub decreases-constrain_counted : goal.decreases-constrain_counted
-decreases-constrain_counted l = 3 * (pattern_numbers (pattern_of l.pat.now) + numbers (term_of l.first.now) + (1 + numbers (term_of l.bound.now))) + 1
+decreases-constrain_counted l = 3 * (pattern_numbers (pattern_of l.whole.now.pat) + numbers (term_of l.whole.now.first) + (1 + numbers (term_of l.bound.now))) + 1
 
 abbrev pub decreases-constrain_over : goal.decreases-constrain_over
-decreases-constrain_over l = 3 * (pattern_numbers (pattern_of l.pat.now) + numbers (term_of l.first.now) + (pattern_numbers (pattern_of l.part.now) + numbers (term_of l.array.now))) + 1
+decreases-constrain_over l = 3 * (pattern_numbers (pattern_of l.whole.now.pat) + numbers (term_of l.whole.now.first) + (pattern_numbers (pattern_of l.part.now) + numbers (term_of l.array.now))) + 1
 
-abbrev pub decreases-constrain_function : goal.decreases-constrain_function
-decreases-constrain_function l = 3 * behind (row_of l.one.now) 0
+abbrev pub decreases-constrain_ruled : goal.decreases-constrain_ruled
+decreases-constrain_ruled l = 3 * numbers (term_of l.exp.now) + 2
 
 abbrev pub decreases-constrain_definition : goal.decreases-constrain_definition
 decreases-constrain_definition l = 3 * (1 + numbers (term_of l.value.now))
