@@ -29,7 +29,7 @@ use Rattle.type_definitions.proofs.Gone.{Value_claim, Value_homes, behind_later,
 use Rattle.type_definitions.proofs.Gone.{behind as put_back}
 use Rattle.type_definitions.proofs.Meeting.{all_later, all_more}
 use Rattle.type_uses.specs.Uses.{type_numbers}
-use Rattle.type_constraints.specs.Parts.{Term_claim, Term_homes, Constrained, Unconstrained, Ruled, Unruled, Row_claim, Row_homes, env_row}
+use Rattle.type_constraints.specs.Parts.{Term_claim, Term_homes, Constrained, Unconstrained, Unruled, Row_claim, Row_homes, env_row}
 use Rattle.type_constraints.proofs.Depending.{depends_term}
 use Rattle.type_constraints.proofs.Forms.{anywhere, ruled, unruled}
 use Rattle.type_constraints.proofs.Values.{same_allowed, same_says}

@@ -13,6 +13,10 @@ pub end_ok : {T U E P Q : Type 0} (r : Result T E) (n : U) → (P → Q) → OnO
 end_ok (Ok v) n f p = f p
 end_ok (Err e) n f p = tt
 
+pub end_three : {T U E P Q R S : Type 0} (r : Result T E) (n : U) → (P → Q → R → S) → OnOk r P → OnOk r Q → OnOk r R → OnOk (result_and r (Ok n)) S
+end_three (Ok v) n f p q x = f p q x
+end_three (Err e) n f p q x = tt
+
 pub end_err : {T U P Q : Type 0} (r : Result T UnifyErr) (n : U) → (P → Q) → IfErr r (Tells P) → IfErr (result_and r (Ok n)) (Tells Q)
 end_err (Ok v) n f p = tt
 end_err (Err e) n f p = tells e f p

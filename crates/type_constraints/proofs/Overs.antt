@@ -10,7 +10,7 @@ use Rattle.fut_flat.specs.Erased.{FlatTerm, FlatPattern}
 use Rattle.fut_typing.specs.Names.{Names}
 use Rattle.fut_typing.specs.Scopes.{Scope, IsArray, with_sizes, the_one}
 use Rattle.fut_typing.specs.Patterns.{with_pattern, Pattern_typed}
-use Rattle.fut_typing.specs.Homes.{Env, Needs, At_home, Homed, Turns_homed, scope_of, env_pattern, env_sizes}
+use Rattle.fut_typing.specs.Homes.{Env, Needs, At_home, Homed, Turns_homed, scope_of, env_pattern}
 use Rattle.fut_typing.specs.Rows.{Row_homed}
 use Rattle.fut_typing.specs.Typing.{Typed, Turns_typed}
 use Rattle.fut_typing.proofs.Ranges.{numbers_some, pattern_some}

@@ -1,5 +1,5 @@
 -- The rules of operations.
-use Rattle.std.proofs.Common.{◌≡◌, ◌<◌, ◌≤◌, ◌+◌, ℕ, zero, suc, Bool, true, false, List, [], ◌∷◌, length, slice_index_or, Option, Some, None, refl, sym, ◌∙◌, ap, subst, arith}
+use Rattle.std.proofs.Common.{◌≡◌, ◌<◌, ◌+◌, ℕ, zero, suc, Bool, true, false, List, [], ◌∷◌, length, slice_index_or, Option, Some, None, refl, sym, ◌∙◌, ap, subst, arith}
 use Rattle.std.specs.Borrow.{Bor}
 use Rattle.fut_ast.specs.Sorts.{Text}
 use Rattle.fut_ast.specs.declared.node.End.{End}
@@ -12,7 +12,7 @@ use Rattle.fut_flat.specs.declared.act.Act.TheVariants as act
 use Rattle.fut_flat.specs.declared.act.Part.{Part}
 use Rattle.fut_flat.specs.declared.ty.TypeExp.{TypeExp}
 use Rattle.fut_flat.specs.Terms.{Operation, Integer, Truth, Tuple_of, Record_of, Array_of, Binary, Negate, Complement, Index, Project, Update, Replace, Ascribe, Coerce, Declared, Assert, Range}
-use Rattle.fut_flat.specs.Erased.{FlatType, operation_of, type_of}
+use Rattle.fut_flat.specs.Erased.{FlatType, operation_of}
 use Rattle.fut_types.specs.declared.Kind.{Kind}
 use Rattle.fut_types.specs.Types.{Ty, Sub, Kinds, Tys, none, more}
 use Rattle.fut_typing.specs.Names.{Names}

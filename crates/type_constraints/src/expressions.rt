@@ -416,10 +416,7 @@ fn constrain_value<'a>(
         Ok(next) => next,
         Err(error) => return Err(error),
     };
-    match enter_bound(setting.base, sizes, pat, 1 + lo, inference) {
-        Ok(()) => Ok(next),
-        Err(_) => Err(UnifyErr::Memory),
-    }
+    enter_bound(setting.base, sizes, pat, 1 + lo, inference).and(Ok(next))
 }
 
 // A pattern and the value that it is bound to. The pattern sees its size names, the value does not.
@@ -571,10 +568,7 @@ fn constrain_counted<'a>(
         Ok(()) => {}
         Err(_) => return Err(UnifyErr::Memory),
     }
-    match enter(inference, name.0, Known::Number(from)) {
-        Ok(()) => Ok(next),
-        Err(_) => Err(UnifyErr::Memory),
-    }
+    enter(inference, name.0, Known::Number(from)).and(Ok(next))
 }
 
 // A loop over an array. Its pattern sees the names that the loop carries, the array does not.
@@ -619,8 +613,5 @@ fn constrain_over<'a>(
         Ok(()) => {}
         Err(_) => return Err(UnifyErr::Memory),
     }
-    match enter_pattern(setting.base, part, from, inference) {
-        Ok(_) => Ok(next),
-        Err(_) => Err(UnifyErr::Memory),
-    }
+    enter_pattern(setting.base, part, from, inference).and(Ok(next))
 }

@@ -313,8 +313,5 @@ pub fn enter_bound(
         Ok(()) => {}
         Err(_) => return Err(UnifyErr::Memory),
     }
-    match enter_pattern(base, pat, lo, inference) {
-        Ok(_) => Ok(()),
-        Err(_) => Err(UnifyErr::Memory),
-    }
+    enter_pattern(base, pat, lo, inference).and(Ok(()))
 }

@@ -8,7 +8,7 @@ use Rattle.fut_typing.proofs.Ranges.{numbers_some, own_some, pattern_some}
 use Rattle.fut_flat.proofs.ErasedPatterns.{pattern_bound, pattern_tuple, pattern_typed, pattern_wild}
 use Rattle.fut_typing.specs.Typing.{Function_name}
 use Rattle.type_rules.proofs.Adding.{tells, on_ok, if_err}
-use Rattle.type_constraints.proofs.Ends.{end_both, end_err, end_next, end_ok}
+use Rattle.type_constraints.proofs.Ends.{end_both, end_err, end_next, end_ok, end_three}
 use Rattle.type_constraints.proofs.Forms.{apply_ruled, apply_unruled, refused_apply, if_ruled, if_unruled, refused_if, refused_if2, below_two, below_four}
 use Rattle.type_constraints.proofs.Rows.{gone_none, gone_more, gone_refused, falls_in, room_in, take_more, at_place, starts_below, Gone_over, strict_ok, refused_strict, strict_err2}
 use Rattle.fut_flat.specs.declared.exp.Exp.{Exp}
@@ -188,11 +188,8 @@ constrain_bound-returns t c = record { next = ok_also c.constrain_ruled.result (
 pub constrain_value-constrain_bound-requires : goal.constrain_value-constrain_bound-requires
 constrain_value-constrain_bound-requires t c = (omega arith, (c.requires.safe, omega (arith, c.requires.room)))
 
-pub constrain_value-returns-in-Ok-enter_bound : goal.constrain_value-returns-in-Ok-enter_bound
-constrain_value-returns-in-Ok-enter_bound t c = record { next = c.in-Ok.ensures.next; ok = value_ok c.args.setting.places c.args.setting.base c.args.setting.depth c.args.lo (1 + c.args.lo + pattern_numbers (pattern_of c.args.pat.now)) c.args.sizes.now (pattern_of c.args.pat.now) (term_of c.args.value.now) refl c.args.inference.now c.constrain_bound.new.inference c.enter_bound.new.inference c.in-Ok-enter_bound.ensures.ok c.requires.safe c.in-Ok.ensures.ok; err = tt }
-
-pub constrain_value-returns-in-Err-enter_bound : goal.constrain_value-returns-in-Err-enter_bound
-constrain_value-returns-in-Err-enter_bound t c = record { next = tt; ok = tt; err = tt }
+pub constrain_value-returns : goal.constrain_value-returns
+constrain_value-returns t c = record { next = rw c.and.ensures (end_next _ c.enter_bound.result c.in-Ok.next (c.in-Ok.ensures.next)); ok = rw c.and.ensures (end_ok c.enter_bound.result c.in-Ok.next (λ r. value_ok c.args.setting.places c.args.setting.base c.args.setting.depth c.args.lo (1 + c.args.lo + pattern_numbers (pattern_of c.args.pat.now)) c.args.sizes.now (pattern_of c.args.pat.now) (term_of c.args.value.now) refl c.args.inference.now c.constrain_bound.new.inference c.enter_bound.new.inference r c.requires.safe c.in-Ok.ensures.ok) c.enter_bound.ensures.ok); err = rw c.and.ensures (end_err c.enter_bound.result c.in-Ok.next (λ z. absurd z) c.enter_bound.ensures.err) }
 
 pub constrain-constrain_loop-requires : goal.constrain-constrain_loop-requires
 constrain-constrain_loop-requires t c = let e = ap (λ (x : FlatTerm). numbers x) (term_loop c.args.exp.now c.in-Loop.whole c.in-Loop.is) in (omega (arith, e), (c.requires.safe, subst (λ (x : FlatTerm). c.args.lo + numbers x ≤ c.args.setting.base) (term_loop c.args.exp.now c.in-Loop.whole c.in-Loop.is) c.requires.room))
@@ -257,8 +254,8 @@ constrain_counted-enter_bound-requires t c = record { safe = (c.in-Ok-constrain_
 pub constrain_counted-returns-in-Err-enter_bound : goal.constrain_counted-returns-in-Err-enter_bound
 constrain_counted-returns-in-Err-enter_bound t c = record { next = tt; ok = tt; err = tt }
 
-pub constrain_counted-returns-in-Ok-enter : goal.constrain_counted-returns-in-Ok-enter
-constrain_counted-returns-in-Ok-enter t c = record { next = omega (arith, c.in-Ok.ensures.next, c.in-Ok-constrain_ruled.ensures.next); ok = counted_ruled c.args.setting.places c.args.setting.base c.args.setting.depth c.args.lo c.in-Ok.next c.args.whole.now.sizes.now (pattern_of c.args.whole.now.pat) (term_of c.args.whole.now.first) (term_of c.args.bound.now) c.args.name c.in-Ok.ensures.next c.args.inference.now c.constrain_bound.new.inference c.constrain_ruled.new.inference c.requires.safe c.in-Ok.ensures.ok c.counted-rule.result c.counted-rule.ensures.says c.counted-rule.ensures.allowed c.in-Ok-constrain_ruled.ensures.ok c.enter_bound.new.inference c.enter.new.inference c.in-Ok-enter_bound.ensures.ok c.in-Ok-enter_bound.ensures.safe (omega (arith, c.requires.room, c.in-Ok.ensures.next)) c.in-Ok-enter.ensures.within c.in-Ok-enter.ensures.fresh c.in-Ok-enter.ensures.ok; err = tt }
+pub constrain_counted-returns : goal.constrain_counted-returns
+constrain_counted-returns t c = record { next = rw c.and.ensures (end_next _ c.enter.result c.in-Ok-constrain_ruled.next (omega (arith, c.in-Ok.ensures.next, c.in-Ok-constrain_ruled.ensures.next))); ok = rw c.and.ensures (end_three c.enter.result c.in-Ok-constrain_ruled.next (counted_ruled c.args.setting.places c.args.setting.base c.args.setting.depth c.args.lo c.in-Ok.next c.args.whole.now.sizes.now (pattern_of c.args.whole.now.pat) (term_of c.args.whole.now.first) (term_of c.args.bound.now) c.args.name c.in-Ok.ensures.next c.args.inference.now c.constrain_bound.new.inference c.constrain_ruled.new.inference c.requires.safe c.in-Ok.ensures.ok c.counted-rule.result c.counted-rule.ensures.says c.counted-rule.ensures.allowed c.in-Ok-constrain_ruled.ensures.ok c.enter_bound.new.inference c.enter.new.inference c.in-Ok-enter_bound.ensures.ok c.in-Ok-enter_bound.ensures.safe (omega (arith, c.requires.room, c.in-Ok.ensures.next))) c.enter.ensures.within c.enter.ensures.fresh c.enter.ensures.ok); err = rw c.and.ensures (end_err c.enter.result c.in-Ok-constrain_ruled.next (λ z. absurd z) c.enter.ensures.err) }
 
 pub constrain_head-constrain_over-requires : goal.constrain_head-constrain_over-requires
 constrain_head-constrain_over-requires t c = let e = ap (λ (x : FlatTurns). turn_numbers x) (ap turns_of c.in-ForIn.is ∙ turns_over c.in-ForIn.part c.in-ForIn.array) in (omega (arith, e), (c.requires.safe, omega (arith, e, c.requires.room)))
@@ -296,11 +293,8 @@ constrain_over-returns-in-Err-enter_bound t c = record { next = tt; ok = tt; err
 pub constrain_over-enter_pattern-requires-clause-room : goal.constrain_over-enter_pattern-requires-clause-room
 constrain_over-enter_pattern-requires-clause-room t c = omega (arith, c.requires.room, c.in-Ok.ensures.next)
 
-pub constrain_over-returns-in-Ok-enter_pattern : goal.constrain_over-returns-in-Ok-enter_pattern
-constrain_over-returns-in-Ok-enter_pattern t c = record { next = omega (arith, c.in-Ok.ensures.next, c.in-Ok-constrain_pattern.ensures.next, c.in-Ok-constrain_ruled.ensures.next); ok = over_ruled c.args.setting.places c.args.setting.base c.args.setting.depth c.args.lo c.in-Ok.next c.in-Ok-constrain_pattern.next c.args.whole.now.sizes.now (pattern_of c.args.whole.now.pat) (term_of c.args.whole.now.first) (pattern_of c.args.part.now) (term_of c.args.array.now) c.in-Ok.ensures.next c.in-Ok-constrain_pattern.ensures.next c.args.inference.now c.take_back.new.inference c.constrain_ruled.new.inference c.requires.safe (two_claimed c.args.setting.places c.args.setting.base c.args.setting.depth c.args.lo c.in-Ok.next c.in-Ok-constrain_pattern.next c.args.whole.now.sizes.now (pattern_of c.args.whole.now.pat) (term_of c.args.whole.now.first) (pattern_of c.args.part.now) (term_of c.args.array.now) c.in-Ok.ensures.next c.in-Ok-constrain_pattern.ensures.next c.args.inference.now c.constrain_value.new.inference c.in-Ok.ensures.ok c.constrain_pattern.new.inference c.take_back.new.inference c.requires.safe c.in-Ok-constrain_pattern.ensures.ok (λ before added e l. c.take_back.ensures before added e (l ∙ sym c.mark_of-mark.ensures))) c.gone_over-rule.result c.gone_over-rule.ensures.says c.gone_over-rule.ensures.allowed c.in-Ok-constrain_ruled.ensures.ok c.enter_bound.new.inference c.enter_pattern.new.inference c.in-Ok-enter_bound.ensures.ok c.in-Ok-enter_pattern.ensures.ok; err = tt }
-
-pub constrain_over-returns-in-Err-enter_pattern : goal.constrain_over-returns-in-Err-enter_pattern
-constrain_over-returns-in-Err-enter_pattern t c = record { next = tt; ok = tt; err = tt }
+pub constrain_over-returns : goal.constrain_over-returns
+constrain_over-returns t c = record { next = rw c.and.ensures (end_next _ c.enter_pattern.result c.in-Ok-constrain_ruled.next (omega (arith, c.in-Ok.ensures.next, c.in-Ok-constrain_pattern.ensures.next, c.in-Ok-constrain_ruled.ensures.next))); ok = rw c.and.ensures (end_ok c.enter_pattern.result c.in-Ok-constrain_ruled.next (λ r. over_ruled c.args.setting.places c.args.setting.base c.args.setting.depth c.args.lo c.in-Ok.next c.in-Ok-constrain_pattern.next c.args.whole.now.sizes.now (pattern_of c.args.whole.now.pat) (term_of c.args.whole.now.first) (pattern_of c.args.part.now) (term_of c.args.array.now) c.in-Ok.ensures.next c.in-Ok-constrain_pattern.ensures.next c.args.inference.now c.take_back.new.inference c.constrain_ruled.new.inference c.requires.safe (two_claimed c.args.setting.places c.args.setting.base c.args.setting.depth c.args.lo c.in-Ok.next c.in-Ok-constrain_pattern.next c.args.whole.now.sizes.now (pattern_of c.args.whole.now.pat) (term_of c.args.whole.now.first) (pattern_of c.args.part.now) (term_of c.args.array.now) c.in-Ok.ensures.next c.in-Ok-constrain_pattern.ensures.next c.args.inference.now c.constrain_value.new.inference c.in-Ok.ensures.ok c.constrain_pattern.new.inference c.take_back.new.inference c.requires.safe c.in-Ok-constrain_pattern.ensures.ok (λ before added e l. c.take_back.ensures before added e (l ∙ sym c.mark_of-mark.ensures))) c.gone_over-rule.result c.gone_over-rule.ensures.says c.gone_over-rule.ensures.allowed c.in-Ok-constrain_ruled.ensures.ok c.enter_bound.new.inference c.enter_pattern.new.inference c.in-Ok-enter_bound.ensures.ok r) c.enter_pattern.ensures.ok); err = rw c.and.ensures (end_err c.enter_pattern.result c.in-Ok-constrain_ruled.next (λ z. absurd z) c.enter_pattern.ensures.err) }
 
 pub constrain_definition-generalise-requires : goal.constrain_definition-generalise-requires
 constrain_definition-generalise-requires t c = record {
@@ -341,9 +335,6 @@ constrain_lets-returns-then-lets-eq0 t c = record { next = tt; ok = tt; err = tt
 
 pub constrain_bound-returns-in-Err : goal.constrain_bound-returns-in-Err
 constrain_bound-returns-in-Err t c = record { next = tt; ok = tt; err = tt }
-
-pub constrain_counted-returns-in-Err-enter : goal.constrain_counted-returns-in-Err-enter
-constrain_counted-returns-in-Err-enter t c = record { next = tt; ok = tt; err = tt }
 
 pub constrain_definition-returns-then-depth-ge4294967294 : goal.constrain_definition-returns-then-depth-ge4294967294
 constrain_definition-returns-then-depth-ge4294967294 t c = record { next = tt; ok = tt; err = tt }

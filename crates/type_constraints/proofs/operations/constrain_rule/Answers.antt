@@ -26,12 +26,6 @@ returns-in-Record-clause-ok c = rw c.in-Record.is (on_ok c.constrain_fields.resu
 pub returns-in-Record-clause-err : goal.returns-in-Record-clause-err
 returns-in-Record-clause-err c = rw c.in-Record.is (if_err c.constrain_fields.result (λ f from lt. rule_err c.args.setting.places c.args.setting.base c.args.lo (Record_of (texts c.in-Record.names.now)) c.args.parts.now (λ N E K a l. tt) c.args.inference.now c.constrain_fields.new.inference c.args.setting.depth from (f c.args.setting.places c.args.setting.depth from)) c.constrain_fields.ensures.err)
 
-pub constrain_project-requires-clause-few : goal.constrain_project-requires-clause-few
-constrain_project-requires-clause-few c = (has_parts c.args.act.now (act.Project c.in-Project.name) (length c.args.parts.now) c.in-Project.is (c.works_on.ensures.0 c.if-not-works_on.false))
-
-pub constrain_replace-requires-clause-few : goal.constrain_replace-requires-clause-few
-constrain_replace-requires-clause-few c = (has_parts c.args.act.now (act.Replace c.in-Replace.name) (length c.args.parts.now) c.in-Replace.is (c.works_on.ensures.0 c.if-not-works_on.false))
-
 pub returns-in-Project-clause-ok : goal.returns-in-Project-clause-ok
 returns-in-Project-clause-ok c = rw c.in-Project.is (on_ok c.constrain_project.result (λ f from lt. f c.args.setting.places c.args.setting.depth from) c.constrain_project.ensures.ok)
 
@@ -53,20 +47,17 @@ returns-in-Ascribe-clause-err c = rw c.in-Ascribe.is (if_err c.constrain_ascript
 pub bounds-parts-0 : goal.bounds-parts-0
 bounds-parts-0 c = let few : length c.args.parts.now ≡ 1 = has_parts c.args.act.now (act.Ascribe c.in-Ascribe.ty) (length c.args.parts.now) c.in-Ascribe.is (c.works_on.ensures.0 c.if-not-works_on.false) in omega (arith, few)
 
-pub constrain_ascription-requires-clause-number : goal.constrain_ascription-requires-clause-number
-constrain_ascription-requires-clause-number c = omega (arith, c.requires.room, own_some (operation_of c.args.act.now))
+pub constrain_ascription-requires : goal.constrain_ascription-requires
+constrain_ascription-requires c = record { safe = c.requires.safe; number = (omega (arith, c.requires.room, own_some (operation_of c.args.act.now))); part = (let few : length c.args.parts.now ≡ 1 = has_parts c.args.act.now (act.Ascribe c.in-Ascribe.ty) (length c.args.parts.now) c.in-Ascribe.is (c.works_on.ensures.0 c.if-not-works_on.false) in part_below c.args.setting.base c.args.parts.now 0 _ c.requires.parts (omega (arith, few))) }
 
-pub constrain_fields-requires-clause-number : goal.constrain_fields-requires-clause-number
-constrain_fields-requires-clause-number c = omega (arith, c.requires.room, own_some (operation_of c.args.act.now))
+pub constrain_fields-requires : goal.constrain_fields-requires
+constrain_fields-requires c = record { safe = c.requires.safe; number = (omega (arith, c.requires.room, own_some (operation_of c.args.act.now))); parts = c.requires.parts }
 
-pub constrain_ascription-requires-clause-part : goal.constrain_ascription-requires-clause-part
-constrain_ascription-requires-clause-part c = let few : length c.args.parts.now ≡ 1 = has_parts c.args.act.now (act.Ascribe c.in-Ascribe.ty) (length c.args.parts.now) c.in-Ascribe.is (c.works_on.ensures.0 c.if-not-works_on.false) in part_below c.args.setting.base c.args.parts.now 0 _ c.requires.parts (omega (arith, few))
+pub constrain_project-requires : goal.constrain_project-requires
+constrain_project-requires c = record { safe = c.requires.safe; room = (let two : own_numbers (operation_of c.args.act.now) ≡ 2 = ap (λ x. own_numbers (operation_of x)) c.in-Project.is in omega (arith, c.requires.room, two)); parts = c.requires.parts; few = ((has_parts c.args.act.now (act.Project c.in-Project.name) (length c.args.parts.now) c.in-Project.is (c.works_on.ensures.0 c.if-not-works_on.false))) }
 
-pub constrain_project-requires-clause-room : goal.constrain_project-requires-clause-room
-constrain_project-requires-clause-room c = let two : own_numbers (operation_of c.args.act.now) ≡ 2 = ap (λ x. own_numbers (operation_of x)) c.in-Project.is in omega (arith, c.requires.room, two)
-
-pub constrain_replace-requires-clause-room : goal.constrain_replace-requires-clause-room
-constrain_replace-requires-clause-room c = omega (arith, c.requires.room, own_some (operation_of c.args.act.now))
+pub constrain_replace-requires : goal.constrain_replace-requires
+constrain_replace-requires c = record { safe = c.requires.safe; room = (omega (arith, c.requires.room, own_some (operation_of c.args.act.now))); parts = c.requires.parts; few = ((has_parts c.args.act.now (act.Replace c.in-Replace.name) (length c.args.parts.now) c.in-Replace.is (c.works_on.ensures.0 c.if-not-works_on.false))) }
 
 pub returns-in_default-clause-ok : goal.returns-in_default-clause-ok
 returns-in_default-clause-ok c = on_ok c.demand.result (λ f from lt. plain_ok c.args.setting.places c.args.setting.base c.args.lo (operation_of c.args.act.now) c.args.parts.now (rest_plain c.args.act.now c.in_default.not-Tuple c.in_default.not-Array c.in_default.not-Index c.in_default.not-Update c.in_default.not-Record c.in_default.not-Project c.in_default.not-Replace c.in_default.not-Ascribe c.in_default.not-Coerce c.in_default.not-Declared) c.as_slice.result.now (subst (λ ds. Demanded (operation_of c.args.act.now) c.args.lo c.args.parts.now ds) (sym c.as_slice.ensures) c.plain_rule-rule.ensures) c.args.inference.now c.demand.new.inference f c.args.setting.depth from) c.demand.ensures.ok
@@ -98,14 +89,11 @@ bounds-parts-0-in-Coerce c = let few : length c.args.parts.now ≡ 1 = has_parts
 pub bounds-parts-0-in-Declared : goal.bounds-parts-0-in-Declared
 bounds-parts-0-in-Declared c = let few : length c.args.parts.now ≡ 1 = has_parts c.args.act.now (act.Declared c.in-Declared.ty) (length c.args.parts.now) c.in-Declared.is (c.works_on.ensures.0 c.if-not-works_on.false) in omega (arith, few)
 
-pub constrain_ascription-requires-in-Coerce-clause-number : goal.constrain_ascription-requires-in-Coerce-clause-number
-constrain_ascription-requires-in-Coerce-clause-number c = omega (arith, c.requires.room, own_some (operation_of c.args.act.now))
+pub constrain_ascription-requires-in-Coerce : goal.constrain_ascription-requires-in-Coerce
+constrain_ascription-requires-in-Coerce c = record { safe = c.requires.safe; number = (omega (arith, c.requires.room, own_some (operation_of c.args.act.now))); part = (let few : length c.args.parts.now ≡ 1 = has_parts c.args.act.now (act.Coerce c.in-Coerce.ty) (length c.args.parts.now) c.in-Coerce.is (c.works_on.ensures.0 c.if-not-works_on.false) in part_below c.args.setting.base c.args.parts.now 0 _ c.requires.parts (omega (arith, few))) }
 
-pub constrain_ascription-requires-in-Declared-clause-number : goal.constrain_ascription-requires-in-Declared-clause-number
-constrain_ascription-requires-in-Declared-clause-number c = omega (arith, c.requires.room, own_some (operation_of c.args.act.now))
+pub constrain_ascription-requires-in-Declared : goal.constrain_ascription-requires-in-Declared
+constrain_ascription-requires-in-Declared c = record { safe = c.requires.safe; number = (omega (arith, c.requires.room, own_some (operation_of c.args.act.now))); part = (let few : length c.args.parts.now ≡ 1 = has_parts c.args.act.now (act.Declared c.in-Declared.ty) (length c.args.parts.now) c.in-Declared.is (c.works_on.ensures.0 c.if-not-works_on.false) in part_below c.args.setting.base c.args.parts.now 0 _ c.requires.parts (omega (arith, few))) }
 
-pub constrain_ascription-requires-in-Coerce-clause-part : goal.constrain_ascription-requires-in-Coerce-clause-part
-constrain_ascription-requires-in-Coerce-clause-part c = let few : length c.args.parts.now ≡ 1 = has_parts c.args.act.now (act.Coerce c.in-Coerce.ty) (length c.args.parts.now) c.in-Coerce.is (c.works_on.ensures.0 c.if-not-works_on.false) in part_below c.args.setting.base c.args.parts.now 0 _ c.requires.parts (omega (arith, few))
-
-pub constrain_ascription-requires-in-Declared-clause-part : goal.constrain_ascription-requires-in-Declared-clause-part
-constrain_ascription-requires-in-Declared-clause-part c = let few : length c.args.parts.now ≡ 1 = has_parts c.args.act.now (act.Declared c.in-Declared.ty) (length c.args.parts.now) c.in-Declared.is (c.works_on.ensures.0 c.if-not-works_on.false) in part_below c.args.setting.base c.args.parts.now 0 _ c.requires.parts (omega (arith, few))
+pub constrain_any-requires : goal.constrain_any-requires
+constrain_any-requires c = record { safe = c.requires.safe; room = c.requires.room; parts = c.requires.parts }
