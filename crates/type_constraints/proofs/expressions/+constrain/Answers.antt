@@ -74,8 +74,8 @@ constrain-returns-in-Lambda t c = record { next = rw (term_lambda c.args.exp.now
 pub constrain_ruled-returns-in-Err : goal.constrain_ruled-returns-in-Err
 constrain_ruled-returns-in-Err t c = record { next = tt; ok = tt; err = tells c.in-Err.error (λ u. inl u) c.in-Err.ensures.err }
 
-pub constrain_ruled-demand-requires-clause-within : goal.constrain_ruled-demand-requires-clause-within
-constrain_ruled-demand-requires-clause-within t c = c.requires.within _
+pub constrain_ruled-demand-requires : goal.constrain_ruled-demand-requires
+constrain_ruled-demand-requires t c = record { safe = c.in-Ok.ensures.ok.later.safe; within = (c.requires.within _) }
 
 pub constrain_ruled-returns : goal.constrain_ruled-returns
 constrain_ruled-returns t c = record { next = rw c.and.ensures (end_next _ c.demand.result c.in-Ok.next (c.in-Ok.ensures.next)); ok = rw c.and.ensures (end_ok c.demand.result c.in-Ok.next (λ r. (c.constrain.new.inference, (c.in-Ok.ensures.ok, r))) c.demand.ensures.ok); err = rw c.and.ensures (end_err c.demand.result c.in-Ok.next (λ r. inr (c.constrain.new.inference, (c.in-Ok.ensures.ok, r))) c.demand.ensures.err) }
@@ -119,8 +119,8 @@ constrain_parts-loop-part-preserved t c = subst (λ (l : List Exp). Gone_over c.
 pub constrain_strict-returns-in-Err : goal.constrain_strict-returns-in-Err
 constrain_strict-returns-in-Err t c = record { next = tt; ok = tt; err = tells c.in-Err.error (refused_strict c.args.setting.places c.args.setting.base c.args.setting.depth c.args.lo (c.args.lo + c.own_numbers_of.result) (operation_of c.args.act.now) c.args.mark (terms (map term_of c.args.parts.now)) c.args.inference.now c.constrain_parts.new.inference c.requires.safe (ap (λ n. c.args.lo + n) c.own_numbers_of.ensures)) c.in-Err.ensures.err }
 
-pub constrain_strict-constrain_rule-requires-clause-parts : goal.constrain_strict-constrain_rule-requires-clause-parts
-constrain_strict-constrain_rule-requires-clause-parts t c = subst (λ l. Each (λ n. n < c.args.setting.base) l) (sym (c.as_slice.ensures ∙ c.in-Ok.ensures.begins ∙ ap (λ l. l ++ starts (terms (map term_of c.args.parts.now)) (c.args.lo + c.own_numbers_of.result)) c.new-begins.ensures)) (starts_below c.args.setting.base (terms (map term_of c.args.parts.now)) (c.args.lo + c.own_numbers_of.result) (omega (arith, c.requires.room, c.own_numbers_of.ensures)))
+pub constrain_strict-constrain_rule-requires : goal.constrain_strict-constrain_rule-requires
+constrain_strict-constrain_rule-requires t c = record { safe = c.in-Ok.ensures.ok.later.safe; room = omega (arith, c.requires.room); parts = (subst (λ l. Each (λ n. n < c.args.setting.base) l) (sym (c.as_slice.ensures ∙ c.in-Ok.ensures.begins ∙ ap (λ l. l ++ starts (terms (map term_of c.args.parts.now)) (c.args.lo + c.own_numbers_of.result)) c.new-begins.ensures)) (starts_below c.args.setting.base (terms (map term_of c.args.parts.now)) (c.args.lo + c.own_numbers_of.result) (omega (arith, c.requires.room, c.own_numbers_of.ensures)))) }
 
 pub constrain_strict-returns : goal.constrain_strict-returns
 constrain_strict-returns t c = record { next = rw c.and.ensures (end_next _ c.constrain_rule.result c.in-Ok.next (omega (arith, c.in-Ok.ensures.next, c.own_numbers_of.ensures))); ok = rw c.and.ensures (end_ok c.constrain_rule.result c.in-Ok.next (λ r. strict_ok c.args.setting.places c.args.setting.base c.args.setting.depth c.args.lo (c.args.lo + c.own_numbers_of.result) (operation_of c.args.act.now) c.args.mark (terms (map term_of c.args.parts.now)) c.args.inference.now c.constrain_parts.new.inference c.constrain_rule.new.inference c.requires.safe (ap (λ n. c.args.lo + n) c.own_numbers_of.ensures) c.as_slice.result.now (c.as_slice.ensures ∙ c.in-Ok.ensures.begins ∙ ap (λ l. l ++ starts (terms (map term_of c.args.parts.now)) (c.args.lo + c.own_numbers_of.result)) c.new-begins.ensures) c.in-Ok.ensures.ok (r (c.args.lo + c.own_numbers_of.result + all_numbers (terms (map term_of c.args.parts.now))) (omega (arith, own_some (operation_of c.args.act.now), c.own_numbers_of.ensures)))) c.constrain_rule.ensures.ok); err = rw c.and.ensures (end_err c.constrain_rule.result c.in-Ok.next (λ r. strict_err2 c.args.setting.places c.args.setting.base c.args.setting.depth c.args.lo (c.args.lo + c.own_numbers_of.result) (operation_of c.args.act.now) c.args.mark (terms (map term_of c.args.parts.now)) c.args.inference.now c.constrain_parts.new.inference c.constrain_rule.new.inference c.requires.safe (ap (λ n. c.args.lo + n) c.own_numbers_of.ensures) c.as_slice.result.now (c.as_slice.ensures ∙ c.in-Ok.ensures.begins ∙ ap (λ l. l ++ starts (terms (map term_of c.args.parts.now)) (c.args.lo + c.own_numbers_of.result)) c.new-begins.ensures) c.in-Ok.ensures.ok (r (c.args.lo + c.own_numbers_of.result + all_numbers (terms (map term_of c.args.parts.now))) (omega (arith, own_some (operation_of c.args.act.now), c.own_numbers_of.ensures)))) c.constrain_rule.ensures.err) }
@@ -290,8 +290,8 @@ constrain_over-enter_bound-requires t c = record { safe = (c.in-Ok-constrain_rul
 pub constrain_over-returns-in-Err-enter_bound : goal.constrain_over-returns-in-Err-enter_bound
 constrain_over-returns-in-Err-enter_bound t c = record { next = tt; ok = tt; err = tt }
 
-pub constrain_over-enter_pattern-requires-clause-room : goal.constrain_over-enter_pattern-requires-clause-room
-constrain_over-enter_pattern-requires-clause-room t c = omega (arith, c.requires.room, c.in-Ok.ensures.next)
+pub constrain_over-enter_pattern-requires : goal.constrain_over-enter_pattern-requires
+constrain_over-enter_pattern-requires t c = record { safe = c.in-Ok-enter_bound.ensures.safe; room = (omega (arith, c.requires.room, c.in-Ok.ensures.next)) }
 
 pub constrain_over-returns : goal.constrain_over-returns
 constrain_over-returns t c = record { next = rw c.and.ensures (end_next _ c.enter_pattern.result c.in-Ok-constrain_ruled.next (omega (arith, c.in-Ok.ensures.next, c.in-Ok-constrain_pattern.ensures.next, c.in-Ok-constrain_ruled.ensures.next))); ok = rw c.and.ensures (end_ok c.enter_pattern.result c.in-Ok-constrain_ruled.next (λ r. over_ruled c.args.setting.places c.args.setting.base c.args.setting.depth c.args.lo c.in-Ok.next c.in-Ok-constrain_pattern.next c.args.whole.now.sizes.now (pattern_of c.args.whole.now.pat) (term_of c.args.whole.now.first) (pattern_of c.args.part.now) (term_of c.args.array.now) c.in-Ok.ensures.next c.in-Ok-constrain_pattern.ensures.next c.args.inference.now c.take_back.new.inference c.constrain_ruled.new.inference c.requires.safe (two_claimed c.args.setting.places c.args.setting.base c.args.setting.depth c.args.lo c.in-Ok.next c.in-Ok-constrain_pattern.next c.args.whole.now.sizes.now (pattern_of c.args.whole.now.pat) (term_of c.args.whole.now.first) (pattern_of c.args.part.now) (term_of c.args.array.now) c.in-Ok.ensures.next c.in-Ok-constrain_pattern.ensures.next c.args.inference.now c.constrain_value.new.inference c.in-Ok.ensures.ok c.constrain_pattern.new.inference c.take_back.new.inference c.requires.safe c.in-Ok-constrain_pattern.ensures.ok (λ before added e l. c.take_back.ensures before added e (l ∙ sym c.mark_of-mark.ensures))) c.gone_over-rule.result c.gone_over-rule.ensures.says c.gone_over-rule.ensures.allowed c.in-Ok-constrain_ruled.ensures.ok c.enter_bound.new.inference c.enter_pattern.new.inference c.in-Ok-enter_bound.ensures.ok r) c.enter_pattern.ensures.ok); err = rw c.and.ensures (end_err c.enter_pattern.result c.in-Ok-constrain_ruled.next (λ z. absurd z) c.enter_pattern.ensures.err) }
@@ -324,8 +324,8 @@ constrain_parts-returns-in-Err t c = record { next = tt; begins = tt; ok = tt; e
 pub constrain_rows-returns-in-Err : goal.constrain_rows-returns-in-Err
 constrain_rows-returns-in-Err t c = record { next = tt; ok = tt; err = let w = row_split c.args.lets.now c.loop-one.one-index _ c.loop-one-test.true in tells c.in-Err.error (lets_refused c.args.setting.places c.args.setting.base c.args.setting.depth c.args.lo c.loop-one.at (map row_of (take c.loop-one.one-index c.args.lets.now)) _ c.args.inference.now c.loop-one.inference c.constrain_row.new.inference c.loop-one.invariant (map row_of c.args.lets.now) w.0 w.1) c.in-Err.ensures.err }
 
-pub constrain_rows-demand-requires-clause-within : goal.constrain_rows-demand-requires-clause-within
-constrain_rows-demand-requires-clause-within t c = row_same c.args.lets.now c.loop-one.one-index c.args.lo c.loop-one.at c.args.setting.base _ c.loop-one-test.true c.loop-one.invariant.next c.requires.room
+pub constrain_rows-demand-requires : goal.constrain_rows-demand-requires
+constrain_rows-demand-requires t c = record { safe = c.in-Ok.ensures.ok.later.safe; within = (row_same c.args.lets.now c.loop-one.one-index c.args.lo c.loop-one.at c.args.setting.base _ c.loop-one-test.true c.loop-one.invariant.next c.requires.room) }
 
 pub constrain_rows-returns-in-Err-demand : goal.constrain_rows-returns-in-Err-demand
 constrain_rows-returns-in-Err-demand t c = record { next = tt; ok = tt; err = let w = row_split c.args.lets.now c.loop-one.one-index _ c.loop-one-test.true in tells c.in-Err-demand.error (lets_asked c.args.setting.places c.args.setting.base c.args.setting.depth c.args.lo c.loop-one.at (map row_of (take c.loop-one.one-index c.args.lets.now)) _ c.args.inference.now c.loop-one.inference c.constrain_row.new.inference c.loop-one.invariant c.demand.new.inference c.in-Ok.ensures.ok (map row_of c.args.lets.now) w.0 w.1) c.in-Err-demand.ensures.err }
@@ -381,3 +381,15 @@ constrain_definition-returns-in-Err-constrain_ruled t c = record { next = tt; ok
 
 pub constrain_value-returns-in-Err : goal.constrain_value-returns-in-Err
 constrain_value-returns-in-Err t c = record { next = tt; ok = tt; err = c.in-Err.ensures.err }
+
+pub constrain_value-enter_bound-requires : goal.constrain_value-enter_bound-requires
+constrain_value-enter_bound-requires t c = record { safe = c.in-Ok.ensures.ok.later.safe; room = omega (arith, c.requires.room) }
+
+pub constrain_lambda-constrain_parameters-requires : goal.constrain_lambda-constrain_parameters-requires
+constrain_lambda-constrain_parameters-requires t c = record { safe = c.requires.safe; room = omega (arith, c.requires.room) }
+
+pub constrain_bound-constrain_pattern-requires : goal.constrain_bound-constrain_pattern-requires
+constrain_bound-constrain_pattern-requires t c = record { safe = c.in-Ok.ensures.safe; room = omega (arith, c.requires.room) }
+
+pub constrain_ruled-constrain-requires : goal.constrain_ruled-constrain-requires
+constrain_ruled-constrain-requires t c = (omega arith, (c.requires.safe, c.requires.room))
