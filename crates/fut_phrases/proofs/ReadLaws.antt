@@ -1,5 +1,6 @@
 -- What a reader answers where one of its parts fails or where its node was made, and rows whose phrases stand between two symbols.
-use Rattle.std.proofs.Common.{◌≡◌, ◌≤◌, ◌<◌, nat_lt, ℕ, suc, true, false, Bool, List, ◌∷◌, [], length, Result, Ok, Err, refl, sym, ap, arith, rules}
+use Rattle.std.proofs.Common.{◌≡◌, ◌≤◌, ◌<◌, nat_lt, ℕ, suc, true, false, Bool, List, ◌∷◌, [], length, Result, Ok, Err, refl, sym, ap, subst, arith, rules}
+use Rattle.std.specs.Prelude.{if◌then◌else◌}
 use Rattle.std.specs.Result.{IfOk}
 use Rattle.fut_token.specs.declared.token.Fixed.{Fixed}
 use Rattle.fut_token.specs.declared.token.Token.{Token}
@@ -12,6 +13,7 @@ use Rattle.fut_grammar.specs.declared.fault.Stop.TheVariants as stop
 use Rattle.fut_grammar.specs.Reading.{◌>>=◌, Fails, Gives, Read, commas_at, word_at, parts_at, has_at, expect}
 use Rattle.fut_phrases.specs.declared.found.Found.{Found}
 use Rattle.fut_phrases.specs.Found.{found_as}
+use Rattle.fut_phrases.specs.Made.{node_of}
 use Rattle.fut_phrases.specs.Signs.{enclosed_at, word_before}
 
 -- one reading fails as another does, where its faults are that one's
@@ -36,6 +38,17 @@ pub low_as : {X : Type 0} (r : Result (Found X) Stop) {h k : ℕ} → IfOk r (λ
 low_as (Ok x) same le = rw same le
 low_as (Err e) same le = tt
 
+pub under : {X : Type 0} (r : Result (Found X) Stop) {k m : ℕ} → IfOk r (λ x. x.height ≤ k) → k < m → IfOk r (λ x. x.height < m)
+under (Ok x) le lt = omega (arith, le, lt)
+under (Err e) le lt = tt
+
+-- of what was handed over
+pub when_ok : {X Y : Type 0} (view : X → Y) (m : Result Y Fault) {r : Result X Stop} {x : X} → r ≡ Ok x → Gives view r m → m ≡ Ok (view x)
+when_ok view m same given = subst (λ r. Gives view r m) same given
+
+pub when_err : {X Y : Type 0} (view : X → Y) (m : Result Y Fault) {r : Result X Stop} {e : Stop} → r ≡ Err e → Gives view r m → Fails e m
+when_err view m same given = subst (λ r. Gives view r m) same given
+
 -- what nothing goes on with
 pub same_read : {A : Type 0} (r : Result A Fault) → (r >>= λ y. Ok y) ≡ r
 same_read (Ok y) = refl
@@ -49,7 +62,7 @@ pub above : {h d : ℕ} → d < h → nat_lt h (suc d) ≡ false
 above {h} {d} lt = let le : suc d ≤ h = omega (arith, lt) in search (arith, rules, le)
 
 -- by the outcome of a test, and of reading
-by_test : {C : Type 0} (b : Bool) → (b ≡ true → C) → (b ≡ false → C) → C
+pub by_test : {C : Type 0} (b : Bool) → (b ≡ true → C) → (b ≡ false → C) → C
 by_test true holds fails = holds refl
 by_test false holds fails = fails refl
 
@@ -57,19 +70,24 @@ by_read : {A C : Type 0} (r : Result A Fault) → ((y : A) → r ≡ Ok y → C)
 by_read (Ok y) reads fails = reads y refl
 by_read (Err f) reads fails = fails f refl
 
--- a row of phrases with commas between, and two symbols around them
+-- a row of two symbols, or of phrases with commas between and the two symbols around them
 module _ (sub : (n : Sort) → List Token → Read (Tree n)) (n m : Sort) (opening closing : Fixed) (made : List (Tree m) → Tree n) (ts : List Token) where
+  abbrev pub none_row : Read (Tree n)
+  none_row = parts_at sub true n (Sign opening ∷ Sign closing ∷ []) (λ sign end. made []) 0 ts
+
   abbrev pub enclosed_row : Read (Tree n)
   enclosed_row = parts_at sub true n (Sign opening ∷ Commas m ∷ Sign closing ∷ []) (λ sign xs end. made xs) 0 ts
 
-  pub enclosed_as : enclosed_row ≡ (enclosed_at sub opening closing m ts >>= λ y. Ok (made y.0, suc y.1, y.2))
+  pub enclosed_as : (if starts closing (tail ts) then none_row else enclosed_row) ≡ node_of made (enclosed_at sub opening closing m ts)
   unfolding parts_at has_at expect
   enclosed_as =
       by_test (starts opening ts)
-      (λ begun. by_read (commas_at sub (length (tail ts)) m 0 (tail ts))
-      (λ y read. by_test (starts closing y.2) (λ ended. rw (begun, read, ended) refl) (λ ended. rw (begun, read, ended) refl))
-      (λ f read. rw (begun, read) refl))
-      (λ begun. rw begun refl)
+      (λ begun. by_test (starts closing (tail ts))
+      (λ none. rw (begun, none) refl)
+      (λ some. by_read (commas_at sub (length (tail ts)) m 0 (tail ts))
+      (λ y read. by_test (starts closing y.2) (λ ended. rw (begun, some, read, ended) refl) (λ ended. rw (begun, some, read, ended) refl))
+      (λ f read. rw (begun, some, read) refl)))
+      (λ begun. by_test (starts closing (tail ts)) (λ none. rw (begun, none) refl) (λ some. rw (begun, some) refl))
 
 -- a name between two symbols, in what is no node
 module _ (sub : (n : Sort) → List Token → Read (Tree n)) (n : Sort) (opening closing : Fixed) (made : Text → Tree n) (ts : List Token) where

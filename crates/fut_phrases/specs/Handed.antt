@@ -25,6 +25,12 @@ Reads n d ts r = Gives tree_found r (read_at d n ts) × IfOk r (λ x. x.height �
 abbrev pub Law : (n : Sort) → (Bor (List Token) → Answer n → Type 0) → ℕ → Type 0
 Law n post d = (ts : Bor (List Token)) (r : Answer n) → post ts r → Reads n d ts.now r
 
+-- the sort of a phrase
+abbrev pub sort_of : TypeSort → Sort
+sort_of sort.Whole = Whole_type
+sort_of sort.Applied = Applied_type
+sort_of sort.Atomic = Atomic_type
+
 -- types of three sorts are read by one function
 abbrev pub ReadsType : TypeSort → ℕ → List Token → Answer Whole_type → Type 0
 ReadsType sort.Whole d ts r = Reads Whole_type d ts r

@@ -1,3 +1,4 @@
 pub mod Found
 pub mod Handed
+pub mod Made
 pub mod Signs

@@ -1,10 +1,13 @@
 // What was read.
 ghost use Rattle.std.specs.Prelude.{◌≤◌, ℕ, IfOk};
+ghost use Rattle.fut_ast.specs.Sorts.{Sort, Tree};
 ghost use Rattle.fut_grammar.specs.Reading.{Gives, Read};
 ghost use Rattle.fut_phrases.specs.Found.{found_as, tree_found};
+ghost use Rattle.fut_phrases.specs.Signs.{not_before};
 
+use crate::tokens::{refused, starts_with};
 use fut_grammar::Stop;
-use fut_token::Token;
+use fut_token::{Fixed, Token};
 use fut_tree::Held;
 use std::alloc::AllocError;
 
@@ -38,6 +41,26 @@ pub fn part<'a, T>(found: Result<Found<'a, &'a T>, Stop>) -> Result<Found<'a, He
             height,
             rest,
         }),
+        Err(stop) => Err(stop),
+    }
+}
+
+/// What was read, if this symbol, which would go on with it, does not stand behind it.
+pub fn not_before<'a, T: Copy>(
+    fixed: Fixed,
+    found: Result<Found<'a, T>, Stop>,
+) -> Result<Found<'a, T>, Stop>
+    ensures exact { (n : Sort) (view : T → Tree n) (m : Read (Tree n)) → Gives (found_as view) found.entry m → Gives (found_as view) result (not_before fixed m) }
+    ensures low { (k : ℕ) → IfOk found.entry (λ x. x.height ≤ k) → IfOk result (λ x. x.height ≤ k) }
+{
+    match found {
+        Ok(found) => {
+            if starts_with(found.rest, fixed) {
+                Err(Stop::Fault(refused(found.rest)))
+            } else {
+                Ok(found)
+            }
+        }
         Err(stop) => Err(stop),
     }
 }

@@ -74,7 +74,7 @@ pub fn commas_from<'a, T: Copy, R: ReadItem<'a, T>>(
     Err(Stop::Fault(refused(rest)))
 }
 
-/// One or more items with commas between, and two symbols around them.
+/// Items with commas between, or none, and two symbols around them.
 pub fn enclosed<'a, T: Copy, R: ReadItem<'a, T>>(
     bump: &'a Bump,
     read: R,
@@ -91,7 +91,15 @@ pub fn enclosed<'a, T: Copy, R: ReadItem<'a, T>>(
     if !starts_with(tokens, opening) {
         return Err(Stop::Fault(refused(tokens)));
     }
-    match commas_from(bump, read, inner, 0, rest_of(tokens)) {
+    let behind = rest_of(tokens);
+    if starts_with(behind, closing) {
+        return Ok(Found {
+            tree: &[],
+            height: 0,
+            rest: rest_of(behind),
+        });
+    }
+    match commas_from(bump, read, inner, 0, behind) {
         Ok(Found { tree, height, rest }) => {
             if starts_with(rest, closing) {
                 Ok(Found {

@@ -1,16 +1,17 @@
 // Patterns.
 ghost use Rattle.std.specs.Prelude.{Err, ◌≡◌, ◌≤◌, ◌<◌, ◌+◌, suc, length, true, ℕ, IfOk};
-ghost use Rattle.fut_ast.specs.PatRows.{fields_pat, no_fields_pat, pat_name, round_pat, set_field, short_field, unit_pat, wild};
+ghost use Rattle.fut_ast.specs.PatRows.{pat_name, short_field, wild};
 ghost use Rattle.fut_ast.specs.Rows.{of_pat, pat_type};
-ghost use Rattle.fut_ast.specs.Sorts.{Atomic_pat, Pat_field, Whole_pat};
-ghost use Rattle.fut_ast.specs.Tokens.{is_word, starts, tail};
+ghost use Rattle.fut_ast.specs.Sorts.{Atomic_pat, Pat_field, Tree, Whole_pat};
+ghost use Rattle.fut_ast.specs.Tokens.{is_word, starts};
 ghost use Rattle.fut_phrases.specs.Handed.{Law, ReadsPat};
-ghost use Rattle.fut_grammar.specs.Phrases.{atomic_pat_at, items, once_at, pat_field_at, phrases, read_at, whole_pat_at};
-ghost use Rattle.fut_grammar.specs.Reading.{Gives, commas_at, row_at};
-ghost use Rattle.fut_phrases.specs.Found.{found_as, list_found, tree_found};
-ghost use Rattle.fut_tree.specs.Pats.{pat_fields};
+ghost use Rattle.fut_grammar.specs.Phrases.{atomic_pat_at, items, once_at, phrases, read_at};
+ghost use Rattle.fut_grammar.specs.Reading.{Gives, Read, row_at};
+ghost use Rattle.fut_phrases.specs.Found.{found_as, tree_found};
+ghost use Rattle.fut_phrases.specs.Made.{goes_on_with, read_as};
+ghost use Rattle.fut_phrases.specs.Signs.{not_before};
 
-use crate::found::{Found, part};
+use crate::found::{Found, not_before, part};
 use crate::lists::{ReadItem, enclosed};
 use crate::pat_nodes as node;
 use crate::tokens::{
@@ -123,71 +124,16 @@ fn pattern_node<'a, F: Fn(&'a [Token]) -> PatAnswer<'a>>(
     requires room { inner < 1000 }
     ensures { ReadsPat sort (suc inner) tokens.now result }
 {
+    if !begins_pattern(tokens) {
+        return Err(Stop::Fault(refused(tokens)));
+    }
+    let pattern = atomic_below(bump, read, inner, tokens);
     match sort {
-        PatSort::Whole => whole_node(bump, read, inner, tokens),
-        PatSort::Atomic => atomic_node(bump, read, inner, tokens),
-    }
-}
-
-#[tactic(auto, unfolding(fut_grammar::specs::Phrases::read_at, fut_grammar::specs::Phrases::bounded, fut_grammar::specs::Phrases::ended, fut_grammar::specs::Phrases::step, fut_grammar::specs::Reading::refuse_sort))]
-fn whole_node<'a, R: ReadPat<'a>>(
-    bump: &'a Bump,
-    read: R,
-    inner: u32,
-    tokens: &'a [Token],
-) -> PatAnswer<'a>
-    requires law { R.reads read inner }
-    requires room { inner < 1000 }
-    ensures exact { Gives tree_found result (read_at (suc inner) Whole_pat tokens.now) }
-    ensures low { IfOk result (λ x. x.height ≤ inner + 1) }
-{
-    if !begins_pattern(tokens) {
-        return Err(Stop::Fault(refused(tokens)));
-    }
-    match whole_below(bump, read, inner, tokens) {
-        Ok(found) => {
-            if starts_with(found.rest, Fixed::Colon) {
-                return Err(Stop::Fault(refused(found.rest)));
-            }
-            Ok(found)
+        PatSort::Whole => {
+            let typed = type_behind(bump, inner, next_spot(tokens), pattern);
+            not_before(Fixed::Colon, typed)
         }
-        Err(stop) => Err(stop),
-    }
-}
-
-#[tactic(auto, unfolding(fut_grammar::specs::Phrases::read_at, fut_grammar::specs::Phrases::bounded, fut_grammar::specs::Phrases::ended, fut_grammar::specs::Phrases::step, fut_grammar::specs::Reading::refuse_sort))]
-fn atomic_node<'a, R: ReadPat<'a>>(
-    bump: &'a Bump,
-    read: R,
-    inner: u32,
-    tokens: &'a [Token],
-) -> PatAnswer<'a>
-    requires law { R.reads read inner }
-    requires room { inner < 1000 }
-    ensures exact { Gives tree_found result (read_at (suc inner) Atomic_pat tokens.now) }
-    ensures low { IfOk result (λ x. x.height ≤ inner + 1) }
-{
-    if !begins_pattern(tokens) {
-        return Err(Stop::Fault(refused(tokens)));
-    }
-    atomic_below(bump, read, inner, tokens)
-}
-
-#[tactic(auto, unfolding(fut_grammar::specs::Phrases::whole_pat_at))]
-fn whole_below<'a, R: ReadPat<'a>>(
-    bump: &'a Bump,
-    read: R,
-    inner: u32,
-    tokens: &'a [Token],
-) -> PatAnswer<'a>
-    requires law { R.reads read inner }
-    requires room { inner < 1000 }
-    ensures exact { Gives tree_found result (whole_pat_at (phrases (read_at inner)) (suc inner) tokens.now) }
-    ensures low { IfOk result (λ x. x.height ≤ inner + 1) }
-{
-    match atomic_below(bump, read, inner, tokens) {
-        Ok(pattern) => type_behind(bump, inner, next_spot(tokens), pattern),
-        Err(stop) => Err(stop),
+        PatSort::Atomic => pattern,
     }
 }
 
@@ -203,78 +149,37 @@ fn atomic_below<'a, R: ReadPat<'a>>(
     ensures exact { Gives tree_found result (atomic_pat_at (phrases (read_at inner)) (suc inner) tokens.now) }
     ensures low { IfOk result (λ x. x.height ≤ inner + 1) }
 {
-    let inside = rest_of(tokens);
+    let place = next_spot(tokens).place;
     if starts_with_word(tokens) {
         name(bump, tokens)
     } else if starts_with(tokens, Fixed::Wildcard) {
         wildcard(bump, tokens)
     } else if starts_with(tokens, Fixed::OpenParen) {
-        if starts_with(inside, Fixed::CloseParen) {
-            unit(bump, tokens)
-        } else {
-            round(bump, read, inner, tokens)
-        }
-    } else if starts_with(inside, Fixed::CloseBrace) {
-        no_fields(bump, tokens)
+        node::round(
+            bump,
+            place,
+            enclosed(
+                bump,
+                read,
+                inner,
+                Fixed::OpenParen,
+                Fixed::CloseParen,
+                tokens,
+            ),
+        )
     } else {
-        fields(bump, read, inner, tokens)
-    }
-}
-
-#[tactic(auto, unfolding(fut_grammar::specs::Reading::row_at, fut_grammar::specs::Reading::parts_at, fut_grammar::specs::Reading::has_at, fut_grammar::specs::Reading::expect, fut_grammar::specs::Reading::sub_at, fut_grammar::specs::Phrases::phrases))]
-fn round<'a, R: ReadPat<'a>>(
-    bump: &'a Bump,
-    read: R,
-    inner: u32,
-    tokens: &'a [Token],
-) -> PatAnswer<'a>
-    requires law { R.reads read inner }
-    requires room { inner < 1000 }
-    ensures exact { Gives tree_found result (row_at (phrases (read_at inner)) (of_pat round_pat) tokens.now) }
-    ensures low { IfOk result (λ x. x.height ≤ inner + 1) }
-{
-    match enclosed(
-        bump,
-        read,
-        inner,
-        Fixed::OpenParen,
-        Fixed::CloseParen,
-        tokens,
-    ) {
-        Ok(found) => {
-            let place = next_spot(tokens).place;
-            node::round_found(bump, place, found.tree, found.height + 1, found.rest)
-        }
-        Err(stop) => Err(stop),
-    }
-}
-
-#[tactic(auto, unfolding(fut_grammar::specs::Reading::row_at, fut_grammar::specs::Reading::parts_at, fut_grammar::specs::Reading::has_at, fut_grammar::specs::Reading::expect, fut_grammar::specs::Reading::sub_at, fut_grammar::specs::Phrases::phrases))]
-fn fields<'a, R: ReadPat<'a>>(
-    bump: &'a Bump,
-    read: R,
-    inner: u32,
-    tokens: &'a [Token],
-) -> PatAnswer<'a>
-    requires law { R.reads read inner }
-    requires room { inner < 1000 }
-    ensures exact { Gives tree_found result (row_at (phrases (read_at inner)) (of_pat fields_pat) tokens.now) }
-    ensures low { IfOk result (λ x. x.height ≤ inner + 1) }
-{
-    match enclosed(
-        bump,
-        read,
-        inner,
-        Fixed::OpenBrace,
-        Fixed::CloseBrace,
-        tokens,
-    ) {
-        Ok(found) => {
-            let place = next_spot(tokens).place;
-            let form = PatForm::Record(found.tree);
-            node::made(bump, Pat { place, form }, found.height + 1, found.rest)
-        }
-        Err(stop) => Err(stop),
+        node::fields(
+            bump,
+            place,
+            enclosed(
+                bump,
+                read,
+                inner,
+                Fixed::OpenBrace,
+                Fixed::CloseBrace,
+                tokens,
+            ),
+        )
     }
 }
 
@@ -308,7 +213,6 @@ impl<'a, R: ReadPat<'a>> ReadItem<'a, PatField<'a>> for R {
 
     ghost reads = { λ s d. R.reads s d × (d < 1000) };
 
-    #[tactic(auto, unfolding(fut_grammar::specs::Phrases::phrases, fut_grammar::specs::Phrases::bounded, fut_grammar::specs::Phrases::ended, fut_grammar::specs::Phrases::flat_at, fut_grammar::specs::Reading::refuse_sort))]
     fn item(
         self,
         bump: &'a Bump,
@@ -318,53 +222,22 @@ impl<'a, R: ReadPat<'a>> ReadItem<'a, PatField<'a>> for R {
         if !starts_with_word(tokens) {
             return Err(Stop::Fault(refused(tokens)));
         }
-        match any_field(bump, self, inner, tokens) {
-            Ok(found) => {
-                if starts_with(found.rest, Fixed::Equal) {
-                    return Err(Stop::Fault(refused(found.rest)));
-                }
-                Ok(found)
-            }
-            Err(stop) => Err(stop),
+        let name = next_word(tokens);
+        let behind = rest_of(tokens);
+        if starts_with(behind, Fixed::Equal) {
+            set_field(name, self.whole(inner, rest_of(behind)))
+        } else {
+            short_field(bump, tokens)
         }
     }
 }
 
-#[tactic(auto, unfolding(fut_grammar::specs::Phrases::pat_field_at))]
-fn any_field<'a, R: ReadPat<'a>>(
-    bump: &'a Bump,
-    read: R,
-    inner: u32,
-    tokens: &'a [Token],
-) -> Result<Found<'a, PatField<'a>>, Stop>
-    requires law { R.reads read inner }
-    requires word { is_word tokens.now ≡ true }
-    requires room { inner < 1000 }
-    ensures exact { Gives (found_as (λ f. (f.name.now, f.pat.now))) result (pat_field_at (items (read_at inner)) tokens.now) }
-    ensures low { IfOk result (λ x. x.height ≤ inner) }
+// A field with the pattern that was read, behind which no equals sign stands.
+fn set_field<'a>(name: &'a str, pattern: PatAnswer<'a>) -> Result<Found<'a, PatField<'a>>, Stop>
+    ensures exact { (m : Read (Tree Whole_pat)) → Gives tree_found pattern.entry m → Gives (found_as {Y = Tree Pat_field} (λ f. (f.name.now, f.pat.now))) result (read_as (λ p. (name.now, p)) (not_before Fixed.Equal m)) }
+    ensures low { (k : ℕ) → IfOk pattern.entry (λ x. x.height ≤ k) → IfOk result (λ x. x.height ≤ k) }
 {
-    if starts_with(rest_of(tokens), Fixed::Equal) {
-        set_field(read, inner, tokens)
-    } else {
-        short_field(bump, tokens)
-    }
-}
-
-#[tactic(auto, unfolding(fut_grammar::specs::Reading::row_at, fut_grammar::specs::Reading::parts_at, fut_grammar::specs::Reading::has_at, fut_grammar::specs::Reading::expect, fut_grammar::specs::Reading::sub_at, fut_grammar::specs::Phrases::items))]
-fn set_field<'a, R: ReadPat<'a>>(
-    read: R,
-    inner: u32,
-    tokens: &'a [Token],
-) -> Result<Found<'a, PatField<'a>>, Stop>
-    requires law { R.reads read inner }
-    requires word { is_word tokens.now ≡ true }
-    requires equal { starts Fixed.Equal (tail tokens.now) ≡ true }
-    requires room { inner < 1000 }
-    ensures exact { Gives (found_as (λ f. (f.name.now, f.pat.now))) result (row_at (items (read_at inner)) (of_pat set_field) tokens.now) }
-    ensures low { IfOk result (λ x. x.height ≤ inner) }
-{
-    let name = next_word(tokens);
-    match read.whole(inner, rest_of(rest_of(tokens))) {
+    match not_before(Fixed::Equal, pattern) {
         Ok(Found { tree, height, rest }) => Ok(Found {
             tree: PatField { name, pat: tree },
             height,
@@ -377,16 +250,15 @@ fn set_field<'a, R: ReadPat<'a>>(
 // ---- what has no patterns in it
 
 #[tactic(auto, unfolding(fut_grammar::specs::Phrases::once_at, fut_grammar::specs::Reading::expect, fut_grammar::specs::Reading::suffix_at, fut_grammar::specs::Reading::parts_at, fut_grammar::specs::Reading::has_at, fut_grammar::specs::Reading::sub_at, fut_grammar::specs::Phrases::phrases))]
-fn type_behind<'a>(
-    bump: &'a Bump,
-    inner: u32,
-    at: Spot,
-    pattern: Found<'a, &'a Pat<'a>>,
-) -> PatAnswer<'a>
-    requires { (inner < 1000) × (pattern.height ≤ inner + 1) }
-    ensures exact { Gives tree_found result (once_at (phrases (read_at inner)) (suc inner) (starts Fixed.Colon) pat_type at (λ p. p) pattern.entry.tree.now pattern.entry.height pattern.entry.rest.now) }
+fn type_behind<'a>(bump: &'a Bump, inner: u32, at: Spot, pattern: PatAnswer<'a>) -> PatAnswer<'a>
+    requires { (inner < 1000) × IfOk pattern (λ x. x.height ≤ inner + 1) }
+    ensures exact { (m : Read (Tree Atomic_pat)) → Gives tree_found pattern.entry m → Gives tree_found result (goes_on_with (once_at (phrases (read_at inner)) (suc inner) (starts Fixed.Colon) pat_type at (λ p. p)) m) }
     ensures low { IfOk result (λ x. x.height ≤ inner + 1) }
 {
+    let pattern = match pattern {
+        Ok(pattern) => pattern,
+        Err(stop) => return Err(stop),
+    };
     if !starts_with(pattern.rest, Fixed::Colon) {
         return Ok(pattern);
     }
@@ -424,32 +296,6 @@ fn wildcard<'a>(bump: &'a Bump, tokens: &'a [Token]) -> PatAnswer<'a>
     let place = next_spot(tokens).place;
     let form = PatForm::Wild;
     node::made(bump, Pat { place, form }, 1, rest_of(tokens))
-}
-
-#[tactic(auto, unfolding(fut_grammar::specs::Reading::row_at, fut_grammar::specs::Reading::parts_at, fut_grammar::specs::Reading::has_at, fut_grammar::specs::Reading::expect))]
-fn unit<'a>(bump: &'a Bump, tokens: &'a [Token]) -> PatAnswer<'a>
-    requires open { starts Fixed.OpenParen tokens.now ≡ true }
-    requires close { starts Fixed.CloseParen (tail tokens.now) ≡ true }
-    ensures exact { (inner : ℕ) → Gives tree_found result (row_at (phrases (read_at inner)) (of_pat unit_pat) tokens.now) }
-    ensures low { IfOk result (λ x. x.height ≡ 1) }
-{
-    let place = next_spot(tokens).place;
-    let form = PatForm::Unit;
-    node::made(bump, Pat { place, form }, 1, rest_of(rest_of(tokens)))
-}
-
-#[tactic(auto, unfolding(fut_grammar::specs::Reading::row_at, fut_grammar::specs::Reading::parts_at, fut_grammar::specs::Reading::has_at, fut_grammar::specs::Reading::expect))]
-fn no_fields<'a>(bump: &'a Bump, tokens: &'a [Token]) -> PatAnswer<'a>
-    requires close { starts Fixed.CloseBrace (tail tokens.now) ≡ true }
-    ensures exact { (inner : ℕ) → Gives tree_found result (row_at (phrases (read_at inner)) (of_pat no_fields_pat) tokens.now) }
-    ensures low { IfOk result (λ x. x.height ≡ 1) }
-{
-    if !starts_with(tokens, Fixed::OpenBrace) {
-        return Err(Stop::Fault(refused(tokens)));
-    }
-    let place = next_spot(tokens).place;
-    let form = PatForm::Record(&[]);
-    node::made(bump, Pat { place, form }, 1, rest_of(rest_of(tokens)))
 }
 
 #[tactic(auto, unfolding(fut_grammar::specs::Reading::row_at, fut_grammar::specs::Reading::parts_at, fut_grammar::specs::Reading::has_at))]

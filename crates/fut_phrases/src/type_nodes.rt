@@ -1,9 +1,13 @@
 // The nodes of types.
-ghost use Rattle.std.specs.Prelude.{Ok};
-ghost use Rattle.fut_ast.specs.Nodes.{round_type_of};
-ghost use Rattle.fut_grammar.specs.Reading.{Gives};
-ghost use Rattle.fut_phrases.specs.Found.{tree_found};
-ghost use Rattle.fut_tree.specs.Names.{all};
+ghost use Rattle.std.specs.Prelude.{◌≤◌, ◌<◌, ◌+◌, ℕ, List, IfOk, Ok};
+ghost use Rattle.fut_ast.specs.Nodes.{round_type_of, type_at};
+ghost use Rattle.fut_ast.specs.Sorts.{SourceType, Tree, Type_field, Whole_type};
+ghost use Rattle.fut_ast.specs.declared.ty.TypeArg.TheVariants as type_arg;
+ghost use Rattle.fut_ast.specs.declared.ty.TypeForm.TheVariants as type_form;
+ghost use Rattle.fut_grammar.specs.Reading.{Gives, Read};
+ghost use Rattle.fut_phrases.specs.Found.{found_as, list_found, tree_found};
+ghost use Rattle.fut_phrases.specs.Made.{node_of, read_as};
+ghost use Rattle.fut_tree.specs.Types.{arg_of, type_fields};
 
 use crate::found::Found;
 use crate::types::TypeAnswer;
@@ -11,7 +15,7 @@ use bumpalo::Bump;
 use fut_grammar::Stop;
 use fut_scalar::Place;
 use fut_token::Token;
-use fut_tree::{Held, TypeExp, TypeForm};
+use fut_tree::{Held, TypeArg, TypeExp, TypeField, TypeForm};
 
 /// This type was read, and the arena holds it.
 pub fn made<'a>(bump: &'a Bump, ty: TypeExp<'a>, height: u32, rest: &'a [Token]) -> TypeAnswer<'a>
@@ -23,26 +27,64 @@ pub fn made<'a>(bump: &'a Bump, ty: TypeExp<'a>, height: u32, rest: &'a [Token])
     }
 }
 
-/// Types in parentheses were read: one alone is that type.
+/// Types in parentheses, if they were read: one alone is that type.
 pub fn round<'a>(
     bump: &'a Bump,
     place: Place,
-    types: &'a [Held<'a, TypeExp<'a>>],
-    height: u32,
-    rest: &'a [Token],
+    types: Result<Found<'a, &'a [Held<'a, TypeExp<'a>>]>, Stop>,
 ) -> TypeAnswer<'a>
-    ensures { Gives tree_found result (Ok (round_type_of place (all types.now), height, rest.now)) }
+    requires { IfOk types (λ x. x.height < 1000) }
+    ensures exact { (m : Read (List (Tree Whole_type))) → Gives list_found types.entry m → Gives tree_found result (node_of (round_type_of place) m) }
+    ensures low { (k : ℕ) → IfOk types.entry (λ x. x.height ≤ k) → IfOk result (λ x. x.height ≤ k + 1) }
 {
-    let form = match types {
+    let found = match types {
+        Ok(found) => found,
+        Err(stop) => return Err(stop),
+    };
+    let form = match found.tree {
         [] => TypeForm::Unit,
         [only] => {
             return Ok(Found {
                 tree: only.at,
-                height,
-                rest,
+                height: found.height + 1,
+                rest: found.rest,
             });
         }
-        [_, _, ..] => TypeForm::Tuple(types),
+        [_, _, ..] => TypeForm::Tuple(found.tree),
     };
-    made(bump, TypeExp { place, form }, height, rest)
+    made(bump, TypeExp { place, form }, found.height + 1, found.rest)
+}
+
+/// Fields in braces, if they were read.
+pub fn fields<'a>(
+    bump: &'a Bump,
+    place: Place,
+    fields: Result<Found<'a, &'a [TypeField<'a>]>, Stop>,
+) -> TypeAnswer<'a>
+    requires { IfOk fields (λ x. x.height < 1000) }
+    ensures exact { (m : Read (List (Tree Type_field))) → Gives (found_as (λ t. type_fields t.now)) fields.entry m → Gives tree_found result (node_of (λ fs. type_at place (type_form.Record fs)) m) }
+    ensures low { (k : ℕ) → IfOk fields.entry (λ x. x.height ≤ k) → IfOk result (λ x. x.height ≤ k + 1) }
+{
+    match fields {
+        Ok(found) => {
+            let form = TypeForm::Record(found.tree);
+            made(bump, TypeExp { place, form }, found.height + 1, found.rest)
+        }
+        Err(stop) => Err(stop),
+    }
+}
+
+/// A type as an argument of another, if it was read.
+pub fn argument<'a>(ty: TypeAnswer<'a>) -> Result<Found<'a, TypeArg<'a>>, Stop>
+    ensures exact { (m : Read SourceType) → Gives tree_found ty.entry m → Gives (found_as arg_of) result (read_as type_arg.Of m) }
+    ensures low { (k : ℕ) → IfOk ty.entry (λ x. x.height ≤ k) → IfOk result (λ x. x.height ≤ k) }
+{
+    match ty {
+        Ok(Found { tree, height, rest }) => Ok(Found {
+            tree: TypeArg::Of(tree),
+            height,
+            rest,
+        }),
+        Err(stop) => Err(stop),
+    }
 }

@@ -9,23 +9,10 @@ ghost use Rattle.fut_ast.specs.Sorts.{
   Type_name,
   Whole_type,
 };
-ghost use Rattle.fut_ast.specs.Tokens.{starts, tail};
-ghost use Rattle.fut_ast.specs.TypeRows.{
-  applied_name,
-  array_type,
-  fields,
-  named_arrow,
-  no_fields,
-  round_type,
-  name_argument,
-  size_argument,
-  type_argument,
-  type_field,
-  unit_type,
-  unique,
-};
-ghost use Rattle.fut_ast.specs.Behind.{begins_named};
-ghost use Rattle.fut_phrases.specs.Handed.{ReadsType, TypeLaw};
+ghost use Rattle.fut_ast.specs.Tokens.{is_word, starts, tail};
+ghost use Rattle.fut_ast.specs.TypeRows.{applied_name, array_type, named_arrow, size_argument, unique};
+ghost use Rattle.fut_ast.specs.Behind.{begins, begins_named};
+ghost use Rattle.fut_phrases.specs.Handed.{ReadsType, TypeLaw, sort_of};
 ghost use Rattle.fut_grammar.specs.Phrases.{
   applied_type_at,
   atomic_type_at,
@@ -33,14 +20,13 @@ ghost use Rattle.fut_grammar.specs.Phrases.{
   once_at,
   phrases,
   read_at,
-  type_argument_at,
   whole_type_at,
 };
-ghost use Rattle.fut_grammar.specs.Reading.{Gives, commas_at, many_at, row_at};
-ghost use Rattle.fut_phrases.specs.Found.{found_as, list_found, tree_found};
-ghost use Rattle.fut_tree.specs.Types.{arg_of, args_of, type_fields};
+ghost use Rattle.fut_grammar.specs.Reading.{Gives, row_at};
+ghost use Rattle.fut_phrases.specs.Found.{found_as, tree_found};
+ghost use Rattle.fut_tree.specs.Types.{arg_of};
 
-use crate::found::{Found, part};
+use crate::found::{Found, not_before, part};
 use crate::lists::{BeginItem, ReadItem, enclosed, many};
 use crate::tokens::{
     begins_argument_of_type, begins_bracket_type, begins_name_and_colon, begins_type, greater,
@@ -179,85 +165,37 @@ fn node<'a, F: Fn(TypeSort, &'a [Token]) -> TypeAnswer<'a>>(
     requires room { inner < 1000 }
     ensures { ReadsType sort (suc inner) tokens.now result }
 {
+    if !begins_sort(sort, tokens) {
+        return Err(Stop::Fault(refused_type(tokens)));
+    }
     match sort {
-        TypeSort::Whole => whole_node(bump, read, inner, tokens),
-        TypeSort::Applied => applied_node(bump, read, inner, tokens),
-        TypeSort::Atomic => bracket_node(bump, read, inner, tokens),
-    }
-}
-
-#[tactic(auto, unfolding(fut_grammar::specs::Phrases::read_at, fut_grammar::specs::Phrases::bounded, fut_grammar::specs::Phrases::ended, fut_grammar::specs::Phrases::step, fut_grammar::specs::Reading::refuse_sort))]
-fn whole_node<'a, R: ReadType<'a>>(
-    bump: &'a Bump,
-    read: R,
-    inner: u32,
-    tokens: &'a [Token],
-) -> TypeAnswer<'a>
-    requires law { R.reads read inner }
-    requires room { inner < 1000 }
-    ensures exact { Gives tree_found result (read_at (suc inner) Whole_type tokens.now) }
-    ensures low { IfOk result (λ x. x.height ≤ inner + 1) }
-{
-    if !begins_type(tokens) {
-        return Err(Stop::Fault(refused_type(tokens)));
-    }
-    match whole_type_below(bump, read, inner, tokens) {
-        Ok(found) => {
-            if starts_with(found.rest, Fixed::Arrow) {
-                return Err(Stop::Fault(refused(found.rest)));
-            }
-            Ok(found)
+        TypeSort::Whole => {
+            let ty = whole_type_below(bump, read, inner, tokens);
+            not_before(Fixed::Arrow, ty)
         }
-        Err(stop) => Err(stop),
+        TypeSort::Applied => applied_type_below(bump, read, inner, tokens),
+        TypeSort::Atomic => bracket_type_below(bump, read, inner, tokens),
     }
 }
 
-#[tactic(auto, unfolding(fut_grammar::specs::Phrases::read_at, fut_grammar::specs::Phrases::bounded, fut_grammar::specs::Phrases::ended, fut_grammar::specs::Phrases::step, fut_grammar::specs::Reading::refuse_sort))]
-fn applied_node<'a, R: ReadType<'a>>(
-    bump: &'a Bump,
-    read: R,
-    inner: u32,
-    tokens: &'a [Token],
-) -> TypeAnswer<'a>
-    requires law { R.reads read inner }
-    requires room { inner < 1000 }
-    ensures exact { Gives tree_found result (read_at (suc inner) Applied_type tokens.now) }
-    ensures low { IfOk result (λ x. x.height ≤ inner + 1) }
+// Whether a type of the sort begins here.
+fn begins_sort(sort: TypeSort, tokens: &[Token]) -> bool
+    ensures { result ≡ begins (sort_of sort) tokens.now }
 {
-    if !begins_type(tokens) {
-        return Err(Stop::Fault(refused_type(tokens)));
+    match sort {
+        TypeSort::Whole | TypeSort::Applied => begins_type(tokens),
+        TypeSort::Atomic => begins_bracket_type(tokens),
     }
-    applied_type_below(bump, read, inner, tokens)
-}
-
-#[tactic(auto, unfolding(fut_grammar::specs::Phrases::read_at, fut_grammar::specs::Phrases::bounded, fut_grammar::specs::Phrases::ended, fut_grammar::specs::Phrases::step, fut_grammar::specs::Reading::refuse_sort))]
-fn bracket_node<'a, R: ReadType<'a>>(
-    bump: &'a Bump,
-    read: R,
-    inner: u32,
-    tokens: &'a [Token],
-) -> TypeAnswer<'a>
-    requires law { R.reads read inner }
-    requires room { inner < 1000 }
-    ensures exact { Gives tree_found result (read_at (suc inner) Atomic_type tokens.now) }
-    ensures low { IfOk result (λ x. x.height ≤ inner + 1) }
-{
-    if !begins_bracket_type(tokens) {
-        return Err(Stop::Fault(refused_type(tokens)));
-    }
-    bracket_type_below(bump, read, inner, tokens)
 }
 
 // The name of a type, without arguments.
 #[tactic(auto, unfolding(fut_grammar::specs::Phrases::read_at, fut_grammar::specs::Phrases::bounded, fut_grammar::specs::Phrases::ended, fut_grammar::specs::Phrases::step, fut_grammar::specs::Reading::refuse_sort, fut_grammar::specs::Reading::row_at, fut_grammar::specs::Reading::parts_at, fut_grammar::specs::Reading::has_at))]
 fn type_name<'a>(bump: &'a Bump, depth: u32, tokens: &'a [Token]) -> TypeAnswer<'a>
-    requires { depth ≤ 1000 }
+    requires word { is_word tokens.now ≡ true }
+    requires room { depth ≤ 1000 }
     ensures exact { Gives tree_found result (read_at depth Type_name tokens.now) }
     ensures low { IfOk result (λ x. x.height ≤ depth) }
 {
-    if !starts_with_word(tokens) {
-        return Err(Stop::Fault(refused(tokens)));
-    }
     if depth == 0 {
         return Err(Stop::Fault(Fault::TooDeep(tokens.len())));
     }
@@ -475,74 +413,33 @@ fn bracket_type_below<'a, R: ReadType<'a>>(
     ensures exact { Gives tree_found result (atomic_type_at (phrases (read_at inner)) (suc inner) tokens.now) }
     ensures low { IfOk result (λ x. x.height ≤ inner + 1) }
 {
-    let inside = rest_of(tokens);
+    let place = next_spot(tokens).place;
     if starts_with(tokens, Fixed::OpenParen) {
-        if starts_with(inside, Fixed::CloseParen) {
-            unit(bump, tokens)
-        } else {
-            round(bump, read, inner, tokens)
-        }
-    } else if starts_with(inside, Fixed::CloseBrace) {
-        no_fields(bump, tokens)
+        node::round(
+            bump,
+            place,
+            enclosed(
+                bump,
+                read,
+                inner,
+                Fixed::OpenParen,
+                Fixed::CloseParen,
+                tokens,
+            ),
+        )
     } else {
-        fields(bump, read, inner, tokens)
-    }
-}
-
-#[tactic(auto, unfolding(fut_grammar::specs::Reading::row_at, fut_grammar::specs::Reading::parts_at, fut_grammar::specs::Reading::has_at, fut_grammar::specs::Reading::expect, fut_grammar::specs::Reading::sub_at, fut_grammar::specs::Phrases::phrases))]
-fn round<'a, R: ReadType<'a>>(
-    bump: &'a Bump,
-    read: R,
-    inner: u32,
-    tokens: &'a [Token],
-) -> TypeAnswer<'a>
-    requires law { R.reads read inner }
-    requires room { inner < 1000 }
-    ensures exact { Gives tree_found result (row_at (phrases (read_at inner)) (of_type round_type) tokens.now) }
-    ensures low { IfOk result (λ x. x.height ≤ inner + 1) }
-{
-    match enclosed(
-        bump,
-        read,
-        inner,
-        Fixed::OpenParen,
-        Fixed::CloseParen,
-        tokens,
-    ) {
-        Ok(found) => {
-            let place = next_spot(tokens).place;
-            node::round(bump, place, found.tree, found.height + 1, found.rest)
-        }
-        Err(stop) => Err(stop),
-    }
-}
-
-#[tactic(auto, unfolding(fut_grammar::specs::Reading::row_at, fut_grammar::specs::Reading::parts_at, fut_grammar::specs::Reading::has_at, fut_grammar::specs::Reading::expect, fut_grammar::specs::Reading::sub_at, fut_grammar::specs::Phrases::phrases))]
-fn fields<'a, R: ReadType<'a>>(
-    bump: &'a Bump,
-    read: R,
-    inner: u32,
-    tokens: &'a [Token],
-) -> TypeAnswer<'a>
-    requires law { R.reads read inner }
-    requires room { inner < 1000 }
-    ensures exact { Gives tree_found result (row_at (phrases (read_at inner)) (of_type fields) tokens.now) }
-    ensures low { IfOk result (λ x. x.height ≤ inner + 1) }
-{
-    match enclosed(
-        bump,
-        read,
-        inner,
-        Fixed::OpenBrace,
-        Fixed::CloseBrace,
-        tokens,
-    ) {
-        Ok(found) => {
-            let place = next_spot(tokens).place;
-            let form = TypeForm::Record(found.tree);
-            node::made(bump, TypeExp { place, form }, found.height + 1, found.rest)
-        }
-        Err(stop) => Err(stop),
+        node::fields(
+            bump,
+            place,
+            enclosed(
+                bump,
+                read,
+                inner,
+                Fixed::OpenBrace,
+                Fixed::CloseBrace,
+                tokens,
+            ),
+        )
     }
 }
 
@@ -621,7 +518,13 @@ impl<'a, R: ReadType<'a>> ReadItem<'a, TypeArg<'a>> for R {
         if !begins_argument_of_type(tokens) {
             return Err(Stop::Fault(refused(tokens)));
         }
-        any_argument(bump, self, inner, tokens)
+        if starts_with(tokens, Fixed::OpenBracket) {
+            size_argument(bump, tokens)
+        } else if starts_with_word(tokens) {
+            node::argument(type_name(bump, inner, tokens))
+        } else {
+            node::argument(self.bracket(inner, tokens))
+        }
     }
 }
 
@@ -629,96 +532,6 @@ impl<'a, R: ReadType<'a>> BeginItem<'a, TypeArg<'a>> for R {
     fn begins(self, tokens: &'a [Token]) -> bool {
         begins_argument_of_type(tokens)
     }
-}
-
-#[tactic(auto, unfolding(fut_grammar::specs::Phrases::type_argument_at))]
-fn any_argument<'a, R: ReadType<'a>>(
-    bump: &'a Bump,
-    read: R,
-    inner: u32,
-    tokens: &'a [Token],
-) -> Result<Found<'a, TypeArg<'a>>, Stop>
-    requires law { R.reads read inner }
-    requires room { inner < 1000 }
-    ensures exact { Gives (found_as arg_of) result (type_argument_at (items (read_at inner)) tokens.now) }
-    ensures low { IfOk result (λ x. x.height ≤ inner) }
-{
-    if starts_with(tokens, Fixed::OpenBracket) {
-        size_argument(bump, tokens)
-    } else if starts_with_word(tokens) {
-        name_argument(bump, inner, tokens)
-    } else {
-        bracket_argument(read, inner, tokens)
-    }
-}
-
-#[tactic(auto, unfolding(fut_grammar::specs::Reading::row_at, fut_grammar::specs::Reading::parts_at, fut_grammar::specs::Reading::has_at, fut_grammar::specs::Reading::sub_at, fut_grammar::specs::Phrases::items))]
-fn bracket_argument<'a, R: ReadType<'a>>(
-    read: R,
-    inner: u32,
-    tokens: &'a [Token],
-) -> Result<Found<'a, TypeArg<'a>>, Stop>
-    requires law { R.reads read inner }
-    requires room { inner < 1000 }
-    ensures exact { Gives (found_as arg_of) result (row_at (items (read_at inner)) (of_type type_argument) tokens.now) }
-    ensures low { IfOk result (λ x. x.height ≤ inner) }
-{
-    match read.bracket(inner, tokens) {
-        Ok(Found { tree, height, rest }) => Ok(Found {
-            tree: TypeArg::Of(tree),
-            height,
-            rest,
-        }),
-        Err(stop) => Err(stop),
-    }
-}
-
-#[tactic(auto, unfolding(fut_grammar::specs::Reading::row_at, fut_grammar::specs::Reading::parts_at, fut_grammar::specs::Reading::has_at, fut_grammar::specs::Reading::sub_at, fut_grammar::specs::Phrases::items))]
-fn name_argument<'a>(
-    bump: &'a Bump,
-    inner: u32,
-    tokens: &'a [Token],
-) -> Result<Found<'a, TypeArg<'a>>, Stop>
-    requires { inner < 1000 }
-    ensures exact { Gives (found_as arg_of) result (row_at (items (read_at inner)) (of_type name_argument) tokens.now) }
-    ensures low { IfOk result (λ x. x.height ≤ inner) }
-{
-    match type_name(bump, inner, tokens) {
-        Ok(Found { tree, height, rest }) => Ok(Found {
-            tree: TypeArg::Of(tree),
-            height,
-            rest,
-        }),
-        Err(stop) => Err(stop),
-    }
-}
-
-// ---- types without types in them
-
-#[tactic(auto, unfolding(fut_grammar::specs::Reading::row_at, fut_grammar::specs::Reading::parts_at, fut_grammar::specs::Reading::has_at, fut_grammar::specs::Reading::expect))]
-fn unit<'a>(bump: &'a Bump, tokens: &'a [Token]) -> TypeAnswer<'a>
-    requires open { starts Fixed.OpenParen tokens.now ≡ true }
-    requires close { starts Fixed.CloseParen (tail tokens.now) ≡ true }
-    ensures exact { (inner : ℕ) → Gives tree_found result (row_at (phrases (read_at inner)) (of_type unit_type) tokens.now) }
-    ensures low { IfOk result (λ x. x.height ≡ 1) }
-{
-    let place = next_spot(tokens).place;
-    let form = TypeForm::Unit;
-    node::made(bump, TypeExp { place, form }, 1, rest_of(rest_of(tokens)))
-}
-
-#[tactic(auto, unfolding(fut_grammar::specs::Reading::row_at, fut_grammar::specs::Reading::parts_at, fut_grammar::specs::Reading::has_at, fut_grammar::specs::Reading::expect))]
-fn no_fields<'a>(bump: &'a Bump, tokens: &'a [Token]) -> TypeAnswer<'a>
-    requires close { starts Fixed.CloseBrace (tail tokens.now) ≡ true }
-    ensures exact { (inner : ℕ) → Gives tree_found result (row_at (phrases (read_at inner)) (of_type no_fields) tokens.now) }
-    ensures low { IfOk result (λ x. x.height ≡ 1) }
-{
-    if !starts_with(tokens, Fixed::OpenBrace) {
-        return Err(Stop::Fault(refused(tokens)));
-    }
-    let place = next_spot(tokens).place;
-    let form = TypeForm::Record(&[]);
-    node::made(bump, TypeExp { place, form }, 1, rest_of(rest_of(tokens)))
 }
 
 #[tactic(auto, unfolding(fut_grammar::specs::Reading::row_at, fut_grammar::specs::Reading::parts_at, fut_grammar::specs::Reading::has_at, fut_grammar::specs::Reading::expect))]

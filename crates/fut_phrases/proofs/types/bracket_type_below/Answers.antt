@@ -1,31 +1,37 @@
--- By the tokens that stand next.
-use Rattle.std.proofs.Common.{sym, ◌∙◌, arith}
-use Rattle.fut_grammar.specs.Phrases.{atomic_type_at}
-use Rattle.fut_phrases.proofs.ReadLaws.{low_as}
+-- By the token that stands next.
+use Rattle.std.proofs.Common.{sym, ap, ◌∙◌}
+use Rattle.fut_token.specs.declared.token.Fixed.TheVariants as fixed
+use Rattle.fut_ast.specs.declared.node.Spot.{Spot}
+use Rattle.fut_ast.specs.declared.ty.TypeForm.TheVariants as type_form
+use Rattle.fut_ast.specs.Nodes.{round_type_of, type_at}
+use Rattle.fut_ast.specs.Sorts.{Atomic_type, Type_field, Whole_type}
+use Rattle.fut_ast.specs.Tokens.{spot_of}
+use Rattle.fut_grammar.specs.Phrases.{atomic_type_at, phrases, read_at}
+use Rattle.fut_grammar.specs.Reading.{row_at}
+use Rattle.fut_phrases.specs.Signs.{enclosed_at}
+use Rattle.fut_phrases.proofs.ReadLaws.{enclosed_as, under}
 use Rattle.fut_phrases.proofs.types.bracket_type_below.Goals as goal
 
-pub returns-then-starts_with-2-clause-exact : goal.returns-then-starts_with-2-clause-exact
-unfolding atomic_type_at
-returns-then-starts_with-2-clause-exact g c =
-    rw (sym c.starts_with.ensures ∙ c.if-starts_with.true, sym c.rest_of-inside.ensures, sym c.starts_with-then-starts_with.ensures ∙ c.if-starts_with-2.true) (c.unit.ensures.exact c.args.inner)
+pub round-requires : goal.round-requires
+round-requires g c = under c.enclosed.result c.enclosed.ensures.low c.requires.room
 
-pub returns-then-starts_with-2-clause-low : goal.returns-then-starts_with-2-clause-low
-returns-then-starts_with-2-clause-low g c = low_as c.unit.result c.unit.ensures.low (omega arith)
+pub fields-requires : goal.fields-requires
+fields-requires g c = under c.enclosed-else-starts_with.result c.enclosed-else-starts_with.ensures.low c.requires.room
 
-pub returns-else-starts_with-2-clause-exact : goal.returns-else-starts_with-2-clause-exact
-unfolding atomic_type_at
-returns-else-starts_with-2-clause-exact g c =
-    rw (sym c.starts_with.ensures ∙ c.if-starts_with.true, sym c.rest_of-inside.ensures, sym c.starts_with-then-starts_with.ensures ∙ c.if-starts_with-2.false) c.round.ensures.exact
+pub returns-then-starts_with-clause-exact : goal.returns-then-starts_with-clause-exact
+unfolding atomic_type_at row_at
+returns-then-starts_with-clause-exact g c =
+    let place = ap (λ (s : Spot). s.place) (sym c.next_spot.ensures) in
+    rw (sym c.starts_with.ensures ∙ c.if-starts_with.true, enclosed_as (phrases (read_at c.args.inner)) Atomic_type Whole_type fixed.OpenParen fixed.CloseParen (round_type_of (spot_of c.args.tokens.now).place) c.args.tokens.now, place) (c.round.ensures.exact (enclosed_at (phrases (read_at c.args.inner)) fixed.OpenParen fixed.CloseParen Whole_type c.args.tokens.now) c.enclosed.ensures.exact)
 
-pub returns-then-starts_with-3-clause-exact : goal.returns-then-starts_with-3-clause-exact
-unfolding atomic_type_at
-returns-then-starts_with-3-clause-exact g c =
-    rw (sym c.starts_with.ensures ∙ c.if-starts_with.false, sym c.rest_of-inside.ensures, sym c.starts_with-else-starts_with.ensures ∙ c.if-starts_with-3.true) (c.no_fields.ensures.exact c.args.inner)
+pub returns-then-starts_with-clause-low : goal.returns-then-starts_with-clause-low
+returns-then-starts_with-clause-low g c = c.round.ensures.low _ c.enclosed.ensures.low
 
-pub returns-then-starts_with-3-clause-low : goal.returns-then-starts_with-3-clause-low
-returns-then-starts_with-3-clause-low g c = low_as c.no_fields.result c.no_fields.ensures.low (omega arith)
+pub returns-else-starts_with-clause-exact : goal.returns-else-starts_with-clause-exact
+unfolding atomic_type_at row_at
+returns-else-starts_with-clause-exact g c =
+    let place = ap (λ (s : Spot). s.place) (sym c.next_spot.ensures) in
+    rw (sym c.starts_with.ensures ∙ c.if-starts_with.false, enclosed_as (phrases (read_at c.args.inner)) Atomic_type Type_field fixed.OpenBrace fixed.CloseBrace (λ fs. type_at (spot_of c.args.tokens.now).place (type_form.Record fs)) c.args.tokens.now, place) (c.fields.ensures.exact (enclosed_at (phrases (read_at c.args.inner)) fixed.OpenBrace fixed.CloseBrace Type_field c.args.tokens.now) c.enclosed-else-starts_with.ensures.exact)
 
-pub returns-else-starts_with-3-clause-exact : goal.returns-else-starts_with-3-clause-exact
-unfolding atomic_type_at
-returns-else-starts_with-3-clause-exact g c =
-    rw (sym c.starts_with.ensures ∙ c.if-starts_with.false, sym c.rest_of-inside.ensures, sym c.starts_with-else-starts_with.ensures ∙ c.if-starts_with-3.false) c.fields.ensures.exact
+pub returns-else-starts_with-clause-low : goal.returns-else-starts_with-clause-low
+returns-else-starts_with-clause-low g c = c.fields.ensures.low _ c.enclosed-else-starts_with.ensures.low
