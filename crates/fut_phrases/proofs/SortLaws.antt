@@ -21,7 +21,7 @@ use Rattle.fut_phrases.specs.declared.types.TypeSort.{TypeSort}
 use Rattle.fut_phrases.specs.declared.types.TypeSort.TheVariants as sort
 use Rattle.fut_phrases.specs.Found.{tree_found}
 use Rattle.fut_phrases.specs.Handed.{Answer, Reads, ReadsPat, ReadsType, sort_of}
-use Rattle.fut_phrases.specs.Made.{goes_on_with, read_as}
+use Rattle.fut_phrases.specs.Made.{goes_on_with, node_of, read_as}
 use Rattle.fut_phrases.specs.Signs.{not_before}
 use Rattle.fut_phrases.proofs.ReadLaws.{by_test, same_read}
 
@@ -69,6 +69,10 @@ module _ (d : ℕ) (ts : List Token) where
 -- behind nothing, the height is that of the phrase
 abbrev pub alone : {A : Type 0} → Read A → Read A
 alone m = m >>= λ y. Ok (y.0, max 0 y.1, y.2)
+
+pub node_alone : {A B : Type 0} (f : A → B) (m : Read A) → node_of f m ≡ node_of f (alone m)
+node_alone f (Ok y) = rw (zero-max y.1) refl
+node_alone f (Err e) = refl
 
 -- an argument of a type is no node
 abbrev pub argument_row : Read SourceType → Read (Tree Type_argument)

@@ -59,8 +59,14 @@ pub fn commas_from<'a, T: Copy, R: ReadItem<'a, T>>(
     let mut height = first_height;
     let mut rest = tokens;
     'items: for _turn in 0..tokens.len() {
-        let item = read.item(bump, inner, rest)?;
-        made.push(item.tree)?;
+        let item = match read.item(bump, inner, rest) {
+            Ok(item) => item,
+            Err(stop) => return Err(stop),
+        };
+        match made.push(item.tree) {
+            Ok(()) => (),
+            Err(_) => return Err(Stop::Memory),
+        }
         height = greater(height, item.height);
         if !starts_with(item.rest, Fixed::Comma) {
             return Ok(Found {
@@ -139,8 +145,14 @@ pub fn many<'a, T: Copy, R: BeginItem<'a, T>>(
                 rest,
             });
         }
-        let item = read.item(bump, inner, rest)?;
-        made.push(item.tree)?;
+        let item = match read.item(bump, inner, rest) {
+            Ok(item) => item,
+            Err(stop) => return Err(stop),
+        };
+        match made.push(item.tree) {
+            Ok(()) => (),
+            Err(_) => return Err(Stop::Memory),
+        }
         height = greater(height, item.height);
         rest = item.rest;
     }

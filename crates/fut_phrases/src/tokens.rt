@@ -403,9 +403,18 @@ fn names<'a>(bump: &'a Bump, tokens: &'a [Token]) -> Result<(&'a [&'a str], &'a 
     let mut made = Vec::new(bump);
     let mut rest = tokens;
     'names: for _turn in 0..tokens.len() {
-        let (name, after) = take_word(rest)?;
-        made.push(name)?;
-        without_form(What::LocalOpen, after)?;
+        let (name, after) = match take_word(rest) {
+            Ok(found) => found,
+            Err(stop) => return Err(stop),
+        };
+        match made.push(name) {
+            Ok(()) => (),
+            Err(_) => return Err(Stop::Memory),
+        }
+        match without_form(What::LocalOpen, after) {
+            Ok(()) => (),
+            Err(stop) => return Err(stop),
+        }
         if !starts_with(after, Fixed::Dot) {
             return Ok((into_bump_slice(made), after));
         }

@@ -27,6 +27,21 @@ pub fn made<'a>(bump: &'a Bump, ty: TypeExp<'a>, height: u32, rest: &'a [Token])
     }
 }
 
+/// A type that is unique, if the type was read.
+pub fn unique<'a>(bump: &'a Bump, place: Place, ty: TypeAnswer<'a>) -> TypeAnswer<'a>
+    requires { IfOk ty (λ x. x.height < 1000) }
+    ensures exact { (m : Read SourceType) → Gives tree_found ty.entry m → Gives tree_found result (node_of (λ t. type_at place (type_form.Unique t)) m) }
+    ensures low { (k : ℕ) → IfOk ty.entry (λ x. x.height ≤ k) → IfOk result (λ x. x.height ≤ k + 1) }
+{
+    match ty {
+        Ok(found) => {
+            let form = TypeForm::Unique(found.tree);
+            made(bump, TypeExp { place, form }, found.height + 1, found.rest)
+        }
+        Err(stop) => Err(stop),
+    }
+}
+
 /// Types in parentheses, if they were read: one alone is that type.
 pub fn round<'a>(
     bump: &'a Bump,

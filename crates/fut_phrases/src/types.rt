@@ -1,5 +1,5 @@
 // Types.
-ghost use Rattle.std.specs.Prelude.{Err, ◌≡◌, ◌≤◌, ◌<◌, ◌+◌, suc, length, true, ℕ, IfOk};
+ghost use Rattle.std.specs.Prelude.{Err, ◌≡◌, ◌&&◌, ◌≤◌, ◌<◌, ◌+◌, suc, length, true, ℕ, IfOk};
 ghost use Rattle.fut_ast.specs.Rows.{arrow, of_type};
 ghost use Rattle.fut_ast.specs.Sorts.{
   Applied_type,
@@ -10,7 +10,7 @@ ghost use Rattle.fut_ast.specs.Sorts.{
   Whole_type,
 };
 ghost use Rattle.fut_ast.specs.Tokens.{is_word, starts, tail};
-ghost use Rattle.fut_ast.specs.TypeRows.{applied_name, array_type, named_arrow, size_argument, unique};
+ghost use Rattle.fut_ast.specs.TypeRows.{applied_name, array_type, named_arrow, size_argument};
 ghost use Rattle.fut_ast.specs.Behind.{begins, begins_named};
 ghost use Rattle.fut_phrases.specs.Handed.{ReadsType, TypeLaw, sort_of};
 ghost use Rattle.fut_grammar.specs.Phrases.{
@@ -36,7 +36,7 @@ use crate::tokens::{
 use crate::type_nodes as node;
 use bumpalo::Bump;
 use bumpalo::collections::into_bump_slice;
-use fut_ast::{Spot, What};
+use fut_ast::What;
 use fut_grammar::{Fault, Stop};
 use fut_token::{Fixed, Token};
 use fut_tree::{Held, TypeArg, TypeExp, TypeField, TypeForm};
@@ -59,41 +59,18 @@ pub trait ReadType<'a>: Copy {
     /// It reads them up to a height.
     ghost reads: { Self → ℕ → Type 0 };
 
-    /// A type.
-    fn whole(self, inner: u32, tokens: &'a [Token]) -> TypeAnswer<'a>
+    /// A type of the sort.
+    fn read(self, inner: u32, sort: TypeSort, tokens: &'a [Token]) -> TypeAnswer<'a>
         requires law { reads self inner }
-        ensures exact { Gives tree_found result (read_at inner Whole_type tokens.now) }
-        ensures low { IfOk result (λ x. x.height ≤ inner) };
-
-    /// A type without an arrow at its top.
-    fn applied(self, inner: u32, tokens: &'a [Token]) -> TypeAnswer<'a>
-        requires law { reads self inner }
-        ensures exact { Gives tree_found result (read_at inner Applied_type tokens.now) }
-        ensures low { IfOk result (λ x. x.height ≤ inner) };
-
-    /// A type in brackets.
-    fn bracket(self, inner: u32, tokens: &'a [Token]) -> TypeAnswer<'a>
-        requires law { reads self inner }
-        ensures exact { Gives tree_found result (read_at inner Atomic_type tokens.now) }
-        ensures low { IfOk result (λ x. x.height ≤ inner) };
+        ensures { ReadsType sort inner tokens.now result };
 }
 
 impl<'a, F: Fn(TypeSort, &'a [Token]) -> TypeAnswer<'a>> ReadType<'a> for &F {
     ghost reads = { λ f d. F.IsAlwaysCallable f.now × TypeLaw (F.post f.now) d };
 
-    fn whole(self, inner: u32, tokens: &'a [Token]) -> TypeAnswer<'a> {
+    fn read(self, inner: u32, sort: TypeSort, tokens: &'a [Token]) -> TypeAnswer<'a> {
         let _inner = inner;
-        self(TypeSort::Whole, tokens)
-    }
-
-    fn applied(self, inner: u32, tokens: &'a [Token]) -> TypeAnswer<'a> {
-        let _inner = inner;
-        self(TypeSort::Applied, tokens)
-    }
-
-    fn bracket(self, inner: u32, tokens: &'a [Token]) -> TypeAnswer<'a> {
-        let _inner = inner;
-        self(TypeSort::Atomic, tokens)
+        self(sort, tokens)
     }
 }
 
@@ -221,43 +198,35 @@ fn whole_type_below<'a, R: ReadType<'a>>(
     ensures exact { Gives tree_found result (whole_type_at (phrases (read_at inner)) (suc inner) tokens.now) }
     ensures low { IfOk result (λ x. x.height ≤ inner + 1) }
 {
-    if starts_with(tokens, Fixed::OpenParen) && begins_name_and_colon(rest_of(tokens)) {
+    if begins_named_arrow(tokens) {
         return named_arrow(bump, read, inner, tokens);
     }
-    match applied_type_below(bump, read, inner, tokens) {
-        Ok(from) => arrow_behind(bump, read, inner, next_spot(tokens), from),
-        Err(stop) => Err(stop),
-    }
-}
-
-#[tactic(auto, unfolding(fut_grammar::specs::Phrases::once_at, fut_grammar::specs::Reading::expect, fut_grammar::specs::Reading::suffix_at, fut_grammar::specs::Reading::parts_at, fut_grammar::specs::Reading::has_at, fut_grammar::specs::Reading::sub_at, fut_grammar::specs::Phrases::phrases))]
-fn arrow_behind<'a, R: ReadType<'a>>(
-    bump: &'a Bump,
-    read: R,
-    inner: u32,
-    at: Spot,
-    from: Found<'a, &'a TypeExp<'a>>,
-) -> TypeAnswer<'a>
-    requires law { R.reads read inner }
-    requires room { (inner < 1000) × (from.height ≤ inner + 1) }
-    ensures exact { Gives tree_found result (once_at (phrases (read_at inner)) (suc inner) (starts Fixed.Arrow) arrow at (λ t. t) from.entry.tree.now from.entry.height from.entry.rest.now) }
-    ensures low { IfOk result (λ x. x.height ≤ inner + 1) }
-{
+    let from = match applied_type_below(bump, read, inner, tokens) {
+        Ok(from) => from,
+        Err(stop) => return Err(stop),
+    };
     if !starts_with(from.rest, Fixed::Arrow) {
         return Ok(from);
     }
     if from.height > inner {
         return Err(Stop::Fault(Fault::TooDeep(from.rest.len())));
     }
-    match read.whole(inner, rest_of(from.rest)) {
+    match read.read(inner, TypeSort::Whole, rest_of(from.rest)) {
         Ok(to) => {
-            let place = at.place;
+            let place = next_spot(tokens).place;
             let form = TypeForm::Arrow(from.tree, to.tree);
             let height = greater(from.height, to.height) + 1;
             node::made(bump, TypeExp { place, form }, height, to.rest)
         }
         Err(stop) => Err(stop),
     }
+}
+
+// Whether a function type begins here whose parameter has a name.
+fn begins_named_arrow(tokens: &[Token]) -> bool
+    ensures { result ≡ (starts Fixed.OpenParen tokens.now && begins_named (tail tokens.now)) }
+{
+    starts_with(tokens, Fixed::OpenParen) && begins_name_and_colon(rest_of(tokens))
 }
 
 #[tactic(auto, unfolding(fut_grammar::specs::Reading::row_at, fut_grammar::specs::Reading::parts_at, fut_grammar::specs::Reading::has_at, fut_grammar::specs::Reading::expect, fut_grammar::specs::Reading::sub_at, fut_grammar::specs::Phrases::phrases))]
@@ -268,15 +237,14 @@ fn named_arrow<'a, R: ReadType<'a>>(
     tokens: &'a [Token],
 ) -> TypeAnswer<'a>
     requires law { R.reads read inner }
-    requires open { starts Fixed.OpenParen tokens.now ≡ true }
-    requires word { begins_named (tail tokens.now) ≡ true }
+    requires named { (starts Fixed.OpenParen tokens.now && begins_named (tail tokens.now)) ≡ true }
     requires room { inner < 1000 }
     ensures exact { Gives tree_found result (row_at (phrases (read_at inner)) (of_type named_arrow) tokens.now) }
     ensures low { IfOk result (λ x. x.height ≤ inner + 1) }
 {
     let behind = rest_of(tokens);
     let name = next_word(behind);
-    let from = match read.whole(inner, rest_of(rest_of(behind))) {
+    let from = match read.read(inner, TypeSort::Whole, rest_of(rest_of(behind))) {
         Ok(from) => from,
         Err(stop) => return Err(stop),
     };
@@ -287,7 +255,7 @@ fn named_arrow<'a, R: ReadType<'a>>(
     if !starts_with(rest, Fixed::Arrow) {
         return Err(Stop::Fault(refused(rest)));
     }
-    match read.whole(inner, rest_of(rest)) {
+    match read.read(inner, TypeSort::Whole, rest_of(rest)) {
         Ok(to) => {
             let place = next_spot(tokens).place;
             let form = TypeForm::Named(name, from.tree, to.tree);
@@ -311,36 +279,15 @@ fn applied_type_below<'a, R: ReadType<'a>>(
     ensures low { IfOk result (λ x. x.height ≤ inner + 1) }
 {
     if starts_with(tokens, Fixed::Star) {
-        unique(bump, read, inner, tokens)
+        let place = next_spot(tokens).place;
+        let ty = read.read(inner, TypeSort::Applied, rest_of(tokens));
+        node::unique(bump, place, ty)
     } else if starts_with(tokens, Fixed::OpenBracket) {
         array(bump, read, inner, tokens)
     } else if starts_with_word(tokens) {
         applied_name(bump, read, inner, tokens)
     } else {
         bracket_type_below(bump, read, inner, tokens)
-    }
-}
-
-#[tactic(auto, unfolding(fut_grammar::specs::Reading::row_at, fut_grammar::specs::Reading::parts_at, fut_grammar::specs::Reading::has_at, fut_grammar::specs::Reading::expect, fut_grammar::specs::Reading::sub_at, fut_grammar::specs::Phrases::phrases))]
-fn unique<'a, R: ReadType<'a>>(
-    bump: &'a Bump,
-    read: R,
-    inner: u32,
-    tokens: &'a [Token],
-) -> TypeAnswer<'a>
-    requires law { R.reads read inner }
-    requires first { starts Fixed.Star tokens.now ≡ true }
-    requires room { inner < 1000 }
-    ensures exact { Gives tree_found result (row_at (phrases (read_at inner)) (of_type unique) tokens.now) }
-    ensures low { IfOk result (λ x. x.height ≤ inner + 1) }
-{
-    match read.applied(inner, rest_of(tokens)) {
-        Ok(found) => {
-            let place = next_spot(tokens).place;
-            let form = TypeForm::Unique(found.tree);
-            node::made(bump, TypeExp { place, form }, found.height + 1, found.rest)
-        }
-        Err(stop) => Err(stop),
     }
 }
 
@@ -361,7 +308,7 @@ fn array<'a, R: ReadType<'a>>(
         Ok(found) => found,
         Err(stop) => return Err(stop),
     };
-    match read.applied(inner, rest_of(rest)) {
+    match read.read(inner, TypeSort::Applied, rest_of(rest)) {
         Ok(row) => {
             let place = next_spot(tokens).place;
             let form = TypeForm::Array(size, row.tree);
@@ -461,7 +408,7 @@ impl<'a, R: ReadType<'a>> ReadItem<'a, Held<'a, TypeExp<'a>>> for R {
         tokens: &'a [Token],
     ) -> Result<Found<'a, Held<'a, TypeExp<'a>>>, Stop> {
         let _bump = bump;
-        part(self.whole(inner, tokens))
+        part(self.read(inner, TypeSort::Whole, tokens))
     }
 }
 
@@ -489,7 +436,7 @@ impl<'a, R: ReadType<'a>> ReadItem<'a, TypeField<'a>> for R {
         if !starts_with(rest, Fixed::Colon) {
             return Err(Stop::Fault(refused(rest)));
         }
-        match self.whole(inner, rest_of(rest)) {
+        match self.read(inner, TypeSort::Whole, rest_of(rest)) {
             Ok(Found { tree, height, rest }) => Ok(Found {
                 tree: TypeField { name, ty: tree },
                 height,
@@ -523,7 +470,7 @@ impl<'a, R: ReadType<'a>> ReadItem<'a, TypeArg<'a>> for R {
         } else if starts_with_word(tokens) {
             node::argument(type_name(bump, inner, tokens))
         } else {
-            node::argument(self.bracket(inner, tokens))
+            node::argument(self.read(inner, TypeSort::Atomic, tokens))
         }
     }
 }

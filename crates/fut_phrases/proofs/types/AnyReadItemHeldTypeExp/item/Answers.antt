@@ -4,4 +4,7 @@ use Rattle.fut_phrases.proofs.types.AnyReadItemHeldTypeExp.item.Goals as goal
 
 pub returns-clause-exact : goal.returns-clause-exact
 unfolding phrases
-returns-clause-exact g c = c.part.ensures.exact _ c.whole.ensures.exact
+returns-clause-exact g c = c.part.ensures.exact _ c.read.ensures.0
+
+pub returns-clause-low : goal.returns-clause-low
+returns-clause-low g c = c.part.ensures.low _ c.read.ensures.1

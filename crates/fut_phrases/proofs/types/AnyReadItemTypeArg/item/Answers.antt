@@ -30,10 +30,10 @@ returns-then-starts_with_word-clause-low g c = c.argument.ensures.low _ c.type_n
 pub returns-else-starts_with_word-clause-exact : goal.returns-else-starts_with_word-clause-exact
 unfolding phrases bounded ended flat_at type_argument_at refuse_sort row_at parts_at has_at sub_at items
 returns-else-starts_with_word-clause-exact g c =
-    rw (sym c.begins_argument_of_type.ensures ∙ c.if-not-begins_argument_of_type.false, sym c.starts_with.ensures ∙ c.if-starts_with.false, sym c.starts_with_word.ensures ∙ c.if-starts_with_word.false) (subst (λ m. Gives (found_as arg_of) c.argument-else-starts_with_word.result m) (argument_as (read_at c.args.inner Atomic_type c.args.tokens.now)) (c.argument-else-starts_with_word.ensures.exact (read_at c.args.inner Atomic_type c.args.tokens.now) c.bracket.ensures.exact))
+    rw (sym c.begins_argument_of_type.ensures ∙ c.if-not-begins_argument_of_type.false, sym c.starts_with.ensures ∙ c.if-starts_with.false, sym c.starts_with_word.ensures ∙ c.if-starts_with_word.false) (subst (λ m. Gives (found_as arg_of) c.argument-else-starts_with_word.result m) (argument_as (read_at c.args.inner Atomic_type c.args.tokens.now)) (c.argument-else-starts_with_word.ensures.exact (read_at c.args.inner Atomic_type c.args.tokens.now) c.read.ensures.0))
 
 pub returns-else-starts_with_word-clause-low : goal.returns-else-starts_with_word-clause-low
-returns-else-starts_with_word-clause-low g c = c.argument-else-starts_with_word.ensures.low _ c.bracket.ensures.low
+returns-else-starts_with_word-clause-low g c = c.argument-else-starts_with_word.ensures.low _ c.read.ensures.1
 
 pub returns-then-not-begins_argument_of_type-clause-exact : goal.returns-then-not-begins_argument_of_type-clause-exact
 unfolding phrases bounded ended flat_at refuse_sort
