@@ -4,7 +4,7 @@ ghost use Rattle.fut_ast.specs.PatRows.{size_head, variable_head};
 ghost use Rattle.fut_ast.specs.Rows.{of_pat};
 ghost use Rattle.fut_ast.specs.Sorts.{Head_item};
 ghost use Rattle.fut_ast.specs.Tokens.{starts};
-ghost use Rattle.fut_grammar.specs.Phrases.{head_at, items, phrases, read_at};
+ghost use Rattle.fut_grammar.specs.Phrases.{items, phrases, read_at};
 ghost use Rattle.fut_grammar.specs.Reading.{Gives, many_at, row_at};
 ghost use Rattle.fut_phrases.specs.Found.{found_as, heads_found};
 ghost use Rattle.fut_tree.specs.Pats.{head_of};
@@ -43,7 +43,6 @@ impl<'a> ReadItem<'a, Head<'a>> for HeadItems {
 
     ghost reads = { λ s d. Unit {0} };
 
-    #[tactic(auto, unfolding(fut_grammar::specs::Phrases::phrases, fut_grammar::specs::Phrases::bounded, fut_grammar::specs::Phrases::ended, fut_grammar::specs::Phrases::flat_at, fut_grammar::specs::Reading::refuse_sort))]
     fn item(
         self,
         bump: &'a Bump,
@@ -55,25 +54,17 @@ impl<'a> ReadItem<'a, Head<'a>> for HeadItems {
         if !begins_parameter(tokens) {
             return Err(Stop::Fault(refused(tokens)));
         }
-        any_head(tokens)
+        if starts_with(tokens, Fixed::OpenBracket) {
+            size(tokens)
+        } else {
+            variable(tokens)
+        }
     }
 }
 
 impl<'a> BeginItem<'a, Head<'a>> for HeadItems {
     fn begins(self, tokens: &'a [Token]) -> bool {
         begins_parameter(tokens)
-    }
-}
-
-#[tactic(auto, unfolding(fut_grammar::specs::Phrases::head_at))]
-fn any_head<'a>(tokens: &'a [Token]) -> Result<Found<'a, Head<'a>>, Stop>
-    ensures exact { (inner : ℕ) → Gives (found_as head_of) result (head_at (items (read_at inner)) tokens.now) }
-    ensures low { IfOk result (λ x. x.height ≡ 0) }
-{
-    if starts_with(tokens, Fixed::OpenBracket) {
-        size(tokens)
-    } else {
-        variable(tokens)
     }
 }
 

@@ -186,11 +186,14 @@ pub fn several<'a, T: Copy, R: BeginItem<'a, T>>(
     };
     let height = greater(first_height, first.height);
     match many(bump, read, inner, height, first.rest) {
-        Ok(others) => Ok(Found {
-            tree: led_by(bump, first.tree, others.tree)?,
-            height: others.height,
-            rest: others.rest,
-        }),
+        Ok(others) => match led_by(bump, first.tree, others.tree) {
+            Ok(tree) => Ok(Found {
+                tree,
+                height: others.height,
+                rest: others.rest,
+            }),
+            Err(_) => Err(Stop::Memory),
+        },
         Err(stop) => Err(stop),
     }
 }
@@ -204,8 +207,10 @@ pub fn led_by<'a, T: Copy>(bump: &'a Bump, first: T, others: &'a [T]) -> Result<
         Ok(()) => (),
         Err(_) => return Err(AllocError),
     }
-    made.extend_from_slice(others)?;
-    Ok(into_bump_slice(made))
+    match made.extend_from_slice(others) {
+        Ok(()) => Ok(into_bump_slice(made)),
+        Err(_) => Err(AllocError),
+    }
 }
 
 /// A list with one more in front.

@@ -1,12 +1,9 @@
 // What stands in the heads of functions, lets and loops: size names, parameters and their types.
 ghost use Rattle.std.specs.Prelude.{◌≡◌, ◌≤◌, ◌<◌, length, true, ℕ, IfOk};
-ghost use Rattle.fut_ast.specs.PatRows.{size_name};
-ghost use Rattle.fut_ast.specs.Rows.{of_pat};
-ghost use Rattle.fut_ast.specs.Tokens.{starts};
 ghost use Rattle.fut_ast.specs.Sorts.{Applied_type, Atomic_pat, Head_item, Size_item, Whole_type};
 ghost use Rattle.fut_grammar.specs.Phrases.{items, phrases, read_at};
-ghost use Rattle.fut_grammar.specs.Reading.{Gives, many_at, maybe_at, row_at, several_at};
-ghost use Rattle.fut_phrases.specs.Found.{found_as, heads_found, list_found, names_found, tree_found};
+ghost use Rattle.fut_grammar.specs.Reading.{Gives, many_at, maybe_at, several_at};
+ghost use Rattle.fut_phrases.specs.Found.{found_as, heads_found, list_found, names_found};
 ghost use Rattle.fut_tree.specs.Names.{maybe};
 
 use crate::found::{Found, part};
@@ -44,7 +41,6 @@ impl<'a> ReadItem<'a, &'a str> for SizeNames {
 
     ghost reads = { λ s d. Unit {0} };
 
-    #[tactic(auto, unfolding(fut_grammar::specs::Phrases::phrases, fut_grammar::specs::Phrases::bounded, fut_grammar::specs::Phrases::ended, fut_grammar::specs::Phrases::flat_at, fut_grammar::specs::Reading::refuse_sort))]
     fn item(
         self,
         bump: &'a Bump,
@@ -56,29 +52,20 @@ impl<'a> ReadItem<'a, &'a str> for SizeNames {
         if !starts_with(tokens, Fixed::OpenBracket) {
             return Err(Stop::Fault(refused(tokens)));
         }
-        any_size(tokens)
+        match take_word_before(rest_of(tokens), Fixed::CloseBracket) {
+            Ok((tree, rest)) => Ok(Found {
+                tree,
+                height: 0,
+                rest,
+            }),
+            Err(stop) => Err(stop),
+        }
     }
 }
 
 impl<'a> BeginItem<'a, &'a str> for SizeNames {
     fn begins(self, tokens: &'a [Token]) -> bool {
         starts_with(tokens, Fixed::OpenBracket)
-    }
-}
-
-#[tactic(auto, unfolding(fut_grammar::specs::Reading::row_at, fut_grammar::specs::Reading::parts_at, fut_grammar::specs::Reading::has_at, fut_grammar::specs::Reading::expect))]
-fn any_size<'a>(tokens: &'a [Token]) -> Result<Found<'a, &'a str>, Stop>
-    requires { starts Fixed.OpenBracket tokens.now ≡ true }
-    ensures exact { (inner : ℕ) → Gives tree_found result (row_at (items (read_at inner)) (of_pat size_name) tokens.now) }
-    ensures low { IfOk result (λ x. x.height ≡ 0) }
-{
-    match take_word_before(rest_of(tokens), Fixed::CloseBracket) {
-        Ok((tree, rest)) => Ok(Found {
-            tree,
-            height: 0,
-            rest,
-        }),
-        Err(stop) => Err(stop),
     }
 }
 

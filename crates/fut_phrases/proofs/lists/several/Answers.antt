@@ -4,10 +4,10 @@ use Rattle.fut_grammar.specs.Reading.{several_at}
 use Rattle.fut_phrases.proofs.ReadLaws.{fails_as}
 use Rattle.fut_phrases.proofs.lists.several.Goals as goal
 
-pub returns-in_ok-led_by-in-Ok-many-clause-exact : goal.returns-in_ok-led_by-in-Ok-many-clause-exact
+pub returns-in-Ok-led_by-clause-exact : goal.returns-in-Ok-led_by-clause-exact
 unfolding several_at
-returns-in_ok-led_by-in-Ok-many-clause-exact g c =
-    rw (c.in-Ok.ensures.exact, sym c.greater-height.ensures, c.in-Ok-many.ensures.exact, c.in_ok-led_by-in-Ok-many.ensures) refl
+returns-in-Ok-led_by-clause-exact g c =
+    rw (c.in-Ok.ensures.exact, sym c.greater-height.ensures, c.in-Ok-many.ensures.exact, c.in-Ok-led_by.ensures) refl
 
 pub returns-in-Err-many-clause-exact : goal.returns-in-Err-many-clause-exact
 unfolding several_at
