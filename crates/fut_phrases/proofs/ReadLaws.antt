@@ -14,7 +14,8 @@ use Rattle.fut_grammar.specs.Reading.{◌>>=◌, Fails, Gives, Read, commas_at, 
 use Rattle.fut_phrases.specs.declared.found.Found.{Found}
 use Rattle.fut_phrases.specs.Found.{found_as}
 use Rattle.fut_phrases.specs.Made.{node_of}
-use Rattle.fut_phrases.specs.Signs.{enclosed_at, word_before}
+use Rattle.fut_phrases.specs.Closed.{Closes}
+use Rattle.fut_phrases.specs.Signs.{before, enclosed_at, word_before}
 
 -- one reading fails as another does, where its faults are that one's
 pub fails_as : {A B : Type 0} (e : Stop) {r : Result A Fault} {q : Result B Fault} → Fails e r → ((f : Fault) → r ≡ Err f → q ≡ Err f) → Fails e q
@@ -49,6 +50,17 @@ when_ok view m same given = subst (λ r. Gives view r m) same given
 pub when_err : {X Y : Type 0} (view : X → Y) (m : Result Y Fault) {r : Result X Stop} {e : Stop} → r ≡ Err e → Gives view r m → Fails e m
 when_err view m same given = subst (λ r. Gives view r m) same given
 
+-- a keyword or symbol behind what was found
+pub before_as : {X Y : Type 0} (view : X → Y) (f : Fixed) (r q : Result (Found X) Stop) (m : Read Y) → Closes f r q → Gives (found_as view) r m → Gives (found_as view) q (before f m)
+before_as view f (Ok x) (Ok y) m (begun, tree, height, rest) read = rw (read, begun, tree, height, rest) refl
+before_as view f (Ok x) (Err e) m (none, same) read = rw (same, read, none) refl
+before_as view f (Err e) q m same read = rw same (fails_as e read (λ g is. rw is refl))
+
+pub before_low : {X : Type 0} (f : Fixed) (r q : Result (Found X) Stop) (k : ℕ) → Closes f r q → IfOk r (λ x. x.height ≤ k) → IfOk q (λ x. x.height ≤ k)
+before_low f (Ok x) (Ok y) k (begun, tree, height, rest) low = rw height low
+before_low f (Ok x) (Err e) k closes low = tt
+before_low f (Err e) q k same low = rw same tt
+
 -- what nothing goes on with
 pub same_read : {A : Type 0} (r : Result A Fault) → (r >>= λ y. Ok y) ≡ r
 same_read (Ok y) = refl
@@ -66,7 +78,7 @@ pub by_test : {C : Type 0} (b : Bool) → (b ≡ true → C) → (b ≡ false �
 by_test true holds fails = holds refl
 by_test false holds fails = fails refl
 
-by_read : {A C : Type 0} (r : Result A Fault) → ((y : A) → r ≡ Ok y → C) → ((f : Fault) → r ≡ Err f → C) → C
+pub by_read : {A C : Type 0} (r : Result A Fault) → ((y : A) → r ≡ Ok y → C) → ((f : Fault) → r ≡ Err f → C) → C
 by_read (Ok y) reads fails = reads y refl
 by_read (Err f) reads fails = fails f refl
 

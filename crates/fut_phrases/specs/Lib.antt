@@ -1,3 +1,4 @@
+pub mod Closed
 pub mod Found
 pub mod Handed
 pub mod Made

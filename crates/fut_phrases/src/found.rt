@@ -2,10 +2,11 @@
 ghost use Rattle.std.specs.Prelude.{◌≤◌, ℕ, IfOk};
 ghost use Rattle.fut_ast.specs.Sorts.{Sort, Tree};
 ghost use Rattle.fut_grammar.specs.Reading.{Gives, Read};
+ghost use Rattle.fut_phrases.specs.Closed.{Closes};
 ghost use Rattle.fut_phrases.specs.Found.{found_as, tree_found};
 ghost use Rattle.fut_phrases.specs.Signs.{not_before};
 
-use crate::tokens::{refused, starts_with};
+use crate::tokens::{refused, rest_of, starts_with};
 use fut_grammar::Stop;
 use fut_token::{Fixed, Token};
 use fut_tree::Held;
@@ -41,6 +42,29 @@ pub fn part<'a, T>(found: Result<Found<'a, &'a T>, Stop>) -> Result<Found<'a, He
             height,
             rest,
         }),
+        Err(stop) => Err(stop),
+    }
+}
+
+/// What was read, if this keyword or symbol stands behind it, and the tokens behind that.
+pub fn closed_by<'a, T: Copy>(
+    fixed: Fixed,
+    found: Result<Found<'a, T>, Stop>,
+) -> Result<Found<'a, T>, Stop>
+    ensures { Closes fixed found.entry result }
+{
+    match found {
+        Ok(Found { tree, height, rest }) => {
+            if starts_with(rest, fixed) {
+                Ok(Found {
+                    tree,
+                    height,
+                    rest: rest_of(rest),
+                })
+            } else {
+                Err(Stop::Fault(refused(rest)))
+            }
+        }
         Err(stop) => Err(stop),
     }
 }

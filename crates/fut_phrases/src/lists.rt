@@ -8,7 +8,7 @@ ghost use Rattle.fut_phrases.specs.Found.{found_as};
 ghost use Rattle.fut_phrases.specs.Signs.{enclosed_at};
 ghost use Rattle.fut_tree.specs.Names.{all};
 
-use crate::found::Found;
+use crate::found::{Found, closed_by};
 use crate::tokens::{greater, refused, rest_of, starts_with};
 use bumpalo::Bump;
 use bumpalo::collections::into_bump_slice;
@@ -105,20 +105,7 @@ pub fn enclosed<'a, T: Copy, R: ReadItem<'a, T>>(
             rest: rest_of(behind),
         });
     }
-    match commas_from(bump, read, inner, 0, behind) {
-        Ok(Found { tree, height, rest }) => {
-            if starts_with(rest, closing) {
-                Ok(Found {
-                    tree,
-                    height,
-                    rest: rest_of(rest),
-                })
-            } else {
-                Err(Stop::Fault(refused(rest)))
-            }
-        }
-        Err(stop) => Err(stop),
-    }
+    closed_by(closing, commas_from(bump, read, inner, 0, behind))
 }
 
 /// Items, as many as stand there, in a tree that is as high as given without them.

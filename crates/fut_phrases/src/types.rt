@@ -26,7 +26,7 @@ ghost use Rattle.fut_grammar.specs.Reading.{Gives, row_at};
 ghost use Rattle.fut_phrases.specs.Found.{found_as, tree_found};
 ghost use Rattle.fut_tree.specs.Types.{arg_of};
 
-use crate::found::{Found, not_before, part};
+use crate::found::{Found, closed_by, not_before, part};
 use crate::lists::{BeginItem, ReadItem, enclosed, many};
 use crate::tokens::{
     begins_argument_of_type, begins_bracket_type, begins_name_and_colon, begins_type, greater,
@@ -244,18 +244,13 @@ fn named_arrow<'a, R: ReadType<'a>>(
 {
     let behind = rest_of(tokens);
     let name = next_word(behind);
-    let from = match read.read(inner, TypeSort::Whole, rest_of(rest_of(behind))) {
+    let from = read.read(inner, TypeSort::Whole, rest_of(rest_of(behind)));
+    let inside = closed_by(Fixed::CloseParen, from);
+    let from = match closed_by(Fixed::Arrow, inside) {
         Ok(from) => from,
         Err(stop) => return Err(stop),
     };
-    if !starts_with(from.rest, Fixed::CloseParen) {
-        return Err(Stop::Fault(refused(from.rest)));
-    }
-    let rest = rest_of(from.rest);
-    if !starts_with(rest, Fixed::Arrow) {
-        return Err(Stop::Fault(refused(rest)));
-    }
-    match read.read(inner, TypeSort::Whole, rest_of(rest)) {
+    match read.read(inner, TypeSort::Whole, from.rest) {
         Ok(to) => {
             let place = next_spot(tokens).place;
             let form = TypeForm::Named(name, from.tree, to.tree);
