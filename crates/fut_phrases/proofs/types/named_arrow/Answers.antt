@@ -1,11 +1,15 @@
 -- A name and its type in parentheses, an arrow and a type.
 use Rattle.std.proofs.Common.{max, ◌≡◌, ◌+◌, suc, Ok, Err, sym, ap, refl, ◌∙◌, arith}
 use Rattle.fut_ast.specs.declared.node.Spot.{Spot}
-use Rattle.fut_ast.specs.Tokens.{tail}
+use Rattle.fut_ast.specs.Tokens.{is_word, tail}
 use Rattle.fut_grammar.specs.Phrases.{phrases, read_at}
+use Rattle.fut_grammar.proofs.Bools.{and_left, and_right}
 use Rattle.fut_phrases.proofs.ReadLaws.{fails_as, high_as}
 use Rattle.fut_phrases.proofs.SortLaws.{named_as, named_low, named_read}
 use Rattle.fut_phrases.proofs.types.named_arrow.Goals as goal
+
+pub next_word-name-requires : goal.next_word-name-requires
+next_word-name-requires g c = ap is_word c.rest_of-behind.ensures ∙ and_left _ _ (and_right _ _ c.requires.named)
 
 pub returns-in-Err-clause-exact : goal.returns-in-Err-clause-exact
 unfolding phrases
