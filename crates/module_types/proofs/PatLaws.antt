@@ -1,5 +1,5 @@
 -- Each form of patterns.
-use Rattle.std.proofs.Common.{◌≡◌, ℕ, List, [], ◌∷◌, ◌++◌, map, true, false, refl, sym, ◌∙◌, ap, Result, Ok, Err}
+use Rattle.std.proofs.Common.{◌≡◌, List, [], ◌∷◌, ◌++◌, map, false, sym, ◌∙◌, ap, subst, Result, Ok, Err}
 use Rattle.std.specs.Borrow.{Bor}
 use Rattle.fut_scalar.specs.declared.place.BindId.{BindId}
 use Rattle.fut_scalar.specs.declared.place.Place.{Place}
@@ -8,38 +8,37 @@ use Rattle.fut_ast.specs.declared.node.Label.{Label}
 use Rattle.fut_tree.specs.declared.held.Held.{Held}
 use Rattle.fut_tree.specs.declared.pat.PatField.{PatField}
 use Rattle.fut_tree.specs.Names.{all}
-use Rattle.fut_tree.specs.Pats.{pat_fields}
+use Rattle.fut_tree.specs.declared.pat.Pat.TheInside.{Inside}
+use Rattle.fut_tree.specs.declared.pat.PatForm.{PatForm}
+use Rattle.fut_tree.specs.Pats.{pat_fields, pat_of}
 use Rattle.fut_flat.specs.declared.pat.Pat.{Pat as Flat}
 use Rattle.fut_flat.specs.declared.pat.PatField.{PatField as FlatField}
 use Rattle.fut_flat.specs.declared.pat.PatForm.TheVariants as flat_form
 use Rattle.fut_flat.specs.declared.ty.TypeExp.{TypeExp as FlatTy}
 use Rattle.fut_flat.specs.Terms.{Patterns, no_pattern, Bound_pattern, Wild_pattern, Tuple_pattern, Record_pattern, Typed_pattern}
-use Rattle.fut_flat.specs.Erased.{FlatPattern, FlatType, pattern_of, patterns, type_of}
+use Rattle.fut_flat.specs.Erased.{FlatPattern, pattern_of, patterns, type_of}
 use Rattle.fut_flat.specs.Sources as source
 use Rattle.fut_flat.specs.Sources.{Spelled, SourcePattern, WrittenType, label, source_pattern}
 use Rattle.fut_flat.proofs.ErasedPatterns.{pattern_field, pattern_wild}
-use Rattle.fut_flat.proofs.SourceForms.{pattern_fields as source_fields}
-use Rattle.module_scopes.specs.declared.refusal.Refusal.TheVariants as held
+use Rattle.fut_flat.proofs.SourceForms.{pattern_fields as source_fields, pattern_layer}
 use Rattle.module_scopes.specs.declared.refusal.Stop.{Stop}
-use Rattle.module_scopes.specs.declared.refusal.Stop.TheVariants as stop
 use Rattle.module_scopes.specs.declared.table.Names.{Names}
 use Rattle.module_scopes.specs.declared.table.Entry.{Entry as HeldEntry}
-use Rattle.module_scopes.specs.Names.{Refusal, Twice}
+use Rattle.module_scopes.specs.Names.{Twice}
 use Rattle.module_scopes.specs.Scopes.{Scope, a_value}
-use Rattle.module_scopes.specs.Resolve.{Naming, after, beside, has, next, with_text, whole, resolve_type, name_pattern, name_patterns, resolve_pattern}
+use Rattle.module_scopes.specs.Resolve.{Naming, after, beside, has, with_text, whole, resolve_type, name_pattern, name_patterns, resolve_pattern}
 use Rattle.module_scopes.specs.Table.{scope_of, bound_of, made_of, entries_of}
 use Rattle.module_scopes.specs.Answers.{Walked, Went, Bound_by, naming_of, went, refused, no_memory}
 use Rattle.module_scopes.specs.Walks.{each}
-use Rattle.module_scopes.proofs.Walking.{after_assoc, doing_start, doing_next, doing_stops, doing_end}
+use Rattle.module_scopes.proofs.Walking.{after_assoc}
 use Rattle.module_nodes.specs.Built.{Built1, built1, stops1, no_memory1, Built2}
-use Rattle.module_nodes.proofs.Steps.{Does, at_once, by_same, of_one, of_two}
+use Rattle.module_nodes.proofs.Steps.{at_once, by_same, of_one, of_two}
 use Rattle.module_types.specs.Numbering.{Numbers, numbers, no_number, Named, named, bound_before, no_name}
-use Rattle.module_types.specs.Elements.{pattern_part, field_pattern}
+use Rattle.module_types.specs.Elements.{pattern_part, field_pattern, pattern_with}
 use Rattle.module_types.specs.Bindings.{bound_pattern_of}
-use Rattle.module_types.specs.declared.pats.Bound.{Bound as HeldBound}
-use Rattle.module_types.proofs.HeldPats.{pattern_held}
+use Rattle.module_types.proofs.HeldPats.{layer_of, pattern_held}
 use Rattle.module_types.proofs.FlatParts.{pattern_field_is}
-use Rattle.module_types.proofs.PatLists.{patterns_each, pat_fields_each, pats_with_names, named_patterns}
+use Rattle.module_types.proofs.PatLists.{patterns_each, pat_fields_each, named_patterns}
 
 -- ---- names
 
@@ -111,28 +110,22 @@ pub typed_went : (q : SourcePattern) (y : WrittenType) (s t u : Names) (a : Resu
 unfolding name_pattern
 typed_went q y s t u _ b _ p w bs c = of_two Typed_pattern p (aside y t u b w bs) c
 
-pub ruleset pat_rules = (pattern_held, bound_went, wild_went, unit_went, tuple_went, record_went, typed_went)
+-- a pattern goes as its form does
+pub pattern_went : {s t : Names} {c : Result Flat Stop} (p : Inside) (v : SourcePat) (f : PatForm) → pat_of p ≡ v → p.form ≡ f → Bound_by pattern_of (name_pattern (pattern_layer (layer_of f) p.place)) s t c → Bound_by pattern_of (name_pattern (source_pattern v)) s t c
+pattern_went {s = s} {t = t} {c = c} p v f stands is w =
+    subst (λ x. Bound_by pattern_of (name_pattern (source_pattern x)) s t c) stands (subst (λ x. Bound_by pattern_of (name_pattern x) s t c) (sym (pattern_held p)) (subst (λ g. Bound_by pattern_of (name_pattern (pattern_layer (layer_of g) p.place)) s t c) (sym is) w))
 
 -- ---- lists
 
-pub part_made : (h : Held SourcePat) (s t : Names) (a : Flat) → Bound_by pattern_of (name_pattern (source_pattern h.at.now)) s t (Ok a) → Bound_by pattern_of (pattern_part h) s t (Ok a)
+pub part_went : (h : Held SourcePat) (s t : Names) (r : Result Flat Stop) → Bound_by pattern_of (name_pattern (source_pattern h.at.now)) s t r → Bound_by pattern_of (pattern_part h) s t r
 unfolding pattern_part
-part_made h s t a w = w
+part_went h s t r w = w
 
-pub part_stops : (h : Held SourcePat) (s t : Names) (e : Stop) → Bound_by pattern_of (name_pattern (source_pattern h.at.now)) s t (Err e) → Bound_by pattern_of (pattern_part h) s t (Err e)
-unfolding pattern_part
-part_stops h s t e w = w
-
-pub field_made : (f : PatField) (s t : Names) (a : Flat) → Bound_by pattern_of (name_pattern (source_pattern f.pat.now)) s t (Ok a) → Bound_by pattern_field (field_pattern f) s t (Ok (record { name = f.name; pat = a }))
+pub field_went : (f : PatField) (s t : Names) (r : Result Flat Stop) → Bound_by pattern_of (name_pattern (source_pattern f.pat.now)) s t r → Bound_by (λ p. pattern_field (pattern_with f.name p)) (field_pattern f) s t r
 unfolding after field_pattern
-field_made f s t a (went g same) = went (ap (λ r. after r (λ p m. Ok ((f.name.now, p), m))) g ∙ λ i. Ok (sym (pattern_field_is (record { name = f.name; pat = a })) i, naming_of t)) same
-
-pub field_stops : (f : PatField) (s t : Names) (e : Stop) → Bound_by pattern_of (name_pattern (source_pattern f.pat.now)) s t (Err e) → Bound_by pattern_field (field_pattern f) s t (Err e)
-unfolding after field_pattern
-field_stops f s t _ (refused g) = refused (ap (λ r. after r (λ p m. Ok ((f.name.now, p), m))) g)
-field_stops f s t _ no_memory = no_memory
-
-pub ruleset list_rules = (doing_start, doing_next, doing_stops, doing_end, part_made, part_stops, field_made, field_stops, no_memory)
+field_went f s t _ (went {x = a} g same) = went (ap (λ r. after r (λ p m. Ok ((f.name.now, p), m))) g ∙ λ i. Ok (sym (pattern_field_is (record { name = f.name; pat = a })) i, naming_of t)) same
+field_went f s t _ (refused g) = refused (ap (λ r. after r (λ p m. Ok ((f.name.now, p), m))) g)
+field_went f s t _ no_memory = no_memory
 
 -- ---- whole patterns
 

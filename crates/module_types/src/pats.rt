@@ -1,5 +1,5 @@
 // Patterns.
-ghost use Rattle.std.specs.Prelude.{◌≡◌, map};
+ghost use Rattle.std.specs.Prelude.{◌≡◌, [], map};
 ghost use Rattle.fut_flat.specs.Erased.{pattern_of};
 ghost use Rattle.fut_flat.specs.Sources.{label, patterns, source_pattern};
 ghost use Rattle.fut_flat.proofs.ErasedPatterns.{pattern_field};
@@ -12,6 +12,7 @@ ghost use Rattle.module_types.specs.Elements.{field_pattern, pattern_part};
 ghost use Rattle.module_types.specs.Numbering.{Named};
 ghost use Rattle.module_types.specs.Bindings.{bound_pattern_of};
 
+use crate::lists::{listed, put};
 use crate::numbers::numbered;
 use crate::types::resolved_type;
 use bumpalo::Bump;
@@ -30,20 +31,22 @@ fn named<'a>(name: &'a str, at: Place, names: &mut Names<'a>) -> Result<BindId, 
     if names.is_bound(name) {
         return Err(Stop::Refused(Refusal::Twice { name, at }));
     }
-    let bind = numbered(name, names)?;
-    match names.bind(Entry {
-        name,
-        bind,
-        is_type: false,
-    }) {
-        Ok(()) => Ok(bind),
-        Err(_) => Err(Stop::Memory),
+    match numbered(name, names) {
+        Ok(bind) => match names.bind(Entry {
+            name,
+            bind,
+            is_type: false,
+        }) {
+            Ok(()) => Ok(bind),
+            Err(_) => Err(Stop::Memory),
+        },
+        Err(stop) => Err(stop),
     }
 }
 
 /// A pattern with its names numbered and those of its types resolved.
 #[cycle(pats)]
-#[tactic(auto, using(crate::proofs::PatLaws::pat_rules))]
+#[tactic(auto)]
 fn named_pattern<'a>(
     pat: &'a Pat<'a>,
     bump: &'a Bump,
@@ -58,8 +61,16 @@ fn named_pattern<'a>(
             form: flat::PatForm::Wild,
         }),
         PatForm::Unit => nodes::tuple(pat.place, Ok(&[])),
-        PatForm::Tuple(parts) => nodes::tuple(pat.place, named_parts(parts, bump, names)),
-        PatForm::Record(fields) => nodes::record(pat.place, named_fields(fields, bump, names)),
+        PatForm::Tuple(parts) => {
+            let mut made = Vec::new(bump);
+            let walked = named_parts(parts, bump, names, &mut made);
+            nodes::tuple(pat.place, listed(walked, into_bump_slice(made)))
+        }
+        PatForm::Record(fields) => {
+            let mut made = Vec::new(bump);
+            let walked = named_fields(fields, bump, names, &mut made);
+            nodes::record(pat.place, listed(walked, into_bump_slice(made)))
+        }
         PatForm::Ascribe(inside, ty) => {
             nodes::typed(
                 bump,
@@ -71,47 +82,52 @@ fn named_pattern<'a>(
     }
 }
 
+/// Puts the patterns of a list behind those that there are.
 #[cycle(pats)]
-#[tactic(auto, using(crate::proofs::PatLaws::list_rules))]
+#[tactic(auto)]
 fn named_parts<'a>(
     parts: &'a [Held<'a, Pat<'a>>],
     bump: &'a Bump,
     names: &mut Names<'a>,
-) -> Result<&'a [flat::Pat<'a>], Stop<'a>>
-    ensures { Bound_by (λ ps. map pattern_of ps.now) (each pattern_part parts.now) names.old names.new result }
+    made: &mut Vec<flat::Pat<'a>, &'a Bump>,
+) -> Result<(), Stop<'a>>
+    requires { made.old.items ≡ [] }
+    ensures { Bound_by (λ u. map pattern_of made.new.items) (each pattern_part parts.now) names.old names.new result }
 {
-    let mut made = Vec::new(bump);
     for part in parts {
-        let next = named_pattern(part.at, bump, names)?;
-        match made.push(next) {
+        match put(named_pattern(part.at, bump, names), made) {
             Ok(()) => (),
-            Err(_) => return Err(Stop::Memory),
+            Err(stop) => return Err(stop),
         }
     }
-    Ok(into_bump_slice(made))
+    Ok(())
 }
 
+/// Puts the fields of a record's pattern behind those that there are.
 #[cycle(pats)]
-#[tactic(auto, using(crate::proofs::PatLaws::list_rules))]
+#[tactic(auto)]
 fn named_fields<'a>(
     fields: &'a [PatField<'a>],
     bump: &'a Bump,
     names: &mut Names<'a>,
-) -> Result<&'a [flat::PatField<'a>], Stop<'a>>
-    ensures { Bound_by (λ fs. map pattern_field fs.now) (each field_pattern fields.now) names.old names.new result }
+    made: &mut Vec<flat::PatField<'a>, &'a Bump>,
+) -> Result<(), Stop<'a>>
+    requires { made.old.items ≡ [] }
+    ensures { Bound_by (λ u. map pattern_field made.new.items) (each field_pattern fields.now) names.old names.new result }
 {
-    let mut made = Vec::new(bump);
     for field in fields {
-        let pat = named_pattern(field.pat, bump, names)?;
-        match made.push(flat::PatField {
-            name: field.name,
-            pat,
-        }) {
-            Ok(()) => (),
-            Err(_) => return Err(Stop::Memory),
+        match named_pattern(field.pat, bump, names) {
+            Ok(pat) => match made.push(flat::PatField {
+                name: field.name,
+                pat,
+            }) {
+                Ok(()) => (),
+                Err(_) => return Err(Stop::Memory),
+            },
+            Err(stop) => return Err(stop),
         }
     }
-    Ok(into_bump_slice(made))
+    Ok(())
 }
 
 /// A pattern and the names that it binds, which come in scope behind it.
@@ -131,9 +147,11 @@ pub fn resolved_pattern<'a>(
     ensures { Went bound_pattern_of (resolve_pattern (source_pattern pat.now)) names.old names.new result }
 {
     names.begin_pattern();
-    let pat = named_pattern(pat, bump, names)?;
-    match names.pattern_names(bump) {
-        Ok(bound) => Ok(Bound { pat, names: bound }),
-        Err(_) => Err(Stop::Memory),
+    match named_pattern(pat, bump, names) {
+        Ok(pat) => match names.pattern_names(bump) {
+            Ok(bound) => Ok(Bound { pat, names: bound }),
+            Err(_) => Err(Stop::Memory),
+        },
+        Err(stop) => Err(stop),
     }
 }

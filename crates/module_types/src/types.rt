@@ -1,5 +1,5 @@
 // Written types.
-ghost use Rattle.std.specs.Prelude.{◌≡◌, map, true};
+ghost use Rattle.std.specs.Prelude.{◌≡◌, [], map, true};
 ghost use Rattle.fut_flat.specs.Erased.{size_of, type_of};
 ghost use Rattle.fut_flat.specs.Sources.{source_size, source_type};
 ghost use Rattle.fut_flat.proofs.ErasedPatterns.{argument_of, type_field};
@@ -13,6 +13,7 @@ ghost use Rattle.module_scopes.specs.Resolve.{resolve_size, resolve_type};
 ghost use Rattle.module_scopes.specs.Walks.{each};
 ghost use Rattle.module_types.specs.Elements.{argument_part, names_parameter, type_field_part, type_part};
 
+use crate::lists::{listed, put};
 use crate::numbers::{in_scope, numbered};
 use bumpalo::Bump;
 use bumpalo::collections::into_bump_slice;
@@ -70,7 +71,7 @@ fn used<'a>(path: &'a [&'a str], at: Place, names: &Names<'a>) -> Result<Ref, St
 
 /// A type with its names resolved.
 #[cycle(types)]
-#[tactic(auto, using(crate::proofs::TypeLaws::type_rules))]
+#[tactic(auto, using(crate::proofs::HeldTypes::type_held))]
 pub fn resolved_type<'a>(
     ty: &'a TypeExp<'a>,
     bump: &'a Bump,
@@ -82,8 +83,9 @@ pub fn resolved_type<'a>(
     match ty.form {
         TypeForm::Path(path, args) => {
             let of = used(path, ty.place, names);
-            let args = resolved_args(args, ty.place, bump, names);
-            nodes::named(bump, ty.place, of, args)
+            let mut made = Vec::new(bump);
+            let walked = resolved_args(args, ty.place, bump, names, &mut made);
+            nodes::named(bump, ty.place, of, listed(walked, into_bump_slice(made)))
         }
         TypeForm::Array(size, row) => {
             let size = resolved_size(size, ty.place, names);
@@ -99,17 +101,21 @@ pub fn resolved_type<'a>(
         TypeForm::Named(_, _, _) => resolved_named(ty, bump, names),
         TypeForm::Unit => nodes::tuple(bump, ty.place, Ok(&[])),
         TypeForm::Tuple(parts) => {
-            nodes::tuple(bump, ty.place, resolved_types(parts, bump, names))
+            let mut made = Vec::new(bump);
+            let walked = resolved_types(parts, bump, names, &mut made);
+            nodes::tuple(bump, ty.place, listed(walked, into_bump_slice(made)))
         }
         TypeForm::Record(fields) => {
-            nodes::record(bump, ty.place, resolved_fields(fields, bump, names))
+            let mut made = Vec::new(bump);
+            let walked = resolved_fields(fields, bump, names, &mut made);
+            nodes::record(bump, ty.place, listed(walked, into_bump_slice(made)))
         }
     }
 }
 
 /// A function's type whose parameter has a name, which its result sees.
 #[cycle(types)]
-#[tactic(auto, using(crate::proofs::TypeLaws::named_rules))]
+#[tactic(auto, using(crate::proofs::HeldTypes::type_held))]
 fn resolved_named<'a>(
     ty: &'a TypeExp<'a>,
     bump: &'a Bump,
@@ -133,53 +139,61 @@ fn resolved_named<'a>(
     }
 }
 
+/// Puts the types of a list behind those that there are.
 #[cycle(types)]
-#[tactic(auto, using(crate::proofs::TypeLaws::list_rules))]
+#[tactic(auto)]
 fn resolved_types<'a>(
     parts: &'a [Held<'a, TypeExp<'a>>],
     bump: &'a Bump,
     names: &mut Names<'a>,
-) -> Result<&'a [flat::TypeExp<'a>], Stop<'a>>
-    ensures went { Went (λ ts. map type_of ts.now) (each type_part parts.now) names.old names.new result }
+    made: &mut Vec<flat::TypeExp<'a>, &'a Bump>,
+) -> Result<(), Stop<'a>>
+    requires { made.old.items ≡ [] }
+    ensures went { Went (λ u. map type_of made.new.items) (each type_part parts.now) names.old names.new result }
     ensures bound { bound_of names.new ≡ bound_of names.old }
 {
-    let mut made = Vec::new(bump);
     for part in parts {
-        let next = resolved_type(part.at, bump, names)?;
-        match made.push(*next) {
-            Ok(()) => (),
-            Err(_) => return Err(Stop::Memory),
+        match resolved_type(part.at, bump, names) {
+            Ok(ty) => match made.push(*ty) {
+                Ok(()) => (),
+                Err(_) => return Err(Stop::Memory),
+            },
+            Err(stop) => return Err(stop),
         }
     }
-    Ok(into_bump_slice(made))
+    Ok(())
 }
 
+/// Puts the fields of a record's type behind those that there are.
 #[cycle(types)]
-#[tactic(auto, using(crate::proofs::TypeLaws::list_rules))]
+#[tactic(auto)]
 fn resolved_fields<'a>(
     fields: &'a [TypeField<'a>],
     bump: &'a Bump,
     names: &mut Names<'a>,
-) -> Result<&'a [flat::TypeField<'a>], Stop<'a>>
-    ensures went { Went (λ fs. map type_field fs.now) (each type_field_part fields.now) names.old names.new result }
+    made: &mut Vec<flat::TypeField<'a>, &'a Bump>,
+) -> Result<(), Stop<'a>>
+    requires { made.old.items ≡ [] }
+    ensures went { Went (λ u. map type_field made.new.items) (each type_field_part fields.now) names.old names.new result }
     ensures bound { bound_of names.new ≡ bound_of names.old }
 {
-    let mut made = Vec::new(bump);
     for field in fields {
-        let ty = resolved_type(field.ty, bump, names)?;
-        match made.push(flat::TypeField {
-            name: field.name,
-            ty: *ty,
-        }) {
-            Ok(()) => (),
-            Err(_) => return Err(Stop::Memory),
+        match resolved_type(field.ty, bump, names) {
+            Ok(ty) => match made.push(flat::TypeField {
+                name: field.name,
+                ty: *ty,
+            }) {
+                Ok(()) => (),
+                Err(_) => return Err(Stop::Memory),
+            },
+            Err(stop) => return Err(stop),
         }
     }
-    Ok(into_bump_slice(made))
+    Ok(())
 }
 
 #[cycle(types)]
-#[tactic(auto, using(crate::proofs::TypeLaws::argument_rules))]
+#[tactic(auto)]
 fn resolved_arg<'a>(
     arg: &'a TypeArg<'a>,
     at: Place,
@@ -190,29 +204,36 @@ fn resolved_arg<'a>(
     ensures bound { bound_of names.new ≡ bound_of names.old }
 {
     match arg {
-        TypeArg::Size(size) => Ok(flat::TypeArg::Size(resolved_size(*size, at, names)?)),
-        TypeArg::Of(ty) => Ok(flat::TypeArg::Of(*resolved_type(ty, bump, names)?)),
+        TypeArg::Size(size) => match resolved_size(*size, at, names) {
+            Ok(size) => Ok(flat::TypeArg::Size(size)),
+            Err(stop) => Err(stop),
+        },
+        TypeArg::Of(ty) => match resolved_type(ty, bump, names) {
+            Ok(ty) => Ok(flat::TypeArg::Of(*ty)),
+            Err(stop) => Err(stop),
+        },
     }
 }
 
+/// Puts the arguments of a type behind those that there are.
 #[cycle(types)]
-#[tactic(auto, using(crate::proofs::TypeLaws::list_rules))]
+#[tactic(auto)]
 fn resolved_args<'a>(
     args: &'a [TypeArg<'a>],
     at: Place,
     bump: &'a Bump,
     names: &mut Names<'a>,
-) -> Result<&'a [flat::TypeArg<'a>], Stop<'a>>
-    ensures went { Went (λ given. map argument_of given.now) (each (argument_part at) args.now) names.old names.new result }
+    made: &mut Vec<flat::TypeArg<'a>, &'a Bump>,
+) -> Result<(), Stop<'a>>
+    requires { made.old.items ≡ [] }
+    ensures went { Went (λ u. map argument_of made.new.items) (each (argument_part at) args.now) names.old names.new result }
     ensures bound { bound_of names.new ≡ bound_of names.old }
 {
-    let mut made = Vec::new(bump);
     for arg in args {
-        let next = resolved_arg(arg, at, bump, names)?;
-        match made.push(next) {
+        match put(resolved_arg(arg, at, bump, names), made) {
             Ok(()) => (),
-            Err(_) => return Err(Stop::Memory),
+            Err(stop) => return Err(stop),
         }
     }
-    Ok(into_bump_slice(made))
+    Ok(())
 }
