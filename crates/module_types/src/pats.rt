@@ -1,12 +1,10 @@
 // Patterns.
 ghost use Rattle.std.specs.Prelude.{◌≡◌, [], map};
 ghost use Rattle.fut_flat.specs.Erased.{pattern_of};
-ghost use Rattle.fut_flat.specs.Sources.{label, patterns, source_pattern};
+ghost use Rattle.fut_flat.specs.Sources.{source_pattern};
 ghost use Rattle.fut_flat.proofs.ErasedPatterns.{pattern_field};
-ghost use Rattle.fut_tree.specs.Names.{all};
-ghost use Rattle.module_scopes.specs.Answers.{Bound_by, Entered, Went};
-ghost use Rattle.module_scopes.specs.Resolve.{name_pattern, resolve_parameters, resolve_pattern};
-ghost use Rattle.module_scopes.specs.Table.{made_of, scope_of};
+ghost use Rattle.module_scopes.specs.Answers.{Bound_by, Went};
+ghost use Rattle.module_scopes.specs.Resolve.{name_pattern, resolve_pattern};
 ghost use Rattle.module_scopes.specs.Walks.{each};
 ghost use Rattle.module_types.specs.Elements.{field_pattern, pattern_part};
 ghost use Rattle.module_types.specs.Numbering.{Named};

@@ -48,6 +48,15 @@ resolved_type-returns-in-Arrow-clause-bound t c = c.resolved_type-in-Arrow.ensur
 pub resolved_type-returns-in-Unit-clause-went : goal.resolved_type-returns-in-Unit-clause-went
 resolved_type-returns-in-Unit-clause-went t c = type_went c.ty.inside _ _ c.ty.view_is c.in-Unit.is (unit_went _ _ _ refl c.tuple.ensures)
 
+pub resolved_type-returns-in-Unit-clause-bound : goal.resolved_type-returns-in-Unit-clause-bound
+resolved_type-returns-in-Unit-clause-bound t c = refl
+
+pub resolved_type-returns-in-Named-clause-went : goal.resolved_type-returns-in-Named-clause-went
+resolved_type-returns-in-Named-clause-went t c = c.resolved_named.ensures.went
+
+pub resolved_type-returns-in-Named-clause-bound : goal.resolved_type-returns-in-Named-clause-bound
+resolved_type-returns-in-Named-clause-bound t c = c.resolved_named.ensures.bound
+
 pub resolved_type-returns-in-Tuple-clause-went : goal.resolved_type-returns-in-Tuple-clause-went
 resolved_type-returns-in-Tuple-clause-went t c = type_went c.ty.inside _ _ c.ty.view_is c.in-Tuple.is (tuple_went _ _ _ _ _ (walked_list (map type_of) _ _ _ _ _ _ c.resolved_types-walked.ensures.went c.into_bump_slice-in-Tuple.ensures c.listed-in-Tuple.ensures) c.tuple-in-Tuple.ensures)
 
