@@ -1,5 +1,5 @@
 // The walk over expressions.
-ghost use Rattle.std.specs.Prelude.{◌≡◌, map};
+ghost use Rattle.std.specs.Prelude.{◌≡◌, [], map};
 ghost use Rattle.fut_flat.specs.Erased.{term_of};
 ghost use Rattle.fut_flat.specs.Sources.{declared, placed};
 ghost use Rattle.fut_flat.proofs.ErasedForms.{row_of, turns_of};
@@ -25,7 +25,6 @@ use crate::heads::{
     sized_pattern,
 };
 use crate::leaves::{is_behind, operator, used};
-use crate::lists::{put, put_exp};
 use crate::operations::{Operation, gathered, operation_of};
 use crate::sections::{led, looked_before};
 use bumpalo::Bump;
@@ -35,7 +34,7 @@ use fut_flat::Act;
 use fut_tree::{Bind, Exp, Form, Held, LoopForm, TypeExp};
 use module_nodes::{exps as nodes, rows, typed};
 use module_scopes::{Names, Stop};
-use module_types::{in_scope, numbered, resolved_parameters, resolved_type};
+use module_types::{in_scope, listed, numbered, put, resolved_parameters, resolved_type};
 
 /// An expression with its names resolved.
 #[cycle(exps)]
@@ -137,7 +136,9 @@ fn walked_binding<'a>(
             nodes::lambda(bump, exp.place, params, body)
         }
         Form::Lets(binds, body) => {
-            let lets = walked_rows(binds, body, bump, names);
+            let mut made = Vec::new(bump);
+            let went = walked_rows(binds, body, bump, names, &mut made);
+            let lets = listed(went, into_bump_slice(made));
             let body = walked(body, bump, names);
             names.leave(height);
             rows::rowed(bump, exp.place, lets, body)
@@ -261,27 +262,37 @@ fn walked_operation<'a>(
 {
     match of {
         Ok(of) => {
-            let parts = walked_parts(of.parts, bump, names);
+            let mut made = Vec::new(bump);
+            let went = walked_parts(of.parts, bump, names, &mut made);
+            let parts = listed(went, into_bump_slice(made));
             nodes::strict(bump, exp.place, exp.mark, of.act, parts)
         }
         Err(stop) => Err(stop),
     }
 }
 
+/// Puts the expressions of a list behind those that there are.
 #[cycle(exps)]
-#[tactic(auto, using(crate::proofs::ExpLaws::start_rules))]
+#[tactic(auto)]
 fn walked_parts<'a>(
     parts: &'a [Held<'a, Exp<'a>>],
     bump: &'a Bump,
     names: &mut Names<'a>,
-) -> Result<&'a [flat::Exp<'a>], Stop<'a>>
-    ensures { Went (λ es. map term_of es.now) (each exp_part parts.now) names.old names.new result }
+    made: &mut Vec<flat::Exp<'a>, &'a Bump>,
+) -> Result<(), Stop<'a>>
+    requires { made.old.items ≡ [] }
+    ensures { Went (λ u. map term_of made.new.items) (each exp_part parts.now) names.old names.new result }
 {
-    let mut made = Vec::new(bump);
     for part in parts {
-        put_exp(walked(part.at, bump, names), &mut made)?;
+        match walked(part.at, bump, names) {
+            Ok(exp) => match made.push(*exp) {
+                Ok(()) => (),
+                Err(_) => return Err(Stop::Memory),
+            },
+            Err(stop) => return Err(stop),
+        }
     }
-    Ok(into_bump_slice(made))
+    Ok(())
 }
 
 /// A function's body, with the declared type of its result.
@@ -310,25 +321,30 @@ pub fn walked_body<'a>(
 
 // ---- lets
 
-/// A row of lets before a body, each of which sees those before it. What they bind is in scope behind them.
+/// Puts a row of lets before a body behind those that there are. Each sees those before it, and what they bind is in scope
+/// behind them.
 #[cycle(exps)]
-#[tactic(auto, using(crate::proofs::ExpLaws::start_rules))]
+#[tactic(auto, using(crate::proofs::RowLaws::rows_start))]
 fn walked_rows<'a>(
     binds: &'a [Bind<'a>],
     body: &'a Exp<'a>,
     bump: &'a Bump,
     names: &mut Names<'a>,
-) -> Result<&'a [flat::Let<'a>], Stop<'a>>
-    ensures { Entered (λ ls. map row_of ls.now) (each_row (source_of body.now) binds.now (scope_of names.old) (made_of names.old)) names.new result }
+    made: &mut Vec<flat::Let<'a>, &'a Bump>,
+) -> Result<(), Stop<'a>>
+    requires { made.old.items ≡ [] }
+    ensures { Entered (λ u. map row_of made.new.items) (each_row (source_of body.now) binds.now (scope_of names.old) (made_of names.old)) names.new result }
 {
-    let mut made = Vec::new(bump);
     let mut left = binds.len();
     for bind in binds {
         left -= 1;
         let looked = looked_before(left, body, names);
-        put(led(looked, walked_row(bind, bump, names)), &mut made)?;
+        match put(led(looked, walked_row(bind, bump, names)), made) {
+            Ok(()) => (),
+            Err(stop) => return Err(stop),
+        }
     }
-    Ok(into_bump_slice(made))
+    Ok(())
 }
 
 /// One let. Its value sees its size and type parameters, and what it binds is in scope behind it.

@@ -5,7 +5,7 @@ ghost use Rattle.fut_tree.specs.Names.{all};
 ghost use Rattle.fut_tree.specs.declared.exp.ExpField.{ExpField};
 ghost use Rattle.module_nodes.specs.Built.{Built0};
 ghost use Rattle.module_scopes.specs.declared.refusal.Stop.TheVariants as stop;
-ghost use Rattle.module_exps.specs.Lists.{Put, all_exps, exps_of, maybe_exp, part_of};
+ghost use Rattle.module_exps.specs.Lists.{all_exps, exps_of, maybe_exp, part_of};
 
 use bumpalo::Bump;
 use bumpalo::collections::into_bump_slice;
@@ -13,38 +13,6 @@ use fut_flat as flat;
 use fut_flat::Part;
 use fut_tree::{Exp, ExpField, Held, Ix};
 use module_scopes::Stop;
-
-/// Puts what a walk gave behind what is made.
-pub fn put<'a, T: Copy>(
-    next: Result<T, Stop<'a>>,
-    made: &mut Vec<T, &'a Bump>,
-) -> Result<(), Stop<'a>>
-    ensures { Put (λ x. x) next.entry made.old.items made.new.items result }
-{
-    match next {
-        Ok(next) => match made.push(next) {
-            Ok(()) => Ok(()),
-            Err(_) => Err(Stop::Memory),
-        },
-        Err(stop) => Err(stop),
-    }
-}
-
-/// The same of an expression that the arena holds, which is copied.
-pub fn put_exp<'a>(
-    next: Result<&'a flat::Exp<'a>, Stop<'a>>,
-    made: &mut Vec<flat::Exp<'a>, &'a Bump>,
-) -> Result<(), Stop<'a>>
-    ensures { Put (λ e. e.now) next.entry made.old.items made.new.items result }
-{
-    match next {
-        Ok(next) => match made.push(*next) {
-            Ok(()) => Ok(()),
-            Err(_) => Err(Stop::Memory),
-        },
-        Err(stop) => Err(stop),
-    }
-}
 
 fn held_exps<'a>(
     exps: &[Held<'a, Exp<'a>>],

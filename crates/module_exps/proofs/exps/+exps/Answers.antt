@@ -1,13 +1,17 @@
 -- A list of parts is smaller than the expression, and each form's walk is what its parts' walks make.
-use Rattle.std.proofs.Common.{◌∙◌, ap, arith, map, subst, sym}
-use Rattle.std.proofs.lemmas.Result.{err_from_is_err_and}
+use Rattle.std.proofs.Common.{◌∙◌, arith, map, subst, sym}
+use Rattle.std.specs.Borrow.{Bor}
 use Rattle.fut_tree.proofs.Sizes.{lets_parts}
+use Rattle.fut_flat.specs.declared.exp.Exp.{Exp as Flat}
 use Rattle.fut_flat.specs.Erased.{term_of}
-use Rattle.module_scopes.proofs.Walking.{doing_end}
+use Rattle.fut_flat.proofs.ErasedForms.{row_of}
+use Rattle.module_scopes.specs.Answers.{no_memory}
 use Rattle.module_nodes.specs.Built.{Built0}
+use Rattle.module_types.specs.Lists.{no_item, put}
+use Rattle.module_types.proofs.Nexts.{end_of, entered_list, next_put, start_of, stops_put, walked_list}
 use Rattle.module_exps.specs.Operations.{Operates}
 use Rattle.module_exps.proofs.ComposedLaws.{composed_at}
-use Rattle.module_exps.proofs.ExpLaws.{apply_went, behind_went, choice_went, exp_went, lambda_went, part_put, part_put_stops, plain_body, turned_alike, typed_body}
+use Rattle.module_exps.proofs.ExpLaws.{apply_went, behind_went, choice_went, exp_went, lambda_went, part_went, plain_body, turned_alike, typed_body}
 use Rattle.module_exps.proofs.HeldExps.{place_at}
 use Rattle.module_exps.proofs.ListSizes.{held_biggest}
 use Rattle.module_exps.proofs.OperationLaws.{operation_smaller, operation_stops, operation_went}
@@ -29,14 +33,14 @@ walked_applying-returns-in-Apply-2 t c = exp_went c.exp.inside _ _ c.exp.view_is
 pub walked_choosing-returns : goal.walked_choosing-returns
 walked_choosing-returns t c = exp_went c.exp.inside _ _ c.exp.view_is c.in-If.is (choice_went _ _ _ _ _ _ _ _ _ _ _ c.walked.ensures c.walked-in-If.ensures c.walked-in-If-2.ensures c.choice.ensures)
 
-pub walked_binding-walked_rows-lets-requires : goal.walked_binding-walked_rows-lets-requires
-walked_binding-walked_rows-lets-requires t c = (omega (arith, lets_parts c.exp.inside _ c.exp.view_is c.in-Lets.binds c.in-Lets.body c.in-Lets.is), tt)
+pub walked_binding-walked_rows-went-requires : goal.walked_binding-walked_rows-went-requires
+walked_binding-walked_rows-went-requires t c = (omega (arith, lets_parts c.exp.inside _ c.exp.view_is c.in-Lets.binds c.in-Lets.body c.in-Lets.is), c.new-made.ensures.items)
 
 pub walked_binding-returns-in-Lambda : goal.walked_binding-returns-in-Lambda
 walked_binding-returns-in-Lambda t c = exp_went c.exp.inside _ _ c.exp.view_is c.in-Lambda.is (lambda_went _ _ _ _ _ _ _ _ _ _ c.resolved_parameters-params.ensures c.walked_body-body.ensures c.height-height.ensures c.leave.ensures.scope c.leave.ensures.made c.lambda.ensures)
 
 pub walked_binding-returns-in-Lets : goal.walked_binding-returns-in-Lets
-walked_binding-returns-in-Lets t c = exp_went c.exp.inside _ _ c.exp.view_is c.in-Lets.is (lets_went c.in-Lets.binds.now _ _ _ _ _ _ _ _ _ c.walked_rows-lets.ensures c.walked-body.ensures c.height-height.ensures c.leave-in-Lets.ensures.scope c.leave-in-Lets.ensures.made c.rowed.ensures)
+walked_binding-returns-in-Lets t c = exp_went c.exp.inside _ _ c.exp.view_is c.in-Lets.is (lets_went c.in-Lets.binds.now _ _ _ _ _ _ _ _ _ (entered_list (map row_of) _ _ _ _ _ c.walked_rows-went.ensures c.into_bump_slice.ensures c.listed-lets.ensures) c.walked-body.ensures c.height-height.ensures c.leave-in-Lets.ensures.scope c.leave-in-Lets.ensures.made c.rowed.ensures)
 
 pub walked_joining-returns-in-Some : goal.walked_joining-returns-in-Some
 walked_joining-returns-in-Some t c = exp_went c.exp.inside _ _ c.exp.view_is c.in-Binary.is (binary_went _ _ _ _ _ _ _ _ _ _ _ _ c.in-Some.ensures c.strict.ensures c.two-parts.ensures c.walked.ensures c.walked-in-Some.ensures)
@@ -56,25 +60,29 @@ walked_typed-returns-in-Ascribe t c = exp_went c.exp.inside _ _ c.exp.view_is c.
 pub walked_typed-returns-in-Coerce : goal.walked_typed-returns-in-Coerce
 walked_typed-returns-in-Coerce t c = exp_went c.exp.inside _ _ c.exp.view_is c.in-Coerce.is (coerced_went _ _ _ _ _ _ _ _ _ c.coerced.ensures c.walked-in-Coerce.ensures c.resolved_type-in-Coerce.ensures.went)
 
-pub walked_operation-walked_parts-parts-requires : goal.walked_operation-walked_parts-parts-requires
-walked_operation-walked_parts-parts-requires t c = (omega (arith, held_biggest c.in-Ok.of.parts.now, operation_smaller (subst (Built0 (Operates c.args.exp.now)) c.in-Ok.is c.requires)), tt)
+pub walked_operation-walked_parts-went-requires : goal.walked_operation-walked_parts-went-requires
+walked_operation-walked_parts-went-requires t c = (omega (arith, held_biggest c.in-Ok.of.parts.now, operation_smaller (subst (Built0 (Operates c.args.exp.now)) c.in-Ok.is c.requires)), c.new-made.ensures.items)
 
 pub walked_operation-returns-in-Ok : goal.walked_operation-returns-in-Ok
-walked_operation-returns-in-Ok t c = operation_went c.exp.inside _ c.in-Ok.of c.exp.view_is (subst (Built0 (Operates c.args.exp.now)) c.in-Ok.is c.requires) c.strict.ensures c.walked_parts-parts.ensures
+walked_operation-returns-in-Ok t c = operation_went c.exp.inside _ c.in-Ok.of c.exp.view_is (subst (Built0 (Operates c.args.exp.now)) c.in-Ok.is c.requires) c.strict.ensures (walked_list (map term_of) _ _ _ _ _ _ c.walked_parts-went.ensures c.into_bump_slice.ensures c.listed-parts.ensures)
 
 pub walked_operation-returns-in-Err : goal.walked_operation-returns-in-Err
 walked_operation-returns-in-Err t c = operation_stops (subst (Built0 (Operates c.args.exp.now)) c.in-Err.is c.requires)
 
-pub walked_parts-loop-part-preserved : goal.walked_parts-loop-part-preserved
-walked_parts-loop-part-preserved t c = part_put _ _ _ _ _ c.part-item.result _ _ _ _ c.loop-part-test.true c.part-item.is c.walked.ensures c.in_ok-put_exp.ensures c.loop-part.invariant
+pub walked_parts-loop-part-init : goal.walked_parts-loop-part-init
+walked_parts-loop-part-init t c = start_of _ _ _ c.requires
 
-pub walked_parts-returns-in_err-put_exp : goal.walked_parts-returns-in_err-put_exp
-walked_parts-returns-in_err-put_exp t c =
-    let p = err_from_is_err_and c.from_residual.result c.from_residual.ensures.1 in
-    rw (p.1, p.2) (part_put_stops _ _ _ _ _ c.part-item.result _ _ _ _ c.loop-part-test.true c.part-item.is c.walked.ensures c.in_err-put_exp.ensures c.loop-part.invariant)
+pub walked_parts-loop-part-preserved : goal.walked_parts-loop-part-preserved
+walked_parts-loop-part-preserved t c = next_put {item = λ (e : Bor Flat). e.now} _ _ _ _ _ c.part-item.result _ _ _ tt c.loop-part-test.true c.part-item.is (part_went _ _ _ _ c.in-Ok.ensures) (put c.in-Ok-push.ensures.items) c.loop-part.invariant
+
+pub walked_parts-returns-in-Err-push : goal.walked_parts-returns-in-Err-push
+walked_parts-returns-in-Err-push t c = no_memory
+
+pub walked_parts-returns-in-Err : goal.walked_parts-returns-in-Err
+walked_parts-returns-in-Err t c = stops_put {item = λ (e : Bor Flat). e.now} _ _ _ _ _ c.part-item.result _ c.loop-part.made.items _ _ c.loop-part-test.true c.part-item.is (part_went _ _ _ _ c.in-Err.ensures) no_item c.loop-part.invariant
 
 pub walked_parts-returns : goal.walked_parts-returns
-walked_parts-returns t c = doing_end _ _ _ _ _ _ c.loop-part-test.false (ap (map term_of) c.into_bump_slice.ensures) c.loop-part.invariant
+walked_parts-returns t c = end_of _ _ _ _ _ _ c.loop-part-test.false c.loop-part.invariant
 
 pub walked_body-returns-in-None : goal.walked_body-returns-in-None
 walked_body-returns-in-None t c = rw c.in-None.is (plain_body _ _ _ _ c.walked.ensures)
@@ -83,15 +91,13 @@ pub walked_body-returns-in-Some : goal.walked_body-returns-in-Some
 walked_body-returns-in-Some t c = rw c.in-Some.is (typed_body c.args.body.now _ _ _ _ _ _ _ _ (place_at c.body.inside _ c.body.view_is) c.declared.ensures c.resolved_type.ensures.went c.walked-in-Some.ensures)
 
 pub walked_rows-loop-bind-preserved : goal.walked_rows-loop-bind-preserved
-walked_rows-loop-bind-preserved t c = (rows_put _ _ _ _ _ _ _ c.bind-item.result _ _ _ _ c.loop-bind-test.true c.bind-item.is (omega (arith, c.loop-bind.invariant.1, c.loop-bind-test.true)) (led_entered _ _ _ c.looked_before-looked.ensures c.walked_row.ensures c.led.ensures) c.in_ok-put.ensures c.loop-bind.invariant.0, omega (arith, c.loop-bind.invariant.1, c.loop-bind-test.true))
+walked_rows-loop-bind-preserved t c = (rows_put _ _ _ _ _ _ _ c.bind-item.result _ _ _ _ c.loop-bind-test.true c.bind-item.is (omega (arith, c.loop-bind.invariant.1, c.loop-bind-test.true)) (led_entered _ _ _ c.looked_before-looked.ensures c.walked_row.ensures c.led.ensures) c.in-Ok.ensures c.loop-bind.invariant.0, omega (arith, c.loop-bind.invariant.1, c.loop-bind-test.true))
 
-pub walked_rows-returns-in_err-put : goal.walked_rows-returns-in_err-put
-walked_rows-returns-in_err-put t c =
-    let p = err_from_is_err_and c.from_residual.result c.from_residual.ensures.1 in
-    rw (p.1, p.2) (rows_put_stops _ _ _ _ _ _ _ c.bind-item.result _ _ _ _ c.loop-bind-test.true c.bind-item.is (omega (arith, c.loop-bind.invariant.1, c.loop-bind-test.true)) (led_entered _ _ _ c.looked_before-looked.ensures c.walked_row.ensures c.led.ensures) c.in_err-put.ensures c.loop-bind.invariant.0)
+pub walked_rows-returns-in-Err : goal.walked_rows-returns-in-Err
+walked_rows-returns-in-Err t c = rows_put_stops _ _ _ _ _ _ _ c.bind-item.result _ _ _ _ c.loop-bind-test.true c.bind-item.is (omega (arith, c.loop-bind.invariant.1, c.loop-bind-test.true)) (led_entered _ _ _ c.looked_before-looked.ensures c.walked_row.ensures c.led.ensures) c.in-Err.ensures c.loop-bind.invariant.0
 
 pub walked_rows-returns : goal.walked_rows-returns
-walked_rows-returns t c = rows_end _ _ _ _ _ _ _ c.loop-bind-test.false c.into_bump_slice.ensures c.loop-bind.invariant.0
+walked_rows-returns t c = rows_end _ _ _ _ _ _ _ c.loop-bind-test.false c.loop-bind.invariant.0
 
 pub walked_row-returns : goal.walked_row-returns
 walked_row-returns t c = row_entered c.args.bind.now _ _ _ _ _ _ _ _ _ _ _ _ c.sized_pattern-head.ensures c.height-height.ensures c.brought_heads-heads.ensures c.walked-value.ensures c.leave.ensures.scope c.leave.ensures.made c.brought_head-head.ensures c.let_row.ensures
