@@ -80,7 +80,7 @@ fn named_pattern<'a>(
     }
 }
 
-/// Puts the patterns of a list behind those that there are.
+/// Puts the patterns of a list into one that is empty.
 #[cycle(pats)]
 #[tactic(auto)]
 fn named_parts<'a>(
@@ -101,7 +101,7 @@ fn named_parts<'a>(
     Ok(())
 }
 
-/// Puts the fields of a record's pattern behind those that there are.
+/// Puts the fields of a record's pattern into a list that is empty.
 #[cycle(pats)]
 #[tactic(auto)]
 fn named_fields<'a>(

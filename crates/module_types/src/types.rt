@@ -139,7 +139,7 @@ fn resolved_named<'a>(
     }
 }
 
-/// Puts the types of a list behind those that there are.
+/// Puts the types of a list into one that is empty.
 #[cycle(types)]
 #[tactic(auto)]
 fn resolved_types<'a>(
@@ -164,7 +164,7 @@ fn resolved_types<'a>(
     Ok(())
 }
 
-/// Puts the fields of a record's type behind those that there are.
+/// Puts the fields of a record's type into a list that is empty.
 #[cycle(types)]
 #[tactic(auto)]
 fn resolved_fields<'a>(
@@ -215,7 +215,7 @@ fn resolved_arg<'a>(
     }
 }
 
-/// Puts the arguments of a type behind those that there are.
+/// Puts the arguments of a type into a list that is empty.
 #[cycle(types)]
 #[tactic(auto)]
 fn resolved_args<'a>(
