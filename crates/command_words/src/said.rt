@@ -1,7 +1,7 @@
 // What words have said so far.
 ghost use Rattle.std.specs.Prelude.{◌≡◌, option_map};
 ghost use Rattle.command_words.specs.Held.{said_of};
-ghost use Rattle.command_words.specs.CommandLine.{any_word, file_word, named_word, one_word, option_named, option_word, value_word};
+ghost use Rattle.command_words.specs.CommandLine.{any_word, file_word, one_word, option_named, option_word, value_word};
 
 use crate::words::{Action, OptionName, is_option, parted, turns_of};
 use fut_lexer::is_name;

@@ -1,5 +1,5 @@
 // The parts of the index of what is written: operands, since a slice in an update is left out.
-ghost use Rattle.std.specs.Prelude.{◌≡◌, ◌≤◌, ◌<◌, length, IfOk};
+ghost use Rattle.std.specs.Prelude.{◌≤◌, ◌<◌, length, IfOk};
 ghost use Rattle.fut_ast.specs.Sorts.{Written_item};
 ghost use Rattle.fut_grammar.specs.Phrases.{items, phrases, read_at};
 ghost use Rattle.fut_grammar.specs.Reading.{Gives, commas_at};

@@ -1,7 +1,7 @@
 // Operations on scalars.
 ghost use Rattle.std.specs.Prelude.{◌≡◌, ◌<◌, ◌≤◌, ◌^◌, IfOk};
 ghost use Rattle.fut_scalar.specs.Integers.{FitsType, integer_of, width_of};
-ghost use Rattle.fut_arithmetic.specs.Types.{IsDefined, IsDefinedOfOne, type_of};
+ghost use Rattle.fut_arithmetic.specs.Types.{IsDefined, type_of};
 ghost use Rattle.fut_meaning.specs.Accessors.{count_of, or_wrong, truth_of_scalar, turns_of_scalar};
 ghost use Rattle.fut_meaning.specs.Operations.{reported};
 ghost use Rattle.fut_meaning.specs.Operators.{binary_result, unary_result};

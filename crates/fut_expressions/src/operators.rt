@@ -1,5 +1,5 @@
 // Operands, applications and operators.
-ghost use Rattle.std.specs.Prelude.{◌≡◌, ◌≤◌, ◌<◌, ◌+◌, suc, true, length, if◌then◌else◌, [], ◌∷◌, Err, IfOk, List, ℕ};
+ghost use Rattle.std.specs.Prelude.{◌≡◌, ◌≤◌, ◌<◌, ◌+◌, suc, true, if◌then◌else◌, [], ◌∷◌, Err, IfOk, List, ℕ};
 ghost use Rattle.fut_ast.specs.Behind.{begins_argument, behind_app};
 ghost use Rattle.fut_ast.specs.ExpRows.{assertion};
 ghost use Rattle.fut_ast.specs.Nodes.{exp_at};

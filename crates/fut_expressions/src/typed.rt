@@ -1,5 +1,5 @@
 // Types behind expressions, and all that may stand behind operands.
-ghost use Rattle.std.specs.Prelude.{◌≡◌, ◌≤◌, ◌<◌, ◌+◌, suc, true, length, if◌then◌else◌, IfOk};
+ghost use Rattle.std.specs.Prelude.{◌≡◌, ◌≤◌, ◌<◌, ◌+◌, suc, true, if◌then◌else◌, IfOk};
 ghost use Rattle.fut_ast.specs.Nodes.{exp_at, node};
 ghost use Rattle.fut_ast.specs.Tokens.{spot_of, starts};
 ghost use Rattle.fut_ast.specs.declared.exp.Form.TheVariants as form;

@@ -1,5 +1,5 @@
 // Updates of arrays and records.
-ghost use Rattle.std.specs.Prelude.{◌≡◌, ◌≤◌, ◌<◌, ◌+◌, suc, true, length, if◌then◌else◌, IfOk, Ok};
+ghost use Rattle.std.specs.Prelude.{◌≡◌, ◌≤◌, ◌<◌, ◌+◌, suc, true, IfOk, Ok};
 ghost use Rattle.fut_ast.specs.ExpRows.{further_replaced, last_replaced};
 ghost use Rattle.fut_ast.specs.Rows.{suffix_parts, suffix_tree, with_index};
 ghost use Rattle.fut_ast.specs.Sorts.{Path, Updated};
@@ -7,7 +7,7 @@ ghost use Rattle.fut_ast.specs.Tokens.{spot_of, starts, tail};
 ghost use Rattle.fut_atoms.specs.Tie.{ending_found, replacing_found};
 ghost use Rattle.fut_expressions.specs.Replaced.{replaced_at, unraised_at};
 ghost use Rattle.fut_grammar.specs.Phrases.{again_at, phrases, read_at, with_suffix};
-ghost use Rattle.fut_grammar.specs.Reading.{Gives, parts_at, refuse, suffix_at};
+ghost use Rattle.fut_grammar.specs.Reading.{Gives, parts_at, suffix_at};
 ghost use Rattle.fut_tree.specs.Names.{names};
 
 use crate::behind::{is_full, too_high};

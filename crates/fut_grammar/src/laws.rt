@@ -1,5 +1,5 @@
 // The laws of the grammar by themselves.
-ghost use Rattle.std.specs.Prelude.{◌≡◌, ℕ, ◌||◌, Bool, false, List};
+ghost use Rattle.std.specs.Prelude.{◌≡◌, ℕ, ◌||◌, false, List};
 ghost use Rattle.fut_scalar.specs.declared.place.Place.{Place};
 ghost use Rattle.fut_token.specs.declared.token.Fixed.{Fixed};
 ghost use Rattle.fut_token.specs.declared.token.Token.{Token};

@@ -1,5 +1,5 @@
 // The words that a program is called with: the real ones, which are not told, and words in memory, which are.
-ghost use Rattle.std.specs.Prelude.{◌≡◌, None, Some, slice_get, IfOk};
+ghost use Rattle.std.specs.Prelude.{◌≡◌, None, Some};
 
 use crate::Words;
 use fut_scalar::{List, NoMemory};

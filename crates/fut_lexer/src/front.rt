@@ -1,5 +1,5 @@
 // What stands at the front of a text.
-ghost use Rattle.std.specs.Prelude.{◌≡◌, ◌≤◌, IfOk, IfSome, length, drop};
+ghost use Rattle.std.specs.Prelude.{◌≡◌, ◌≤◌, IfOk, IfSome, length};
 ghost use Rattle.std.specs.Str.{encode_utf8_all};
 ghost use Rattle.fut_lexer.specs.Rules.{close_len};
 ghost use Rattle.fut_lexer.specs.Private.FrontReading.{field_at, front_at, hash_at, integer_at, integer_in, name_len, quote_at, sign_at, symbol_at, text_at, type_variable, type_variable_at, with_suffix, word_kind};

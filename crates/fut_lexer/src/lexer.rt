@@ -1,7 +1,6 @@
 // The tokens of a text, from left to right.
-ghost use Rattle.std.specs.Prelude.{◌≤◌, ◌≡◌, IfErr, IfOk, length, take, true, false};
-ghost use Rattle.std.specs.Str.{IsUtf8, chars};
-ghost use Rattle.std.specs.Str.Lossy.{utf8_valid_len};
+ghost use Rattle.std.specs.Prelude.{◌≤◌, ◌≡◌, IfErr, IfOk, length, true, false};
+ghost use Rattle.std.specs.Str.{chars};
 ghost use Rattle.fut_lexer.specs.Lexing.{ExplainsText, HasTokens, OneReading};
 ghost use Rattle.fut_lexer.specs.Positions.{moved, place_of, text_start};
 ghost use Rattle.fut_lexer.specs.Spans.{InOrder};

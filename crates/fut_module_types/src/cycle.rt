@@ -1,7 +1,7 @@
 // Module types and members stand in one another: the two functions that read them.
 ghost use Rattle.std.specs.Prelude.{Err, ◌≡◌, ◌≤◌, ◌<◌, ◌+◌, suc, IfOk};
 ghost use Rattle.fut_ast.specs.Sorts.{Mod_param, Spec_item, Whole_mtype};
-ghost use Rattle.fut_grammar.specs.Phrases.{items, phrases, read_at};
+ghost use Rattle.fut_grammar.specs.Phrases.{phrases, read_at};
 ghost use Rattle.fut_grammar.specs.Reading.{Gives};
 ghost use Rattle.fut_module_types.specs.MtypeFound.{param_found, spec_found};
 ghost use Rattle.fut_module_types.specs.MtypeTie.{Law, Mtype_law};

@@ -1,5 +1,5 @@
 // What stands in the heads of functions, lets and loops: size names, parameters and their types.
-ghost use Rattle.std.specs.Prelude.{◌≡◌, ◌≤◌, ◌<◌, length, true, ℕ, IfOk};
+ghost use Rattle.std.specs.Prelude.{◌≤◌, ◌<◌, length, IfOk};
 ghost use Rattle.fut_ast.specs.Sorts.{Applied_type, Atomic_pat, Head_item, Size_item, Whole_type};
 ghost use Rattle.fut_grammar.specs.Phrases.{items, phrases, read_at};
 ghost use Rattle.fut_grammar.specs.Reading.{Gives, many_at, maybe_at, several_at};

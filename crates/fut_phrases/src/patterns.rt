@@ -1,5 +1,5 @@
 // Patterns.
-ghost use Rattle.std.specs.Prelude.{Err, ◌≡◌, ◌≤◌, ◌<◌, ◌+◌, suc, length, true, ℕ, IfOk};
+ghost use Rattle.std.specs.Prelude.{Err, ◌≡◌, ◌≤◌, ◌<◌, ◌+◌, suc, true, ℕ, IfOk};
 ghost use Rattle.fut_ast.specs.PatRows.{pat_name, short_field, wild};
 ghost use Rattle.fut_ast.specs.Rows.{of_pat, pat_type};
 ghost use Rattle.fut_ast.specs.Sorts.{Atomic_pat, Pat_field, Tree, Whole_pat};

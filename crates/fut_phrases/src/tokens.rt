@@ -5,19 +5,8 @@ ghost use Rattle.fut_ast.specs.Grammar.{is_lifted};
 ghost use Rattle.fut_ast.specs.Sorts.{Applied_type, Atomic_type, Head_item, Whole_type};
 ghost use Rattle.fut_ast.specs.LeftOut.{begins_left_out, is_char, is_constructor};
 ghost use Rattle.fut_ast.specs.Parts.{without};
-ghost use Rattle.fut_ast.specs.Tokens.{
-  is_int,
-  is_text,
-  is_variable,
-  is_word,
-  kind_is_fixed,
-  kind_is_int,
-  kind_is_word,
-  spot_of,
-  starts,
-  tail,
-};
-ghost use Rattle.fut_grammar.specs.Reading.{Fails, Gives, closed_size, expect, look_at, names_at, number_at, path_at, refuse, refuse_as, refuse_sort, size_at, size_left_out, text_at, variable_at, word_at};
+ghost use Rattle.fut_ast.specs.Tokens.{is_int, is_text, is_variable, is_word, kind_is_fixed, spot_of, starts, tail};
+ghost use Rattle.fut_grammar.specs.Reading.{Gives, closed_size, expect, look_at, names_at, number_at, path_at, refuse, refuse_as, refuse_sort, size_at, size_left_out, text_at, variable_at, word_at};
 ghost use Rattle.fut_phrases.specs.Signs.{word_before};
 ghost use Rattle.fut_tree.specs.Names.{names};
 ghost use Rattle.fut_tree.specs.Pats.{head_of};

@@ -1,27 +1,12 @@
 // Types.
-ghost use Rattle.std.specs.Prelude.{Err, ◌≡◌, ◌&&◌, ◌≤◌, ◌<◌, ◌+◌, suc, length, true, ℕ, IfOk};
-ghost use Rattle.fut_ast.specs.Rows.{arrow, of_type};
-ghost use Rattle.fut_ast.specs.Sorts.{
-  Applied_type,
-  Atomic_type,
-  Type_argument,
-  Type_field,
-  Type_name,
-  Whole_type,
-};
+ghost use Rattle.std.specs.Prelude.{Err, ◌≡◌, ◌&&◌, ◌≤◌, ◌<◌, ◌+◌, suc, true, ℕ, IfOk};
+ghost use Rattle.fut_ast.specs.Rows.{of_type};
+ghost use Rattle.fut_ast.specs.Sorts.{Applied_type, Type_argument, Type_field, Type_name, Whole_type};
 ghost use Rattle.fut_ast.specs.Tokens.{is_word, starts, tail};
 ghost use Rattle.fut_ast.specs.TypeRows.{applied_name, array_type, named_arrow, size_argument};
 ghost use Rattle.fut_ast.specs.Behind.{begins, begins_named};
 ghost use Rattle.fut_phrases.specs.Handed.{ReadsType, TypeLaw, sort_of};
-ghost use Rattle.fut_grammar.specs.Phrases.{
-  applied_type_at,
-  atomic_type_at,
-  items,
-  once_at,
-  phrases,
-  read_at,
-  whole_type_at,
-};
+ghost use Rattle.fut_grammar.specs.Phrases.{applied_type_at, atomic_type_at, items, phrases, read_at, whole_type_at};
 ghost use Rattle.fut_grammar.specs.Reading.{Gives, row_at};
 ghost use Rattle.fut_phrases.specs.Found.{found_as, tree_found};
 ghost use Rattle.fut_tree.specs.Types.{arg_of};

@@ -1,5 +1,4 @@
 // Expressions.
-ghost use Rattle.std.specs.Prelude.{◌≡◌};
 
 use crate::held::Held;
 use crate::pat::{Head, Pat};

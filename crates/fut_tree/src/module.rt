@@ -1,5 +1,4 @@
 // Declarations, modules and module types. They exist in source texts alone.
-ghost use Rattle.std.specs.Prelude.{◌≡◌};
 
 use crate::exp::Exp;
 use crate::held::Held;

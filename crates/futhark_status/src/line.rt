@@ -1,7 +1,7 @@
 // The line of a status on err.
 ghost use Rattle.std.specs.Prelude.{◌≡◌, [], codes};
 ghost use Rattle.futhark_status.specs.Report.{line_in, Reported, Told};
-ghost use Rattle.futhark_status.specs.Status.{bytes_of, entry_line, input_line, kind_text, lex_line, limit_line, line_form, line_of, names_line, parse_line, Placed, types_line, why_line};
+ghost use Rattle.futhark_status.specs.Status.{entry_line, input_line, kind_text, lex_line, limit_line, line_form, line_of, names_line, parse_line, Placed, types_line, why_line};
 
 use crate::pieces::write_line;
 use crate::status::{EntryErr, LimitKind, Refused, Status, Why};

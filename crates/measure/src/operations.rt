@@ -3,7 +3,7 @@ ghost use Rattle.std.specs.Prelude.{Some, map};
 ghost use Rattle.fut_flat.specs.Erased.{operation_of, texts};
 ghost use Rattle.fut_flat.specs.Terms.{Assert, Project, Replace};
 ghost use Rattle.fut_meaning.specs.Knowns.{data_of, known_fields, known_part, known_part_from, known_result, known_tuple, replaced_in, some_record};
-ghost use Rattle.measure.specs.Held.{known_of, knowns, maybe_known};
+ghost use Rattle.measure.specs.Held.{known_of, knowns};
 ghost use Rattle.measure.specs.Answers.{Known_to, one_or_data};
 
 use crate::known::{Known, KnownForm, all_data, held, is_data, known_data};

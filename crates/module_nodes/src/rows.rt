@@ -1,5 +1,5 @@
 // Lets, loops and compositions.
-ghost use Rattle.std.specs.Prelude.{◌≡◌, [], ◌∷◌, map};
+ghost use Rattle.std.specs.Prelude.{◌≡◌, [], map};
 ghost use Rattle.fut_flat.specs.Erased.{lets, pattern_of, term_of};
 ghost use Rattle.fut_flat.specs.Terms.{Bound_pattern, Lambda, Loop, no_pattern, pattern_and};
 ghost use Rattle.fut_flat.proofs.ErasedForms.{row_of, turns_of};

@@ -1,5 +1,5 @@
 // Expressions.
-ghost use Rattle.std.specs.Prelude.{◌≡◌, ◌≤◌, ◌<◌, ◌+◌, ◌++◌, ℕ, map, OnOk, IfOk, IfErr};
+ghost use Rattle.std.specs.Prelude.{◌≡◌, ◌≤◌, ◌<◌, ◌+◌, ◌++◌, map, OnOk, IfOk, IfErr};
 ghost use Rattle.fut_flat.specs.Terms.{Apply, Counted, If, Lambda, Over, Strict, While};
 ghost use Rattle.fut_flat.specs.Numbers.{all_numbers, numbers};
 ghost use Rattle.fut_flat.specs.Erased.{lets as lets_term, operation_of, parameters, pattern_of, patterns, term_of, terms};
@@ -7,7 +7,7 @@ ghost use Rattle.fut_flat.proofs.ErasedForms.{loop_of, row_of, turns_of};
 ghost use Rattle.fut_typing.specs.Rows.{behind, behind_all, env_rows};
 ghost use Rattle.type_definitions.specs.Definitions.{Definition_claim, Definition_homes, env_definition, named};
 ghost use Rattle.fut_types.specs.declared.shapes.ShapeTable.{ShapeTable};
-ghost use Rattle.type_graph.specs.Graph.{Each, Tells};
+ghost use Rattle.type_graph.specs.Graph.{Tells};
 ghost use Rattle.type_rules.specs.Demands.{Are_demands};
 ghost use Rattle.type_scopes.specs.Scopes.{Claimed, Opened, Refused, Safe};
 ghost use Rattle.type_constraints.specs.Parts.{Constrained, Head_claim, Head_homes, Row_claim, Row_homes, Rows_claim, Rows_homes, Ruled, Terms_claim, Terms_homes, Unconstrained, Unruled, behind_head, env_head, env_row, starts, use_term, value_row};

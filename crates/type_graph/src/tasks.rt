@@ -1,5 +1,5 @@
 // What is added to the tasks.
-ghost use Rattle.std.specs.Prelude.{◌≡◌, ◌<◌, ◌≤◌, ◌+◌, ◌^◌, ◌++◌, ◌∷◌, [], length, OnOk, IfErr};
+ghost use Rattle.std.specs.Prelude.{◌≡◌, ◌<◌, ◌+◌, ◌^◌, ◌++◌, ◌∷◌, [], length, OnOk, IfErr};
 ghost use Rattle.type_graph.specs.declared.UnifyErr.TheVariants as err;
 ghost use Rattle.type_graph.specs.Graph.{Tables, Listed, Closed, entry_at, numbers, children, pairs, all_have, chain_tasks};
 

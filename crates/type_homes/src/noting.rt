@@ -1,5 +1,5 @@
 // What is noted of numbers, one behind the other.
-ghost use Rattle.std.specs.Prelude.{◌≡◌, ◌++◌, [], true, false, IfErr, IfOk};
+ghost use Rattle.std.specs.Prelude.{◌≡◌, [], true, false, IfOk};
 ghost use Rattle.type_homes.specs.Listed.{one};
 ghost use Rattle.type_homes.specs.Noted.{Noted};
 

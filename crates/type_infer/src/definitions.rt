@@ -1,5 +1,5 @@
 // Definitions in a row.
-ghost use Rattle.std.specs.Prelude.{◌≡◌, ◌≤◌, ◌+◌, map, OnOk, IfOk, IfErr};
+ghost use Rattle.std.specs.Prelude.{◌≤◌, map, OnOk, IfErr};
 ghost use Rattle.fut_typing.specs.Program.{defined, program_numbers};
 ghost use Rattle.type_scopes.specs.Scopes.{Opened, Refused, Safe};
 ghost use Rattle.type_infer.specs.Definitions.{Definitions_claim, Definitions_homes, env_definitions};

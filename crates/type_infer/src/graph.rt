@@ -1,5 +1,5 @@
 // The graph of a program's types.
-ghost use Rattle.std.specs.Prelude.{◌≡◌, OnOk, IfErr};
+ghost use Rattle.std.specs.Prelude.{OnOk, IfErr};
 ghost use Rattle.fut_typing.specs.Program.{program_numbers, program_of};
 ghost use Rattle.type_homes.specs.Listed.{AreHomes};
 ghost use Rattle.type_labels.specs.Labels.{IsLabels};

@@ -1,5 +1,5 @@
 // Uses of names, of values and of types.
-ghost use Rattle.std.specs.Prelude.{◌≡◌, ◌<◌, ℕ, OnOk, IfErr};
+ghost use Rattle.std.specs.Prelude.{◌<◌, ℕ, OnOk, IfErr};
 ghost use Rattle.fut_types.specs.declared.Kind.{Kind};
 ghost use Rattle.type_graph.specs.Graph.{Tells};
 ghost use Rattle.type_scopes.specs.Scopes.{Claimed, Refused, Safe};

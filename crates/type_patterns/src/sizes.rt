@@ -1,5 +1,5 @@
 // Sizes in written types.
-ghost use Rattle.std.specs.Prelude.{◌≡◌, ◌<◌, OnOk, IfErr};
+ghost use Rattle.std.specs.Prelude.{◌<◌, OnOk, IfErr};
 ghost use Rattle.fut_types.specs.declared.Kind.{Kind};
 ghost use Rattle.fut_flat.specs.Terms.{Size_use};
 ghost use Rattle.fut_flat.specs.Erased.{size_of};

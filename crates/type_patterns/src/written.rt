@@ -1,5 +1,5 @@
 // Written types.
-ghost use Rattle.std.specs.Prelude.{◌≡◌, ◌≤◌, ◌<◌, ◌+◌, ◌++◌, ℕ, length, map, OnOk, IfOk, IfErr};
+ghost use Rattle.std.specs.Prelude.{◌≡◌, ◌≤◌, ◌<◌, ◌+◌, ◌++◌, ℕ, length, map, OnOk, IfErr};
 ghost use Rattle.fut_flat.specs.Terms.{Arrow_type, Array_type, Record_type, Tuple_type};
 ghost use Rattle.fut_flat.specs.Erased.{size_of, type_of, types as type_terms};
 ghost use Rattle.type_graph.specs.Graph.{Tells, numbers};

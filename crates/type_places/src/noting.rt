@@ -1,5 +1,5 @@
 // What is noted of numbers, one behind the other.
-ghost use Rattle.std.specs.Prelude.{◌≡◌, ◌++◌, [], true, false, IfErr, IfOk};
+ghost use Rattle.std.specs.Prelude.{◌≡◌, [], true, false, IfOk};
 ghost use Rattle.type_places.specs.Noted.{Noted};
 ghost use Rattle.type_places.specs.Places.{one};
 

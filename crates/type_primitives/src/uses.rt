@@ -1,5 +1,5 @@
 // The use of a primitive.
-ghost use Rattle.std.specs.Prelude.{◌≡◌, ◌+◌, ◌<◌, ◌≤◌, ◌++◌, ◌∷◌, [], IsTrue, drop, length, OnOk, IfOk, IfErr};
+ghost use Rattle.std.specs.Prelude.{◌≡◌, ◌+◌, ◌<◌, ◌≤◌, ◌++◌, IsTrue, length, OnOk, IfOk, IfErr};
 ghost use Rattle.fut_types.specs.Shapes.{IsTable};
 ghost use Rattle.type_graph.specs.Graph.{Tables, Told, Tells};
 ghost use Rattle.type_claims.specs.Claims.{Sound, Extends, Adds, Nowhere};

@@ -1,5 +1,5 @@
 // The labels of a record's names.
-ghost use Rattle.std.specs.Prelude.{◌≡◌, ◌<◌, ◌≤◌, length, OnOk, IfOk};
+ghost use Rattle.std.specs.Prelude.{◌<◌, OnOk, IfOk};
 ghost use Rattle.fut_flat.specs.Erased.{texts};
 ghost use Rattle.type_labels.specs.Labels.{Goes_on, IsLabels};
 ghost use Rattle.type_records.specs.Fields.{Numbered};

@@ -1,5 +1,5 @@
 // A record by its number, with its parts under their labels.
-ghost use Rattle.std.specs.Prelude.{◌≡◌, ◌+◌, ◌<◌, ◌≤◌, ◌++◌, ◌∷◌, [], drop, length, slice_index_or, OnOk, IfOk, IfErr};
+ghost use Rattle.std.specs.Prelude.{◌≡◌, ◌+◌, ◌<◌, ◌≤◌, length, OnOk, IfOk, IfErr};
 ghost use Rattle.fut_types.specs.Shapes.{IsTable};
 ghost use Rattle.type_graph.specs.Graph.{Each, Tables, Told, Tells, numbers};
 ghost use Rattle.type_claims.specs.Claims.{Sound, Extends, Adds, Nowhere, types_of};

@@ -1,11 +1,11 @@
 // The rule of records.
-ghost use Rattle.std.specs.Prelude.{◌≡◌, ◌<◌, ◌≤◌, length, map, OnOk, IfOk, IfErr, MatchOption};
+ghost use Rattle.std.specs.Prelude.{◌≡◌, ◌<◌, ◌≤◌, length, OnOk, IfOk, IfErr, MatchOption};
 ghost use Rattle.fut_flat.specs.Erased.{texts};
 ghost use Rattle.fut_typing.specs.Names.{Names, AreNames, IsRecord, Once};
 ghost use Rattle.type_graph.specs.Graph.{Each, Tables, Told, Tells};
 ghost use Rattle.type_claims.specs.Claims.{Sound, Extends, Adds, Nowhere, types_of};
 ghost use Rattle.type_labels.specs.Labels.{Goes_on, IsLabels, Labelled};
-ghost use Rattle.type_records.specs.Fields.{Numbered, Row_is};
+ghost use Rattle.type_records.specs.Fields.{Row_is};
 
 use crate::names::labelled;
 use crate::order::ascending;

@@ -1,5 +1,5 @@
 // Nodes of a rule's own.
-ghost use Rattle.std.specs.Prelude.{◌≡◌, ◌+◌, ◌<◌, ◌≤◌, length, OnOk, IfErr};
+ghost use Rattle.std.specs.Prelude.{◌+◌, ◌<◌, ◌≤◌, length, OnOk, IfErr};
 ghost use Rattle.fut_types.specs.Shapes.{IsTable};
 ghost use Rattle.type_graph.specs.Graph.{IsGraph, Tables, Told, Tells};
 ghost use Rattle.type_claims.specs.Claims.{Sound, Extends, Adds, Nowhere};

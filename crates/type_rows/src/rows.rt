@@ -1,5 +1,5 @@
 // The rules of tuples, arrays, indices and updates.
-ghost use Rattle.std.specs.Prelude.{◌≡◌, ◌+◌, ◌*◌, ◌<◌, ◌≤◌, ◌++◌, ◌∷◌, [], drop, length, slice_index_or, OnOk, IfOk, IfErr};
+ghost use Rattle.std.specs.Prelude.{◌≡◌, ◌+◌, ◌<◌, ◌≤◌, ◌++◌, ◌∷◌, drop, length, slice_index_or, OnOk, IfOk, IfErr};
 ghost use Rattle.fut_flat.specs.Terms.{Array_of, Index, Tuple_of, Update};
 ghost use Rattle.fut_types.specs.Shapes.{IsTable};
 ghost use Rattle.fut_typing.specs.Names.{Names};

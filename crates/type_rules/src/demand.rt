@@ -1,5 +1,5 @@
 // Demands on the types of nodes, put into a graph one after the other.
-ghost use Rattle.std.specs.Prelude.{◌≡◌, ◌≤◌, length, OnOk, IfErr};
+ghost use Rattle.std.specs.Prelude.{◌≤◌, length, OnOk, IfErr};
 ghost use Rattle.fut_types.specs.Shapes.{IsTable};
 ghost use Rattle.type_graph.specs.Graph.{Tables, Told, Tells};
 ghost use Rattle.type_claims.specs.Claims.{Sound, Extends, Adds, Nowhere};

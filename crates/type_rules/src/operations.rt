@@ -1,5 +1,5 @@
 // The demands of operations.
-ghost use Rattle.std.specs.Prelude.{◌≡◌, ◌<◌, ◌≤◌, ◌∷◌, [], ℕ, Bool, true, false, length};
+ghost use Rattle.std.specs.Prelude.{◌≡◌, ◌<◌, ◌∷◌, [], ℕ, Bool, true, false, length};
 ghost use Rattle.fut_ast.specs.Sorts.{Text};
 ghost use Rattle.fut_ast.specs.declared.node.End.{End};
 ghost use Rattle.fut_flat.specs.Terms.{Assert, Complement, Index, Negate, Project, Range, Replace, Truth, Update};
@@ -9,7 +9,7 @@ ghost use Rattle.fut_types.specs.declared.Kind.{Kind};
 ghost use Rattle.fut_types.specs.declared.shapes.ShapeTable.{ShapeTable};
 ghost use Rattle.fut_typing.specs.Names.{Names};
 ghost use Rattle.fut_typing.specs.Rules.{Rule};
-ghost use Rattle.type_rules.specs.Demands.{All_allow, All_below, Always_allowed, Are_demands, Say, Say_in, Stay_within};
+ghost use Rattle.type_rules.specs.Demands.{All_below, Always_allowed, Are_demands, Say, Say_in, Stay_within};
 
 use crate::demand::Demand;
 use fut_scalar::{IntType, ScalarType};

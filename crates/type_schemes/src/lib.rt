@@ -5,7 +5,7 @@
 //! not of the tree.
 #![tactic(auto)]
 
-ghost use Rattle.std.specs.Prelude.{◌≡◌, ◌<◌, ◌≤◌, ◌+◌, ◌++◌, ◌∷◌, [], ◌↔◌, ◌^◌, length, true, false, IsTrue, OnOk, IfOk, IfErr, ℕ};
+ghost use Rattle.std.specs.Prelude.{◌≡◌, ◌<◌, ◌≤◌, ◌+◌, ◌++◌, ◌∷◌, [], ◌↔◌, length, true, false, IsTrue, OnOk, IfOk, IfErr};
 ghost use Rattle.type_graph.specs.Graph.{IsGraph, Tells};
 ghost use Rattle.type_resolve.specs.Resolving.{Placed};
 ghost use Rattle.type_schemes.specs.Schemes.{part_at, with_part, memo_at, with_memo, definition, Entries, FormWithin, IsForeign, IsOurs, copy_kind, form_copy, next_to, no_label, child_at, label_at, child_number, child_label, child_count, head_count, Copied, Partial, Entered, Copies, Extends, Opened, Filled, Law};

@@ -1,5 +1,5 @@
 // The integer types of a program's numbers, of which literals without suffix have theirs.
-ghost use Rattle.std.specs.Prelude.{◌≡◌, IfErr, IfOk, length};
+ghost use Rattle.std.specs.Prelude.{IfErr, IfOk, length};
 ghost use Rattle.fut_typing.specs.Program.{program_of};
 ghost use Rattle.type_graph.specs.Graph.{IsGraph};
 ghost use Rattle.type_infer.specs.Inferring.{Infers, Told_by};

@@ -1,5 +1,5 @@
 // New names for data.
-ghost use Rattle.std.specs.Prelude.{◌≡◌, ◌≤◌, ◌-◌, IfErr, IfOk, map};
+ghost use Rattle.std.specs.Prelude.{◌≡◌, ◌-◌, IfErr, IfOk, map};
 ghost use Rattle.unfold.specs.Held.{field_of, fields_known, known_of};
 ghost use Rattle.unfold.specs.Knowns.{knowns};
 ghost use Rattle.unfold.specs.Shapes.{All_laid, Fields_laid, Laid, Scalar_shape};

@@ -1,11 +1,10 @@
 // Primitives, and the arguments that they have.
-ghost use Rattle.std.specs.Prelude.{◌≡◌, ◌++◌, ◌∷◌, [], IfErr, IfOk, ℕ, map};
+ghost use Rattle.std.specs.Prelude.{◌≡◌, ◌++◌, ◌∷◌, [], IfErr, IfOk, map};
 ghost use Rattle.fut_blocks.specs.declared.block.Atom.TheVariants as atom;
 ghost use Rattle.fut_flat.specs.declared.prim.Primitive.TheVariants as prim;
 ghost use Rattle.fut_meaning.specs.Operations.{arity};
 ghost use Rattle.fut_meaning.specs.Operators.{highest, lowest};
 ghost use Rattle.fut_scalar.specs.Integers.{width_of};
-ghost use Rattle.fut_scalar.specs.declared.scalar.IntType.{IntType as Integer_type};
 ghost use Rattle.fut_scalar.specs.declared.scalar.Scalar.TheVariants as scalar;
 ghost use Rattle.unfold.specs.Held.{known_of};
 ghost use Rattle.unfold.specs.Knowns.{Scalar_known, knowns};
