@@ -24,7 +24,6 @@ use Rattle.reach.specs.Reach.{is_set, named_term, Reached, reached}
 use Rattle.measure.specs.declared.program.Made.{Made}
 use Rattle.measure.specs.Program.{known_behind, Program_stopped, over_program, deep_program, lost_program, program_memory, Definition_to, definition_passed, definition_walked, definition_stopped, Definitions_to, definitions_walked, definitions_stopped, Program_to, program_walked, program_stopped}
 use Rattle.reach.proofs.Lists.{one_more, drop_end}
-use Rattle.measure.proofs.Tabling.{table_nothing}
 
 -- what the definitions still have, from what they have had
 pub record Definitions_lead (entry : ℕ) (ts : List FlatTop) (nodes depth : ℕ) (tops : Scope) (rest : List FlatTop) : Type 0 where
@@ -172,6 +171,6 @@ module _ (entry arguments : ℕ) (ts : List FlatTop) where
   pub never_lost : (r : Stop) → r ≡ Lost → (Program_lost entry arguments ts → ⊥) → Program_to entry arguments ts (Err r) → ⊥
   never_lost r e n h = n (lost_of (subst (λ z. Program_to entry arguments ts (Err z)) e h))
 
-pub ruleset programs = (program_unwalked, program_unmade, all_visits, table_nothing)
+pub ruleset programs = (program_unwalked, program_unmade, all_visits)
 
 pub ruleset measures = (measures_ok, measures_nodes, measures_depth, measures_memory)

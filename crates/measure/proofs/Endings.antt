@@ -2,21 +2,18 @@
 use Rattle.std.proofs.Common.{◌≡◌, ℕ, Err, sym, subst}
 use Rattle.std.specs.Prelude.{Result}
 use Rattle.fut_flat.specs.declared.exp.Loop.{Loop as LoopTree}
-use Rattle.fut_flat.specs.Erased.{FlatTerm, FlatTurns, pattern_of, term_of}
+use Rattle.fut_flat.specs.Erased.{FlatTerm, pattern_of, term_of}
 use Rattle.fut_flat.specs.Terms.{Loop}
 use Rattle.fut_flat.proofs.ErasedForms.{loop_of, loop_is, turns_of}
 use Rattle.fut_meaning.specs.Knowns.{Known, Scope}
 use Rattle.measure.specs.declared.stop.Stop.{Stop}
 use Rattle.measure.specs.declared.stop.Stop.TheVariants.{Memory}
 use Rattle.measure.specs.declared.walked.Walked.{Walked}
-use Rattle.measure.specs.Answers.{no_memory, no_memory_left, Walked_to, stopped, Turned_to, turn_stopped, Ran_to, run_stopped}
+use Rattle.measure.specs.Answers.{no_memory, no_memory_left, Walked_to, stopped, Ran_to, run_stopped}
 
 module _ {tops : Scope} {level spent : ℕ} (r : Stop) (q : r ≡ Memory) where
   pub walk_memory : {sc : Scope} {e : FlatTerm} → Walked_to tops sc level spent e (Err r)
   walk_memory {sc} {e} = subst (λ z. Walked_to tops sc level spent e (Err z)) (sym q) (stopped no_memory)
-
-  pub turned_memory : {sc inside : Scope} {t : FlatTurns} → Turned_to tops sc inside level spent t (Err r)
-  turned_memory {sc} {inside} {t} = subst (λ z. Turned_to tops sc inside level spent t (Err z)) (sym q) (turn_stopped no_memory_left)
 
   pub ran_memory : {h s : Known} → Ran_to tops level spent h s (Err r)
   ran_memory {h} {s} = subst (λ z. Ran_to tops level spent h s (Err z)) (sym q) (run_stopped no_memory_left)

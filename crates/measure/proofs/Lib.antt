@@ -11,7 +11,7 @@ pub mod Walks
 pub mod Leads
 pub mod Forms
 pub mod Endings
+pub mod Stepping
 pub mod Rows
 pub mod Running
-pub mod Tabling
 pub mod Definitions

@@ -4,11 +4,11 @@ use Rattle.std.specs.Prelude.{◌≡◌, ◌≤◌, ◌+◌, ℕ, max, List, map
 use Rattle.std.specs.Borrow.{Bor}
 use Rattle.fut_scalar.specs.declared.place.BindId.{BindId}
 use Rattle.fut_flat.specs.declared.prim.Ref.{Ref}
-use Rattle.fut_flat.specs.Erased.{FlatTerm, FlatTurns, Row, lets}
+use Rattle.fut_flat.specs.Erased.{FlatTerm, Row, lets}
 use Rattle.fut_flat.specs.Terms.{Terms}
 use Rattle.fut_meaning.specs.Knowns.{Known, Data, Knowns, known_none, known_and, Scope, data_of, is_data, known_bound}
-use Rattle.fut_meaning.specs.Walk.{Visits, All_visits, Row_visits, Turn_visits, Runs, Given_visits, Function_visits}
-use Rattle.fut_meaning.specs.Comes.{Inside_run, Inside_given, Inside_function, Inside_all, Inside_row, Inside_turns, Comes, Stuck_run, Stuck_given, Stuck_function, Stuck_row, Stuck_turns, Lost as Is_lost}
+use Rattle.fut_meaning.specs.Walk.{Visits, All_visits, Row_visits, Runs, Given_visits, Function_visits}
+use Rattle.fut_meaning.specs.Comes.{Inside_run, Inside_given, Inside_function, Inside_all, Inside_row, Comes, Stuck_run, Stuck_given, Stuck_function, Stuck_row, Lost as Is_lost}
 use Rattle.fut_meaning.specs.Measures.{most_nodes, most_depth}
 use Rattle.measure.specs.Held.{known_of, knowns, scope_of}
 use Rattle.measure.specs.declared.known.Known.{Known as Held_known}
@@ -18,7 +18,6 @@ use Rattle.measure.specs.declared.stop.Stop.TheVariants.{Nodes, Depth, Lost, Mem
 use Rattle.measure.specs.declared.walked.Walked.{Walked}
 use Rattle.measure.specs.declared.walked.Count.{Count}
 use Rattle.measure.specs.declared.walked.Parts.{Parts}
-use Rattle.measure.specs.declared.walked.Turn.{Turn}
 use Rattle.measure.specs.declared.walked.Row.{Row as Held_row}
 
 -- what has one part is as that part
@@ -50,10 +49,6 @@ pub data Ended (tops : Scope) (Reach : ℕ → Scope → FlatTerm → Type 0) (S
   is_stuck : Stuck → Ended tops Reach Stuck level spent Lost
   no_memory_left : Ended tops Reach Stuck level spent Memory
 
--- what is reached at once
-pub data At_once (Reach : Scope → FlatTerm → Type 0) : ℕ → Scope → FlatTerm → Type 0 where
-  at_once : {sc : Scope} {t : FlatTerm} → Reach sc t → At_once Reach 0 sc t
-
 pub data Walked_to (tops sc : Scope) (level spent : ℕ) (e : FlatTerm) : Result Walked Stop → Type 0 where
   walked : {r : Walked} → Visits tops sc e (known_of r.known) r.nodes r.depth → Walked_to tops sc level spent e (Ok r)
   stopped : {r : Stop} → Stopped tops sc level spent e r → Walked_to tops sc level spent e (Err r)
@@ -67,10 +62,6 @@ pub data Data_to (tops sc : Scope) (level spent : ℕ) (e : FlatTerm) : Result C
 pub data Parts_to (tops sc : Scope) (level spent : ℕ) (ts : Terms Ref BindId) : Result Parts Stop → Type 0 where
   parts_walked : {r : Parts} → All_visits tops sc ts (knowns (map known_of r.knowns.now)) r.nodes r.depth → Parts_to tops sc level spent ts (Ok r)
   parts_stopped : {r : Stop} → Ended tops (Inside_all tops sc ts) ⊥ level spent r → Parts_to tops sc level spent ts (Err r)
-
-pub data Turned_to (tops sc inside : Scope) (level spent : ℕ) (turns : FlatTurns) : Result Turn Stop → Type 0 where
-  turned : {r : Turn} → Turn_visits tops sc inside turns (scope_of r.scope.now) r.nodes r.depth → Turned_to tops sc inside level spent turns (Ok r)
-  turn_stopped : {r : Stop} → Ended tops (At_once (Inside_turns sc inside turns)) (Stuck_turns tops sc inside turns) level spent r → Turned_to tops sc inside level spent turns (Err r)
 
 -- one more let of a row
 pub data Let_to (tops sc : Scope) (level spent nodes depth : ℕ) (l : Row) : Result Held_row Stop → Type 0 where

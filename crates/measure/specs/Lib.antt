@@ -1,7 +1,7 @@
 pub mod Held
 pub mod Answers
+pub mod Steps
 pub mod Plain
-pub mod Tables
 pub mod Patterns
 pub mod Fields
 pub mod Program

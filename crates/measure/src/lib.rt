@@ -13,6 +13,7 @@ mod primitives;
 mod program;
 mod records;
 mod scope;
+mod steps;
 mod stop;
 mod tops;
 mod walk;

@@ -1,5 +1,5 @@
 // The measure of a program.
-ghost use Rattle.std.specs.Prelude.{◌≡◌, ◌≤◌, ◌<◌, ◌+◌, IfErr, IfOk, map, max, length};
+ghost use Rattle.std.specs.Prelude.{◌≡◌, ◌≤◌, ◌+◌, IfErr, IfOk, map, max, length};
 ghost use Rattle.fut_flat.specs.Erased.{term_of};
 ghost use Rattle.fut_meaning.specs.Comes.{Program_lost};
 ghost use Rattle.fut_meaning.specs.Flats.{flat_tops, named_terms};
@@ -8,14 +8,13 @@ ghost use Rattle.fut_meaning.specs.Measures.{Measures};
 ghost use Rattle.fut_meaning.specs.Walk.{Definition_visits};
 ghost use Rattle.measure.specs.Held.{known_of, scope_of};
 ghost use Rattle.measure.specs.Program.{Definition_to, Definitions_to, Program_to};
-ghost use Rattle.reach.specs.Reach.{Below, Reached, named_term};
-ghost use Rattle.measure.specs.Tables.{Kept, Tabled};
+ghost use Rattle.reach.specs.Reach.{Reached, named_term};
 ghost use Rattle.measure.specs.declared.stop.Stop.TheVariants as stop;
 
 use crate::known::Scope;
-use crate::scope::{bound, no_scope};
+use crate::scope::{bound, find, no_scope};
 use crate::stop::Stop;
-use crate::tops::{Table, Tops, no_table};
+use crate::tops::Tops;
 use crate::walk::{run_with_data, walk};
 use crate::walked::{Used, Walked};
 use bumpalo::Bump;
@@ -32,29 +31,23 @@ pub struct Made<'a> {
     pub depth: u32,
 }
 
-// What is known with one more definition, for which the table has room, and its visits beside those before.
+// What is known with one more definition, and its visits beside those before.
 fn enter<'a>(
     bump: &'a Bump,
-    table: &mut Table<'a>,
     made: Made<'a>,
     number: BindId,
     walked: Walked<'a>,
 ) -> Result<Made<'a>, Stop>
-    requires kept { Tabled (scope_of made.list.now) table.old.items }
-    requires room { number.0 < length table.old.items }
     requires few { made.nodes + walked.nodes ≤ 1048576 }
     ensures list { IfOk result (λ r. scope_of r.list.now ≡ known_as number (known_of walked.entry.known) (scope_of made.entry.list.now)) }
     ensures nodes { IfOk result (λ r. r.nodes ≡ made.entry.nodes + walked.entry.nodes) }
     ensures depth { IfOk result (λ r. r.depth ≡ max made.entry.depth walked.entry.depth) }
-    ensures kept { IfOk result (λ r. Tabled (scope_of r.list.now) table.new.items) }
-    ensures length { length table.new.items ≡ length table.old.items }
     ensures err { IfErr result (λ e. e ≡ stop.Memory) }
 {
     let list = match bound(bump, number, walked.known, made.list) {
         Ok(list) => list,
         Err(stop) => return Err(stop),
     };
-    table[number.0 as usize] = Some(walked.known);
     Ok(Made {
         list,
         nodes: made.nodes + walked.nodes,
@@ -65,36 +58,28 @@ fn enter<'a>(
 // One more definition, if it is reached.
 fn walk_definition<'a>(
     bump: &'a Bump,
-    table: &mut Table<'a>,
     made: Made<'a>,
     reached: bool,
-    nothing: &'a Scope<'a>,
     definition: &Definition<'a>,
 ) -> Result<Made<'a>, Stop>
-    requires kept { Tabled (scope_of made.list.now) table.old.items }
-    requires nothing { scope_of nothing.now ≡ empty }
-    requires room { definition.now.bind.0 < length table.old.items }
     requires few { made.nodes ≤ 1048576 }
     requires flat { made.depth ≤ 1000 }
     ensures walk { Definition_to definition.now.bind (term_of definition.now.value.now) reached made.entry result }
-    ensures kept { IfOk result (λ r. Tabled (scope_of r.list.now) table.new.items) }
-    ensures length { length table.new.items ≡ length table.old.items }
     ensures few { IfOk result (λ r. r.nodes ≤ 1048576) }
     ensures flat { IfOk result (λ r. r.depth ≤ 1000) }
 {
     if reached {
         let tops = Tops {
             bump,
-            list: made.list,
-            table,
+            known: made.list,
         };
         let used = Used {
             nested: 0,
             level: 0,
             spent: made.nodes,
         };
-        match walk(&tops, used, nothing, definition.value) {
-            Ok(walked) => enter(bump, table, made, definition.bind, walked),
+        match walk(&tops, used, no_scope(), definition.value) {
+            Ok(walked) => enter(bump, made, definition.bind, walked),
             Err(stop) => Err(stop),
         }
     } else {
@@ -105,30 +90,24 @@ fn walk_definition<'a>(
 // The definitions that are reached, in their order.
 fn walk_definitions<'a>(
     bump: &'a Bump,
-    table: &mut Table<'a>,
-    nothing: &'a Scope<'a>,
     entry: BindId,
     flags: &[bool],
     definitions: &[Definition<'a>],
 ) -> Result<Made<'a>, Stop>
-    requires kept { Tabled (scope_of nothing.now) table.old.items }
-    requires nothing { scope_of nothing.now ≡ empty }
-    requires room { Below (length table.old.items) definitions.now }
     requires flags { Reached entry.0 definitions.now flags.now }
     requires length { length flags.now ≡ length definitions.now }
     ensures walk { Definitions_to entry.0 (flat_tops 0 (map named_term definitions.now)) result }
-    ensures kept { IfOk result (λ r. Tabled (scope_of r.list.now) table.new.items) }
     ensures few { IfOk result (λ r. r.nodes ≤ 1048576) }
     ensures flat { IfOk result (λ r. r.depth ≤ 1000) }
 {
     let mut made = Made {
-        list: nothing,
+        list: no_scope(),
         nodes: 0,
         depth: 0,
     };
     let mut at = 0;
     for definition in definitions {
-        made = match walk_definition(bump, table, made, flags[at], nothing, definition) {
+        made = match walk_definition(bump, made, flags[at], definition) {
             Ok(next) => next,
             Err(stop) => return Err(stop),
         };
@@ -140,20 +119,19 @@ fn walk_definitions<'a>(
 // The entry, applied to so much data, behind the definitions.
 #[tactic(auto, using(crate::proofs::Definitions::entries))]
 fn walk_entry(
-    tops: &Tops<'_, '_>,
+    tops: &Tops<'_>,
     nodes: u32,
     depth: u32,
     flat: &Flat<'_>,
     entry: BindId,
     arguments: u32,
 ) -> Result<Measured, Stop>
-    requires kept { Kept tops.now }
-    requires made { Definition_visits entry.0 empty (flat_tops 0 (named_terms flat.now)) (scope_of tops.now.list.now) nodes depth }
+    requires made { Definition_visits entry.0 empty (flat_tops 0 (named_terms flat.now)) (scope_of tops.now.known.now) nodes depth }
     requires few { nodes ≤ 1048576 }
     requires flat { depth ≤ 1000 }
     ensures { Program_to entry.0 arguments (flat_tops 0 (named_terms flat.now)) result }
 {
-    match tops.of(entry) {
+    match find(tops.known, entry) {
         Some(known) => {
             let r = match run_with_data(
                 tops,
@@ -177,34 +155,26 @@ fn walk_entry(
     }
 }
 
-// The definitions, with a table in which nothing is known yet, and then the entry.
+// The definitions, and then the entry.
 #[tactic(auto, using(crate::proofs::Definitions::programs))]
 fn walk_program<'a>(
     bump: &'a Bump,
-    table: &mut Table<'a>,
     flags: &[bool],
     flat: &Flat<'a>,
     entry: BindId,
     arguments: u32,
 ) -> Result<Measured, Stop>
-    requires none { Tabled empty table.old.items }
-    requires room { Below (length table.old.items) flat.now.definitions.now }
     requires flags { Reached entry.0 flat.now.definitions.now flags.now }
     requires length { length flags.now ≡ length flat.now.definitions.now }
     ensures { Program_to entry.0 arguments (flat_tops 0 (named_terms flat.now)) result }
 {
-    let nothing = match no_scope(bump) {
-        Ok(nothing) => nothing,
-        Err(stop) => return Err(stop),
-    };
-    let made = match walk_definitions(bump, table, nothing, entry, flags, flat.definitions) {
+    let made = match walk_definitions(bump, entry, flags, flat.definitions) {
         Ok(made) => made,
         Err(stop) => return Err(stop),
     };
     let tops = Tops {
         bump,
-        list: made.list,
-        table,
+        known: made.list,
     };
     walk_entry(&tops, made.nodes, made.depth, flat, entry, arguments)
 }
@@ -224,11 +194,7 @@ pub fn measure_or_lost<'a>(
         Ok(flags) => flags,
         Err(_) => return Err(Stop::Memory),
     };
-    let mut table = match no_table(bump, count) {
-        Ok(table) => table,
-        Err(stop) => return Err(stop),
-    };
-    walk_program(bump, &mut table, flags, flat, entry, arguments)
+    walk_program(bump, flags, flat, entry, arguments)
 }
 
 /// The measure of a program from an entry on, which takes so many arguments: the visits of the walk, and how many of them

@@ -32,15 +32,13 @@ pub fn find<'a>(scope: &'a Scope<'a>, number: BindId) -> Option<Known<'a>>
     None
 }
 
+static NO_SCOPE: Scope<'static> = Scope::Empty;
+
 /// No names.
-pub fn no_scope<'a>(bump: &'a Bump) -> Result<&'a Scope<'a>, Stop>
-    ensures ok { IfOk result (λ scope. scope_of scope.now ≡ empty) }
-    ensures err { IfErr result (λ e. e ≡ stop.Memory) }
+pub fn no_scope<'a>() -> &'a Scope<'a>
+    ensures { scope_of result.now ≡ empty }
 {
-    match bump.try_alloc(Scope::Empty) {
-        Ok(scope) => Ok(scope),
-        Err(_) => Err(Stop::Memory),
-    }
+    &NO_SCOPE
 }
 
 /// The names with one more.

@@ -1,40 +1,39 @@
 // The walk of visits.
 ghost use Rattle.std.specs.Prelude.{true, ◌≡◌, ◌≤◌, ◌<◌, ◌+◌, IfOk, map};
-ghost use Rattle.fut_flat.specs.Terms.{Apply, If, Lambda, Strict, Use};
+ghost use Rattle.fut_flat.specs.Terms.{Apply, Strict};
 ghost use Rattle.fut_flat.specs.Erased.{operation_of, pattern_of, patterns, term_of, terms};
-ghost use Rattle.fut_flat.proofs.ErasedForms.{loop_of, row_of, turns_of};
+ghost use Rattle.fut_flat.proofs.ErasedForms.{row_of};
 ghost use Rattle.fut_meaning.specs.Knowns.{Known_function, Known_primitive};
 ghost use Rattle.measure.specs.Held.{known_of, knowns, scope_of};
-ghost use Rattle.measure.specs.Answers.{Data_to, Function_to, Given_to, Let_to, Parts_to, Ran_to, Rows_to, Turned_to, Walked_to};
+ghost use Rattle.measure.specs.Answers.{Data_to, Function_to, Given_to, Parts_to, Ran_to, Rows_to, Walked_to};
+ghost use Rattle.measure.specs.Steps.{Stepped_to};
 ghost use Rattle.fut_meaning.specs.Walk.{is_let, is_visit};
 ghost use Rattle.measure.specs.Plain.{Plain};
-ghost use Rattle.measure.specs.Tables.{Kept};
 
-use crate::known::{Known, KnownForm, Scope, held, is_data, known_data};
+use crate::known::{Closure, Known, KnownForm, Scope, held, is_data, known_data};
 use crate::lists::with_last;
 use crate::operations::result_of;
-use crate::patterns::{bind, bind_data};
+use crate::patterns::bind;
 use crate::peel::peeled;
 use crate::primitives::parameters_of;
-use crate::scope::{bound, captured};
+use crate::scope::captured;
+use crate::steps::{test_of, turn_of};
 use crate::stop::Stop;
 use crate::tops::{Tops, known_use};
-use crate::walked::{Count, MOST_DEPTH, MOST_NESTED, MOST_NODES, Parts, Row, Turn, Used, Walked};
-use bumpalo::collections::into_bump_slice;
-use fut_flat::{Act, Exp, Form, Let, Loop, LoopForm, Pat, Primitive, Ref};
+use crate::walked::{Count, MOST_DEPTH, MOST_NESTED, MOST_NODES, Parts, Row, Used, Walked};
+use fut_flat::{Act, Exp, Form, Let, Primitive};
 use fut_scalar::Place;
 
 /// What is known of the value of an expression, and the visits that it takes.
 #[cycle(walk)]
 #[tactic(auto, using(crate::proofs::Forms::limits))]
 pub fn walk<'a>(
-    tops: &Tops<'_, 'a>,
+    tops: &Tops<'a>,
     used: Used,
     scope: &'a Scope<'a>,
     exp: &'a Exp<'a>,
 ) -> Result<Walked<'a>, Stop>
-    requires kept { Kept tops.now }
-    ensures walk { Walked_to (scope_of tops.now.list.now) (scope_of scope.now) used.level used.spent (term_of exp.now) result }
+    ensures walk { Walked_to (scope_of tops.now.known.now) (scope_of scope.now) used.level used.spent (term_of exp.now) result }
     ensures few { IfOk result (λ r. used.spent + r.nodes ≤ 1048576) }
     ensures flat { IfOk result (λ r. used.level + r.depth ≤ 1000) }
 {
@@ -51,16 +50,15 @@ pub fn walk<'a>(
 #[cycle(walk)]
 #[tactic(auto, using(crate::proofs::Forms::forms))]
 fn walk_form<'a>(
-    tops: &Tops<'_, 'a>,
+    tops: &Tops<'a>,
     used: Used,
     scope: &'a Scope<'a>,
     exp: &'a Exp<'a>,
 ) -> Result<Walked<'a>, Stop>
-    requires kept { Kept tops.now }
     requires plain { Plain exp.now }
     requires level { used.level < 1000 }
     requires spent { used.spent < 1048576 }
-    ensures walk { Walked_to (scope_of tops.now.list.now) (scope_of scope.now) used.level used.spent (term_of exp.now) result }
+    ensures walk { Walked_to (scope_of tops.now.known.now) (scope_of scope.now) used.level used.spent (term_of exp.now) result }
     ensures few { IfOk result (λ r. used.spent + r.nodes ≤ 1048576) }
     ensures flat { IfOk result (λ r. used.level + r.depth ≤ 1000) }
 {
@@ -84,8 +82,20 @@ fn walk_form<'a>(
         },
         Form::Apply(function, argument) => { walk_apply(tops, used, scope, function, argument) }
         Form::Lets(_, _) => walk_lets(tops, used, scope, exp),
-        Form::If(test, yes, no) => walk_if(tops, used, scope, test, yes, no),
-        Form::Loop(whole) => walk_loop(tops, used, scope, whole),
+        Form::If(test, yes, no) => { walk_steps(tops, used, scope, test, scope, yes, scope, no) }
+        Form::Loop(whole) => match turn_of(tops.bump, whole, scope) {
+            Ok(turn) => walk_steps(
+                tops,
+                used,
+                scope,
+                &whole.first,
+                turn.outside,
+                test_of(&whole.form),
+                turn.inside,
+                &whole.body,
+            ),
+            Err(stop) => Err(stop),
+        },
     }
 }
 
@@ -93,18 +103,17 @@ fn walk_form<'a>(
 #[cycle(walk)]
 #[tactic(auto, using(crate::proofs::Walks::operations))]
 fn walk_strict<'a>(
-    tops: &Tops<'_, 'a>,
+    tops: &Tops<'a>,
     used: Used,
     scope: &'a Scope<'a>,
     act: &Act<'a>,
     mark: Place,
     parts: &'a [Exp<'a>],
 ) -> Result<Walked<'a>, Stop>
-    requires kept { Kept tops.now }
     requires level { used.level < 1000 }
     requires spent { used.spent < 1048576 }
     requires visit { is_visit (operation_of act.now) (terms (map term_of parts.now)) ≡ true }
-    ensures walk { Walked_to (scope_of tops.now.list.now) (scope_of scope.now) used.level used.spent (Strict (operation_of act.now) mark (terms (map term_of parts.now))) result }
+    ensures walk { Walked_to (scope_of tops.now.known.now) (scope_of scope.now) used.level used.spent (Strict (operation_of act.now) mark (terms (map term_of parts.now))) result }
     ensures few { IfOk result (λ r. used.spent + r.nodes ≤ 1048576) }
     ensures flat { IfOk result (λ r. used.level + r.depth ≤ 1000) }
 {
@@ -131,16 +140,15 @@ fn walk_strict<'a>(
 #[cycle(walk)]
 #[tactic(auto, using(crate::proofs::Walks::applications))]
 fn walk_apply<'a>(
-    tops: &Tops<'_, 'a>,
+    tops: &Tops<'a>,
     used: Used,
     scope: &'a Scope<'a>,
     function: &'a Exp<'a>,
     argument: &'a Exp<'a>,
 ) -> Result<Walked<'a>, Stop>
-    requires kept { Kept tops.now }
     requires level { used.level < 1000 }
     requires spent { used.spent < 1048576 }
-    ensures walk { Walked_to (scope_of tops.now.list.now) (scope_of scope.now) used.level used.spent (Apply (term_of function.now) (term_of argument.now)) result }
+    ensures walk { Walked_to (scope_of tops.now.known.now) (scope_of scope.now) used.level used.spent (Apply (term_of function.now) (term_of argument.now)) result }
     ensures few { IfOk result (λ r. used.spent + r.nodes ≤ 1048576) }
     ensures flat { IfOk result (λ r. used.level + r.depth ≤ 1000) }
 {
@@ -184,20 +192,22 @@ fn walk_apply<'a>(
     })
 }
 
+// Three expressions that have to give data, one after the other and each in its names: those of an `if`, or those of a loop.
 #[cycle(walk)]
-#[tactic(auto, using(crate::proofs::Walks::branches))]
-fn walk_if<'a>(
-    tops: &Tops<'_, 'a>,
+#[tactic(auto, using(crate::proofs::Stepping::stepping))]
+fn walk_steps<'a>(
+    tops: &Tops<'a>,
     used: Used,
     scope: &'a Scope<'a>,
-    test: &'a Exp<'a>,
-    yes: &'a Exp<'a>,
-    no: &'a Exp<'a>,
+    first: &'a Exp<'a>,
+    outside: &'a Scope<'a>,
+    second: &'a Exp<'a>,
+    inner: &'a Scope<'a>,
+    third: &'a Exp<'a>,
 ) -> Result<Walked<'a>, Stop>
-    requires kept { Kept tops.now }
     requires level { used.level < 1000 }
     requires spent { used.spent < 1048576 }
-    ensures walk { Walked_to (scope_of tops.now.list.now) (scope_of scope.now) used.level used.spent (If (term_of test.now) (term_of yes.now) (term_of no.now)) result }
+    ensures walk { Stepped_to (scope_of tops.now.known.now) (scope_of scope.now) (scope_of outside.now) (scope_of inner.now) used.level used.spent (term_of first.now) (term_of second.now) (term_of third.now) result }
     ensures few { IfOk result (λ r. used.spent + r.nodes ≤ 1048576) }
     ensures flat { IfOk result (λ r. used.level + r.depth ≤ 1000) }
 {
@@ -206,176 +216,53 @@ fn walk_if<'a>(
         level: used.level + 1,
         spent: used.spent + 1,
     };
-    let c = match walk_data(tops, inside, scope, test) {
-        Ok(c) => c,
-        Err(stop) => return Err(stop),
-    };
-    let a = match walk_data(
-        tops,
-        Used {
-            spent: inside.spent + c.nodes,
-            ..inside
-        },
-        scope,
-        yes,
-    ) {
+    let a = match walk_data(tops, inside, scope, first) {
         Ok(a) => a,
         Err(stop) => return Err(stop),
     };
     let b = match walk_data(
         tops,
         Used {
-            spent: inside.spent + c.nodes + a.nodes,
+            spent: inside.spent + a.nodes,
             ..inside
         },
-        scope,
-        no,
+        outside,
+        second,
     ) {
         Ok(b) => b,
         Err(stop) => return Err(stop),
     };
-    Ok(Walked {
-        known: known_data(),
-        nodes: 1 + c.nodes + a.nodes + b.nodes,
-        depth: 1 + c.depth.max(a.depth.max(b.depth)),
-    })
-}
-
-#[cycle(walk)]
-#[tactic(auto, using(crate::proofs::Walks::loops, fut_flat::proofs::ErasedForms::loop_is))]
-fn walk_loop<'a>(
-    tops: &Tops<'_, 'a>,
-    used: Used,
-    scope: &'a Scope<'a>,
-    whole: &'a Loop<'a>,
-) -> Result<Walked<'a>, Stop>
-    requires kept { Kept tops.now }
-    requires level { used.level < 1000 }
-    requires spent { used.spent < 1048576 }
-    ensures walk { Walked_to (scope_of tops.now.list.now) (scope_of scope.now) used.level used.spent (loop_of whole.now) result }
-    ensures few { IfOk result (λ r. used.spent + r.nodes ≤ 1048576) }
-    ensures flat { IfOk result (λ r. used.level + r.depth ≤ 1000) }
-{
-    let inside = Used {
-        nested: used.nested,
-        level: used.level + 1,
-        spent: used.spent + 1,
-    };
-    let first = match walk_data(tops, inside, scope, &whole.first) {
-        Ok(first) => first,
-        Err(stop) => return Err(stop),
-    };
-    let names = match bind_data(tops.bump, &whole.pat, scope) {
-        Ok(names) => names,
-        Err(stop) => return Err(stop),
-    };
-    let turn = match walk_turns(
+    let c = match walk_data(
         tops,
         Used {
-            spent: inside.spent + first.nodes,
+            spent: inside.spent + a.nodes + b.nodes,
             ..inside
         },
-        scope,
-        names,
-        &whole.form,
+        inner,
+        third,
     ) {
-        Ok(turn) => turn,
-        Err(stop) => return Err(stop),
-    };
-    let body = match walk_data(
-        tops,
-        Used {
-            spent: inside.spent + first.nodes + turn.nodes,
-            ..inside
-        },
-        turn.scope,
-        &whole.body,
-    ) {
-        Ok(body) => body,
+        Ok(c) => c,
         Err(stop) => return Err(stop),
     };
     Ok(Walked {
         known: known_data(),
-        nodes: 1 + first.nodes + turn.nodes + body.nodes,
-        depth: 1 + first.depth.max(turn.depth.max(body.depth)),
+        nodes: 1 + a.nodes + b.nodes + c.nodes,
+        depth: 1 + a.depth.max(b.depth.max(c.depth)),
     })
-}
-
-// What says how many turns there are: outside of the loop's names, but for the condition of a `while`.
-#[cycle(walk)]
-#[tactic(auto, using(crate::proofs::Forms::turning))]
-fn walk_turns<'a>(
-    tops: &Tops<'_, 'a>,
-    used: Used,
-    scope: &'a Scope<'a>,
-    inside: &'a Scope<'a>,
-    form: &'a LoopForm<'a>,
-) -> Result<Turn<'a>, Stop>
-    requires kept { Kept tops.now }
-    requires level { used.level ≤ 1000 }
-    requires spent { used.spent ≤ 1048576 }
-    ensures walk { Turned_to (scope_of tops.now.list.now) (scope_of scope.now) (scope_of inside.now) used.level used.spent (turns_of form.now) result }
-    ensures few { IfOk result (λ r. used.spent + r.nodes ≤ 1048576) }
-    ensures flat { IfOk result (λ r. used.level + r.depth ≤ 1000) }
-{
-    match form {
-        LoopForm::For(number, count) => {
-            let n = match walk_data(tops, used, scope, count) {
-                Ok(n) => n,
-                Err(stop) => return Err(stop),
-            };
-            let names = match bound(tops.bump, *number, known_data(), inside) {
-                Ok(names) => names,
-                Err(stop) => return Err(stop),
-            };
-            Ok(Turn {
-                scope: names,
-                nodes: n.nodes,
-                depth: n.depth,
-            })
-        }
-        LoopForm::ForIn(pat, rows) => {
-            let n = match walk_data(tops, used, scope, rows) {
-                Ok(n) => n,
-                Err(stop) => return Err(stop),
-            };
-            let names = match bind_data(tops.bump, pat, inside) {
-                Ok(names) => names,
-                Err(stop) => return Err(stop),
-            };
-            Ok(Turn {
-                scope: names,
-                nodes: n.nodes,
-                depth: n.depth,
-            })
-        }
-        LoopForm::While(test) => {
-            let n = match walk_data(tops, used, inside, test) {
-                Ok(n) => n,
-                Err(stop) => return Err(stop),
-            };
-            Ok(Turn {
-                scope: inside,
-                nodes: n.nodes,
-                depth: n.depth,
-            })
-        }
-    }
 }
 
 // An expression that has to give data.
 #[cycle(walk)]
 #[tactic(auto, using(crate::proofs::Forms::datas))]
 fn walk_data<'a>(
-    tops: &Tops<'_, 'a>,
+    tops: &Tops<'a>,
     used: Used,
     scope: &'a Scope<'a>,
     exp: &'a Exp<'a>,
 ) -> Result<Count, Stop>
-    requires kept { Kept tops.now }
     requires level { used.level ≤ 1000 }
     requires spent { used.spent ≤ 1048576 }
-    ensures walk { Data_to (scope_of tops.now.list.now) (scope_of scope.now) used.level used.spent (term_of exp.now) result }
+    ensures walk { Data_to (scope_of tops.now.known.now) (scope_of scope.now) used.level used.spent (term_of exp.now) result }
     ensures few { IfOk result (λ r. used.spent + r.nodes ≤ 1048576) }
     ensures flat { IfOk result (λ r. used.level + r.depth ≤ 1000) }
 {
@@ -396,21 +283,25 @@ fn walk_data<'a>(
 #[cycle(walk)]
 #[tactic(auto, using(crate::proofs::Rows::parts))]
 fn walk_parts<'a>(
-    tops: &Tops<'_, 'a>,
+    tops: &Tops<'a>,
     used: Used,
     scope: &'a Scope<'a>,
     exps: &'a [Exp<'a>],
 ) -> Result<Parts<'a>, Stop>
-    requires kept { Kept tops.now }
     requires level { used.level ≤ 1000 }
     requires spent { used.spent ≤ 1048576 }
-    ensures walk { Parts_to (scope_of tops.now.list.now) (scope_of scope.now) used.level used.spent (terms (map term_of exps.now)) result }
+    ensures walk { Parts_to (scope_of tops.now.known.now) (scope_of scope.now) used.level used.spent (terms (map term_of exps.now)) result }
     ensures few { IfOk result (λ r. used.spent + r.nodes ≤ 1048576) }
     ensures flat { IfOk result (λ r. used.level + r.depth ≤ 1000) }
 {
-    let mut knowns = Vec::new(tops.bump);
+    let unknown: Known<'a> = known_data();
+    let knowns = match tops.bump.try_alloc_slice_fill_clone(exps.len(), unknown) {
+        Ok(knowns) => knowns,
+        Err(_) => return Err(Stop::Memory),
+    };
     let mut nodes = 0;
     let mut depth = 0;
+    let mut at = 0;
     for exp in exps {
         let r = match walk(
             tops,
@@ -424,15 +315,13 @@ fn walk_parts<'a>(
             Ok(r) => r,
             Err(stop) => return Err(stop),
         };
-        match knowns.push(r.known) {
-            Ok(()) => (),
-            Err(_) => return Err(Stop::Memory),
-        }
+        knowns[at] = r.known;
         nodes += r.nodes;
         depth = depth.max(r.depth);
+        at += 1;
     }
     Ok(Parts {
-        knowns: into_bump_slice(knowns),
+        knowns,
         nodes,
         depth,
     })
@@ -442,16 +331,15 @@ fn walk_parts<'a>(
 #[cycle(walk)]
 #[tactic(auto, using(crate::proofs::Rows::whole_rows))]
 fn walk_lets<'a>(
-    tops: &Tops<'_, 'a>,
+    tops: &Tops<'a>,
     used: Used,
     scope: &'a Scope<'a>,
     exp: &'a Exp<'a>,
 ) -> Result<Walked<'a>, Stop>
-    requires kept { Kept tops.now }
     requires level { used.level < 1000 }
     requires spent { used.spent < 1048576 }
     requires row { is_let (term_of exp.now) ≡ true }
-    ensures walk { Walked_to (scope_of tops.now.list.now) (scope_of scope.now) used.level used.spent (term_of exp.now) result }
+    ensures walk { Walked_to (scope_of tops.now.known.now) (scope_of scope.now) used.level used.spent (term_of exp.now) result }
     ensures few { IfOk result (λ r. used.spent + r.nodes ≤ 1048576) }
     ensures flat { IfOk result (λ r. used.level + r.depth ≤ 1000) }
 {
@@ -500,93 +388,62 @@ fn walk_lets<'a>(
 #[cycle(walk)]
 #[tactic(auto, using(crate::proofs::Rows::rows))]
 fn walk_row<'a>(
-    tops: &Tops<'_, 'a>,
+    tops: &Tops<'a>,
     used: Used,
     row: Row<'a>,
     lets: &'a [Let<'a>],
 ) -> Result<Row<'a>, Stop>
-    requires kept { Kept tops.now }
     requires level { used.level ≤ 1000 }
     requires spent { used.spent + row.nodes ≤ 1048576 }
     requires depth { used.level + row.depth ≤ 1000 }
-    ensures walk { Rows_to (scope_of tops.now.list.now) (scope_of row.entry.scope.now) used.level used.spent row.entry.nodes row.entry.depth (map row_of lets.now) result }
+    ensures walk { Rows_to (scope_of tops.now.known.now) (scope_of row.entry.scope.now) used.level used.spent row.entry.nodes row.entry.depth (map row_of lets.now) result }
     ensures few { IfOk result (λ r. used.spent + r.nodes ≤ 1048576) }
     ensures flat { IfOk result (λ r. used.level + r.depth ≤ 1000) }
 {
     let mut at = row;
     for one in lets {
-        at = match walk_let(tops, used, at, one) {
-            Ok(next) => next,
+        let value = match walk(
+            tops,
+            Used {
+                spent: used.spent + at.nodes,
+                ..used
+            },
+            at.scope,
+            &one.value,
+        ) {
+            Ok(value) => value,
             Err(stop) => return Err(stop),
+        };
+        let scope = match bind(tops.bump, &one.pat, value.known, at.scope) {
+            Ok(scope) => scope,
+            Err(stop) => return Err(stop),
+        };
+        at = Row {
+            scope,
+            nodes: at.nodes + value.nodes,
+            depth: at.depth.max(value.depth),
         };
     }
     Ok(at)
-}
-
-#[cycle(walk)]
-#[tactic(auto, using(crate::proofs::Rows::one_lets))]
-fn walk_let<'a>(
-    tops: &Tops<'_, 'a>,
-    used: Used,
-    row: Row<'a>,
-    one: &'a Let<'a>,
-) -> Result<Row<'a>, Stop>
-    requires kept { Kept tops.now }
-    requires level { used.level ≤ 1000 }
-    requires spent { used.spent + row.nodes ≤ 1048576 }
-    requires depth { used.level + row.depth ≤ 1000 }
-    ensures walk { Let_to (scope_of tops.now.list.now) (scope_of row.entry.scope.now) used.level used.spent row.entry.nodes row.entry.depth (row_of one.now) result }
-    ensures few { IfOk result (λ r. used.spent + r.nodes ≤ 1048576) }
-    ensures flat { IfOk result (λ r. used.level + r.depth ≤ 1000) }
-{
-    let value = match walk(
-        tops,
-        Used {
-            spent: used.spent + row.nodes,
-            ..used
-        },
-        row.scope,
-        &one.value,
-    ) {
-        Ok(value) => value,
-        Err(stop) => return Err(stop),
-    };
-    let scope = match bind(tops.bump, &one.pat, value.known, row.scope) {
-        Ok(scope) => scope,
-        Err(stop) => return Err(stop),
-    };
-    Ok(Row {
-        scope,
-        nodes: row.nodes + value.nodes,
-        depth: row.depth.max(value.depth),
-    })
 }
 
 // A known function applied to an argument.
 #[cycle(walk)]
 #[tactic(auto, using(crate::proofs::Running::runs))]
 fn run<'a>(
-    tops: &Tops<'_, 'a>,
+    tops: &Tops<'a>,
     used: Used,
     function: Known<'a>,
     argument: Known<'a>,
 ) -> Result<Walked<'a>, Stop>
-    requires kept { Kept tops.now }
     requires level { used.level ≤ 1000 }
     requires spent { used.spent ≤ 1048576 }
-    ensures walk { Ran_to (scope_of tops.now.list.now) used.level used.spent (known_of function.entry) (known_of argument.entry) result }
+    ensures walk { Ran_to (scope_of tops.now.known.now) used.level used.spent (known_of function.entry) (known_of argument.entry) result }
     ensures few { IfOk result (λ r. used.spent + r.nodes ≤ 1048576) }
     ensures flat { IfOk result (λ r. used.level + r.depth ≤ 1000) }
 {
     match *function.form {
-        KnownForm::Function(closure) => run_function(
-            tops,
-            used,
-            closure.params,
-            closure.body,
-            closure.scope,
-            argument,
-        ),
+        KnownForm::Function(closure) => run_function(tops, used, closure, argument),
         KnownForm::Primitive(primitive, given) => {
             run_primitive(tops, used, primitive, given, argument)
         }
@@ -597,31 +454,29 @@ fn run<'a>(
 #[cycle(walk)]
 #[tactic(auto, using(crate::proofs::Running::bodies))]
 fn run_function<'a>(
-    tops: &Tops<'_, 'a>,
+    tops: &Tops<'a>,
     used: Used,
-    params: &'a [Pat<'a>],
-    body: &'a Exp<'a>,
-    scope: &'a Scope<'a>,
+    closure: &'a Closure<'a>,
     argument: Known<'a>,
 ) -> Result<Walked<'a>, Stop>
-    requires kept { Kept tops.now }
     requires level { used.level ≤ 1000 }
     requires spent { used.spent ≤ 1048576 }
-    ensures walk { Ran_to (scope_of tops.now.list.now) used.level used.spent (Known_function (patterns (map pattern_of params.now)) (term_of body.now) (scope_of scope.now)) (known_of argument.entry) result }
+    ensures walk { Ran_to (scope_of tops.now.known.now) used.level used.spent (Known_function (patterns (map pattern_of closure.now.params.now)) (term_of closure.now.body.now) (scope_of closure.now.scope.now)) (known_of argument.entry) result }
     ensures few { IfOk result (λ r. used.spent + r.nodes ≤ 1048576) }
     ensures flat { IfOk result (λ r. used.level + r.depth ≤ 1000) }
 {
+    let params = closure.params;
     if params.len() == 0 {
         return Err(Stop::Lost);
     }
-    let inner = match bind(tops.bump, &params[0], argument, scope) {
+    let inner = match bind(tops.bump, &params[0], argument, closure.scope) {
         Ok(inner) => inner,
         Err(stop) => return Err(stop),
     };
     if params.len() == 1 {
-        walk(tops, used, inner, body)
+        walk(tops, used, inner, closure.body)
     } else {
-        match captured(tops.bump, &params[1..], body, inner) {
+        match captured(tops.bump, &params[1..], closure.body, inner) {
             Ok(known) => Ok(Walked {
                 known,
                 nodes: 0,
@@ -635,16 +490,15 @@ fn run_function<'a>(
 #[cycle(walk)]
 #[tactic(auto, using(crate::proofs::Running::primitives))]
 fn run_primitive<'a>(
-    tops: &Tops<'_, 'a>,
+    tops: &Tops<'a>,
     used: Used,
     primitive: Primitive,
     given: &'a [Known<'a>],
     argument: Known<'a>,
 ) -> Result<Walked<'a>, Stop>
-    requires kept { Kept tops.now }
     requires level { used.level ≤ 1000 }
     requires spent { used.spent ≤ 1048576 }
-    ensures walk { Ran_to (scope_of tops.now.list.now) used.level used.spent (Known_primitive primitive (knowns (map known_of given.now))) (known_of argument.entry) result }
+    ensures walk { Ran_to (scope_of tops.now.known.now) used.level used.spent (Known_primitive primitive (knowns (map known_of given.now))) (known_of argument.entry) result }
     ensures few { IfOk result (λ r. used.spent + r.nodes ≤ 1048576) }
     ensures flat { IfOk result (λ r. used.level + r.depth ≤ 1000) }
 {
@@ -689,16 +543,15 @@ fn run_primitive<'a>(
 #[cycle(walk)]
 #[tactic(auto, using(crate::proofs::Running::givens))]
 fn run_given<'a>(
-    tops: &Tops<'_, 'a>,
+    tops: &Tops<'a>,
     used: Used,
     parameters: &[u32],
     given: &'a [Known<'a>],
 ) -> Result<Count, Stop>
-    requires kept { Kept tops.now }
     requires level { used.level ≤ 1000 }
     requires spent { used.spent ≤ 1048576 }
     requires nested { used.nested ≤ 1000 }
-    ensures walk { Given_to (scope_of tops.now.list.now) used.level used.spent parameters.now (knowns (map known_of given.now)) result }
+    ensures walk { Given_to (scope_of tops.now.known.now) used.level used.spent parameters.now (knowns (map known_of given.now)) result }
     ensures few { IfOk result (λ r. used.spent + r.nodes ≤ 1048576) }
     ensures flat { IfOk result (λ r. used.level + r.depth ≤ 1000) }
 {
@@ -736,15 +589,14 @@ fn run_given<'a>(
 #[cycle(walk)]
 #[tactic(auto, using(crate::proofs::Running::functions))]
 pub fn run_with_data<'a>(
-    tops: &Tops<'_, 'a>,
+    tops: &Tops<'a>,
     used: Used,
     arguments: u32,
     function: Known<'a>,
 ) -> Result<Count, Stop>
-    requires kept { Kept tops.now }
     requires level { used.level ≤ 1000 }
     requires spent { used.spent ≤ 1048576 }
-    ensures walk { Function_to (scope_of tops.now.list.now) used.level used.spent arguments (known_of function.entry) result }
+    ensures walk { Function_to (scope_of tops.now.known.now) used.level used.spent arguments (known_of function.entry) result }
     ensures few { IfOk result (λ r. used.spent + r.nodes ≤ 1048576) }
     ensures flat { IfOk result (λ r. used.level + r.depth ≤ 1000) }
 {

@@ -44,14 +44,6 @@ pub struct Parts<'a> {
     pub depth: u32,
 }
 
-/// The names of a loop's turn, and the visits of what says how many turns there are.
-#[derive(Clone, Copy)]
-pub struct Turn<'a> {
-    pub scope: &'a Scope<'a>,
-    pub nodes: u32,
-    pub depth: u32,
-}
-
 /// How far the walk has come in a row of `let`s: the names and the visits so far.
 #[derive(Clone, Copy)]
 pub struct Row<'a> {

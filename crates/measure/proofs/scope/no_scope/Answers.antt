@@ -1,7 +1,5 @@
-use Rattle.std.proofs.Common.{ap, ◌∙◌}
-use Rattle.measure.specs.Held.{scope_of}
 use Rattle.measure.proofs.Mirror.{scope_empty}
 use Rattle.measure.proofs.scope.no_scope.Goals as goal
 
-pub returns-in-Ok-clause-ok : goal.returns-in-Ok-clause-ok
-returns-in-Ok-clause-ok c = ap scope_of c.in-Ok.ensures ∙ scope_empty
+pub returns : goal.returns
+returns c = scope_empty

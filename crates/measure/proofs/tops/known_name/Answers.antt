@@ -6,4 +6,4 @@ pub returns-in-Some : goal.returns-in-Some
 returns-in-Some c = name_here _ c.in-Some.ensures
 
 pub returns-in-None : goal.returns-in-None
-returns-in-None c = c.of.ensures ∙ name_behind c.in-None.ensures
+returns-in-None c = c.find-in-None.ensures ∙ name_behind c.in-None.ensures

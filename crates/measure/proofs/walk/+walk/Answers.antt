@@ -1,14 +1,17 @@
 use Rattle.std.proofs.Common.{[], ◌∙◌, sym, refl, arith}
+use Rattle.std.proofs.lemmas.List.{length-set}
 use Rattle.std.proofs.lemmas.Slice.{between_to_end}
-use Rattle.measure.proofs.Walks.{apply_function, apply_argument, apply_run, apply_ok, if_test, if_yes, if_no, if_ok, loop_first, loop_turns, loop_body, loop_ok, strict_parts, strict_lost, strict_ok}
-use Rattle.measure.proofs.Forms.{too_deep, too_many, form_use, form_unknown, form_lambda, form_strict, form_apply, form_if, form_loop, data_ok, data_function, data_stopped, plain_visit, plain_row, counted_stopped, counted_ok, over_stopped, over_ok, while_stopped, while_ok}
-use Rattle.measure.proofs.Rows.{greater, parts_more, parts_fail, parts_memory, parts_done, let_value, let_ok, let_pattern, rows_ended, rows_done, not_row, lets_more, lets_row, lets_last, lets_ok}
+use Rattle.measure.proofs.Walks.{apply_function, apply_argument, apply_run, apply_ok, strict_parts, strict_lost, strict_ok}
+use Rattle.measure.proofs.Forms.{too_deep, too_many, form_use, form_unknown, form_lambda, form_strict, form_apply, form_if, form_loop, data_ok, data_function, data_stopped, plain_visit, plain_row}
+use Rattle.measure.proofs.Rows.{greater, slots_more, parts_fail, parts_memory, slots_done, let_value, let_ok, let_pattern, rows_ended, rows_done, not_row, lets_more, lets_row, lets_last, lets_ok}
 use Rattle.measure.proofs.Leads.{leads_start, rows_start, rows_more, all_start, given_start, function_start}
 use Rattle.measure.proofs.Running.{function_at, run_other, run_of_function, run_of_primitive, run_none, run_pattern, run_last, run_waits, primitive_waits, primitive_stopped, primitive_ran, given_more, given_fail, given_many, given_few, given_done, function_more, function_fail, function_data, function_other}
 use Rattle.measure.proofs.Peeling.{peeled_walk}
 use Rattle.measure.proofs.Making.{known_gives}
 use Rattle.measure.proofs.Mirror.{known_primitive}
-use Rattle.measure.proofs.Endings.{walk_memory, turned_memory, ran_memory, loop_as}
+use Rattle.measure.proofs.Endings.{walk_memory, ran_memory}
+use Rattle.measure.specs.Steps.{first_stops}
+use Rattle.measure.proofs.Stepping.{if_steps, loop_steps, step_second, step_third, steps_done}
 use Rattle.measure.proofs.walk.+walk.Goals as goal
 
 pub run-returns-in-Function : goal.run-returns-in-Function
@@ -30,7 +33,7 @@ pub run_function-returns-then-params-eq1 : goal.run_function-returns-then-params
 run_function-returns-then-params-eq1 t c = record { walk = run_last _ _ _ _ _ _ _ _ _ _ c.if-params-eq1.true c.in-Ok.ensures c.walk.ensures.walk; few = c.walk.ensures.few; flat = c.walk.ensures.flat }
 
 pub run_function-returns-in-Ok-captured : goal.run_function-returns-in-Ok-captured
-run_function-returns-in-Ok-captured t c = record { walk = run_waits _ _ _ _ _ _ _ _ _ _ _ c.if-params-eq0.false c.if-params-eq1.false c.in-Ok.ensures (between_to_end c.args.params.now 1 _ (omega arith)) c.in-Ok-captured.ensures.ok; few = omega (arith, c.requires.spent); flat = omega (arith, c.requires.level) }
+run_function-returns-in-Ok-captured t c = record { walk = run_waits _ _ _ _ _ _ _ _ _ _ _ c.if-params-eq0.false c.if-params-eq1.false c.in-Ok.ensures (between_to_end c.args.closure.now.params.now 1 _ (omega arith)) c.in-Ok-captured.ensures.ok; few = omega (arith, c.requires.spent); flat = omega (arith, c.requires.level) }
 
 pub run_function-returns-in-Err-captured : goal.run_function-returns-in-Err-captured
 run_function-returns-in-Err-captured t c = record { walk = ran_memory _ c.in-Err-captured.ensures.err; few = tt; flat = tt }
@@ -107,12 +110,6 @@ walk_data-returns-else-is_data t c = record { walk = data_function _ _ _ _ _ _ c
 pub walk_form-returns-in-Apply : goal.walk_form-returns-in-Apply
 walk_form-returns-in-Apply t c = record { walk = form_apply _ _ _ _ _ _ _ _ c.in-Apply.is c.walk_apply.ensures.walk; few = c.walk_apply.ensures.few; flat = c.walk_apply.ensures.flat }
 
-pub walk_form-returns-in-If : goal.walk_form-returns-in-If
-walk_form-returns-in-If t c = record { walk = form_if _ _ _ _ _ _ _ _ _ c.in-If.is c.walk_if.ensures.walk; few = c.walk_if.ensures.few; flat = c.walk_if.ensures.flat }
-
-pub walk_form-returns-in-Loop : goal.walk_form-returns-in-Loop
-walk_form-returns-in-Loop t c = record { walk = form_loop _ _ _ _ _ _ _ c.in-Loop.is c.walk_loop.ensures.walk; few = c.walk_loop.ensures.few; flat = c.walk_loop.ensures.flat }
-
 pub walk_form-returns-in-Strict : goal.walk_form-returns-in-Strict
 walk_form-returns-in-Strict t c = record { walk = form_strict _ _ _ _ _ _ _ _ _ c.in-Strict.is c.walk_strict.ensures.walk; few = c.walk_strict.ensures.few; flat = c.walk_strict.ensures.flat }
 
@@ -131,59 +128,17 @@ walk_form-returns-in-Ok-captured t c = record { walk = form_lambda _ _ _ _ _ _ _
 pub walk_form-returns-in-Err-captured : goal.walk_form-returns-in-Err-captured
 walk_form-returns-in-Err-captured t c = record { walk = walk_memory _ c.in-Err-captured.ensures.err; few = tt; flat = tt }
 
-pub walk_if-returns-in-Err : goal.walk_if-returns-in-Err
-walk_if-returns-in-Err t c = record { walk = if_test _ _ _ _ _ _ _ _ c.in-Err.ensures.walk; few = tt; flat = tt }
-
-pub walk_if-returns-in-Err-walk_data : goal.walk_if-returns-in-Err-walk_data
-walk_if-returns-in-Err-walk_data t c = record { walk = if_yes _ _ _ _ _ _ _ _ _ c.in-Ok.ensures.walk c.in-Err-walk_data.ensures.walk; few = tt; flat = tt }
-
-pub walk_if-returns-in-Err-walk_data-2 : goal.walk_if-returns-in-Err-walk_data-2
-walk_if-returns-in-Err-walk_data-2 t c = record { walk = if_no _ _ _ _ _ _ _ _ _ _ c.in-Ok.ensures.walk c.in-Ok-walk_data.ensures.walk c.in-Err-walk_data-2.ensures.walk; few = tt; flat = tt }
-
-pub walk_if-returns : goal.walk_if-returns
-walk_if-returns t c = rw c.max-2.ensures (rw c.max.ensures (record { walk = if_ok _ _ _ _ _ _ _ _ _ _ _ c.known_data.ensures c.in-Ok.ensures.walk c.in-Ok-walk_data.ensures.walk c.in-Ok-walk_data-2.ensures.walk; few = omega (arith, c.in-Ok-walk_data-2.ensures.few); flat = omega (arith, c.in-Ok.ensures.flat, c.in-Ok-walk_data.ensures.flat, c.in-Ok-walk_data-2.ensures.flat) }))
-
-pub walk_let-returns-in-Err : goal.walk_let-returns-in-Err
-walk_let-returns-in-Err t c = record { walk = let_value _ _ _ _ _ _ _ _ c.in-Err.ensures.walk; few = tt; flat = tt }
-
-pub walk_let-returns-in-Err-bind : goal.walk_let-returns-in-Err-bind
-walk_let-returns-in-Err-bind t c = record { walk = let_pattern _ _ _ _ _ _ _ _ _ c.in-Ok.ensures.walk c.in-Err-bind.ensures; few = tt; flat = tt }
-
-pub walk_let-returns : goal.walk_let-returns
-walk_let-returns t c = rw c.max.ensures (record { walk = let_ok _ _ _ _ _ _ _ _ _ c.in-Ok.ensures.walk c.in-Ok-bind.ensures; few = omega (arith, c.in-Ok.ensures.few); flat = omega (arith, c.in-Ok.ensures.flat, c.requires.depth) })
-
 pub walk_lets-returns-in-Err : goal.walk_lets-returns-in-Err
 walk_lets-returns-in-Err t c = record { walk = lets_row _ _ _ _ _ c.loop-rest.row _ _ _ _ c.requires.row c.loop-rest.invariant.0 c.in-Lets.is c.in-Err.ensures.walk; few = tt; flat = tt }
 
-pub walk_loop-returns-in-Err : goal.walk_loop-returns-in-Err
-walk_loop-returns-in-Err t c = record { walk = loop_as _ _ (loop_first _ _ _ _ _ _ _ _ _ _ _ c.in-Err.ensures.walk); few = tt; flat = tt }
-
-pub walk_loop-returns-in-Err-bind_data : goal.walk_loop-returns-in-Err-bind_data
-walk_loop-returns-in-Err-bind_data t c = record { walk = walk_memory _ c.in-Err-bind_data.ensures.err; few = tt; flat = tt }
-
-pub walk_loop-returns-in-Err-walk_turns : goal.walk_loop-returns-in-Err-walk_turns
-walk_loop-returns-in-Err-walk_turns t c = record { walk = loop_as _ _ (loop_turns _ _ _ _ _ _ _ _ _ _ _ _ c.in-Ok-bind_data.ensures.ok _ c.in-Ok.ensures.walk c.in-Err-walk_turns.ensures.walk); few = tt; flat = tt }
-
-pub walk_loop-returns-in-Err-walk_data : goal.walk_loop-returns-in-Err-walk_data
-walk_loop-returns-in-Err-walk_data t c = record { walk = loop_as _ _ (loop_body _ _ _ _ _ _ _ _ _ _ _ _ c.in-Ok-bind_data.ensures.ok _ _ c.in-Ok.ensures.walk c.in-Ok-walk_turns.ensures.walk c.in-Err-walk_data.ensures.walk); few = tt; flat = tt }
-
-pub walk_loop-returns : goal.walk_loop-returns
-walk_loop-returns t c = rw c.max-2.ensures (rw c.max.ensures (record { walk = loop_as _ _ (loop_ok _ _ _ _ _ _ _ _ _ _ _ _ c.in-Ok-bind_data.ensures.ok _ _ _ c.known_data.ensures c.in-Ok.ensures.walk c.in-Ok-walk_turns.ensures.walk c.in-Ok-walk_data.ensures.walk); few = omega (arith, c.in-Ok-walk_data.ensures.few); flat = omega (arith, c.in-Ok.ensures.flat, c.in-Ok-walk_turns.ensures.flat, c.in-Ok-walk_data.ensures.flat) }))
-
 pub walk_parts-returns-in-Err : goal.walk_parts-returns-in-Err
-walk_parts-returns-in-Err t c = record { walk = parts_fail _ _ _ _ _ _ _ _ _ _ _ c.loop-exp-test.true c.loop-exp.invariant.0 c.in-Err.ensures.walk; few = tt; flat = tt }
-
-pub walk_parts-returns-in-Err-push : goal.walk_parts-returns-in-Err-push
-walk_parts-returns-in-Err-push t c = record { walk = parts_memory _ _ _ 0 0 [] _ _; few = tt; flat = tt }
+walk_parts-returns-in-Err t c = record { walk = parts_memory _ _ _ 0 0 [] _ _; few = tt; flat = tt }
 
 pub walk_parts-returns : goal.walk_parts-returns
-walk_parts-returns t c = record { walk = parts_done _ _ _ _ _ _ _ _ _ _ (omega (arith, c.loop-exp-test.false)) c.loop-exp.invariant.0 c.into_bump_slice.ensures; few = c.loop-exp.invariant.1; flat = c.loop-exp.invariant.2 }
+walk_parts-returns t c = record { walk = slots_done _ _ _ _ _ _ _ _ _ _ (omega (arith, c.loop-exp-test.false)) c.loop-exp.invariant.3 c.loop-exp.invariant.0 refl; few = c.loop-exp.invariant.1; flat = c.loop-exp.invariant.2 }
 
 pub walk_row-returns : goal.walk_row-returns
 walk_row-returns t c = record { walk = rows_done _ _ _ _ _ _ _ _ _ (omega (arith, c.loop-one-test.false)) c.loop-one.invariant.0; few = c.loop-one.invariant.1; flat = c.loop-one.invariant.2 }
-
-pub walk_row-returns-in-Err : goal.walk_row-returns-in-Err
-walk_row-returns-in-Err t c = record { walk = rows_ended _ _ _ _ _ _ _ _ _ _ _ c.loop-one-test.true c.loop-one.invariant.0 c.in-Err.ensures.walk; few = tt; flat = tt }
 
 pub walk_strict-returns-in-Err : goal.walk_strict-returns-in-Err
 walk_strict-returns-in-Err t c = record { walk = strict_parts _ _ _ _ _ _ _ c.requires.visit _ c.in-Err.ensures.walk; few = tt; flat = tt }
@@ -194,35 +149,11 @@ walk_strict-returns-in-Err-result_of t c = record { walk = strict_lost _ _ _ _ _
 pub walk_strict-returns : goal.walk_strict-returns
 walk_strict-returns t c = record { walk = strict_ok _ _ _ _ _ _ _ c.requires.visit _ _ c.in-Ok.ensures.walk c.in-Ok-result_of.ensures; few = omega (arith, c.in-Ok.ensures.few); flat = omega (arith, c.in-Ok.ensures.flat) }
 
-pub walk_turns-returns-in-Err : goal.walk_turns-returns-in-Err
-walk_turns-returns-in-Err t c = record { walk = counted_stopped _ _ _ _ _ _ _ _ c.in-For.is _ c.in-Err.ensures.walk; few = tt; flat = tt }
-
-pub walk_turns-returns-in-Err-bound : goal.walk_turns-returns-in-Err-bound
-walk_turns-returns-in-Err-bound t c = record { walk = turned_memory _ c.in-Err-bound.ensures.err; few = tt; flat = tt }
-
-pub walk_turns-returns-in-Ok-bound : goal.walk_turns-returns-in-Ok-bound
-walk_turns-returns-in-Ok-bound t c = record { walk = counted_ok _ _ _ _ _ _ _ _ c.in-For.is _ _ _ c.in-Ok.ensures.walk c.in-Ok-bound.ensures.ok c.known_data.ensures; few = c.in-Ok.ensures.few; flat = c.in-Ok.ensures.flat }
-
-pub walk_turns-returns-in-Err-walk_data : goal.walk_turns-returns-in-Err-walk_data
-walk_turns-returns-in-Err-walk_data t c = record { walk = over_stopped _ _ _ _ _ _ _ _ c.in-ForIn.is _ c.in-Err-walk_data.ensures.walk; few = tt; flat = tt }
-
-pub walk_turns-returns-in-Err-bind_data : goal.walk_turns-returns-in-Err-bind_data
-walk_turns-returns-in-Err-bind_data t c = record { walk = turned_memory _ c.in-Err-bind_data.ensures.err; few = tt; flat = tt }
-
-pub walk_turns-returns-in-Ok-bind_data : goal.walk_turns-returns-in-Ok-bind_data
-walk_turns-returns-in-Ok-bind_data t c = record { walk = over_ok _ _ _ _ _ _ _ _ c.in-ForIn.is _ _ c.in-Ok-walk_data.ensures.walk c.in-Ok-bind_data.ensures.ok; few = c.in-Ok-walk_data.ensures.few; flat = c.in-Ok-walk_data.ensures.flat }
-
-pub walk_turns-returns-in-Err-walk_data-2 : goal.walk_turns-returns-in-Err-walk_data-2
-walk_turns-returns-in-Err-walk_data-2 t c = record { walk = while_stopped _ _ _ _ _ _ _ c.in-While.is _ c.in-Err-walk_data-2.ensures.walk; few = tt; flat = tt }
-
-pub walk_turns-returns-in-Ok-walk_data-2 : goal.walk_turns-returns-in-Ok-walk_data-2
-walk_turns-returns-in-Ok-walk_data-2 t c = record { walk = while_ok _ _ _ _ _ _ _ c.in-While.is _ _ c.in-Ok-walk_data-2.ensures.walk refl; few = c.in-Ok-walk_data-2.ensures.few; flat = c.in-Ok-walk_data-2.ensures.flat }
-
 pub walk_form-walk_strict-requires : goal.walk_form-walk_strict-requires
-walk_form-walk_strict-requires t c = (omega arith, (c.requires.kept, (c.requires.level, (c.requires.spent, plain_visit _ _ _ _ c.requires.plain c.in-Strict.is))))
+walk_form-walk_strict-requires t c = (omega arith, (c.requires.level, (c.requires.spent, plain_visit _ _ _ _ c.requires.plain c.in-Strict.is)))
 
 pub walk_form-walk_lets-requires : goal.walk_form-walk_lets-requires
-walk_form-walk_lets-requires t c = (omega arith, (c.requires.kept, (c.requires.level, (c.requires.spent, plain_row _ _ _ c.requires.plain c.in-Lets.is))))
+walk_form-walk_lets-requires t c = (omega arith, (c.requires.level, (c.requires.spent, plain_row _ _ _ c.requires.plain c.in-Lets.is)))
 
 pub walk_lets-returns-in-Err-walk : goal.walk_lets-returns-in-Err-walk
 walk_lets-returns-in-Err-walk t c = record { walk = lets_last _ _ _ _ _ c.loop-rest.row _ _ c.requires.row (not_row _ c.in_default.not-Lets) c.loop-rest.invariant.0 c.in-Err-walk.ensures.walk; few = tt; flat = tt }
@@ -235,13 +166,10 @@ walk_lets-returns t c = rw c.max.ensures (record {
 })
 
 pub walk_parts-loop-exp-preserved : goal.walk_parts-loop-exp-preserved
-walk_parts-loop-exp-preserved t c = rw (c.max-depth.ensures ∙ greater c.loop-exp.depth c.in-Ok.r.depth) (parts_more _ _ _ _ _ _ _ _ _ _ _ _ c.loop-exp-test.true c.loop-exp.invariant.0 c.in-Ok.ensures.walk c.in-Ok-push.ensures.items, omega (arith, c.in-Ok.ensures.few), omega (arith, c.in-Ok.ensures.flat, c.loop-exp.invariant.2))
+walk_parts-loop-exp-preserved t c = rw (c.max-depth.ensures ∙ greater c.loop-exp.depth c.in-Ok-walk.r.depth) (slots_more _ _ _ _ _ _ _ _ _ _ _ _ c.loop-exp-test.true c.loop-exp.invariant.4 c.loop-exp.invariant.3 c.loop-exp.invariant.0 c.in-Ok-walk.ensures.walk, omega (arith, c.in-Ok-walk.ensures.few), omega (arith, c.in-Ok-walk.ensures.flat, c.loop-exp.invariant.2), simp length-set c.loop-exp.invariant.3, omega (arith, c.loop-exp.invariant.4))
 
 pub walk_row-loop-one-init : goal.walk_row-loop-one-init
 walk_row-loop-one-init t c = (rows_start _ _ _ _ _ _ refl refl refl, c.requires.spent, c.requires.depth)
-
-pub walk_row-loop-one-preserved : goal.walk_row-loop-one-preserved
-walk_row-loop-one-preserved t c = (rows_more _ _ _ _ _ _ _ _ _ _ _ c.loop-one-test.true c.loop-one.invariant.0 c.in-Ok.ensures.walk, c.in-Ok.ensures.few, c.in-Ok.ensures.flat)
 
 pub run_given-loop-known-init : goal.run_given-loop-known-init
 run_given-loop-known-init t c = (given_start, refl, omega (arith, c.requires.spent), omega (arith, c.requires.level))
@@ -262,4 +190,100 @@ pub walk_lets-loop-rest-preserved : goal.walk_lets-loop-rest-preserved
 walk_lets-loop-rest-preserved t c = (lets_more _ _ 0 0 _ c.loop-rest.row _ _ _ _ _ _ c.loop-rest.invariant.0 c.in-Lets.is c.in-Ok.ensures.walk, c.in-Ok.ensures.few, c.in-Ok.ensures.flat)
 
 pub walk_parts-loop-exp-init : goal.walk_parts-loop-exp-init
-walk_parts-loop-exp-init t c = rw c.new-knowns.ensures.items (all_start, omega (arith, c.requires.spent), omega (arith, c.requires.level))
+walk_parts-loop-exp-init t c = (all_start, omega (arith, c.requires.spent), omega (arith, c.requires.level), c.in-Ok.ensures.len, refl)
+
+pub walk_strict-walk_parts-requires : goal.walk_strict-walk_parts-requires
+walk_strict-walk_parts-requires t c = (omega (arith, c.requires.level), (omega (arith, c.requires.level), omega (arith, c.requires.spent)))
+
+pub walk_apply-walk-requires : goal.walk_apply-walk-requires
+walk_apply-walk-requires t c = (omega (arith, c.requires.level), tt)
+
+pub walk_apply-walk-requires-2 : goal.walk_apply-walk-requires-2
+walk_apply-walk-requires-2 t c = (omega (arith, c.requires.level), tt)
+
+pub walk_apply-run-requires : goal.walk_apply-run-requires
+walk_apply-run-requires t c = (omega (arith, c.requires.level), (omega (arith, c.requires.level), omega (arith, c.in-Ok-walk.ensures.few)))
+
+pub walk_data-walk-requires : goal.walk_data-walk-requires
+walk_data-walk-requires t c = (omega arith, tt)
+
+pub walk_parts-walk-requires : goal.walk_parts-walk-requires
+walk_parts-walk-requires t c = (omega arith, tt)
+
+pub walk_lets-walk_row-requires : goal.walk_lets-walk_row-requires
+walk_lets-walk_row-requires t c = (omega (arith, c.requires.level), (omega (arith, c.requires.level), (c.loop-rest.invariant.1, c.loop-rest.invariant.2)))
+
+pub walk_lets-walk-requires : goal.walk_lets-walk-requires
+walk_lets-walk-requires t c = (omega (arith, c.requires.level), tt)
+
+pub run-run_function-requires : goal.run-run_function-requires
+run-run_function-requires t c = (omega arith, (c.requires.level, c.requires.spent))
+
+pub run-run_primitive-requires : goal.run-run_primitive-requires
+run-run_primitive-requires t c = (omega arith, (c.requires.level, c.requires.spent))
+
+pub run_function-walk-requires : goal.run_function-walk-requires
+run_function-walk-requires t c = (omega arith, tt)
+
+pub run_primitive-run_given-requires : goal.run_primitive-run_given-requires
+run_primitive-run_given-requires t c = (omega (arith, c.if-used-ge-MOST_NESTED.false), (c.requires.level, (c.requires.spent, omega (arith, c.if-used-ge-MOST_NESTED.false))))
+
+pub run_given-run_with_data-requires : goal.run_given-run_with_data-requires
+run_given-run_with_data-requires t c = (omega arith, (c.requires.level, c.loop-known.invariant.2))
+
+pub run_with_data-run-requires : goal.run_with_data-run-requires
+run_with_data-run-requires t c = (omega arith, (c.requires.level, c.loop-left.invariant.1))
+
+pub walk_form-returns-in-If : goal.walk_form-returns-in-If
+walk_form-returns-in-If t c = record { walk = form_if _ _ _ _ _ _ _ _ _ c.in-If.is (if_steps c.walk_steps.ensures.walk); few = c.walk_steps.ensures.few; flat = c.walk_steps.ensures.flat }
+
+pub walk_form-returns-in-Ok-turn_of : goal.walk_form-returns-in-Ok-turn_of
+walk_form-returns-in-Ok-turn_of t c = record { walk = form_loop _ _ _ _ _ _ _ c.in-Loop.is (loop_steps _ _ _ c.in-Ok-turn_of.ensures.ok c.test_of.ensures c.walk_steps-in-Ok-turn_of.ensures.walk); few = c.walk_steps-in-Ok-turn_of.ensures.few; flat = c.walk_steps-in-Ok-turn_of.ensures.flat }
+
+pub walk_form-returns-in-Err-turn_of : goal.walk_form-returns-in-Err-turn_of
+walk_form-returns-in-Err-turn_of t c = record { walk = walk_memory _ c.in-Err-turn_of.ensures.err; few = tt; flat = tt }
+
+pub walk_steps-returns-in-Err : goal.walk_steps-returns-in-Err
+walk_steps-returns-in-Err t c = record { walk = first_stops c.in-Err.ensures.walk; few = tt; flat = tt }
+
+pub walk_steps-returns-in-Err-walk_data : goal.walk_steps-returns-in-Err-walk_data
+walk_steps-returns-in-Err-walk_data t c = record { walk = step_second _ _ _ _ _ _ _ _ _ _ _ c.in-Ok.ensures.walk c.in-Err-walk_data.ensures.walk; few = tt; flat = tt }
+
+pub walk_steps-returns-in-Err-walk_data-2 : goal.walk_steps-returns-in-Err-walk_data-2
+walk_steps-returns-in-Err-walk_data-2 t c = record { walk = step_third _ _ _ _ _ _ _ _ _ _ _ _ c.in-Ok.ensures.walk c.in-Ok-walk_data.ensures.walk c.in-Err-walk_data-2.ensures.walk; few = tt; flat = tt }
+
+pub walk_steps-returns : goal.walk_steps-returns
+walk_steps-returns t c = rw c.max-2.ensures (rw c.max.ensures (record { walk = steps_done _ _ _ _ _ _ _ _ _ _ _ _ _ c.known_data.ensures c.in-Ok.ensures.walk c.in-Ok-walk_data.ensures.walk c.in-Ok-walk_data-2.ensures.walk; few = omega (arith, c.in-Ok-walk_data-2.ensures.few); flat = omega (arith, c.in-Ok.ensures.flat, c.in-Ok-walk_data.ensures.flat, c.in-Ok-walk_data-2.ensures.flat) }))
+
+pub walk_steps-walk_data-requires : goal.walk_steps-walk_data-requires
+walk_steps-walk_data-requires t c = (omega (arith, c.requires.level), (omega (arith, c.requires.level), omega (arith, c.requires.spent)))
+
+pub walk_steps-walk_data-requires-2 : goal.walk_steps-walk_data-requires-2
+walk_steps-walk_data-requires-2 t c = (omega (arith, c.requires.level), (omega (arith, c.requires.level), omega (arith, c.in-Ok.ensures.few)))
+
+pub walk_steps-walk_data-requires-3 : goal.walk_steps-walk_data-requires-3
+walk_steps-walk_data-requires-3 t c = (omega (arith, c.requires.level), (omega (arith, c.requires.level), omega (arith, c.in-Ok-walk_data.ensures.few)))
+
+pub walk_row-returns-in-Err : goal.walk_row-returns-in-Err
+walk_row-returns-in-Err t c = record { walk = rows_ended _ _ _ _ _ _ _ _ _ _ _ c.loop-one-test.true c.loop-one.invariant.0 (let_value _ _ _ _ _ _ _ _ c.in-Err.ensures.walk); few = tt; flat = tt }
+
+pub walk_row-returns-in-Err-bind : goal.walk_row-returns-in-Err-bind
+walk_row-returns-in-Err-bind t c = record { walk = rows_ended _ _ _ _ _ _ _ _ _ _ _ c.loop-one-test.true c.loop-one.invariant.0 (let_pattern _ _ _ _ _ _ _ _ _ c.in-Ok.ensures.walk c.in-Err-bind.ensures); few = tt; flat = tt }
+
+pub walk_row-loop-one-preserved : goal.walk_row-loop-one-preserved
+walk_row-loop-one-preserved t c = rw c.max.ensures (rows_more _ _ _ _ _ _ _ _ _ _ _ c.loop-one-test.true c.loop-one.invariant.0 (let_ok _ _ _ _ _ _ _ _ _ c.in-Ok.ensures.walk c.in-Ok-bind.ensures), omega (arith, c.in-Ok.ensures.few), omega (arith, c.in-Ok.ensures.flat, c.loop-one.invariant.2))
+
+pub walk_row-walk-requires : goal.walk_row-walk-requires
+walk_row-walk-requires t c = (omega arith, tt)
+
+pub walk_form-walk_steps-requires : goal.walk_form-walk_steps-requires
+walk_form-walk_steps-requires t c = (omega arith, (c.requires.level, c.requires.spent))
+
+pub walk_form-walk_steps-requires-in-Ok-turn_of : goal.walk_form-walk_steps-requires-in-Ok-turn_of
+walk_form-walk_steps-requires-in-Ok-turn_of t c = (omega arith, (c.requires.level, c.requires.spent))
+
+pub walk_parts-returns-in-Err-walk : goal.walk_parts-returns-in-Err-walk
+walk_parts-returns-in-Err-walk t c = record { walk = parts_fail _ _ _ _ _ _ _ _ _ _ _ c.loop-exp-test.true c.loop-exp.invariant.0 c.in-Err-walk.ensures.walk; few = tt; flat = tt }
+
+pub walk_parts-bounds-knowns-at : goal.walk_parts-bounds-knowns-at
+walk_parts-bounds-knowns-at t c = omega (arith, c.loop-exp-test.true, c.loop-exp.invariant.3, c.loop-exp.invariant.4)

@@ -1,4 +1,4 @@
-use Rattle.std.proofs.Common.{◌≡◌, ℕ, ◌+◌, ◌-◌, ◌*◌, ◌≤◌, map, drop}
+use Rattle.std.proofs.Common.{◌≡◌, ℕ, ◌+◌, ◌-◌, ◌*◌, ◌≤◌, map, length, take, drop}
 use Rattle.fut_flat.specs.declared.exp.Exp.{size-Exp}
 use Rattle.fut_flat.specs.Erased.{term_of}
 use Rattle.fut_flat.proofs.ErasedForms.{row_of}
@@ -22,17 +22,11 @@ decreases-walk_strict l = room l.used.level l.used.nested
 abbrev pub decreases-walk_apply : goal.decreases-walk_apply
 decreases-walk_apply l = room l.used.level l.used.nested
 
-abbrev pub decreases-walk_if : goal.decreases-walk_if
-decreases-walk_if l = room l.used.level l.used.nested
-
-abbrev pub decreases-walk_loop : goal.decreases-walk_loop
-decreases-walk_loop l = room l.used.level l.used.nested
+abbrev pub decreases-walk_steps : goal.decreases-walk_steps
+decreases-walk_steps l = room l.used.level l.used.nested
 
 abbrev pub decreases-walk_lets : goal.decreases-walk_lets
 decreases-walk_lets l = room l.used.level l.used.nested
-
-abbrev pub decreases-walk_turns : goal.decreases-walk_turns
-decreases-walk_turns l = room l.used.level l.used.nested + 4
 
 abbrev pub decreases-walk_data : goal.decreases-walk_data
 decreases-walk_data l = room l.used.level l.used.nested + 3
@@ -42,9 +36,6 @@ decreases-walk_parts l = room l.used.level l.used.nested + 3
 
 abbrev pub decreases-walk_row : goal.decreases-walk_row
 decreases-walk_row l = room l.used.level l.used.nested + 4
-
-abbrev pub decreases-walk_let : goal.decreases-walk_let
-decreases-walk_let l = room l.used.level l.used.nested + 3
 
 abbrev pub decreases-run : goal.decreases-run
 decreases-run l = room l.used.level l.used.nested + 4
@@ -62,22 +53,22 @@ abbrev pub decreases-run_with_data : goal.decreases-run_with_data
 decreases-run_with_data l = room l.used.level l.used.nested + 5
 
 abbrev pub invariant-walk_parts-loop-exp : goal.invariant-walk_parts-loop-exp
-invariant-walk_parts-loop-exp l = (All_lead (scope_of l.tops.list.now) (scope_of l.scope) (map term_of l.exps) l.nodes l.depth (map known_of l.knowns.items) (map term_of (drop l.exp-index l.exps))) × (l.used.spent + l.nodes ≤ 1048576) × (l.used.level + l.depth ≤ 1000)
+invariant-walk_parts-loop-exp l = (All_lead (scope_of l.tops.known.now) (scope_of l.scope) (map term_of l.exps) l.nodes l.depth (map known_of (take l.exp-index l.knowns)) (map term_of (drop l.exp-index l.exps))) × (l.used.spent + l.nodes ≤ 1048576) × (l.used.level + l.depth ≤ 1000) × (length l.knowns ≡ length l.exps) × (l.at ≡ l.exp-index)
 
 abbrev pub invariant-walk_row-loop-one : goal.invariant-walk_row-loop-one
-invariant-walk_row-loop-one l = (Rows_lead (scope_of l.tops.list.now) (scope_of l.row.scope.now) (map row_of l.lets) l.row.nodes l.row.depth l.at (map row_of (drop l.one-index l.lets))) × (l.used.spent + l.at.nodes ≤ 1048576) × (l.used.level + l.at.depth ≤ 1000)
+invariant-walk_row-loop-one l = (Rows_lead (scope_of l.tops.known.now) (scope_of l.row.scope.now) (map row_of l.lets) l.row.nodes l.row.depth l.at (map row_of (drop l.one-index l.lets))) × (l.used.spent + l.at.nodes ≤ 1048576) × (l.used.level + l.at.depth ≤ 1000)
 
 abbrev pub invariant-run_given-loop-known : goal.invariant-run_given-loop-known
-invariant-run_given-loop-known l = (Given_leads (scope_of l.tops.list.now) l.parameters (knowns (map known_of l.given)) l.made.nodes l.made.depth (drop l.at l.parameters) (knowns (map known_of (drop l.known-index l.given)))) × (l.known-index ≡ l.at) × (l.used.spent + l.made.nodes ≤ 1048576) × (l.used.level + l.made.depth ≤ 1000)
+invariant-run_given-loop-known l = (Given_leads (scope_of l.tops.known.now) l.parameters (knowns (map known_of l.given)) l.made.nodes l.made.depth (drop l.at l.parameters) (knowns (map known_of (drop l.known-index l.given)))) × (l.known-index ≡ l.at) × (l.used.spent + l.made.nodes ≤ 1048576) × (l.used.level + l.made.depth ≤ 1000)
 
 abbrev pub invariant-run_with_data-loop-left : goal.invariant-run_with_data-loop-left
-invariant-run_with_data-loop-left l = (Function_leads (scope_of l.tops.list.now) l.arguments (known_of l.function) l.made.nodes l.made.depth l.left (known_of l.made.known)) × (l.used.spent + l.made.nodes ≤ 1048576) × (l.used.level + l.made.depth ≤ 1000)
+invariant-run_with_data-loop-left l = (Function_leads (scope_of l.tops.known.now) l.arguments (known_of l.function) l.made.nodes l.made.depth l.left (known_of l.made.known)) × (l.used.spent + l.made.nodes ≤ 1048576) × (l.used.level + l.made.depth ≤ 1000)
 
 abbrev pub decreases-run_with_data-loop-left : goal.decreases-run_with_data-loop-left
 decreases-run_with_data-loop-left l = l.left
 
 abbrev pub invariant-walk_lets-loop-rest : goal.invariant-walk_lets-loop-rest
-invariant-walk_lets-loop-rest l = (Leads (scope_of l.tops.list.now) (scope_of l.scope) (term_of l.exp) l.row.nodes l.row.depth (scope_of l.row.scope.now) (term_of l.rest)) × (l.used.spent + 1 + l.row.nodes ≤ 1048576) × (l.used.level + 1 + l.row.depth ≤ 1000)
+invariant-walk_lets-loop-rest l = (Leads (scope_of l.tops.known.now) (scope_of l.scope) (term_of l.exp) l.row.nodes l.row.depth (scope_of l.row.scope.now) (term_of l.rest)) × (l.used.spent + 1 + l.row.nodes ≤ 1048576) × (l.used.level + 1 + l.row.depth ≤ 1000)
 
 abbrev pub decreases-walk_lets-loop-rest : goal.decreases-walk_lets-loop-rest
 decreases-walk_lets-loop-rest l = size-Exp l.rest
