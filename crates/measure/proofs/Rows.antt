@@ -1,8 +1,7 @@
 -- Parts and rows of lets, one after the other.
-use Rattle.std.proofs.Common.{◌≡◌, ℕ, ◌+◌, ◌≤◌, ◌<◌, ◌++◌, max, List, [], ◌∷◌, map, length, get_or, set, take, drop, Bool, true, false, cond, nat_lt, ◌==◌, Ok, Err, refl, sym, ap, ◌∙◌, subst, arith, ltb-true, ltb-false}
+use Rattle.std.proofs.Common.{◌≡◌, ℕ, ◌+◌, ◌≤◌, ◌<◌, ◌++◌, max, List, [], ◌∷◌, map, length, get_or, drop, Bool, true, false, cond, nat_lt, ◌==◌, Ok, Err, refl, sym, ap, ◌∙◌, subst, arith, ltb-true, ltb-false}
 use Rattle.std.specs.Ordering.{ord_max, is_lt, nat_cmp}
 use Rattle.std.proofs.Common.{append-nil}
-use Rattle.std.proofs.lemmas.List.{take_all, take_more_set}
 use mathlib.Core.List.{map-append}
 use Rattle.std.specs.Prelude.{Result}
 use Rattle.std.specs.declared.cmp.Ordering.{Ordering}
@@ -69,14 +68,6 @@ module _ (tops sc : Scope) (es : List Exp) (nodes depth : ℕ) (ss : List Held_k
     where
       a' : All_lead tops sc (map term_of es) nodes depth (map known_of ss) []
       a' = subst (λ z. All_lead tops sc (map term_of es) nodes depth (map known_of ss) (map term_of z)) (drop_end i es le) a
-
-module _ (tops sc : Scope) (es : List Exp) (nodes depth : ℕ) (slots : List Held_known) where
-  -- a slice that holds what is known of the parts so far
-  pub slots_more : (i j : ℕ) (d : Exp) (level spent : ℕ) (r : Walked) → i < length es → j ≡ i → length slots ≡ length es → All_lead tops sc (map term_of es) nodes depth (map known_of (take i slots)) (map term_of (drop i es)) → Walked_to tops sc level spent (term_of (get_or es i d)) (Ok r) → All_lead tops sc (map term_of es) (nodes + r.nodes) (max depth r.depth) (map known_of (take (i + 1) (set slots j r.known))) (map term_of (drop (i + 1) es))
-  slots_more i j d level spent r lt same len a h = parts_more tops sc es nodes depth (take i slots) i d level spent r (take (i + 1) (set slots j r.known)) lt a h (ap (λ z. take (i + 1) (set slots z r.known)) same ∙ take_more_set slots i r.known (omega (arith, lt, len)))
-
-  pub slots_done : (i : ℕ) (level spent : ℕ) (all : Bor (List Held_known)) → length es ≤ i → length slots ≡ length es → All_lead tops sc (map term_of es) nodes depth (map known_of (take i slots)) (map term_of (drop i es)) → all.now ≡ slots → Parts_to tops sc level spent (terms (map term_of es)) (Ok (record { knowns = all; nodes = nodes; depth = depth }))
-  slots_done i level spent all le len a e = parts_done tops sc es nodes depth (take i slots) i level spent all le a (e ∙ sym (take_all i slots (omega (arith, le, len))))
 
 -- ---- one let
 

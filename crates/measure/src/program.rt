@@ -155,30 +155,6 @@ fn walk_entry(
     }
 }
 
-// The definitions, and then the entry.
-#[tactic(auto, using(crate::proofs::Definitions::programs))]
-fn walk_program<'a>(
-    bump: &'a Bump,
-    flags: &[bool],
-    flat: &Flat<'a>,
-    entry: BindId,
-    arguments: u32,
-) -> Result<Measured, Stop>
-    requires flags { Reached entry.0 flat.now.definitions.now flags.now }
-    requires length { length flags.now ≡ length flat.now.definitions.now }
-    ensures { Program_to entry.0 arguments (flat_tops 0 (named_terms flat.now)) result }
-{
-    let made = match walk_definitions(bump, entry, flags, flat.definitions) {
-        Ok(made) => made,
-        Err(stop) => return Err(stop),
-    };
-    let tops = Tops {
-        bump,
-        known: made.list,
-    };
-    walk_entry(&tops, made.nodes, made.depth, flat, entry, arguments)
-}
-
 /// The measure of a program, or why its walk stops: `Lost` where it comes to what no typed program has.
 #[tactic(auto, using(crate::proofs::Definitions::programs))]
 pub fn measure_or_lost<'a>(
@@ -194,7 +170,15 @@ pub fn measure_or_lost<'a>(
         Ok(flags) => flags,
         Err(_) => return Err(Stop::Memory),
     };
-    walk_program(bump, flags, flat, entry, arguments)
+    let made = match walk_definitions(bump, entry, flags, flat.definitions) {
+        Ok(made) => made,
+        Err(stop) => return Err(stop),
+    };
+    let tops = Tops {
+        bump,
+        known: made.list,
+    };
+    walk_entry(&tops, made.nodes, made.depth, flat, entry, arguments)
 }
 
 /// The measure of a program from an entry on, which takes so many arguments: the visits of the walk, and how many of them

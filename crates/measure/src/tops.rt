@@ -1,8 +1,7 @@
 // What is known of the definitions.
-ghost use Rattle.std.specs.Prelude.{◌≡◌};
-ghost use Rattle.fut_meaning.specs.Knowns.{find, known_use, or_else};
+ghost use Rattle.fut_meaning.specs.Knowns.{known_use};
 ghost use Rattle.measure.specs.Answers.{Known_to};
-ghost use Rattle.measure.specs.Held.{maybe_known, scope_of};
+ghost use Rattle.measure.specs.Held.{scope_of};
 
 use crate::known::{Known, Scope};
 use crate::primitives::known_primitive;
@@ -10,23 +9,12 @@ use crate::scope::find;
 use crate::stop::Stop;
 use bumpalo::Bump;
 use fut_flat::Ref;
-use fut_scalar::BindId;
 
 /// The arena, and what is known of the definitions that were visited.
 #[derive(Clone, Copy)]
 pub struct Tops<'a> {
     pub bump: &'a Bump,
     pub known: &'a Scope<'a>,
-}
-
-// What is known of a name: of a local one, or else of a definition.
-fn known_name<'a>(tops: &Tops<'a>, scope: &'a Scope<'a>, number: BindId) -> Option<Known<'a>>
-    ensures { maybe_known result ≡ or_else (find (scope_of scope.now) number.0) (find (scope_of tops.now.known.now) number.0) }
-{
-    match find(scope, number) {
-        Some(known) => Some(known),
-        None => find(tops.known, number),
-    }
 }
 
 /// What is known of a use: of a local name, or else of a definition.
@@ -38,9 +26,12 @@ pub fn known_use<'a>(
     ensures { Known_to (known_use (scope_of tops.now.known.now) (scope_of scope.now) reference) result }
 {
     match reference {
-        Ref::Bound(number) => match known_name(tops, scope, number) {
+        Ref::Bound(number) => match find(scope, number) {
             Some(known) => Ok(known),
-            None => Err(Stop::Lost),
+            None => match find(tops.known, number) {
+                Some(known) => Ok(known),
+                None => Err(Stop::Lost),
+            },
         },
         Ref::Prim(primitive) => known_primitive(tops.bump, primitive),
         Ref::Scalar(_) => Err(Stop::Lost),

@@ -21,6 +21,7 @@ use crate::steps::{test_of, turn_of};
 use crate::stop::Stop;
 use crate::tops::{Tops, known_use};
 use crate::walked::{Count, MOST_DEPTH, MOST_NESTED, MOST_NODES, Parts, Row, Used, Walked};
+use bumpalo::collections::into_bump_slice;
 use fut_flat::{Act, Exp, Form, Let, Primitive};
 use fut_scalar::Place;
 
@@ -294,14 +295,9 @@ fn walk_parts<'a>(
     ensures few { IfOk result (λ r. used.spent + r.nodes ≤ 1048576) }
     ensures flat { IfOk result (λ r. used.level + r.depth ≤ 1000) }
 {
-    let unknown: Known<'a> = known_data();
-    let knowns = match tops.bump.try_alloc_slice_fill_clone(exps.len(), unknown) {
-        Ok(knowns) => knowns,
-        Err(_) => return Err(Stop::Memory),
-    };
+    let mut knowns = Vec::new(tops.bump);
     let mut nodes = 0;
     let mut depth = 0;
-    let mut at = 0;
     for exp in exps {
         let r = match walk(
             tops,
@@ -315,13 +311,15 @@ fn walk_parts<'a>(
             Ok(r) => r,
             Err(stop) => return Err(stop),
         };
-        knowns[at] = r.known;
+        match knowns.push(r.known) {
+            Ok(()) => (),
+            Err(_) => return Err(Stop::Memory),
+        }
         nodes += r.nodes;
         depth = depth.max(r.depth);
-        at += 1;
     }
     Ok(Parts {
-        knowns,
+        knowns: into_bump_slice(knowns),
         nodes,
         depth,
     })

@@ -1,9 +1,8 @@
 use Rattle.std.proofs.Common.{[], ◌∙◌, sym, refl, arith}
-use Rattle.std.proofs.lemmas.List.{length-set}
 use Rattle.std.proofs.lemmas.Slice.{between_to_end}
 use Rattle.measure.proofs.Walks.{apply_function, apply_argument, apply_run, apply_ok, strict_parts, strict_lost, strict_ok}
 use Rattle.measure.proofs.Forms.{too_deep, too_many, form_use, form_unknown, form_lambda, form_strict, form_apply, form_if, form_loop, data_ok, data_function, data_stopped, plain_visit, plain_row}
-use Rattle.measure.proofs.Rows.{greater, slots_more, parts_fail, parts_memory, slots_done, let_value, let_ok, let_pattern, rows_ended, rows_done, not_row, lets_more, lets_row, lets_last, lets_ok}
+use Rattle.measure.proofs.Rows.{greater, parts_more, parts_fail, parts_memory, parts_done, let_value, let_ok, let_pattern, rows_ended, rows_done, not_row, lets_more, lets_row, lets_last, lets_ok}
 use Rattle.measure.proofs.Leads.{leads_start, rows_start, rows_more, all_start, given_start, function_start}
 use Rattle.measure.proofs.Running.{function_at, run_other, run_of_function, run_of_primitive, run_none, run_pattern, run_last, run_waits, primitive_waits, primitive_stopped, primitive_ran, given_more, given_fail, given_many, given_few, given_done, function_more, function_fail, function_data, function_other}
 use Rattle.measure.proofs.Peeling.{peeled_walk}
@@ -131,12 +130,6 @@ walk_form-returns-in-Err-captured t c = record { walk = walk_memory _ c.in-Err-c
 pub walk_lets-returns-in-Err : goal.walk_lets-returns-in-Err
 walk_lets-returns-in-Err t c = record { walk = lets_row _ _ _ _ _ c.loop-rest.row _ _ _ _ c.requires.row c.loop-rest.invariant.0 c.in-Lets.is c.in-Err.ensures.walk; few = tt; flat = tt }
 
-pub walk_parts-returns-in-Err : goal.walk_parts-returns-in-Err
-walk_parts-returns-in-Err t c = record { walk = parts_memory _ _ _ 0 0 [] _ _; few = tt; flat = tt }
-
-pub walk_parts-returns : goal.walk_parts-returns
-walk_parts-returns t c = record { walk = slots_done _ _ _ _ _ _ _ _ _ _ (omega (arith, c.loop-exp-test.false)) c.loop-exp.invariant.3 c.loop-exp.invariant.0 refl; few = c.loop-exp.invariant.1; flat = c.loop-exp.invariant.2 }
-
 pub walk_row-returns : goal.walk_row-returns
 walk_row-returns t c = record { walk = rows_done _ _ _ _ _ _ _ _ _ (omega (arith, c.loop-one-test.false)) c.loop-one.invariant.0; few = c.loop-one.invariant.1; flat = c.loop-one.invariant.2 }
 
@@ -165,9 +158,6 @@ walk_lets-returns t c = rw c.max.ensures (record {
   flat = omega (arith, c.in-Ok-walk.ensures.flat, c.loop-rest.invariant.2);
 })
 
-pub walk_parts-loop-exp-preserved : goal.walk_parts-loop-exp-preserved
-walk_parts-loop-exp-preserved t c = rw (c.max-depth.ensures ∙ greater c.loop-exp.depth c.in-Ok-walk.r.depth) (slots_more _ _ _ _ _ _ _ _ _ _ _ _ c.loop-exp-test.true c.loop-exp.invariant.4 c.loop-exp.invariant.3 c.loop-exp.invariant.0 c.in-Ok-walk.ensures.walk, omega (arith, c.in-Ok-walk.ensures.few), omega (arith, c.in-Ok-walk.ensures.flat, c.loop-exp.invariant.2), simp length-set c.loop-exp.invariant.3, omega (arith, c.loop-exp.invariant.4))
-
 pub walk_row-loop-one-init : goal.walk_row-loop-one-init
 walk_row-loop-one-init t c = (rows_start _ _ _ _ _ _ refl refl refl, c.requires.spent, c.requires.depth)
 
@@ -188,9 +178,6 @@ walk_lets-loop-rest-init t c = (leads_start, omega (arith, c.requires.spent), om
 
 pub walk_lets-loop-rest-preserved : goal.walk_lets-loop-rest-preserved
 walk_lets-loop-rest-preserved t c = (lets_more _ _ 0 0 _ c.loop-rest.row _ _ _ _ _ _ c.loop-rest.invariant.0 c.in-Lets.is c.in-Ok.ensures.walk, c.in-Ok.ensures.few, c.in-Ok.ensures.flat)
-
-pub walk_parts-loop-exp-init : goal.walk_parts-loop-exp-init
-walk_parts-loop-exp-init t c = (all_start, omega (arith, c.requires.spent), omega (arith, c.requires.level), c.in-Ok.ensures.len, refl)
 
 pub walk_strict-walk_parts-requires : goal.walk_strict-walk_parts-requires
 walk_strict-walk_parts-requires t c = (omega (arith, c.requires.level), (omega (arith, c.requires.level), omega (arith, c.requires.spent)))
@@ -282,8 +269,17 @@ walk_form-walk_steps-requires t c = (omega arith, (c.requires.level, c.requires.
 pub walk_form-walk_steps-requires-in-Ok-turn_of : goal.walk_form-walk_steps-requires-in-Ok-turn_of
 walk_form-walk_steps-requires-in-Ok-turn_of t c = (omega arith, (c.requires.level, c.requires.spent))
 
-pub walk_parts-returns-in-Err-walk : goal.walk_parts-returns-in-Err-walk
-walk_parts-returns-in-Err-walk t c = record { walk = parts_fail _ _ _ _ _ _ _ _ _ _ _ c.loop-exp-test.true c.loop-exp.invariant.0 c.in-Err-walk.ensures.walk; few = tt; flat = tt }
+pub walk_parts-returns-in-Err : goal.walk_parts-returns-in-Err
+walk_parts-returns-in-Err t c = record { walk = parts_fail _ _ _ _ _ _ _ _ _ _ _ c.loop-exp-test.true c.loop-exp.invariant.0 c.in-Err.ensures.walk; few = tt; flat = tt }
 
-pub walk_parts-bounds-knowns-at : goal.walk_parts-bounds-knowns-at
-walk_parts-bounds-knowns-at t c = omega (arith, c.loop-exp-test.true, c.loop-exp.invariant.3, c.loop-exp.invariant.4)
+pub walk_parts-returns-in-Err-push : goal.walk_parts-returns-in-Err-push
+walk_parts-returns-in-Err-push t c = record { walk = parts_memory _ _ _ 0 0 [] _ _; few = tt; flat = tt }
+
+pub walk_parts-returns : goal.walk_parts-returns
+walk_parts-returns t c = record { walk = parts_done _ _ _ _ _ _ _ _ _ _ (omega (arith, c.loop-exp-test.false)) c.loop-exp.invariant.0 c.into_bump_slice.ensures; few = c.loop-exp.invariant.1; flat = c.loop-exp.invariant.2 }
+
+pub walk_parts-loop-exp-init : goal.walk_parts-loop-exp-init
+walk_parts-loop-exp-init t c = rw c.new-knowns.ensures.items (all_start, omega (arith, c.requires.spent), omega (arith, c.requires.level))
+
+pub walk_parts-loop-exp-preserved : goal.walk_parts-loop-exp-preserved
+walk_parts-loop-exp-preserved t c = rw (c.max-depth.ensures ∙ greater c.loop-exp.depth c.in-Ok.r.depth) (parts_more _ _ _ _ _ _ _ _ _ _ _ _ c.loop-exp-test.true c.loop-exp.invariant.0 c.in-Ok.ensures.walk c.in-Ok-push.ensures.items, omega (arith, c.in-Ok.ensures.few), omega (arith, c.in-Ok.ensures.flat, c.loop-exp.invariant.2))

@@ -1,4 +1,4 @@
-use Rattle.std.proofs.Common.{◌≡◌, ℕ, ◌+◌, ◌-◌, ◌*◌, ◌≤◌, map, length, take, drop}
+use Rattle.std.proofs.Common.{◌≡◌, ℕ, ◌+◌, ◌-◌, ◌*◌, ◌≤◌, map, drop}
 use Rattle.fut_flat.specs.declared.exp.Exp.{size-Exp}
 use Rattle.fut_flat.specs.Erased.{term_of}
 use Rattle.fut_flat.proofs.ErasedForms.{row_of}
@@ -53,7 +53,7 @@ abbrev pub decreases-run_with_data : goal.decreases-run_with_data
 decreases-run_with_data l = room l.used.level l.used.nested + 5
 
 abbrev pub invariant-walk_parts-loop-exp : goal.invariant-walk_parts-loop-exp
-invariant-walk_parts-loop-exp l = (All_lead (scope_of l.tops.known.now) (scope_of l.scope) (map term_of l.exps) l.nodes l.depth (map known_of (take l.exp-index l.knowns)) (map term_of (drop l.exp-index l.exps))) × (l.used.spent + l.nodes ≤ 1048576) × (l.used.level + l.depth ≤ 1000) × (length l.knowns ≡ length l.exps) × (l.at ≡ l.exp-index)
+invariant-walk_parts-loop-exp l = (All_lead (scope_of l.tops.known.now) (scope_of l.scope) (map term_of l.exps) l.nodes l.depth (map known_of l.knowns.items) (map term_of (drop l.exp-index l.exps))) × (l.used.spent + l.nodes ≤ 1048576) × (l.used.level + l.depth ≤ 1000)
 
 abbrev pub invariant-walk_row-loop-one : goal.invariant-walk_row-loop-one
 invariant-walk_row-loop-one l = (Rows_lead (scope_of l.tops.known.now) (scope_of l.row.scope.now) (map row_of l.lets) l.row.nodes l.row.depth l.at (map row_of (drop l.one-index l.lets))) × (l.used.spent + l.at.nodes ≤ 1048576) × (l.used.level + l.at.depth ≤ 1000)
