@@ -15,7 +15,6 @@ use Rattle.fut_blocks.specs.declared.block.Atom.{Atom}
 use Rattle.fut_blocks.specs.declared.block.Block.{Block}
 use Rattle.fut_blocks.specs.declared.block.Program.{Program}
 use Rattle.fut_blocks.specs.Meaning.{look}
-use Rattle.fut_blocks.specs.Plain.{body_of}
 use Rattle.reach.proofs.Lists.{drop_end, one_more}
 use Rattle.reach.specs.Reach.{Reached, reached, is_set, named_term}
 use Rattle.unfold.specs.Held.{known_of}

@@ -1,7 +1,6 @@
 -- Parts and rows of lets, one after the other.
-use Rattle.std.proofs.Common.{◌≡◌, ℕ, ◌+◌, ◌<◌, ◌≤◌, ◌++◌, List, [], ◌∷◌, map, length, get_or, drop, set, take, Ok, Err, refl, sym, ap, ◌∙◌, subst, arith, append_assoc, append-nil}
+use Rattle.std.proofs.Common.{◌≡◌, ℕ, ◌+◌, ◌<◌, ◌≤◌, ◌++◌, List, [], ◌∷◌, map, length, get_or, drop, Ok, Err, refl, sym, ap, ◌∙◌, subst, arith, append_assoc, append-nil}
 use mathlib.Core.List.{map-append}
-use Rattle.std.proofs.lemmas.List.{take_all, take_more_set}
 use Rattle.std.specs.Prelude.{Result}
 use Rattle.std.specs.Borrow.{Bor}
 use Rattle.fut_flat.specs.declared.exp.Exp.{Exp}
@@ -60,13 +59,6 @@ module _ (c : Context) (sc : Scope) (lo : ℕ) (es : List Exp) (old : Unfolding)
   pub parts_err : (now new : Unfolding) (done : List Held_known) (at i : ℕ) (d : Exp) (r : Refusal) → i < length es → Parts_lead c sc lo es old now done at i → Unfolded c sc at (term_of (get_or es i d)) now new (Err r) → All_unfolded c sc lo (terms (map term_of es)) old new (Err r)
   unfolding terms
   parts_err now new done at i d r lt (parts_lead bs g f k h) (refused x) = all_refused (refused_as (λ w. k (subst (λ z. Stuck_all (told c) (defined c) sc at (terms (map term_of z))) (sym (one_more es i d lt)) (stuck_here w))) x)
-
-  -- a slice that holds what is known of the parts so far
-  pub slots_more : (now new : Unfolding) (slots : List Held_known) (at i j : ℕ) (d : Exp) (r : Walked) → i < length es → j ≡ i → length slots ≡ length es → Parts_lead c sc lo es old now (take i slots) at i → Unfolded c sc at (term_of (get_or es i d)) now new (Ok r) → Parts_lead c sc lo es old new (take (i + 1) (set slots j r.known)) r.at (i + 1)
-  slots_more now new slots at i j d r lt same len h u = parts_more now new (take i slots) (take (i + 1) (set slots j r.known)) at i d r lt h u (ap (λ z. take (i + 1) (set slots z r.known)) same ∙ take_more_set slots i r.known (omega (arith, lt, len)))
-
-  pub slots_done : (now : Unfolding) (slots : List Held_known) (at i : ℕ) (all : Bor (List Held_known)) → length es ≤ i → length slots ≡ length es → Parts_lead c sc lo es old now (take i slots) at i → all.now ≡ slots → All_unfolded c sc lo (terms (map term_of es)) old now (Ok (record { knowns = all; at = at }))
-  slots_done now slots at i all le len h e = parts_done now (take i slots) at i all le h (e ∙ sym (take_all i slots (omega (arith, le, len))))
 
 -- ---- lets
 

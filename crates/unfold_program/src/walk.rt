@@ -13,6 +13,7 @@ use crate::give::{close, give, operated, used, walked_to, with_argument};
 use crate::peel::stripped;
 use crate::walked::{Branch, Context, MOST_DEPTH, Parts, Row, Walked, WalkedScalar};
 use bumpalo::Bump;
+use bumpalo::collections::into_bump_slice;
 use fut_blocks::{Act, Atom};
 use fut_flat::{Act as Operation, Exp, Form, Let, Loop, LoopForm, Pat};
 use fut_numbers::{after, after_exp, after_pattern, after_patterns, own_numbers_of};
@@ -129,25 +130,23 @@ fn walk_parts<'a>(
     requires level { level ≤ 1000 }
     ensures { All_unfolded context.now (scope_of scope.now) at (terms (map term_of exps.now)) state.old state.new result }
 {
-    let unknown = Known {
-        form: KnownForm::Tuple(&[]),
-    };
-    let knowns = match state.bump.try_alloc_slice_fill_clone(exps.len(), unknown) {
-        Ok(knowns) => knowns,
-        Err(_) => return Err(Refusal::Memory),
-    };
+    let mut knowns = Vec::new(state.bump);
     let mut next = at;
-    let mut count = 0;
     for exp in exps {
         let r = match walk(context, level, scope, next, exp, state) {
             Ok(r) => r,
             Err(refusal) => return Err(refusal),
         };
-        knowns[count] = r.known;
-        count += 1;
+        match knowns.push(r.known) {
+            Ok(()) => (),
+            Err(_) => return Err(Refusal::Memory),
+        }
         next = r.at;
     }
-    Ok(Parts { knowns, at: next })
+    Ok(Parts {
+        knowns: into_bump_slice(knowns),
+        at: next,
+    })
 }
 
 #[cycle(walk)]

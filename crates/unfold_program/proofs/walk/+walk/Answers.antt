@@ -1,5 +1,4 @@
 use Rattle.std.proofs.Common.{refl, arith}
-use Rattle.std.proofs.lemmas.List.{length-set}
 use Rattle.std.proofs.lemmas.Slice.{between_to_end}
 use Rattle.unfold.proofs.Mirror.{known_scalar}
 use Rattle.unfold_parts.specs.Refused.{no_memory}
@@ -7,7 +6,7 @@ use Rattle.unfold_program.specs.Answers.{refused, all_refused, not_counted, row_
 use Rattle.unfold_program.proofs.Arms.{form_use, form_strict, form_lambda, form_apply, form_if, form_loop, strict_parts_err, strict_end, apply_function_err, apply_argument_err, apply_end, scalar_end, scalar_stuck, closes, block_mark, block_stuck, if_end, if_test_err, if_then_err, if_then_unlaid, if_else_err}
 use Rattle.unfold_program.proofs.Looping.{counted_unentered, counted_count_err, counted_body_err, counted_end, tested_unentered, tested_test_err, tested_body_err, tested_end, loop_first_err, loop_counted, loop_tested, loop_over}
 use Rattle.unfold_program.proofs.Peeling.{unpeeled, peeled_unfolded}
-use Rattle.unfold_program.proofs.Rows.{parts_start, parts_err, slots_more, slots_done, row_start, row_next, row_value_err, row_bind_err, row_done, lets_start, lets_more, lets_done, lets_err}
+use Rattle.unfold_program.proofs.Rows.{parts_start, parts_err, parts_more, parts_done, row_start, row_next, row_value_err, row_bind_err, row_done, lets_start, lets_more, lets_done, lets_err}
 use Rattle.unfold_program.proofs.Running.{apply_of_other, apply_of_primitive, apply_unargued, apply_waits, apply_runs, apply_stuck}
 use Rattle.unfold_program.proofs.walk.+walk.Goals as goal
 
@@ -48,22 +47,16 @@ pub walk_strict-returns : goal.walk_strict-returns
 walk_strict-returns t c = strict_end _ _ _ _ _ _ _ _ _ _ _ _ _ _ c.own_numbers_of.ensures c.in-Ok.ensures c.in-Ok-walk_parts.ensures c.literal_type_at-ty.ensures c.operated.ensures
 
 pub walk_parts-returns-in-Err : goal.walk_parts-returns-in-Err
-walk_parts-returns-in-Err t c = all_refused no_memory
+walk_parts-returns-in-Err t c = parts_err _ _ _ _ _ _ _ _ _ _ _ _ c.loop-exp-test.true c.loop-exp.invariant c.in-Err.ensures
 
 pub walk_parts-loop-exp-init : goal.walk_parts-loop-exp-init
-walk_parts-loop-exp-init t c = (parts_start _ _ _ _ _ _ refl, c.in-Ok.ensures.len, refl)
+walk_parts-loop-exp-init t c = parts_start _ _ _ _ _ _ c.new-knowns.ensures.items
 
 pub walk_parts-loop-exp-preserved : goal.walk_parts-loop-exp-preserved
-walk_parts-loop-exp-preserved t c = (slots_more _ _ _ _ _ _ _ _ _ _ _ _ _ c.loop-exp-test.true c.loop-exp.invariant.2 c.loop-exp.invariant.1 c.loop-exp.invariant.0 c.in-Ok-walk.ensures, simp length-set c.loop-exp.invariant.1, omega (arith, c.loop-exp.invariant.2))
-
-pub walk_parts-bounds-knowns-count : goal.walk_parts-bounds-knowns-count
-walk_parts-bounds-knowns-count t c = omega (arith, c.loop-exp-test.true, c.loop-exp.invariant.1, c.loop-exp.invariant.2)
-
-pub walk_parts-returns-in-Err-walk : goal.walk_parts-returns-in-Err-walk
-walk_parts-returns-in-Err-walk t c = parts_err _ _ _ _ _ _ _ _ _ _ _ _ c.loop-exp-test.true c.loop-exp.invariant.0 c.in-Err-walk.ensures
+walk_parts-loop-exp-preserved t c = parts_more _ _ _ _ _ _ _ _ _ _ _ _ _ c.loop-exp-test.true c.loop-exp.invariant c.in-Ok.ensures c.in-Ok-push.ensures.items
 
 pub walk_parts-returns : goal.walk_parts-returns
-walk_parts-returns t c = slots_done _ _ _ _ _ _ _ _ _ _ (omega (arith, c.loop-exp-test.false)) c.loop-exp.invariant.1 c.loop-exp.invariant.0 refl
+walk_parts-returns t c = parts_done _ _ _ _ _ _ _ _ _ _ (omega (arith, c.loop-exp-test.false)) c.loop-exp.invariant c.into_bump_slice.ensures
 
 pub walk_apply-returns-in-Err : goal.walk_apply-returns-in-Err
 walk_apply-returns-in-Err t c = λ lo q. apply_function_err _ _ lo _ _ _ _ _ _ q c.in-Err.ensures
@@ -199,3 +192,6 @@ apply-returns-in-Ok-walk t c = apply_runs _ _ _ _ _ c.in-Function.is _ _ _ c.in-
 
 pub apply-returns-in-Err-walk : goal.apply-returns-in-Err-walk
 apply-returns-in-Err-walk t c = apply_stuck _ _ _ _ _ c.in-Function.is _ _ _ c.in-Ok.ensures c.if-params-gt1.false c.in-Err-walk.ensures
+
+pub walk_parts-returns-in-Err-push : goal.walk_parts-returns-in-Err-push
+walk_parts-returns-in-Err-push t c = all_refused no_memory

@@ -1,4 +1,4 @@
-use Rattle.std.proofs.Common.{◌≡◌, ℕ, ◌+◌, ◌-◌, ◌*◌, length, take}
+use Rattle.std.proofs.Common.{ℕ, ◌+◌, ◌-◌, ◌*◌}
 use Rattle.fut_flat.specs.declared.exp.Exp.{size-Exp}
 use Rattle.fut_flat.specs.Erased.{term_of}
 use Rattle.unfold.specs.Held.{scope_of}
@@ -49,7 +49,7 @@ abbrev pub decreases-apply : goal.decreases-apply
 decreases-apply l = room l.level + 3
 
 abbrev pub invariant-walk_parts-loop-exp : goal.invariant-walk_parts-loop-exp
-invariant-walk_parts-loop-exp l = Parts_lead l.context (scope_of l.scope) l.at l.exps l.fn.state l.state (take l.exp-index l.knowns) l.next l.exp-index × (length l.knowns ≡ length l.exps) × (l.count ≡ l.exp-index)
+invariant-walk_parts-loop-exp l = Parts_lead l.context (scope_of l.scope) l.at l.exps l.fn.state l.state l.knowns.items l.next l.exp-index
 
 abbrev pub invariant-walk_row-loop-one : goal.invariant-walk_row-loop-one
 invariant-walk_row-loop-one l = Row_leads l.context l.row l.lets l.fn.state l.state l.at l.one-index
