@@ -2,7 +2,7 @@
 ghost use Rattle.std.specs.Prelude.{true, ◌≡◌, ◌≤◌, ◌<◌, ◌+◌, IfOk, map};
 ghost use Rattle.fut_flat.specs.Terms.{Apply, Strict};
 ghost use Rattle.fut_flat.specs.Erased.{operation_of, pattern_of, patterns, term_of, terms};
-ghost use Rattle.fut_flat.proofs.ErasedForms.{row_of};
+ghost use Rattle.fut_flat.proofs.ErasedForms.{loop_of, row_of};
 ghost use Rattle.fut_meaning.specs.Knowns.{Known_function, Known_primitive};
 ghost use Rattle.measure.specs.Held.{known_of, knowns, scope_of};
 ghost use Rattle.measure.specs.Answers.{Data_to, Function_to, Given_to, Parts_to, Ran_to, Rows_to, Walked_to};
@@ -22,7 +22,7 @@ use crate::stop::Stop;
 use crate::tops::{Tops, known_use};
 use crate::walked::{Count, MOST_DEPTH, MOST_NESTED, MOST_NODES, Parts, Row, Used, Walked};
 use bumpalo::collections::into_bump_slice;
-use fut_flat::{Act, Exp, Form, Let, Primitive};
+use fut_flat::{Act, Exp, Form, Let, Loop, Primitive};
 use fut_scalar::Place;
 
 /// What is known of the value of an expression, and the visits that it takes.
@@ -84,19 +84,7 @@ fn walk_form<'a>(
         Form::Apply(function, argument) => { walk_apply(tops, used, scope, function, argument) }
         Form::Lets(_, _) => walk_lets(tops, used, scope, exp),
         Form::If(test, yes, no) => { walk_steps(tops, used, scope, test, scope, yes, scope, no) }
-        Form::Loop(whole) => match turn_of(tops.bump, whole, scope) {
-            Ok(turn) => walk_steps(
-                tops,
-                used,
-                scope,
-                &whole.first,
-                turn.outside,
-                test_of(&whole.form),
-                turn.inside,
-                &whole.body,
-            ),
-            Err(stop) => Err(stop),
-        },
+        Form::Loop(whole) => walk_loop(tops, used, scope, whole),
     }
 }
 
@@ -191,6 +179,36 @@ fn walk_apply<'a>(
         nodes: 1 + f.nodes + e.nodes + b.nodes,
         depth: 1 + f.depth.max(e.depth.max(b.depth)),
     })
+}
+
+// What a loop begins with, what says how many turns it has, and its body.
+#[cycle(walk)]
+#[tactic(auto, using(crate::proofs::Stepping::stepping))]
+fn walk_loop<'a>(
+    tops: &Tops<'a>,
+    used: Used,
+    scope: &'a Scope<'a>,
+    whole: &'a Loop<'a>,
+) -> Result<Walked<'a>, Stop>
+    requires level { used.level < 1000 }
+    requires spent { used.spent < 1048576 }
+    ensures walk { Walked_to (scope_of tops.now.known.now) (scope_of scope.now) used.level used.spent (loop_of whole.now) result }
+    ensures few { IfOk result (λ r. used.spent + r.nodes ≤ 1048576) }
+    ensures flat { IfOk result (λ r. used.level + r.depth ≤ 1000) }
+{
+    match turn_of(tops.bump, whole, scope) {
+        Ok(turn) => walk_steps(
+            tops,
+            used,
+            scope,
+            &whole.first,
+            turn.outside,
+            test_of(&whole.form),
+            turn.inside,
+            &whole.body,
+        ),
+        Err(stop) => Err(stop),
+    }
 }
 
 // Three expressions that have to give data, one after the other and each in its names: those of an `if`, or those of a loop.

@@ -224,12 +224,6 @@ run_with_data-run-requires t c = (omega arith, (c.requires.level, c.loop-left.in
 pub walk_form-returns-in-If : goal.walk_form-returns-in-If
 walk_form-returns-in-If t c = record { walk = form_if _ _ _ _ _ _ _ _ _ c.in-If.is (if_steps c.walk_steps.ensures.walk); few = c.walk_steps.ensures.few; flat = c.walk_steps.ensures.flat }
 
-pub walk_form-returns-in-Ok-turn_of : goal.walk_form-returns-in-Ok-turn_of
-walk_form-returns-in-Ok-turn_of t c = record { walk = form_loop _ _ _ _ _ _ _ c.in-Loop.is (loop_steps _ _ _ c.in-Ok-turn_of.ensures.ok c.test_of.ensures c.walk_steps-in-Ok-turn_of.ensures.walk); few = c.walk_steps-in-Ok-turn_of.ensures.few; flat = c.walk_steps-in-Ok-turn_of.ensures.flat }
-
-pub walk_form-returns-in-Err-turn_of : goal.walk_form-returns-in-Err-turn_of
-walk_form-returns-in-Err-turn_of t c = record { walk = walk_memory _ c.in-Err-turn_of.ensures.err; few = tt; flat = tt }
-
 pub walk_steps-returns-in-Err : goal.walk_steps-returns-in-Err
 walk_steps-returns-in-Err t c = record { walk = first_stops c.in-Err.ensures.walk; few = tt; flat = tt }
 
@@ -266,9 +260,6 @@ walk_row-walk-requires t c = (omega arith, tt)
 pub walk_form-walk_steps-requires : goal.walk_form-walk_steps-requires
 walk_form-walk_steps-requires t c = (omega arith, (c.requires.level, c.requires.spent))
 
-pub walk_form-walk_steps-requires-in-Ok-turn_of : goal.walk_form-walk_steps-requires-in-Ok-turn_of
-walk_form-walk_steps-requires-in-Ok-turn_of t c = (omega arith, (c.requires.level, c.requires.spent))
-
 pub walk_parts-returns-in-Err : goal.walk_parts-returns-in-Err
 walk_parts-returns-in-Err t c = record { walk = parts_fail _ _ _ _ _ _ _ _ _ _ _ c.loop-exp-test.true c.loop-exp.invariant.0 c.in-Err.ensures.walk; few = tt; flat = tt }
 
@@ -283,3 +274,18 @@ walk_parts-loop-exp-init t c = rw c.new-knowns.ensures.items (all_start, omega (
 
 pub walk_parts-loop-exp-preserved : goal.walk_parts-loop-exp-preserved
 walk_parts-loop-exp-preserved t c = rw (c.max-depth.ensures ∙ greater c.loop-exp.depth c.in-Ok.r.depth) (parts_more _ _ _ _ _ _ _ _ _ _ _ _ c.loop-exp-test.true c.loop-exp.invariant.0 c.in-Ok.ensures.walk c.in-Ok-push.ensures.items, omega (arith, c.in-Ok.ensures.few), omega (arith, c.in-Ok.ensures.flat, c.loop-exp.invariant.2))
+
+pub walk_form-returns-in-Loop : goal.walk_form-returns-in-Loop
+walk_form-returns-in-Loop t c = record { walk = form_loop _ _ _ _ _ _ _ c.in-Loop.is c.walk_loop.ensures.walk; few = c.walk_loop.ensures.few; flat = c.walk_loop.ensures.flat }
+
+pub walk_form-walk_loop-requires : goal.walk_form-walk_loop-requires
+walk_form-walk_loop-requires t c = (omega arith, (c.requires.level, c.requires.spent))
+
+pub walk_loop-returns-in-Ok : goal.walk_loop-returns-in-Ok
+walk_loop-returns-in-Ok t c = record { walk = loop_steps _ _ _ c.in-Ok.ensures.ok c.test_of.ensures c.walk_steps.ensures.walk; few = c.walk_steps.ensures.few; flat = c.walk_steps.ensures.flat }
+
+pub walk_loop-returns-in-Err : goal.walk_loop-returns-in-Err
+walk_loop-returns-in-Err t c = record { walk = walk_memory _ c.in-Err.ensures.err; few = tt; flat = tt }
+
+pub walk_loop-walk_steps-requires : goal.walk_loop-walk_steps-requires
+walk_loop-walk_steps-requires t c = (omega arith, (c.requires.level, c.requires.spent))

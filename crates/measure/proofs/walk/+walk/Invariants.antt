@@ -11,16 +11,19 @@ abbrev pub room : ℕ → ℕ → ℕ
 room level nested = 8 * ((1001 - level) + (1001 - nested))
 
 abbrev pub decreases-walk : goal.decreases-walk
-decreases-walk l = room l.used.level l.used.nested + 2
+decreases-walk l = room l.used.level l.used.nested + 3
 
 abbrev pub decreases-walk_form : goal.decreases-walk_form
-decreases-walk_form l = room l.used.level l.used.nested + 1
+decreases-walk_form l = room l.used.level l.used.nested + 2
 
 abbrev pub decreases-walk_strict : goal.decreases-walk_strict
 decreases-walk_strict l = room l.used.level l.used.nested
 
 abbrev pub decreases-walk_apply : goal.decreases-walk_apply
 decreases-walk_apply l = room l.used.level l.used.nested
+
+abbrev pub decreases-walk_loop : goal.decreases-walk_loop
+decreases-walk_loop l = room l.used.level l.used.nested + 1
 
 abbrev pub decreases-walk_steps : goal.decreases-walk_steps
 decreases-walk_steps l = room l.used.level l.used.nested
@@ -29,28 +32,28 @@ abbrev pub decreases-walk_lets : goal.decreases-walk_lets
 decreases-walk_lets l = room l.used.level l.used.nested
 
 abbrev pub decreases-walk_data : goal.decreases-walk_data
-decreases-walk_data l = room l.used.level l.used.nested + 3
+decreases-walk_data l = room l.used.level l.used.nested + 4
 
 abbrev pub decreases-walk_parts : goal.decreases-walk_parts
-decreases-walk_parts l = room l.used.level l.used.nested + 3
+decreases-walk_parts l = room l.used.level l.used.nested + 4
 
 abbrev pub decreases-walk_row : goal.decreases-walk_row
 decreases-walk_row l = room l.used.level l.used.nested + 4
 
 abbrev pub decreases-run : goal.decreases-run
-decreases-run l = room l.used.level l.used.nested + 4
+decreases-run l = room l.used.level l.used.nested + 5
 
 abbrev pub decreases-run_function : goal.decreases-run_function
-decreases-run_function l = room l.used.level l.used.nested + 3
+decreases-run_function l = room l.used.level l.used.nested + 4
 
 abbrev pub decreases-run_primitive : goal.decreases-run_primitive
-decreases-run_primitive l = room l.used.level l.used.nested + 3
+decreases-run_primitive l = room l.used.level l.used.nested + 4
 
 abbrev pub decreases-run_given : goal.decreases-run_given
-decreases-run_given l = room l.used.level l.used.nested + 6
+decreases-run_given l = room l.used.level l.used.nested + 7
 
 abbrev pub decreases-run_with_data : goal.decreases-run_with_data
-decreases-run_with_data l = room l.used.level l.used.nested + 5
+decreases-run_with_data l = room l.used.level l.used.nested + 6
 
 abbrev pub invariant-walk_parts-loop-exp : goal.invariant-walk_parts-loop-exp
 invariant-walk_parts-loop-exp l = (All_lead (scope_of l.tops.known.now) (scope_of l.scope) (map term_of l.exps) l.nodes l.depth (map known_of l.knowns.items) (map term_of (drop l.exp-index l.exps))) × (l.used.spent + l.nodes ≤ 1048576) × (l.used.level + l.depth ≤ 1000)
