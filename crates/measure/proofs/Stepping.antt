@@ -10,7 +10,7 @@ use Rattle.fut_flat.specs.declared.exp.LoopForm.{LoopForm}
 use Rattle.fut_flat.specs.declared.exp.LoopForm.TheVariants as turns
 use Rattle.fut_flat.specs.declared.pat.Pat.{Pat}
 use Rattle.fut_flat.specs.Erased.{FlatPattern, FlatTerm, FlatTurns, pattern_of, term_of}
-use Rattle.fut_flat.specs.Terms.{If, Loop, Counted, Over, While}
+use Rattle.fut_flat.specs.Terms.{If, Loop, Counted, Over}
 use Rattle.fut_flat.proofs.ErasedForms.{loop_of, turns_of, turns_counted, turns_over, turns_while}
 use Rattle.fut_meaning.specs.Knowns.{Known, Data, Scope, is_data, known_as, data_bound}
 use Rattle.fut_meaning.specs.Walk.{Visits, v_if, v_loop, Turn_visits, v_counted, v_over, v_while}
