@@ -162,14 +162,26 @@ fn unfold_definition<'a>(
     ensures kept { IfOk result (λ r. Kept r.context.tops) }
 {
     let Made { context, at } = made;
-    let first = after(at, 1)?;
+    let first = match after(at, 1) {
+        Ok(first) => first,
+        Err(_) => return Err(Refusal::Memory),
+    };
     if !reached {
-        let next = after_exp(first, definition.value)?;
+        let next = match after_exp(first, definition.value) {
+            Ok(next) => next,
+            Err(_) => return Err(Refusal::Memory),
+        };
         return Ok(Made { context, at: next });
     }
-    let r = walk(&context, 0, nothing, first, definition.value, state)?;
+    let r = match walk(&context, 0, nothing, first, definition.value, state) {
+        Ok(r) => r,
+        Err(refusal) => return Err(refusal),
+    };
     let Context { tops, types } = context;
-    let tops = tops.with(definition.bind, r.known)?;
+    let tops = match tops.with(definition.bind, r.known) {
+        Ok(tops) => tops,
+        Err(refusal) => return Err(refusal),
+    };
     Ok(Made {
         context: Context { tops, types },
         at: r.at,
