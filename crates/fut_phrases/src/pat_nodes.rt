@@ -17,7 +17,7 @@ use fut_token::Token;
 use fut_tree::{Held, Pat, PatField, PatForm};
 
 /// A pattern that the arena holds.
-pub fn held<'a>(bump: &'a Bump, pattern: Pat<'a>) -> Result<&'a Pat<'a>, NoMemory>
+pub(crate) fn held<'a>(bump: &'a Bump, pattern: Pat<'a>) -> Result<&'a Pat<'a>, NoMemory>
     ensures { IfOk result (λ p. p.now ≡ pattern.entry) }
 {
     match bump.try_alloc(pattern) {
@@ -39,7 +39,12 @@ pub fn name<'a>(bump: &'a Bump, place: Place, name: &'a str) -> Result<&'a Pat<'
 }
 
 /// This pattern was read, and the arena holds it.
-pub fn made<'a>(bump: &'a Bump, pattern: Pat<'a>, height: u32, rest: &'a [Token]) -> PatAnswer<'a>
+pub(crate) fn made<'a>(
+    bump: &'a Bump,
+    pattern: Pat<'a>,
+    height: u32,
+    rest: &'a [Token],
+) -> PatAnswer<'a>
     ensures { Gives tree_found result (Ok (pattern.entry, height, rest.now)) }
 {
     Ok(Found {
@@ -50,7 +55,7 @@ pub fn made<'a>(bump: &'a Bump, pattern: Pat<'a>, height: u32, rest: &'a [Token]
 }
 
 /// Patterns in parentheses, if they were read: one alone is that pattern.
-pub fn round<'a>(
+pub(crate) fn round<'a>(
     bump: &'a Bump,
     place: Place,
     patterns: Result<Found<'a, &'a [Held<'a, Pat<'a>>]>, Stop>,
@@ -78,7 +83,7 @@ pub fn round<'a>(
 }
 
 /// Fields in braces, if they were read.
-pub fn fields<'a>(
+pub(crate) fn fields<'a>(
     bump: &'a Bump,
     place: Place,
     fields: Result<Found<'a, &'a [PatField<'a>]>, Stop>,
