@@ -9,7 +9,8 @@
 //! however type parameters are read; a refusal says that there is none where each stands for itself.
 //!
 //! Roots are found by links that are halved on the way. A kind rises at most four times and a level falls at most once a
-//! depth. A part that is asked of an open node costs the number of its distinct labels, of a record that of its fields.
+//! depth. A part that is asked of an open node costs the number of its distinct labels, of a record the logarithm of that
+//! of its fields.
 #![tactic(auto)]
 
 ghost use Rattle.std.specs.Prelude.{◌≡◌, ◌<◌, OnOk, IfErr, length};

@@ -2,12 +2,12 @@
 use Rattle.std.proofs.Common.{◌≡◌, ◌↔◌, ℕ, zero, suc, ◌+◌, ◌-◌, ◌≤◌, ◌<◌, List, [], ◌∷◌, length, map, Option, Some, None, refl, sym, ◌∙◌, ap, subst, arith}
 use Rattle.fut_ast.specs.Sorts.{Text}
 use Rattle.fut_types.specs.declared.shapes.ShapeTable.{ShapeTable}
-use Rattle.fut_types.specs.Shapes.{Tells, position_at, fields_of}
+use Rattle.fut_types.specs.Shapes.{Rising, Tells, position_at, fields_of}
 use Rattle.fut_typing.specs.Names.{Names, AreNames, Spells}
 use Rattle.fut_typing.proofs.Members.{In, in_list, list_in}
 use Rattle.fut_typing.proofs.Model.{listed, code, code_listed, listed_code, members, members_once, one_set, gaps, in_gaps, gaps_in, spelled, to_spells, from_spells}
 use Rattle.type_labels.specs.declared.labels.Labels.{Labels}
-use Rattle.type_labels.specs.Labels.{number_of, record_of, Rising, IsLabels, Labelled}
+use Rattle.type_labels.specs.Labels.{number_of, record_of, IsLabels, Labelled}
 use Rattle.type_labels.proofs.Permutations.{Permutation, one_to, one_fro, Apart_below, permutation}
 
 -- a rising list by its gaps
@@ -75,7 +75,7 @@ module _ (labels : Labels) (table : ShapeTable) (is : IsLabels labels table) whe
   row_code n = code (row_gaps n)
 
   row_is : (n : ℕ) → n < length table.records → members 0 (row_gaps n) ≡ fields_of table n
-  row_is n l = members_gaps 0 (fields_of table n) (is.rising n l)
+  row_is n l = members_gaps 0 (fields_of table n) (is.is_table.rising n l)
 
   rows_apart : Apart_below row_code (length table.records)
   rows_apart m n l k e = let s : row_gaps m ≡ row_gaps n = sym (listed_code (row_gaps m)) ∙ ap listed e ∙ listed_code (row_gaps n) in

@@ -8,10 +8,10 @@ use native.Mathlib.Decide.{ℕ_discrete}
 use Rattle.fut_ast.specs.Sorts.{Text}
 use Rattle.fut_types.specs.declared.shapes.Fields.{Fields}
 use Rattle.fut_types.specs.declared.shapes.ShapeTable.{ShapeTable}
-use Rattle.fut_types.specs.Shapes.{IsTable, position_at, fields_of, row_of, some_fields, label_at, labels_from}
+use Rattle.fut_types.specs.Shapes.{IsTable, Rising, position_at, fields_of, row_of, some_fields, label_at, labels_from}
 use Rattle.fut_typing.specs.Names.{Spells}
 use Rattle.type_labels.specs.declared.labels.Labels.{Labels}
-use Rattle.type_labels.specs.Labels.{number_of, record_of, row_in, Rising, IsLabels, Goes_on, One_more}
+use Rattle.type_labels.specs.Labels.{number_of, record_of, row_in, IsLabels, Goes_on, One_more}
 
 some_is : (n m : ℕ) → Some n ≡ Some m → n ≡ m
 some_is n m e = cc
@@ -123,7 +123,10 @@ module _ (labels labels' : Labels) (table table' : ShapeTable) (text : Text) (pl
 
   pub named_is : IsLabels labels' table'
   named_is = record {
-    is_table = record { rows = λ n lt. table_rows n (subst (λ rs. n < length rs) same_records lt) };
+    is_table = record {
+      rows = λ n lt. table_rows n (subst (λ rs. n < length rs) same_records lt);
+      rising = λ n lt. subst (Rising 0) (sym (same_fields n)) (is.is_table.rising n (subst (λ rs. n < length rs) same_records lt));
+    };
     within = within';
     name = name';
     named = named';
@@ -131,7 +134,6 @@ module _ (labels labels' : Labels) (table table' : ShapeTable) (text : Text) (pl
     spelled = spelled';
     rows = λ n lt. same_rows (fields_of table' n) ∙ ap (record_of labels) (same_fields n) ∙ is.rows n (subst (λ rs. n < length rs) same_records lt);
     found = λ ls n h. let f = is.found ls n (sym (same_rows ls) ∙ h) in (subst (λ rs. n < length rs) (sym same_records) f.0, same_fields n ∙ f.1);
-    rising = λ n lt. subst (Rising 0) (sym (same_fields n)) (is.rising n (subst (λ rs. n < length rs) same_records lt));
   }
     where
       table_rows : (n : ℕ) → n < length table.records → (row_of table' n).first + (row_of table' n).count ≤ length table'.labels
@@ -246,6 +248,10 @@ module _ (labels labels' : Labels) (table table' : ShapeTable) (row : List ℕ) 
       | inl o ↦ subst (λ (r : Fields). r.first + r.count ≤ length table'.labels) (sym (row_at_old n o)) (let w : (row_of table n).first + (row_of table n).count ≤ length table.labels = is.is_table.rows n o in let l : length table'.labels ≡ length table.labels + length row = long_labels in omega arith)
       | inr e ↦ subst (λ m. (row_of table' m).first + (row_of table' m).count ≤ length table'.labels) (sym e) (subst (λ (r : Fields). r.first + r.count ≤ length table'.labels) (sym row_at_new) (let l : length table'.labels ≡ length table.labels + length row = long_labels in omega arith))
     ];
+    rising = λ n lt. elim (lower n lt) as (λ d. Rising 0 (fields_of table' n)) [
+      | inl o ↦ subst (Rising 0) (sym (fields_old n o)) (is.is_table.rising n o)
+      | inr e ↦ subst (λ m. Rising 0 (fields_of table' m)) (sym e) (subst (Rising 0) (sym fields_new) rises)
+    ];
   }
 
   same_positions : (n : ℕ) → position_at table' n ≡ position_at table n
@@ -271,10 +277,6 @@ module _ (labels labels' : Labels) (table table' : ShapeTable) (row : List ℕ) 
       | inl e ↦ (let l : length table'.records ≡ length table.records + 1 = long_records in let q : n ≡ length table.records = e.1 in omega arith, subst (λ m. fields_of table' m ≡ ls) (sym e.1) (fields_new ∙ e.0))
       | inr o ↦ let f = is.found ls n o in (let l : length table'.records ≡ length table.records + 1 = long_records in let q : n < length table.records = f.0 in omega arith, fields_old n f.0 ∙ f.1)
     ];
-    rising = λ n lt. elim (lower n lt) as (λ d. Rising 0 (fields_of table' n)) [
-      | inl o ↦ subst (Rising 0) (sym (fields_old n o)) (is.rising n o)
-      | inr e ↦ subst (λ m. Rising 0 (fields_of table' m)) (sym e) (subst (Rising 0) (sym fields_new) rises)
-    ];
   }
 
 pub numbers_same : (labels labels' : Labels) → labels'.numbers ≡ labels.numbers → (s : Text) → number_of labels' s ≡ number_of labels s
@@ -284,7 +286,7 @@ numbers_same labels labels' e s = ap (λ m. get_by (λ k. bytes_eq s k.now) m) e
 -- without names and records
 pub no_table : (labels : Labels) (table : ShapeTable) → table.records ≡ [] → table.positions ≡ [] → ((s : Text) → number_of labels s ≡ None) → ((ls : List ℕ) → record_of labels ls ≡ None) → IsLabels labels table
 no_table labels table rs ps none nothing = record {
-  is_table = record { rows = λ n lt. absurd (no_record n lt) };
+  is_table = record { rows = λ n lt. absurd (no_record n lt); rising = λ n lt. absurd (no_record n lt) };
   within = λ s n h. absurd (none_not n (number_of labels s) (none s) h);
   name = λ n. [];
   named = λ n lt. absurd (let l : length table.positions ≡ 0 = ap length ps in omega arith);
@@ -292,7 +294,6 @@ no_table labels table rs ps none nothing = record {
   spelled = λ s n m h. absurd (none_not n (number_of labels s) (none s) h);
   rows = λ n lt. absurd (no_record n lt);
   found = λ ls n h. absurd (none_not n (record_of labels ls) (nothing ls) h);
-  rising = λ n lt. absurd (no_record n lt);
 }
   where
     no_record : (n : ℕ) → n < length table.records → ⊥

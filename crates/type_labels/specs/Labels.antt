@@ -1,5 +1,5 @@
 -- A numbering of names and records, of which a part is known.
-use Rattle.std.specs.Prelude.{◌≡◌, ◌↔◌, ℕ, suc, ◌<◌, ◌≤◌, List, [], ◌∷◌, ◌++◌, length, Option, Some}
+use Rattle.std.specs.Prelude.{◌≡◌, ◌↔◌, ℕ, ◌<◌, List, [], ◌∷◌, ◌++◌, length, Option, Some}
 use Rattle.std.specs.Str.{bytes_eq}
 use Rattle.std.specs.Cmp.Lexicographic.{pointwise}
 use Rattle.std.specs.Bool.{nat_eq}
@@ -23,13 +23,8 @@ row_in rows ls = get_by (λ k. pointwise nat_eq ls k.items) rows
 abbrev pub record_of : Labels → List ℕ → Option ℕ
 record_of labels ls = row_in labels.rows ls
 
--- the numbers of a row rise, from this one on
-abbrev pub Rising : ℕ → List ℕ → Type 0
-Rising from [] = Unit {0}
-Rising from (x ∷ xs) = (from ≤ x) × Rising (suc x) xs
-
--- the table in hand is well-formed: each name and each record has one number, each number is that of one, a name that is a
--- position names that part, and a record's labels rise
+-- the table in hand is well-formed: each name and each record has one number, each number is that of one, and a name that is a
+-- position names that part
 pub record IsLabels (labels : Labels) (table : ShapeTable) : Type 0 where
   pub is_table : IsTable table
   pub within : (s : Text) (n : ℕ) → number_of labels s ≡ Some n → n < length table.positions
@@ -39,7 +34,6 @@ pub record IsLabels (labels : Labels) (table : ShapeTable) : Type 0 where
   pub spelled : (s : Text) (n m : ℕ) → number_of labels s ≡ Some n → (position_at table n ≡ Some m) ↔ Spells s m
   pub rows : (n : ℕ) → n < length table.records → record_of labels (fields_of table n) ≡ Some n
   pub found : (ls : List ℕ) (n : ℕ) → record_of labels ls ≡ Some n → (n < length table.records) × (fields_of table n ≡ ls)
-  pub rising : (n : ℕ) → n < length table.records → Rising 0 (fields_of table n)
 
 -- names, records and positions are added, and all keep their numbers
 pub record Goes_on (labels : Labels) (table : ShapeTable) (labels' : Labels) (table' : ShapeTable) : Type 0 where

@@ -2,8 +2,8 @@
 ghost use Rattle.std.specs.Prelude.{◌≡◌, ◌++◌, ℕ, List, Some, OnOk, IfOk, cond, length};
 ghost use Rattle.std.specs.Bool.{nat_eq};
 ghost use Rattle.std.specs.Cmp.Lexicographic.{pointwise};
-ghost use Rattle.fut_types.specs.Shapes.{IsTable};
-ghost use Rattle.type_labels.specs.Labels.{Goes_on, IsLabels, One_more, Rising, record_of, row_in};
+ghost use Rattle.fut_types.specs.Shapes.{IsTable, Rising};
+ghost use Rattle.type_labels.specs.Labels.{Goes_on, IsLabels, One_more, record_of, row_in};
 
 use crate::labels::Labels;
 use fut_scalar::{List as Items, NoMemory};

@@ -4,9 +4,9 @@ use Rattle.std.specs.List.{Contains}
 use Rattle.std.specs.List.Sorted.{IsPermutation, IsNonDecreasing}
 use Rattle.std.proofs.lemmas.List.Sorted.{Contains-permutation, IsPermutation-sym, length_permutation}
 use mathlib.Core.Logic.{◌⊎◌, inl, inr}
+use Rattle.fut_types.specs.Shapes.{Rising}
 use Rattle.fut_typing.specs.Names.{Once}
 use Rattle.fut_typing.proofs.Members.{In, in_list, list_in}
-use Rattle.type_labels.specs.Labels.{Rising}
 use Rattle.type_records.proofs.Naming.{Apart}
 
 at_in : (xs : List ℕ) (k d : ℕ) → k < length xs → In (slice_index_or xs k d) xs

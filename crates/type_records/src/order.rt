@@ -2,8 +2,8 @@
 ghost use Rattle.std.specs.Prelude.{◌≡◌, ◌↔◌, ℕ, ◌+◌, ◌<◌, IsTrue, IfOk, IfSome, MatchOption, length, slice_index_or};
 ghost use Rattle.std.specs.List.{Contains};
 ghost use Rattle.std.specs.List.Sorted.{IsNonDecreasing, IsPermutation};
+ghost use Rattle.fut_types.specs.Shapes.{Rising};
 ghost use Rattle.fut_typing.specs.Names.{Once};
-ghost use Rattle.type_labels.specs.Labels.{Rising};
 
 use fut_scalar::{List, NoMemory};
 use std::alloc::Global;
