@@ -8,7 +8,6 @@ use Rattle.fut_flat.specs.Erased.{texts}
 use Rattle.measure.specs.Fields.{put_named}
 use Rattle.measure.specs.declared.known.Known.{Known as Held_known}
 use Rattle.measure.specs.Held.{known_of, knowns, named}
-use Rattle.measure.proofs.Parts.{pick}
 use Rattle.reach.proofs.Lists.{one_more, drop_end}
 
 -- ---- the name of a part
@@ -38,6 +37,10 @@ no_fields : (fs : List Text) → named fs [] ≡ known_no_field
 unfolding named
 no_fields [] = refl
 no_fields (f ∷ fs) = refl
+
+pick : (ss : List Held_known) (i : ℕ) → i < length ss → Held_known
+pick [] i lt = absurd (omega (arith, lt))
+pick (s ∷ ss) i lt = s
 
 module _ (name : Text) (fs : List Text) (ss : List Held_known) where
   abbrev Fields_from : ℕ → Option Known

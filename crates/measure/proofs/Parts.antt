@@ -16,6 +16,8 @@ use Rattle.fut_flat.specs.declared.act.Act.{Act}
 use Rattle.fut_flat.specs.declared.act.Act.TheVariants as act
 use Rattle.fut_flat.specs.declared.ty.TypeExp.{TypeExp}
 use Rattle.fut_flat.specs.Erased.{operation_of, type_of}
+use Rattle.fut_positions.specs.Positions.{Spelled}
+use Rattle.fut_positions.proofs.Taken.{taken, none_taken}
 use Rattle.fut_flat.specs.Terms.{Operation, Ascribe, Assert, Coerce, Declared, Project, Replace}
 use Rattle.measure.specs.declared.stop.Stop.TheVariants.{Lost, Memory}
 use Rattle.measure.specs.Answers.{one_or_data, Known_to, known_is, not_known, no_memory_to_know}
@@ -103,23 +105,23 @@ one_behind (x ∷ ss) s = ap (known_and (known_of x)) (one_behind ss s)
 
 -- ---- the parts of a tuple
 
-pub part_step : (k : ℕ) (name : Text) (ss : List Held_known) (i : ℕ) (s : Held_known) → i < length ss → known_part_from k name (knowns (map known_of (drop i ss))) ≡ cond (bytes_eq (decimal k) name) (Some (known_of (get_or ss i s))) (known_part_from (k + 1) name (knowns (map known_of (drop (i + 1) ss))))
-unfolding knowns
-part_step k name ss i s lt = let e : suc k ≡ k + 1 = omega arith in ap (λ z. known_part_from k name (knowns (map known_of z))) (one_more ss i s lt) ∙ ap (λ z. cond (bytes_eq (decimal k) name) (Some (known_of (get_or ss i s))) (known_part_from z name (knowns (map known_of (drop (i + 1) ss))))) e
+module _ (name : Text) (ss : List Held_known) where
+  abbrev parts_from : ℕ → List Held_known → Option Known
+  parts_from k held = known_part_from k name (knowns (map known_of held))
 
-pub part_done : (k : ℕ) (name : Text) (ss : List Held_known) (n : ℕ) → length ss ≤ n → known_part_from k name (knowns (map known_of (drop n ss))) ≡ None
-unfolding knowns
-part_done k name ss n le = ap (λ z. known_part_from k name (knowns (map known_of z))) (drop_end n ss le)
+  no_parts : (k : ℕ) → parts_from k [] ≡ None
+  unfolding knowns
+  no_parts k = refl
 
-pub part_here : (k : ℕ) (name : Text) (ss : List Held_known) (i : ℕ) (s : Held_known) (o : Option Known) → i < length ss → o ≡ known_part_from k name (knowns (map known_of (drop i ss))) → bytes_eq (decimal k) name ≡ true → Known_to o (Ok (get_or ss i s))
-part_here k name ss i s o lt e h = known_is (e ∙ part_step k name ss i s lt ∙ ap (λ z. cond z (Some (known_of (get_or ss i s))) (known_part_from (k + 1) name (knowns (map known_of (drop (i + 1) ss))))) h)
+  next_part : (k : ℕ) (s : Held_known) (held : List Held_known) → parts_from k (s ∷ held) ≡ cond (bytes_eq (decimal k) name) (Some (known_of s)) (parts_from (suc k) held)
+  unfolding knowns
+  next_part k s held = refl
 
-pub pick : (ss : List Held_known) (i : ℕ) → i < length ss → Held_known
-pick [] i lt = absurd (omega (arith, lt))
-pick (s ∷ ss) i lt = s
+  pub part_there : (at : ℕ) (d : Held_known) → Spelled name (length ss) (Some at) → Known_to (parts_from 0 ss) (Ok (get_or ss at d))
+  part_there at d s = known_is (taken name known_of parts_from no_parts next_part at ss d s)
 
-pub part_on : (k : ℕ) (name : Text) (ss : List Held_known) (i : ℕ) (o : Option Known) → i < length ss → o ≡ known_part_from k name (knowns (map known_of (drop i ss))) → bytes_eq (decimal k) name ≡ false → o ≡ known_part_from (k + 1) name (knowns (map known_of (drop (i + 1) ss)))
-part_on k name ss i o lt e h = let s = pick ss i lt in e ∙ part_step k name ss i s lt ∙ ap (λ z. cond z (Some (known_of (get_or ss i s))) (known_part_from (k + 1) name (knowns (map known_of (drop (i + 1) ss))))) h
+  pub part_nowhere : Spelled name (length ss) None → Known_to (parts_from 0 ss) (Err Lost)
+  part_nowhere s = not_known (none_taken name known_of parts_from no_parts next_part ss s)
 
 -- ---- what each operation gives
 

@@ -12,7 +12,7 @@ use crate::records::{field_known, known_record};
 use crate::stop::Stop;
 use bumpalo::Bump;
 use fut_flat::Act;
-use itoa::Buffer;
+use fut_positions::position;
 
 // Of data a function makes data.
 fn data_of<'a>(parts: &[Known<'a>]) -> Result<Known<'a>, Stop>
@@ -78,15 +78,10 @@ fn replaced<'a>(
 fn position_of<'a>(parts: &'a [Known<'a>], name: &str) -> Result<Known<'a>, Stop>
     ensures { Known_to (known_part_from 0 name.now (knowns (map known_of parts.now))) result }
 {
-    let mut buffer = Buffer::new();
-    let mut at: usize = 0;
-    for known in parts {
-        if buffer.format(at) == name {
-            return Ok(*known);
-        }
-        at += 1;
+    match position(name, parts.len()) {
+        Some(at) => Ok(parts[at]),
+        None => Err(Stop::Lost),
     }
-    Err(Stop::Lost)
 }
 
 /// The part of this name.

@@ -1,11 +1,12 @@
 -- Parts of values, by how many there are.
-use Rattle.std.proofs.Common.{◌≡◌, ℕ, suc, ◌+◌, ◌<◌, List, [], ◌∷◌, map, length, get_or, drop, ◌≤◌, Option, Some, None, true, false, cond, decimal, refl, sym, ap, ◌∙◌, arith}
+use Rattle.std.proofs.Common.{◌≡◌, ℕ, List, [], ◌∷◌, map, length, get_or, Option, Some, None, refl, sym, ap, ◌∙◌, arith}
 use Rattle.std.specs.Borrow.{Bor}
-use Rattle.std.specs.Str.{bytes_eq}
-use Rattle.std.proofs.lemmas.List.{drop_all, length-map}
+use Rattle.std.proofs.lemmas.List.{length-map}
 use mathlib.Core.List.{head-eq_of_cons-eq, tail-eq_of_cons-eq}
 use Rattle.fut_ast.specs.Sorts.{Text}
 use Rattle.fut_blocks.specs.declared.block.Atom.{Atom}
+use Rattle.fut_positions.specs.Positions.{Spelled}
+use Rattle.fut_positions.proofs.Taken.{taken, none_taken}
 use Rattle.unfold.proofs.Mirror.{known_scalar, known_tuple, known_record}
 use Rattle.unfold.specs.Held.{known_of, field_of, fields_known}
 use Rattle.unfold.specs.Knowns.{Known, Scalar_known, knowns, field, part, part_from}
@@ -16,7 +17,6 @@ use Rattle.unfold_parts.specs.Parts.{Not_one, Is_scalar, a_scalar, no_scalar, Is
 use Rattle.unfold_parts.specs.declared.parts.Scalars.{Scalars}
 use Rattle.unfold_parts.specs.Held.{maybe_held}
 use Rattle.unfold_parts.proofs.Forms.{by_form, form_no_scalar}
-use Rattle.unfold_parts.proofs.Lists.{one_more}
 
 pub one_is : (ss : List Held_known) (d : Held_known) → length ss ≡ 1 → map known_of ss ≡ known_of (get_or ss 0 d) ∷ []
 one_is [] d e = absurd (omega (arith, e))
@@ -71,19 +71,12 @@ part_record name s fs o i h = h ∙ sym (ap (part name) (known_record s fs i))
 pub part_none : (name : Text) (s : Held_known) → ((ss : Bor (List Held_known)) → s.form ≡ form.Tuple ss → ⊥) → ((fs : Bor (List Field)) → s.form ≡ form.Record fs → ⊥) → None ≡ part name (known_of s)
 part_none name s t r = by_form s (λ k. None ≡ part name k) (λ u is. refl) (λ ss is. absurd (t ss is)) (λ fs is. absurd (r fs is)) (λ ps e lo sc. refl) (λ p at ss. refl)
 
-pub pick : (ss : List Held_known) (i : ℕ) → i < length ss → Held_known
-pick [] i lt = absurd (omega (arith, lt))
-pick (s ∷ ss) i lt = s
+module _ (name : Text) (ss : List Held_known) where
+  abbrev parts_from : ℕ → List Held_known → Option Known
+  parts_from k held = part_from k name (knowns (map known_of held))
 
-module _ (k : ℕ) (name : Text) (ss : List Held_known) where
-  part_step : (i : ℕ) (d : Held_known) → i < length ss → part_from k name (knowns (map known_of (drop i ss))) ≡ cond (bytes_eq (decimal k) name) (Some (known_of (get_or ss i d))) (part_from (k + 1) name (knowns (map known_of (drop (i + 1) ss))))
-  part_step i d lt = let e : suc k ≡ k + 1 = omega arith in ap (λ z. part_from k name (knowns (map known_of z))) (one_more ss i d lt) ∙ ap (λ z. cond (bytes_eq (decimal k) name) (Some (known_of (get_or ss i d))) (part_from z name (knowns (map known_of (drop (i + 1) ss))))) e
+  pub part_there : (at : ℕ) (d : Held_known) → Spelled name (length ss) (Some at) → Some (known_of (get_or ss at d)) ≡ parts_from 0 ss
+  part_there at d s = sym (taken name known_of parts_from (λ k. refl) (λ k x xs. refl) at ss d s)
 
-  pub part_here : (i : ℕ) (d : Held_known) (o : Option Known) → i < length ss → o ≡ part_from k name (knowns (map known_of (drop i ss))) → bytes_eq (decimal k) name ≡ true → o ≡ Some (known_of (get_or ss i d))
-  part_here i d o lt e h = e ∙ part_step i d lt ∙ ap (λ z. cond z (Some (known_of (get_or ss i d))) (part_from (k + 1) name (knowns (map known_of (drop (i + 1) ss))))) h
-
-  pub part_on : (i : ℕ) (d : Held_known) (o : Option Known) → i < length ss → o ≡ part_from k name (knowns (map known_of (drop i ss))) → bytes_eq (decimal k) name ≡ false → o ≡ part_from (k + 1) name (knowns (map known_of (drop (i + 1) ss)))
-  part_on i d o lt e h = e ∙ part_step i d lt ∙ ap (λ z. cond z (Some (known_of (get_or ss i d))) (part_from (k + 1) name (knowns (map known_of (drop (i + 1) ss))))) h
-
-  pub part_done : (i : ℕ) (o : Option Known) → length ss ≤ i → o ≡ part_from k name (knowns (map known_of (drop i ss))) → None ≡ o
-  part_done i o le e = sym (e ∙ ap (λ z. part_from k name (knowns (map known_of z))) (drop_all i ss le))
+  pub part_nowhere : Spelled name (length ss) None → None ≡ parts_from 0 ss
+  part_nowhere s = sym (none_taken name known_of parts_from (λ k. refl) (λ k x xs. refl) ss s)

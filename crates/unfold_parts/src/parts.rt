@@ -7,7 +7,7 @@ ghost use Rattle.unfold_parts.specs.Parts.{Is_one_scalar, Is_scalar, Is_two_scal
 
 use crate::records::field_known;
 use fut_blocks::Atom;
-use itoa::Buffer;
+use fut_positions::position;
 use unfold::{Known, KnownForm};
 
 #[derive(Clone, Copy)]
@@ -53,18 +53,13 @@ pub fn two_scalars<'a>(parts: &'a [Known<'a>]) -> Option<Scalars>
 }
 
 // The part of a tuple whose position is spelled so.
-fn position<'a>(parts: &'a [Known<'a>], name: &str) -> Option<&'a Known<'a>>
+fn part_at<'a>(parts: &'a [Known<'a>], name: &str) -> Option<&'a Known<'a>>
     ensures { maybe_held result ≡ part_from 0 name.now (knowns (map known_of parts.now)) }
 {
-    let mut buffer = Buffer::new();
-    let mut at: usize = 0;
-    for known in parts {
-        if buffer.format(at) == name {
-            return Some(known);
-        }
-        at += 1;
+    match position(name, parts.len()) {
+        Some(at) => Some(&parts[at]),
+        None => None,
     }
-    None
 }
 
 /// The part of that name: of a tuple by its position, of a record by its field.
@@ -72,7 +67,7 @@ pub fn part<'a>(known: &Known<'a>, name: &str) -> Option<&'a Known<'a>>
     ensures { maybe_held result ≡ part name.now (known_of known.now) }
 {
     match known.form {
-        KnownForm::Tuple(parts) => position(parts, name),
+        KnownForm::Tuple(parts) => part_at(parts, name),
         KnownForm::Record(fields) => field_known(fields, name),
         _ => None,
     }
