@@ -12,7 +12,7 @@ ghost use Rattle.unfold_program.specs.Answers.{defined};
 ghost use Rattle.unfold_program.specs.Whole.{All_applied, Are_scalars, Defined_to, Definitions_to, Entry_to, Finished, Given_to, Unfolds_to};
 
 use crate::walk::{apply, walk};
-use crate::walked::Context;
+use crate::walked::{Context, Setting};
 use bumpalo::Bump;
 use fut_blocks::{Atom, Program};
 use fut_flat::{Definition, Flat};
@@ -173,7 +173,12 @@ fn unfold_definition<'a>(
         };
         return Ok(Made { context, at: next });
     }
-    let r = match walk(&context, 0, nothing, first, definition.value, state) {
+    let setting = Setting {
+        context: &context,
+        level: 0,
+        scope: nothing,
+    };
+    let r = match walk(setting, first, definition.value, state) {
         Ok(r) => r,
         Err(refusal) => return Err(refusal),
     };

@@ -1,5 +1,5 @@
 // The walk over terms: an application of a known function becomes its body, and each operation on scalars a step.
-ghost use Rattle.std.specs.Prelude.{◌≤◌, map};
+ghost use Rattle.std.specs.Prelude.{◌≡◌, ◌≤◌, ◌+◌, map};
 ghost use Rattle.fut_flat.specs.Erased.{operation_of, pattern_of, patterns, term_of, terms};
 ghost use Rattle.fut_flat.specs.Terms.{Apply, If, Strict};
 ghost use Rattle.fut_flat.proofs.ErasedForms.{loop_of, row_of};
@@ -11,7 +11,7 @@ use crate::enter::{enter, enter_turn, scalar_of};
 use crate::function::function_known;
 use crate::give::{close, give, operated, used, walked_to, with_argument};
 use crate::peel::stripped;
-use crate::walked::{Branch, Context, MOST_DEPTH, Parts, Row, Walked, WalkedScalar};
+use crate::walked::{Branch, Context, MOST_DEPTH, Parts, Row, Setting, Walked, WalkedScalar};
 use bumpalo::Bump;
 use bumpalo::collections::into_bump_slice;
 use fut_blocks::{Act, Atom};
@@ -21,51 +21,54 @@ use fut_scalar::{BindId, Place, Scalar};
 use unfold::{Known, KnownForm, Scope};
 use unfold_parts::{Refusal, Unfolding, apply_primitive, bind, literal_type_at};
 
-/// What is known of the value of an expression, whose node has the number `at`. The expression lies inside `level` others.
+/// What is known of the value of an expression, whose node has the number `at`.
 #[cycle(walk)]
 pub fn walk<'a>(
-    context: &Context<'a>,
-    level: u32,
-    scope: &'a Scope<'a>,
+    setting: Setting<'_, 'a>,
     at: u32,
     exp: &'a Exp<'a>,
     state: &mut Unfolding<'a>,
 ) -> Result<Walked<'a>, Refusal>
-    requires kept { Kept context.now.tops }
-    ensures { Unfolded context.now (scope_of scope.now) at (term_of exp.now) state.old state.new result }
+    requires kept { Kept setting.context.now.tops }
+    ensures { Unfolded setting.entry.context.now (scope_of setting.entry.scope.now) at (term_of exp.now) state.old state.new result }
 {
-    if level >= MOST_DEPTH {
+    if setting.level >= MOST_DEPTH {
         return Err(Refusal::Memory);
     }
-    let peeled = match stripped(at, exp) {
-        Ok(peeled) => peeled,
-        Err(refusal) => return Err(refusal),
-    };
-    let inner = peeled.exp;
-    let inside = peeled.inside;
-    match inner.form {
-        Form::Use(reference, _) => used(&context.tops, scope, reference, peeled.at, inner),
-        Form::Strict { act, mark, parts } => {
-            walk_strict(
-                context,
-                level + 1,
-                scope,
-                peeled.at,
-                &act,
-                mark,
-                parts,
-                state,
-            )
+    match stripped(at, exp) {
+        Ok(peeled) => {
+            let within = Setting {
+                level: setting.level + 1,
+                ..setting
+            };
+            walk_form(within, peeled.at, peeled.inside, peeled.exp, state)
         }
-        Form::Lambda(params, body) => walk_lambda(state.bump, scope, inside, params, body),
-        Form::Apply(function, argument) => {
-            walk_apply(context, level + 1, scope, inside, function, argument, state)
-        }
-        Form::Lets(_, _) => walk_lets(context, level + 1, scope, peeled.at, inner, state),
-        Form::If(test, yes, no) => {
-            walk_if(context, level + 1, scope, inside, test, yes, no, state)
-        }
-        Form::Loop(whole) => walk_loop(context, level + 1, scope, inside, whole, state),
+        Err(refusal) => Err(refusal),
+    }
+}
+
+// The same within the limit, for an expression without declared types around it. The number behind that of its node is `inside`.
+#[cycle(walk)]
+fn walk_form<'a>(
+    setting: Setting<'_, 'a>,
+    at: u32,
+    inside: u32,
+    exp: &'a Exp<'a>,
+    state: &mut Unfolding<'a>,
+) -> Result<Walked<'a>, Refusal>
+    requires kept { Kept setting.context.now.tops }
+    requires level { setting.level ≤ 1000 }
+    requires inside { inside ≡ at + 1 }
+    ensures { Unfolded setting.entry.context.now (scope_of setting.entry.scope.now) at (term_of exp.now) state.old state.new result }
+{
+    match exp.form {
+        Form::Use(reference, _) => used(&setting.context.tops, setting.scope, reference, at, exp),
+        Form::Strict { act, mark, parts } => walk_strict(setting, at, &act, mark, parts, state),
+        Form::Lambda(params, body) => walk_lambda(state.bump, setting.scope, inside, params, body),
+        Form::Apply(function, argument) => walk_apply(setting, inside, function, argument, state),
+        Form::Lets(_, _) => walk_lets(setting, at, exp, state),
+        Form::If(test, yes, no) => walk_if(setting, inside, test, yes, no, state),
+        Form::Loop(whole) => walk_loop(setting, inside, whole, state),
     }
 }
 
@@ -92,48 +95,44 @@ fn walk_lambda<'a>(
 // Parts from left to right, then the operation.
 #[cycle(walk)]
 fn walk_strict<'a>(
-    context: &Context<'a>,
-    level: u32,
-    scope: &'a Scope<'a>,
+    setting: Setting<'_, 'a>,
     at: u32,
     act: &Operation<'a>,
     mark: Place,
     parts: &'a [Exp<'a>],
     state: &mut Unfolding<'a>,
 ) -> Result<Walked<'a>, Refusal>
-    requires kept { Kept context.now.tops }
-    requires level { level ≤ 1000 }
-    ensures { Unfolded context.now (scope_of scope.now) at (Strict (operation_of act.now) mark (terms (map term_of parts.now))) state.old state.new result }
+    requires kept { Kept setting.context.now.tops }
+    requires level { setting.level ≤ 1000 }
+    ensures { Unfolded setting.entry.context.now (scope_of setting.entry.scope.now) at (Strict (operation_of act.now) mark (terms (map term_of parts.now))) state.old state.new result }
 {
     let first = match after(at, own_numbers_of(act)) {
         Ok(first) => first,
         Err(_) => return Err(Refusal::Memory),
     };
-    let made = match walk_parts(context, level, scope, first, parts, state) {
+    let made = match walk_parts(setting, first, parts, state) {
         Ok(made) => made,
         Err(refusal) => return Err(refusal),
     };
-    let ty = literal_type_at(context.types, at);
+    let ty = literal_type_at(setting.context.types, at);
     operated(state, ty, act, mark, made)
 }
 
 #[cycle(walk)]
 fn walk_parts<'a>(
-    context: &Context<'a>,
-    level: u32,
-    scope: &'a Scope<'a>,
+    setting: Setting<'_, 'a>,
     at: u32,
     exps: &'a [Exp<'a>],
     state: &mut Unfolding<'a>,
 ) -> Result<Parts<'a>, Refusal>
-    requires kept { Kept context.now.tops }
-    requires level { level ≤ 1000 }
-    ensures { All_unfolded context.now (scope_of scope.now) at (terms (map term_of exps.now)) state.old state.new result }
+    requires kept { Kept setting.context.now.tops }
+    requires level { setting.level ≤ 1000 }
+    ensures { All_unfolded setting.entry.context.now (scope_of setting.entry.scope.now) at (terms (map term_of exps.now)) state.old state.new result }
 {
     let mut knowns = Vec::new(state.bump);
     let mut next = at;
     for exp in exps {
-        let r = match walk(context, level, scope, next, exp, state) {
+        let r = match walk(setting, next, exp, state) {
             Ok(r) => r,
             Err(refusal) => return Err(refusal),
         };
@@ -151,44 +150,43 @@ fn walk_parts<'a>(
 
 #[cycle(walk)]
 fn walk_apply<'a>(
-    context: &Context<'a>,
-    level: u32,
-    scope: &'a Scope<'a>,
+    setting: Setting<'_, 'a>,
     inside: u32,
     function: &'a Exp<'a>,
     argument: &'a Exp<'a>,
     state: &mut Unfolding<'a>,
 ) -> Result<Walked<'a>, Refusal>
-    requires kept { Kept context.now.tops }
-    requires level { level ≤ 1000 }
-    ensures { Unfolded_inside context.now (scope_of scope.now) inside (Apply (term_of function.now) (term_of argument.now)) state.old state.new result }
+    requires kept { Kept setting.context.now.tops }
+    requires level { setting.level ≤ 1000 }
+    ensures { Unfolded_inside setting.entry.context.now (scope_of setting.entry.scope.now) inside (Apply (term_of function.now) (term_of argument.now)) state.old state.new result }
 {
-    let f = match walk(context, level, scope, inside, function, state) {
+    let f = match walk(setting, inside, function, state) {
         Ok(f) => f,
         Err(refusal) => return Err(refusal),
     };
-    let e = match walk(context, level, scope, f.at, argument, state) {
+    let e = match walk(setting, f.at, argument, state) {
         Ok(e) => e,
         Err(refusal) => return Err(refusal),
     };
-    walked_to(apply(context, level, f.known, e.known, state), e.at)
+    walked_to(
+        apply(setting.context, setting.level, f.known, e.known, state),
+        e.at,
+    )
 }
 
 // A term whose value is a scalar.
 #[cycle(walk)]
 fn walk_scalar<'a>(
-    context: &Context<'a>,
-    level: u32,
-    scope: &'a Scope<'a>,
+    setting: Setting<'_, 'a>,
     at: u32,
     exp: &'a Exp<'a>,
     state: &mut Unfolding<'a>,
 ) -> Result<WalkedScalar, Refusal>
-    requires kept { Kept context.now.tops }
-    requires level { level ≤ 1000 }
-    ensures { Scalar_unfolded context.now (scope_of scope.now) at (term_of exp.now) state.old state.new result }
+    requires kept { Kept setting.context.now.tops }
+    requires level { setting.level ≤ 1000 }
+    ensures { Scalar_unfolded setting.entry.context.now (scope_of setting.entry.scope.now) at (term_of exp.now) state.old state.new result }
 {
-    match walk(context, level, scope, at, exp, state) {
+    match walk(setting, at, exp, state) {
         Ok(walked) => scalar_of(walked),
         Err(refusal) => Err(refusal),
     }
@@ -197,25 +195,23 @@ fn walk_scalar<'a>(
 // Both branches give data of one shape, whose components get new names.
 #[cycle(walk)]
 fn walk_if<'a>(
-    context: &Context<'a>,
-    level: u32,
-    scope: &'a Scope<'a>,
+    setting: Setting<'_, 'a>,
     inside: u32,
     test: &'a Exp<'a>,
     yes: &'a Exp<'a>,
     no: &'a Exp<'a>,
     state: &mut Unfolding<'a>,
 ) -> Result<Walked<'a>, Refusal>
-    requires kept { Kept context.now.tops }
-    requires level { level ≤ 1000 }
-    ensures { Unfolded_inside context.now (scope_of scope.now) inside (If (term_of test.now) (term_of yes.now) (term_of no.now)) state.old state.new result }
+    requires kept { Kept setting.context.now.tops }
+    requires level { setting.level ≤ 1000 }
+    ensures { Unfolded_inside setting.entry.context.now (scope_of setting.entry.scope.now) inside (If (term_of test.now) (term_of yes.now) (term_of no.now)) state.old state.new result }
 {
-    let truth = match walk_scalar(context, level, scope, inside, test, state) {
+    let truth = match walk_scalar(setting, inside, test, state) {
         Ok(truth) => truth,
         Err(refusal) => return Err(refusal),
     };
     let mark = state.mark();
-    let r = match walk(context, level, scope, truth.at, yes, state) {
+    let r = match walk(setting, truth.at, yes, state) {
         Ok(r) => r,
         Err(refusal) => return Err(refusal),
     };
@@ -223,7 +219,7 @@ fn walk_if<'a>(
         Ok(a) => a,
         Err(refusal) => return Err(refusal),
     };
-    let b = match walk_block(context, level, scope, a.at, no, r.known, state) {
+    let b = match walk_block(setting, a.at, no, r.known, state) {
         Ok(b) => b,
         Err(refusal) => return Err(refusal),
     };
@@ -233,20 +229,18 @@ fn walk_if<'a>(
 // An expression as a block of its own, which gives data of the shape of `like`.
 #[cycle(walk)]
 fn walk_block<'a>(
-    context: &Context<'a>,
-    level: u32,
-    scope: &'a Scope<'a>,
+    setting: Setting<'_, 'a>,
     at: u32,
     exp: &'a Exp<'a>,
     like: Known<'a>,
     state: &mut Unfolding<'a>,
 ) -> Result<Branch<'a>, Refusal>
-    requires kept { Kept context.now.tops }
-    requires level { level ≤ 1000 }
-    ensures { Blocked_to context.now (scope_of scope.now) at (term_of exp.now) (known_of like.entry) state.old state.new result }
+    requires kept { Kept setting.context.now.tops }
+    requires level { setting.level ≤ 1000 }
+    ensures { Blocked_to setting.entry.context.now (scope_of setting.entry.scope.now) at (term_of exp.now) (known_of like.entry) state.old state.new result }
 {
     let mark = state.mark();
-    match walk(context, level, scope, at, exp, state) {
+    match walk(setting, at, exp, state) {
         Ok(r) => close(state, mark, like, r),
         Err(refusal) => Err(refusal),
     }
@@ -254,30 +248,26 @@ fn walk_block<'a>(
 
 #[cycle(walk)]
 fn walk_loop<'a>(
-    context: &Context<'a>,
-    level: u32,
-    scope: &'a Scope<'a>,
+    setting: Setting<'_, 'a>,
     inside: u32,
     whole: &'a Loop<'a>,
     state: &mut Unfolding<'a>,
 ) -> Result<Walked<'a>, Refusal>
-    requires kept { Kept context.now.tops }
-    requires level { level ≤ 1000 }
-    ensures { Unfolded_inside context.now (scope_of scope.now) inside (loop_of whole.now) state.old state.new result }
+    requires kept { Kept setting.context.now.tops }
+    requires level { setting.level ≤ 1000 }
+    ensures { Unfolded_inside setting.entry.context.now (scope_of setting.entry.scope.now) inside (loop_of whole.now) state.old state.new result }
 {
     let value = match after_pattern(inside, &whole.pat) {
         Ok(value) => value,
         Err(_) => return Err(Refusal::Memory),
     };
-    let first = match walk(context, level, scope, value, &whole.first, state) {
+    let first = match walk(setting, value, &whole.first, state) {
         Ok(first) => first,
         Err(refusal) => return Err(refusal),
     };
     match &whole.form {
-        LoopForm::For(index, count) => {
-            walk_for(context, level, scope, whole, *index, count, first, state)
-        }
-        LoopForm::While(test) => walk_while(context, level, scope, whole, test, first, state),
+        LoopForm::For(index, count) => { walk_for(setting, whole, *index, count, first, state) }
+        LoopForm::While(test) => walk_while(setting, whole, test, first, state),
         LoopForm::ForIn(_, _) => Err(Refusal::Lost),
     }
 }
@@ -285,40 +275,34 @@ fn walk_loop<'a>(
 // A turn is unfolded once, on new names, and gives data of the shape of the first value.
 #[cycle(walk)]
 fn walk_for<'a>(
-    context: &Context<'a>,
-    level: u32,
-    scope: &'a Scope<'a>,
+    setting: Setting<'_, 'a>,
     whole: &'a Loop<'a>,
     index: BindId,
     count: &'a Exp<'a>,
     first: Walked<'a>,
     state: &mut Unfolding<'a>,
 ) -> Result<Walked<'a>, Refusal>
-    requires kept { Kept context.now.tops }
-    requires level { level ≤ 1000 }
-    ensures { Counted_to context.now (scope_of scope.now) whole.now index (term_of count.now) first.entry state.old state.new result }
+    requires kept { Kept setting.context.now.tops }
+    requires level { setting.level ≤ 1000 }
+    ensures { Counted_to setting.entry.context.now (scope_of setting.entry.scope.now) whole.now index (term_of count.now) first.entry state.old state.new result }
 {
     let counting = match after(first.at, 1) {
         Ok(counting) => counting,
         Err(_) => return Err(Refusal::Memory),
     };
-    let n = match walk_scalar(context, level, scope, counting, count, state) {
+    let n = match walk_scalar(setting, counting, count, state) {
         Ok(n) => n,
         Err(refusal) => return Err(refusal),
     };
-    let turn = match enter_turn(&whole.pat, index, scope, first.known, state) {
+    let turn = match enter_turn(&whole.pat, index, setting.scope, first.known, state) {
         Ok(turn) => turn,
         Err(refusal) => return Err(refusal),
     };
-    let body = match walk_block(
-        context,
-        level,
-        turn.scope,
-        n.at,
-        &whole.body,
-        first.known,
-        state,
-    ) {
+    let inner = Setting {
+        scope: turn.scope,
+        ..setting
+    };
+    let body = match walk_block(inner, n.at, &whole.body, first.known, state) {
         Ok(body) => body,
         Err(refusal) => return Err(refusal),
     };
@@ -334,31 +318,32 @@ fn walk_for<'a>(
 
 #[cycle(walk)]
 fn walk_while<'a>(
-    context: &Context<'a>,
-    level: u32,
-    scope: &'a Scope<'a>,
+    setting: Setting<'_, 'a>,
     whole: &'a Loop<'a>,
     test: &'a Exp<'a>,
     first: Walked<'a>,
     state: &mut Unfolding<'a>,
 ) -> Result<Walked<'a>, Refusal>
-    requires kept { Kept context.now.tops }
-    requires level { level ≤ 1000 }
-    ensures { Tested_to context.now (scope_of scope.now) whole.now (term_of test.now) first.entry state.old state.new result }
+    requires kept { Kept setting.context.now.tops }
+    requires level { setting.level ≤ 1000 }
+    ensures { Tested_to setting.entry.context.now (scope_of setting.entry.scope.now) whole.now (term_of test.now) first.entry state.old state.new result }
 {
-    let entered = match enter(&whole.pat, scope, first.known, state) {
+    let entered = match enter(&whole.pat, setting.scope, first.known, state) {
         Ok(entered) => entered,
         Err(refusal) => return Err(refusal),
     };
-    let inner = entered.scope;
+    let inner = Setting {
+        scope: entered.scope,
+        ..setting
+    };
     let truth = Known {
         form: KnownForm::Scalar(Atom::Constant(Scalar::Bool(true))),
     };
-    let c = match walk_block(context, level, inner, first.at, test, truth, state) {
+    let c = match walk_block(inner, first.at, test, truth, state) {
         Ok(c) => c,
         Err(refusal) => return Err(refusal),
     };
-    let body = match walk_block(context, level, inner, c.at, &whole.body, first.known, state) {
+    let body = match walk_block(inner, c.at, &whole.body, first.known, state) {
         Ok(body) => body,
         Err(refusal) => return Err(refusal),
     };
@@ -375,41 +360,45 @@ fn walk_while<'a>(
 // Rows of `let`s and the body behind them.
 #[cycle(walk)]
 fn walk_lets<'a>(
-    context: &Context<'a>,
-    level: u32,
-    scope: &'a Scope<'a>,
+    setting: Setting<'_, 'a>,
     at: u32,
     exp: &'a Exp<'a>,
     state: &mut Unfolding<'a>,
 ) -> Result<Walked<'a>, Refusal>
-    requires kept { Kept context.now.tops }
-    requires level { level ≤ 1000 }
-    ensures { Unfolded context.now (scope_of scope.now) at (term_of exp.now) state.old state.new result }
+    requires kept { Kept setting.context.now.tops }
+    requires level { setting.level ≤ 1000 }
+    ensures { Unfolded setting.entry.context.now (scope_of setting.entry.scope.now) at (term_of exp.now) state.old state.new result }
 {
     let mut rest = exp;
-    let mut row = Row { scope, at };
+    let mut row = Row {
+        scope: setting.scope,
+        at,
+    };
     while let Form::Lets(lets, body) = rest.form {
-        row = match walk_row(context, level, row, lets, state) {
+        row = match walk_row(setting, row, lets, state) {
             Ok(row) => row,
             Err(refusal) => return Err(refusal),
         };
         rest = body;
     }
-    walk(context, level, row.scope, row.at, rest, state)
+    let behind = Setting {
+        scope: row.scope,
+        ..setting
+    };
+    walk(behind, row.at, rest, state)
 }
 
 // The `let`s of a row, one after the other.
 #[cycle(walk)]
 fn walk_row<'a>(
-    context: &Context<'a>,
-    level: u32,
+    setting: Setting<'_, 'a>,
     row: Row<'a>,
     lets: &'a [Let<'a>],
     state: &mut Unfolding<'a>,
 ) -> Result<Row<'a>, Refusal>
-    requires kept { Kept context.now.tops }
-    requires level { level ≤ 1000 }
-    ensures { Row_unfolded context.now row.entry (map row_of lets.now) state.old state.new result }
+    requires kept { Kept setting.context.now.tops }
+    requires level { setting.level ≤ 1000 }
+    ensures { Row_unfolded setting.entry.context.now row.entry (map row_of lets.now) state.old state.new result }
 {
     let mut at = row;
     for one in lets {
@@ -421,7 +410,11 @@ fn walk_row<'a>(
             Ok(first) => first,
             Err(_) => return Err(Refusal::Memory),
         };
-        let value = match walk(context, level, at.scope, first, &one.value, state) {
+        let inner = Setting {
+            scope: at.scope,
+            ..setting
+        };
+        let value = match walk(inner, first, &one.value, state) {
             Ok(value) => value,
             Err(refusal) => return Err(refusal),
         };
@@ -465,7 +458,12 @@ pub fn apply<'a>(
     if params.len() > 1 {
         return function_known(state.bump, &params[1..], lambda.body, lambda.first, inner);
     }
-    match walk(context, level, inner, lambda.first, lambda.body, state) {
+    let setting = Setting {
+        context,
+        level,
+        scope: inner,
+    };
+    match walk(setting, lambda.first, lambda.body, state) {
         Ok(r) => Ok(r.known),
         Err(refusal) => Err(refusal),
     }

@@ -14,6 +14,14 @@ pub struct Context<'a> {
     pub types: &'a [IntType],
 }
 
+/// Where a term is unfolded: what is known of the definitions and of the local names, and how many terms it lies inside.
+#[derive(Clone, Copy)]
+pub struct Setting<'c, 'a> {
+    pub context: &'c Context<'a>,
+    pub level: u32,
+    pub scope: &'a Scope<'a>,
+}
+
 /// What is known of a term's value, and the number of the node behind the term.
 #[derive(Clone, Copy)]
 pub struct Walked<'a> {

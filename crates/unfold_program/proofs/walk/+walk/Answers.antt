@@ -10,32 +10,35 @@ use Rattle.unfold_program.proofs.Rows.{parts_start, parts_err, parts_more, parts
 use Rattle.unfold_program.proofs.Running.{apply_of_other, apply_of_primitive, apply_unargued, apply_waits, apply_runs, apply_stuck}
 use Rattle.unfold_program.proofs.walk.+walk.Goals as goal
 
-pub walk-returns-then-level-ge-MOST_DEPTH : goal.walk-returns-then-level-ge-MOST_DEPTH
-walk-returns-then-level-ge-MOST_DEPTH t c = refused no_memory
+pub walk-returns-then-setting-ge-MOST_DEPTH : goal.walk-returns-then-setting-ge-MOST_DEPTH
+walk-returns-then-setting-ge-MOST_DEPTH t c = refused no_memory
 
 pub walk-returns-in-Err : goal.walk-returns-in-Err
 walk-returns-in-Err t c = unpeeled _ _ _ _ _ _ _ c.in-Err.ensures.peeled
 
-pub walk-returns-in-Use : goal.walk-returns-in-Use
-walk-returns-in-Use t c = peeled_unfolded _ _ _ _ _ _ _ _ c.in-Ok.ensures.peeled (form_use _ _ _ _ _ _ _ _ c.in-Use.is c.used.ensures)
+pub walk-returns-in-Ok : goal.walk-returns-in-Ok
+walk-returns-in-Ok t c = peeled_unfolded _ _ _ _ _ _ _ _ c.in-Ok.ensures.peeled c.walk_form.ensures
 
-pub walk-returns-in-Lambda : goal.walk-returns-in-Lambda
-walk-returns-in-Lambda t c = peeled_unfolded _ _ _ _ _ _ _ _ c.in-Ok.ensures.peeled (form_lambda _ _ _ _ _ _ _ _ _ c.in-Lambda.is c.in-Ok.ensures.inside c.walk_lambda.ensures)
+pub walk_form-returns-in-Use : goal.walk_form-returns-in-Use
+walk_form-returns-in-Use t c = form_use _ _ _ _ _ _ _ _ c.in-Use.is c.used.ensures
 
-pub walk-returns-in-Strict : goal.walk-returns-in-Strict
-walk-returns-in-Strict t c = peeled_unfolded _ _ _ _ _ _ _ _ c.in-Ok.ensures.peeled (form_strict _ _ _ _ _ _ _ _ _ _ c.in-Strict.is c.walk_strict.ensures)
+pub walk_form-returns-in-Lambda : goal.walk_form-returns-in-Lambda
+walk_form-returns-in-Lambda t c = form_lambda _ _ _ _ _ _ _ _ _ c.in-Lambda.is c.requires.inside c.walk_lambda.ensures
 
-pub walk-returns-in-Apply : goal.walk-returns-in-Apply
-walk-returns-in-Apply t c = peeled_unfolded _ _ _ _ _ _ _ _ c.in-Ok.ensures.peeled (form_apply _ _ _ _ _ _ _ _ _ c.in-Apply.is (c.walk_apply.ensures _ c.in-Ok.ensures.inside))
+pub walk_form-returns-in-Strict : goal.walk_form-returns-in-Strict
+walk_form-returns-in-Strict t c = form_strict _ _ _ _ _ _ _ _ _ _ c.in-Strict.is c.walk_strict.ensures
 
-pub walk-returns-in-Lets : goal.walk-returns-in-Lets
-walk-returns-in-Lets t c = peeled_unfolded _ _ _ _ _ _ _ _ c.in-Ok.ensures.peeled c.walk_lets.ensures
+pub walk_form-returns-in-Apply : goal.walk_form-returns-in-Apply
+walk_form-returns-in-Apply t c = form_apply _ _ _ _ _ _ _ _ _ c.in-Apply.is (c.walk_apply.ensures _ c.requires.inside)
 
-pub walk-returns-in-If : goal.walk-returns-in-If
-walk-returns-in-If t c = peeled_unfolded _ _ _ _ _ _ _ _ c.in-Ok.ensures.peeled (form_if _ _ _ _ _ _ _ _ _ _ c.in-If.is (c.walk_if.ensures _ c.in-Ok.ensures.inside))
+pub walk_form-returns-in-Lets : goal.walk_form-returns-in-Lets
+walk_form-returns-in-Lets t c = c.walk_lets.ensures
 
-pub walk-returns-in-Loop : goal.walk-returns-in-Loop
-walk-returns-in-Loop t c = peeled_unfolded _ _ _ _ _ _ _ _ c.in-Ok.ensures.peeled (form_loop _ _ _ _ _ _ _ _ c.in-Loop.is (c.walk_loop.ensures _ c.in-Ok.ensures.inside))
+pub walk_form-returns-in-If : goal.walk_form-returns-in-If
+walk_form-returns-in-If t c = form_if _ _ _ _ _ _ _ _ _ _ c.in-If.is (c.walk_if.ensures _ c.requires.inside)
+
+pub walk_form-returns-in-Loop : goal.walk_form-returns-in-Loop
+walk_form-returns-in-Loop t c = form_loop _ _ _ _ _ _ _ _ c.in-Loop.is (c.walk_loop.ensures _ c.requires.inside)
 
 pub walk_strict-returns-in-Err : goal.walk_strict-returns-in-Err
 walk_strict-returns-in-Err t c = refused no_memory
@@ -195,3 +198,81 @@ apply-returns-in-Err-walk t c = apply_stuck _ _ _ _ _ c.in-Function.is _ _ _ c.i
 
 pub walk_parts-returns-in-Err-push : goal.walk_parts-returns-in-Err-push
 walk_parts-returns-in-Err-push t c = all_refused no_memory
+
+pub walk_form-walk_strict-requires : goal.walk_form-walk_strict-requires
+walk_form-walk_strict-requires t c = (omega arith, (c.requires.kept, c.requires.level))
+
+pub walk_form-walk_apply-requires : goal.walk_form-walk_apply-requires
+walk_form-walk_apply-requires t c = (omega arith, (c.requires.kept, c.requires.level))
+
+pub walk_form-walk_lets-requires : goal.walk_form-walk_lets-requires
+walk_form-walk_lets-requires t c = (omega arith, (c.requires.kept, c.requires.level))
+
+pub walk_form-walk_if-requires : goal.walk_form-walk_if-requires
+walk_form-walk_if-requires t c = (omega arith, (c.requires.kept, c.requires.level))
+
+pub walk_form-walk_loop-requires : goal.walk_form-walk_loop-requires
+walk_form-walk_loop-requires t c = (omega arith, (c.requires.kept, c.requires.level))
+
+pub walk_strict-walk_parts-requires : goal.walk_strict-walk_parts-requires
+walk_strict-walk_parts-requires t c = (omega arith, (c.requires.kept, c.requires.level))
+
+pub walk_apply-apply-requires : goal.walk_apply-apply-requires
+walk_apply-apply-requires t c = (omega arith, (c.requires.kept, c.requires.level))
+
+pub walk_if-walk_scalar-requires : goal.walk_if-walk_scalar-requires
+walk_if-walk_scalar-requires t c = (omega arith, (c.requires.kept, c.requires.level))
+
+pub walk_if-walk_block-requires : goal.walk_if-walk_block-requires
+walk_if-walk_block-requires t c = (omega arith, (c.requires.kept, c.requires.level))
+
+pub walk_loop-walk_for-requires : goal.walk_loop-walk_for-requires
+walk_loop-walk_for-requires t c = (omega arith, (c.requires.kept, c.requires.level))
+
+pub walk_loop-walk_while-requires : goal.walk_loop-walk_while-requires
+walk_loop-walk_while-requires t c = (omega arith, (c.requires.kept, c.requires.level))
+
+pub walk_for-walk_scalar-requires : goal.walk_for-walk_scalar-requires
+walk_for-walk_scalar-requires t c = (omega arith, (c.requires.kept, c.requires.level))
+
+pub walk_for-walk_block-requires : goal.walk_for-walk_block-requires
+walk_for-walk_block-requires t c = (omega arith, (c.requires.kept, c.requires.level))
+
+pub walk_while-walk_block-requires : goal.walk_while-walk_block-requires
+walk_while-walk_block-requires t c = (omega arith, (c.requires.kept, c.requires.level))
+
+pub walk_while-walk_block-requires-2 : goal.walk_while-walk_block-requires-2
+walk_while-walk_block-requires-2 t c = (omega arith, (c.requires.kept, c.requires.level))
+
+pub walk_lets-walk_row-requires : goal.walk_lets-walk_row-requires
+walk_lets-walk_row-requires t c = (omega arith, (c.requires.kept, c.requires.level))
+
+pub walk_parts-walk-requires : goal.walk_parts-walk-requires
+walk_parts-walk-requires t c = (omega arith, c.requires.kept)
+
+pub walk_apply-walk-requires : goal.walk_apply-walk-requires
+walk_apply-walk-requires t c = (omega arith, c.requires.kept)
+
+pub walk_apply-walk-requires-2 : goal.walk_apply-walk-requires-2
+walk_apply-walk-requires-2 t c = (omega arith, c.requires.kept)
+
+pub walk_scalar-walk-requires : goal.walk_scalar-walk-requires
+walk_scalar-walk-requires t c = (omega arith, c.requires.kept)
+
+pub walk_if-walk-requires : goal.walk_if-walk-requires
+walk_if-walk-requires t c = (omega arith, c.requires.kept)
+
+pub walk_block-walk-requires : goal.walk_block-walk-requires
+walk_block-walk-requires t c = (omega arith, c.requires.kept)
+
+pub walk_loop-walk-requires : goal.walk_loop-walk-requires
+walk_loop-walk-requires t c = (omega arith, c.requires.kept)
+
+pub walk_lets-walk-requires : goal.walk_lets-walk-requires
+walk_lets-walk-requires t c = (omega arith, c.requires.kept)
+
+pub walk_row-walk-requires : goal.walk_row-walk-requires
+walk_row-walk-requires t c = (omega arith, c.requires.kept)
+
+pub apply-walk-requires : goal.apply-walk-requires
+apply-walk-requires t c = (omega arith, c.requires.kept)
