@@ -100,9 +100,8 @@ given_err count n next r m = subst (λ z. Given_to count n next (Err z)) (sym m)
 -- ---- one definition
 
 module _ (b : BindId) (e : FlatTerm) (made : Made) (old : Unfolding) where
-  pub define_passed : (is_reached_here : Bool) (c : Context) (first next : ℕ) → (is_reached_here ≡ true → ⊥) → c ≡ made.context → first ≡ made.at + 1 → next ≡ first + numbers e → Defined_to b e is_reached_here made old old (Ok (record { context = c; at = next }))
-  define_passed true c first next h is q q' = absurd (h refl)
-  define_passed false c first next h is q q' = passed_over refl refl refl (ap (λ (z : Context). z.types.now) is) (ap defined is) (omega (arith, q, q'))
+  pub define_passed : (is_reached_here : Bool) (c : Context) (first next : ℕ) → is_reached_here ≡ false → c ≡ made.context → first ≡ made.at + 1 → next ≡ first + numbers e → Defined_to b e is_reached_here made old old (Ok (record { context = c; at = next }))
+  define_passed is_reached_here c first next h is q q' = passed_over h refl refl (ap (λ (z : Context). z.types.now) is) (ap defined is) (omega (arith, q, q'))
 
   pub define_ok : (is_reached_here : Bool) (c c' : Context) (sc : Scope) (first : ℕ) (new : Unfolding) (w : Walked) → is_reached_here ≡ true → c ≡ made.context → sc ≡ no_name → first ≡ made.at + 1 → Unfolded c sc first e old new (Ok w) → defined c' ≡ (b.0, known_of w.known) ∷ defined c → c'.types.now ≡ c.types.now → Defined_to b e is_reached_here made old new (Ok (record { context = c'; at = w.at }))
   define_ok is_reached_here c c' sc first new w h is none q (unfolded bs g u k) ds ts =
@@ -116,8 +115,6 @@ module _ (b : BindId) (e : FlatTerm) (made : Made) (old : Unfolding) where
   pub define_stuck : (is_reached_here : Bool) (c : Context) (sc : Scope) (first : ℕ) (mid new : Unfolding) (r : Refusal) → is_reached_here ≡ true → c ≡ made.context → sc ≡ no_name → first ≡ made.at + 1 → Unfolded c sc first e old mid (Err r) → Defined_to b e is_reached_here made old new (Err r)
   define_stuck is_reached_here c sc first mid new r h is none q (refused x) =
       not_defined (refused_as (λ w. (h, subst (λ z. Stuck (told z) (defined z) no_name (1 + made.at) e) is (stuck_at c (omega (arith, q)) (subst (λ z. Stuck (told c) (defined c) z first e) none w)))) x)
-
-pub ruleset defining = (define_passed, define_ok, define_err, define_stuck)
 
 -- ---- one definition after the other
 

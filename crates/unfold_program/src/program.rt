@@ -148,7 +148,6 @@ fn parameters<'a>(count: usize, state: &mut Unfolding<'a>) -> Result<Given<'a>, 
 }
 
 // One more definition, if it is reached.
-#[tactic(auto, using(crate::proofs::Programs::defining))]
 fn unfold_definition<'a>(
     made: Made<'a>,
     reached: bool,
