@@ -10,11 +10,12 @@ use Rattle.fut_scalar.specs.declared.scalar.IntType.{IntType}
 use Rattle.fut_token.specs.declared.token.Fixed.{Fixed}
 use Rattle.fut_token.specs.declared.token.Lift.TheVariants as lift
 use Rattle.fut_token.specs.declared.token.TokenKind.TheVariants as kind
+use Rattle.name_characters.specs.Names.{goes_on_name, starts_name}
 use Rattle.fut_lexer.specs.declared.front.Front.{Front}
 use Rattle.fut_lexer.specs.declared.front.Front.TheVariants as front
 use Rattle.fut_lexer.specs.declared.number.Base.{Base}
 use Rattle.fut_lexer.specs.declared.number.Base.TheVariants as base
-use Rattle.fut_lexer.specs.Words.{begins, is_blank, is_digit, starts_name, goes_on_name, keyword, suffix_of, symbol_1, symbol_2, symbol_3}
+use Rattle.fut_lexer.specs.Words.{begins, is_blank, is_digit, keyword, suffix_of, symbol_1, symbol_2, symbol_3}
 use Rattle.fut_lexer.specs.Numbers.{is_digit_of, is_in_number, value, ends_in_underscore}
 use Rattle.fut_lexer.specs.Private.FrontReading.{word_len, word_kind, is_none, name_len, with_suffix, integer_in, integer_at, type_variable, type_variable_at, quote_at, attribute, hash_at, text_at, symbol_or, symbol_at, line_len, field_at, sign_at, front_at}
 use Rattle.fut_lexer.specs.Numbers.{is_float, begins_in, starts_digit}

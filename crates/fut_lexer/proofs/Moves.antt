@@ -11,12 +11,13 @@ use Rattle.fut_token.specs.declared.token.Fixed.{Fixed}
 use Rattle.fut_token.specs.declared.token.Lift.{Lift}
 use Rattle.fut_token.specs.declared.token.Lift.TheVariants as lift
 use Rattle.fut_token.specs.declared.token.TokenKind.{TokenKind}
+use Rattle.name_characters.specs.Names.{starts_name}
 use Rattle.fut_lexer.specs.declared.front.Front.{Front}
 use Rattle.fut_lexer.specs.declared.front.Front.TheVariants as front
 use Rattle.fut_lexer.specs.declared.number.Base.{Base}
 use Rattle.fut_lexer.specs.declared.number.Base.TheVariants as base
 use Rattle.fut_lexer.specs.declared.position.Position.{Position}
-use Rattle.fut_lexer.specs.Words.{is_blank, is_digit, starts_name, suffix_of, symbol_1, symbol_2, symbol_3}
+use Rattle.fut_lexer.specs.Words.{is_blank, is_digit, suffix_of, symbol_1, symbol_2, symbol_3}
 use Rattle.fut_lexer.specs.Numbers.{is_digit_of, is_in_number, value, ends_in_underscore}
 use Rattle.fut_lexer.specs.Private.FrontReading.{word_len, name_len, with_suffix, integer_in, integer_at, type_variable, type_variable_at, quote_at, attribute, hash_at, text_at, symbol_or, symbol_at, line_len, field_at, sign_at, front_at}
 use Rattle.fut_lexer.specs.Numbers.{is_float, begins_in, starts_digit}

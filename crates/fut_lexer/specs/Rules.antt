@@ -6,11 +6,12 @@ use Rattle.fut_scalar.specs.declared.scalar.IntType.{IntType}
 use Rattle.fut_token.specs.declared.token.Fixed.{Fixed}
 use Rattle.fut_token.specs.declared.token.Lift.TheVariants as lift
 use Rattle.fut_token.specs.declared.token.TokenKind.TheVariants as kind
+use Rattle.name_characters.specs.Names.{goes_on_name, starts_name}
 use Rattle.fut_lexer.specs.declared.front.Front.{Front}
 use Rattle.fut_lexer.specs.declared.front.Front.TheVariants as front
 use Rattle.fut_lexer.specs.declared.number.Base.{Base}
 use Rattle.fut_lexer.specs.declared.number.Base.TheVariants as base
-use Rattle.fut_lexer.specs.Words.{is_blank, is_digit, is_in_text, begins, begins_with, starts_name, goes_on_name, keyword, suffix_of, symbol_1, symbol_2, symbol_3}
+use Rattle.fut_lexer.specs.Words.{is_blank, is_digit, is_in_text, begins, begins_with, keyword, suffix_of, symbol_1, symbol_2, symbol_3}
 use Rattle.fut_lexer.specs.Numbers.{is_in_number, value, ends_in_underscore, begins_in, is_float}
 
 -- The next n characters are of the class, and the one behind them is not.

@@ -1,9 +1,8 @@
 -- Classes of characters, and the spellings of keywords, symbols and suffixes. A character is its code.
-use Rattle.std.specs.Prelude.{ℕ, Bool, true, false, not, ◌&&◌, ◌||◌, ◌==◌, List, [], ◌∷◌, codes, Option, Some, None, nat_le, nat_lt, if◌then◌else◌}
+use Rattle.std.specs.Prelude.{ℕ, Bool, true, false, not, ◌&&◌, ◌||◌, ◌==◌, List, [], ◌∷◌, codes, Option, Some, None, nat_le, if◌then◌else◌}
 use Rattle.std.specs.List.{list_all, list_any}
 use Rattle.std.specs.Str.{bytes_eq, chars}
-use Rattle.std.specs.Char.{is_ascii_alphabetic, is_ascii_alphanumeric}
-use Rattle.unicode_ident.specs.Ident.{is_xid_start, is_xid_continue}
+use Rattle.name_characters.specs.Names.{goes_on_name, starts_name}
 use Rattle.fut_scalar.specs.declared.scalar.IntType.{IntType}
 use Rattle.fut_scalar.specs.declared.scalar.IntType.TheVariants as int
 use Rattle.fut_token.specs.declared.token.Fixed.{Fixed}
@@ -16,14 +15,6 @@ is_blank c = c == 32 || c == 9 || c == 10 || c == 13
 
 abbrev pub is_digit : ℕ → Bool
 is_digit c = nat_le 48 c && nat_le c 57
-
--- A name begins with an underscore or a character that begins identifiers, which of ASCII are the letters.
-unfoldable pub starts_name : ℕ → Bool
-starts_name c = if nat_lt c 128 then is_ascii_alphabetic c || c == 95 else is_xid_start c
-
--- It goes on with characters that go on identifiers, of ASCII letters, digits and underscores, and with quotes.
-unfoldable pub goes_on_name : ℕ → Bool
-goes_on_name c = if nat_lt c 128 then is_ascii_alphanumeric c || c == 95 || c == 39 else is_xid_continue c
 
 -- what may stand in a text: no double quote and no line feed
 abbrev pub is_in_text : ℕ → Bool

@@ -1,10 +1,12 @@
 // Classes of characters, and how long runs of them are.
-ghost use Rattle.std.specs.Prelude.{◌≡◌, ◌≤◌, ◌||◌, ◌==◌, drop, length, take};
-ghost use Rattle.unicode_ident.specs.Ident.{is_xid_continue, is_xid_start};
+ghost use Rattle.std.specs.Prelude.{◌≡◌, ◌≤◌, drop, length, take};
 ghost use Rattle.std.specs.List.{prefix_len};
-ghost use Rattle.fut_lexer.specs.Words.{goes_on_name, is_blank, is_digit, same, starts_name};
+ghost use Rattle.fut_lexer.specs.Words.{is_blank, is_digit, same};
 ghost use Rattle.fut_lexer.specs.Words.{begins_with, is_in_text};
 ghost use Rattle.fut_lexer.specs.Private.FrontReading.{line_len, word_len};
+ghost use Rattle.name_characters.specs.Names.{goes_on_name};
+
+use name_characters::{goes_on_name, starts_name};
 
 pub fn is_blank(c: char) -> bool
     ensures { result ≡ is_blank c }
@@ -16,22 +18,6 @@ pub fn is_digit(c: char) -> bool
     ensures { result ≡ is_digit c }
 {
     '0' <= c && c <= '9'
-}
-
-#[tactic(auto, unfolding(crate::specs::Words::starts_name))]
-pub fn starts_name(c: char) -> bool
-    ensures value { result ≡ starts_name c }
-    ensures identifier { result ≡ (is_xid_start c || (c == 95)) }
-{
-    unicode_ident::is_xid_start(c) || c == '_'
-}
-
-#[tactic(auto, unfolding(crate::specs::Words::goes_on_name))]
-pub fn goes_on_name(c: char) -> bool
-    ensures value { result ≡ goes_on_name c }
-    ensures identifier { result ≡ (is_xid_continue c || (c == 39)) }
-{
-    unicode_ident::is_xid_continue(c) || c == '\''
 }
 
 fn is_in_text(c: char) -> bool

@@ -298,7 +298,7 @@ pub fn read_front(alloc: Global, joined: bool, text: &[char]) -> Result<Front, N
             let c = *c;
             if classes::is_blank(c) {
                 Ok(Front::Gap(1 + classes::blanks(rest)))
-            } else if classes::starts_name(c) {
+            } else if name_characters::starts_name(c) {
                 let n = word_len(text);
                 let kind = word_kind(alloc, front_part(text, n))?;
                 Ok(Front::Token(kind, n))

@@ -2,10 +2,11 @@
 ghost use Rattle.std.specs.Prelude.{◌≡◌};
 ghost use Rattle.std.specs.List.{list_all};
 ghost use Rattle.std.specs.Str.{chars};
-ghost use Rattle.fut_lexer.specs.Words.{begins_name, goes_on_name, is_keyword, is_name};
+ghost use Rattle.fut_lexer.specs.Words.{begins_name, is_keyword, is_name};
+ghost use Rattle.name_characters.specs.Names.{goes_on_name};
 
-use crate::classes::{goes_on_name, starts_name};
 use fut_token::{Fixed, fixed_text};
+use name_characters::{goes_on_name, starts_name};
 
 /// The words that are no names, and the wildcard.
 const KEYWORDS: [Fixed; 25] = [

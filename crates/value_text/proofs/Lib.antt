@@ -1,4 +1,5 @@
 pub mod Between
+pub mod Names
 pub mod Values
 pub mod Dimensions
 pub mod Integers

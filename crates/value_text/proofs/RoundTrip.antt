@@ -15,14 +15,16 @@ use Rattle.fut_scalar.specs.declared.scalar.Scalar.TheVariants as scalar
 use Rattle.fut_scalar.specs.declared.scalar.ScalarType.{ScalarType}
 use Rattle.fut_scalar.specs.declared.scalar.ScalarType.TheVariants as sort
 use Rattle.fut_arithmetic.specs.Types.{type_of}
+use Rattle.name_characters.specs.Names.{goes_on_name}
 use Rattle.value_text.specs.Claims.{TextReadsBack, OutputReadsBack}
 use Rattle.value_text.specs.Grammar.{nothing, blank, closed, in_comment, All_in_number, value_on, IsNumber, Spells, truth, falsehood, integer, Text, ended, value_and}
 use Rattle.value_text.specs.Numbers.{digit_of, ends_in_underscore, is_in_number, starts_digit}
 use Rattle.value_text.specs.Printing.{text_of, output_of}
 use Rattle.value_text.specs.Reading.{may_be, signed, value_in}
-use Rattle.value_text.specs.Words.{is_digit, name_of, word_len}
+use Rattle.value_text.specs.Words.{is_digit, name_goes_on, name_of}
 use Rattle.value_text.specs.declared.numbers.Base.TheVariants.{Decimal}
 use Rattle.value_text.proofs.Integers.{integers_are_found}
+use Rattle.value_text.proofs.Names.{ascii_goes_on}
 use Rattle.value_text.proofs.Texts.{texts_are_read}
 
 -- ---- decimal digits
@@ -122,7 +124,7 @@ spells (scalar.Int ty bits) h = by_sign (integer_of ty bits) refl
 -- ---- texts
 
 pub text_reads_back : TextReadsBack
-unfolding word_len
+unfolding name_goes_on
 text_reads_back value h =
     texts_are_read (type_of value ∷ []) (text_of value) (value ∷ [])
     (subst (λ bytes. Text (type_of value ∷ []) bytes (value ∷ [])) (append-nil (text_of value)) (value_and [] (text_of value) [] nothing (spells value h) refl (ended (closed nothing))))
@@ -134,13 +136,13 @@ newline _ _ _ (ended (in_comment bs line g l)) = ended (in_comment (10 ∷ bs) l
 newline _ _ _ (value_and gap word rest g s z t) = value_and (10 ∷ gap) word rest (blank refl g) s z t
 
 lines : (values : List Scalar) → All FitsType values → Text (map type_of values) (output_of values) values
-unfolding word_len
+unfolding goes_on_name
 lines [] h = ended (closed nothing)
 lines (v ∷ values) h =
     let rest = 10 ∷ output_of values in
     let more = newline (map type_of values) (output_of values) values (lines values (λ k d l. h (suc k) d (omega arith))) in
     subst (λ bytes. Text (map type_of (v ∷ values)) bytes (v ∷ values)) (sym (append_assoc (text_of v) (codes "\n") (output_of values)))
-    (value_and [] (text_of v) rest nothing (spells v (h 0 v (omega arith))) refl more)
+    (value_and [] (text_of v) rest nothing (spells v (h 0 v (omega arith))) (ascii_goes_on 10 (output_of values) refl) more)
 
 pub output_reads_back : OutputReadsBack
 output_reads_back values h = texts_are_read (map type_of values) (output_of values) values (lines values h)

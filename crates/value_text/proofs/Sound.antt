@@ -18,7 +18,7 @@ use Rattle.value_text.specs.Grammar.{IsLine, Gap, nothing, blank, comment, Last_
 use Rattle.value_text.specs.Numbers.{base_at, digit_of, is_in_number, ends_in_underscore, number_len, number_on, number_of, number_at, prefix_of, radix, starts_digit}
 use Rattle.value_text.specs.Reading.{Reader, Values, in_range, may_be, nothing_at, signed, value_as, value_at, value_in, values_on, with_front, with_spelled, with_value}
 use Rattle.value_text.specs.Spelled.{empty_array, word_front, integer_at, integer_of_number, integer_of_suffix, spelled_at, spelled_by, unsigned_at, word_at}
-use Rattle.value_text.specs.Words.{is_digit, is_word, common, name_of, suffix_at, suffix_of, type_at, type_front, word_len}
+use Rattle.value_text.specs.Words.{is_digit, is_word, common, name_goes_on, name_of, suffix_at, suffix_of, type_at, type_front}
 use Rattle.value_text.specs.declared.numbers.Base.{Base}
 use Rattle.value_text.specs.declared.numbers.Base.TheVariants.{Decimal, Hexadecimal, Binary}
 use Rattle.value_text.specs.declared.numbers.Number.{Number}
@@ -38,6 +38,10 @@ and_left false t h = absurd cc
 and_right : (s t : Bool) → (s && t) ≡ true → t ≡ true
 and_right true t h = h
 and_right false t h = absurd cc
+
+is_not : (t : Bool) → not t ≡ true → t ≡ false
+is_not true h = absurd cc
+is_not false h = refl
 
 -- ---- blanks and comments
 
@@ -134,14 +138,14 @@ common_is (b ∷ bs) (c ∷ cs) h = by_test (b == c) refl h (common_is bs cs)
 record Stands (bytes word : List ℕ) : Type 0 where
   pub rest : List ℕ
   pub is : bytes ≡ word ++ rest
-  pub long : word_len (word ++ rest) ≡ length word
+  pub ends : name_goes_on rest ≡ false
 
 word_is : (bytes word : List ℕ) → is_word bytes word ≡ true → Stands bytes word
 unfolding is_word
 word_is bytes word h =
-    let n = eqb-true (word_len bytes) (length word) (and_left (word_len bytes == length word) (common bytes word == length word) h) in
-    let e = common_is bytes word (eqb-true (common bytes word) (length word) (and_right (word_len bytes == length word) (common bytes word == length word) h)) in
-    record { rest = drop (length word) bytes; is = e; long = ap word_len (sym e) ∙ n }
+    let rest = drop (length word) bytes in
+    let n = eqb-true (common bytes word) (length word) (and_left (common bytes word == length word) (not (name_goes_on rest)) h) in
+    record { rest = rest; is = common_is bytes word n; ends = is_not (name_goes_on rest) (and_right (common bytes word == length word) (not (name_goes_on rest)) h) }
 
 some_is : {A : Type 0} (x y : A) → Some x ≡ Some y → x ≡ y
 some_is x y e = cc
@@ -165,22 +169,11 @@ type_is bytes ty h =
     (λ h. named_by bytes U32 _ ty h
     (λ h. named_by bytes U64 _ ty h (λ h. absurd cc))))))))
 
-name_ends : (ty : IntType) (rest : List ℕ) → word_len (name_of ty ++ rest) ≡ length (name_of ty) → word_len rest ≡ 0
-unfolding word_len
-name_ends I8 rest h = omega (arith, h)
-name_ends I16 rest h = omega (arith, h)
-name_ends I32 rest h = omega (arith, h)
-name_ends I64 rest h = omega (arith, h)
-name_ends U8 rest h = omega (arith, h)
-name_ends U16 rest h = omega (arith, h)
-name_ends U32 rest h = omega (arith, h)
-name_ends U64 rest h = omega (arith, h)
-
 record Suffix_is (bytes : List ℕ) (s : Suffix) : Type 0 where
   pub rest : List ℕ
   pub is : bytes ≡ suffix s.ty ++ rest
   pub long : length (suffix s.ty) ≡ s.length
-  pub ends : word_len rest ≡ 0
+  pub ends : name_goes_on rest ≡ false
 
 suffix_is : (bytes : List ℕ) (s : Suffix) → suffix_at bytes ≡ Ok s → Suffix_is bytes s
 unfolding suffix_at
@@ -189,12 +182,12 @@ suffix_is bytes s h = by_type (type_at bytes) refl h
     by_type : (t : Option IntType) → type_at bytes ≡ t → suffix_of t bytes ≡ Ok s → Suffix_is bytes s
     by_type (Some ty) e f =
         let w = word_is bytes (name_of ty) (type_is bytes ty e) in
-        subst (Suffix_is bytes) (ok_is _ _ f) (record { rest = w.rest; is = w.is; long = sym (ap word_len w.is ∙ w.long); ends = name_ends ty w.rest w.long })
-    by_type None e f = by_test (word_len bytes == 0) refl f
+        subst (Suffix_is bytes) (ok_is _ _ f) (record { rest = w.rest; is = w.is; long = refl; ends = w.ends })
+    by_type None e f = by_test (name_goes_on bytes) refl f
       where
-        by_test : (t : Bool) → (word_len bytes == 0) ≡ t → cond t (Ok (record { ty = None; length = 0 })) (Err (type_front bytes)) ≡ Ok s → Suffix_is bytes s
-        by_test true n k = subst (Suffix_is bytes) (ok_is _ _ k) (record { rest = bytes; is = refl; long = refl; ends = eqb-true (word_len bytes) 0 n })
-        by_test false n k = absurd cc
+        by_test : (t : Bool) → name_goes_on bytes ≡ t → cond t (Err (type_front bytes)) (Ok (record { ty = None; length = 0 })) ≡ Ok s → Suffix_is bytes s
+        by_test false n k = subst (Suffix_is bytes) (ok_is _ _ k) (record { rest = bytes; is = refl; long = refl; ends = n })
+        by_test true n k = absurd cc
 
 -- ---- numbers
 
@@ -294,7 +287,7 @@ record Unsigned_is (minus : ℕ) (bytes : List ℕ) (s : Spelled) : Type 0 where
   pub rest : List ℕ
   pub is : bytes ≡ prefix base ++ (digits ++ (suffix named ++ rest))
   pub number : IsNumber base digits
-  pub ends : word_len rest ≡ 0
+  pub ends : name_goes_on rest ≡ false
   pub form : s.form ≡ form.Integer (minus == 1) (value_on base 0 digits) named
   pub long : s.length ≡ minus + prefix_of base + length digits + length (suffix named)
 
@@ -336,7 +329,7 @@ record Integer_is (bytes : List ℕ) (s : Spelled) : Type 0 where
   pub rest : List ℕ
   pub is : bytes ≡ sign negative ++ (prefix base ++ (digits ++ (suffix named ++ rest)))
   pub number : IsNumber base digits
-  pub ends : word_len rest ≡ 0
+  pub ends : name_goes_on rest ≡ false
   pub form : s.form ≡ form.Integer negative (value_on base 0 digits) named
   pub long : s.length ≡ length (sign negative) + prefix_of base + length digits + length (suffix named)
 
@@ -363,7 +356,7 @@ record Value_is (ty : ScalarType) (bytes : List ℕ) (n : ℕ) (value : Scalar) 
   pub rest : List ℕ
   pub is : bytes ≡ word ++ rest
   pub spells : Spells ty word value
-  pub ends : word_len rest ≡ 0
+  pub ends : name_goes_on rest ≡ false
   pub long : n ≡ length word
 
 no_array : (ty : ScalarType) (position : ℕ) (value : Scalar) → value_as ty position form.Array ≡ Ok value → ⊥
@@ -403,18 +396,10 @@ truth_is : (ty : ScalarType) (position : ℕ) (b : Bool) (value : Scalar) → va
 truth_is (sort.Int ty) position b value h = absurd cc
 truth_is sort.Bool position b value h = (refl, sym (ok_is (scalar.Bool b) value h))
 
-true_ends : (rest : List ℕ) → word_len (codes "true" ++ rest) ≡ 4 → word_len rest ≡ 0
-unfolding word_len
-true_ends rest h = omega (arith, h)
-
-false_ends : (rest : List ℕ) → word_len (codes "false" ++ rest) ≡ 5 → word_len rest ≡ 0
-unfolding word_len
-false_ends rest h = omega (arith, h)
-
-bool_value : (ty : ScalarType) (position : ℕ) (b : Bool) (bytes word : List ℕ) (n : ℕ) (value : Scalar) → Spells sort.Bool word (scalar.Bool b) → (w : Stands bytes word) → word_len w.rest ≡ 0 → n ≡ length word → value_as ty position (form.Truth b) ≡ Ok value → Value_is ty bytes n value
-bool_value ty position b bytes word n value s w z l h =
+bool_value : (ty : ScalarType) (position : ℕ) (b : Bool) (bytes word : List ℕ) (n : ℕ) (value : Scalar) → Spells sort.Bool word (scalar.Bool b) → (w : Stands bytes word) → n ≡ length word → value_as ty position (form.Truth b) ≡ Ok value → Value_is ty bytes n value
+bool_value ty position b bytes word n value s w l h =
     let t = truth_is ty position b value h in
-    subst (λ ty. Value_is ty bytes n value) (sym t.0) (subst (Value_is sort.Bool bytes n) (sym t.1) (record { word = word; rest = w.rest; is = w.is; spells = s; ends = z; long = l }))
+    subst (λ ty. Value_is ty bytes n value) (sym t.0) (subst (Value_is sort.Bool bytes n) (sym t.1) (record { word = word; rest = w.rest; is = w.is; spells = s; ends = w.ends; long = l }))
 
 word_value : (ty : ScalarType) (position : ℕ) (bytes : List ℕ) (s : Spelled) (value : Scalar) → word_at bytes ≡ Ok s → value_as ty position s.form ≡ Ok value → Value_is ty bytes s.length value
 unfolding word_at
@@ -432,7 +417,7 @@ word_value ty position bytes s value h v = by_true (is_word bytes (codes "true")
     by_false true e k =
         let w = word_is bytes (codes "false") e in
         let o : ◌≡◌ {A = Spelled} (record { form = form.Truth false; length = 5 }) s = ok_is _ _ k in
-        bool_value ty position false bytes (codes "false") s.length value falsehood w (false_ends w.rest w.long) (sym (ap (λ z. z.length) o)) (ap (λ z. value_as ty position z.form) o ∙ v)
+        bool_value ty position false bytes (codes "false") s.length value falsehood w (sym (ap (λ z. z.length) o)) (ap (λ z. value_as ty position z.form) o ∙ v)
     by_false false e k = by_empty (is_word bytes (codes "empty")) k
 
     by_true : (t : Bool) → is_word bytes (codes "true") ≡ t
@@ -441,7 +426,7 @@ word_value ty position bytes s value h v = by_true (is_word bytes (codes "true")
     by_true true e k =
         let w = word_is bytes (codes "true") e in
         let o : ◌≡◌ {A = Spelled} (record { form = form.Truth true; length = 4 }) s = ok_is _ _ k in
-        bool_value ty position true bytes (codes "true") s.length value truth w (true_ends w.rest w.long) (sym (ap (λ z. z.length) o)) (ap (λ z. value_as ty position z.form) o ∙ v)
+        bool_value ty position true bytes (codes "true") s.length value truth w (sym (ap (λ z. z.length) o)) (ap (λ z. value_as ty position z.form) o ∙ v)
     by_true false e k = by_false (is_word bytes (codes "false")) refl k
 
 spelled_value : (ty : ScalarType) (position b : ℕ) (bytes : List ℕ) (s : Spelled) (value : Scalar) → spelled_by b bytes ≡ Ok s → value_as ty position s.form ≡ Ok value → Value_is ty bytes s.length value

@@ -1,5 +1,5 @@
 -- Texts of the grammar are read.
-use Rattle.std.proofs.Common.{◌≡◌, ◌+◌, ◌*◌, ◌^◌, ◌<◌, ◌≤◌, ℕ, suc, List, [], ◌∷◌, ◌++◌, length, take, drop, arith, refl, sym, ap, ◌∙◌, rules, tests, lt-ltb, eqb-true, append_assoc, append-nil, length-append}
+use Rattle.std.proofs.Common.{◌≡◌, ◌+◌, ◌*◌, ◌^◌, ◌<◌, ◌≤◌, ℕ, suc, List, [], ◌∷◌, ◌++◌, length, take, drop, arith, refl, sym, ap, ◌∙◌, lt-ltb, eqb-true, append_assoc, append-nil, length-append}
 use Rattle.std.proofs.lemmas.List.{drop_all}
 use Rattle.std.specs.Prelude.{Bool, true, false, not, cond, nat_lt, ◌==◌, ◌&&◌, ◌||◌, Option, Some, None, Ok, Err, codes}
 use Rattle.std.specs.List.{prefix_len}
@@ -9,19 +9,21 @@ use Rattle.fut_scalar.specs.declared.scalar.IntType.TheVariants.{I8, I16, I32, I
 use Rattle.fut_scalar.specs.declared.scalar.Scalar.{Scalar}
 use Rattle.fut_scalar.specs.declared.scalar.ScalarType.{ScalarType}
 use Rattle.fut_scalar.specs.declared.scalar.ScalarType.TheVariants as sort
+use Rattle.name_characters.specs.Names.{goes_on_name}
 use Rattle.value_text.specs.Claims.{TextsAreRead}
 use Rattle.value_text.specs.Gaps.{is_blank, begins_with, gap_at, gap_from, one_more}
 use Rattle.value_text.specs.Grammar.{IsLine, Gap, nothing, blank, comment, Last_gap, closed, in_comment, All_in_number, value_on, IsNumber, sign, prefix, suffix, Spells, truth, falsehood, integer, Text, ended, value_and}
 use Rattle.value_text.specs.Numbers.{base_at, digit_of, is_in_number, ends_in_underscore, number_len, number_on, number_at, prefix_of, radix, starts_digit}
 use Rattle.value_text.specs.Reading.{Reader, in_range, may_be, nothing_at, signed, value_as, value_at, value_in, values_on, with_front, with_spelled, with_value}
 use Rattle.value_text.specs.Spelled.{integer_at, minus_at, spelled_at, unsigned_at, word_at}
-use Rattle.value_text.specs.Words.{is_digit, is_in_name, is_word, common, name_of, suffix_at, type_at, word_len}
+use Rattle.value_text.specs.Words.{is_digit, is_word, common, name_goes_on, name_of, suffix_at, type_at}
 use Rattle.value_text.specs.declared.numbers.Base.{Base}
 use Rattle.value_text.specs.declared.reading.TextErr.TheVariants as text
 use Rattle.value_text.specs.declared.spelled.Form.{Form}
 use Rattle.value_text.specs.declared.spelled.Form.TheVariants as form
 use Rattle.value_text.specs.declared.spelled.Spelled.{Spelled}
 use Rattle.value_text.specs.declared.numbers.Base.TheVariants.{Decimal, Hexadecimal, Binary}
+use Rattle.value_text.proofs.Names.{ends_letter, ends_number}
 
 -- ---- tests
 
@@ -47,21 +49,7 @@ differs p b c s t e f apart = by_test (b == c) refl
     by_test true h = absurd (apart (sym e ∙ ap p (eqb-true b c h) ∙ f))
     by_test false h = refl
 
-not_in_number : (base : Base) (b : ℕ) → is_in_name b ≡ false → is_in_number base b ≡ false
-not_in_number Decimal b h = search (rules, tests)
-not_in_number Hexadecimal b h = search (rules, tests)
-not_in_number Binary b h = search (rules, tests)
-
 -- ---- where a value ends
-
--- what stands behind a value begins with no byte of a name
-ends : (b : ℕ) (bs : List ℕ) → word_len (b ∷ bs) ≡ 0 → is_in_name b ≡ false
-unfolding word_len
-ends b bs z = by_test (is_in_name b) z
-  where
-    by_test : (t : Bool) → cond t (1 + prefix_len is_in_name bs) 0 ≡ 0 → t ≡ false
-    by_test true e = absurd (omega arith)
-    by_test false e = refl
 
 letter_i : (base : Base) → is_in_number base 105 ≡ false
 letter_i Decimal = refl
@@ -77,9 +65,9 @@ stops_at : (base : Base) (b : ℕ) (bs : List ℕ) → is_in_number base b ≡ f
 stops_at base b bs e = ap (λ t. cond t (1 + prefix_len (is_in_number base) bs) 0) e
 
 -- the digits of a number go up to the type behind them
-number_stops : (base : Base) (named : Option IntType) (rest : List ℕ) → word_len rest ≡ 0 → prefix_len (is_in_number base) (suffix named ++ rest) ≡ 0
+number_stops : (base : Base) (named : Option IntType) (rest : List ℕ) → name_goes_on rest ≡ false → prefix_len (is_in_number base) (suffix named ++ rest) ≡ 0
 number_stops base None [] z = refl
-number_stops base None (b ∷ bs) z = stops_at base b bs (not_in_number base b (ends b bs z))
+number_stops base None (b ∷ bs) z = stops_at base b bs (ends_number base b bs z)
 number_stops base (Some I8) rest z = stops_at base 105 (56 ∷ rest) (letter_i base)
 number_stops base (Some I16) rest z = stops_at base 105 (49 ∷ 54 ∷ rest) (letter_i base)
 number_stops base (Some I32) rest z = stops_at base 105 (51 ∷ 50 ∷ rest) (letter_i base)
@@ -138,17 +126,6 @@ module _ (base : Base) where
 
 -- ---- the type behind it
 
-name_len : (ty : IntType) (rest : List ℕ) → word_len rest ≡ 0 → word_len (name_of ty ++ rest) ≡ length (name_of ty)
-unfolding word_len
-name_len I8 rest z = ap (λ n. 1 + (1 + n)) z
-name_len I16 rest z = ap (λ n. 1 + (1 + (1 + n))) z
-name_len I32 rest z = ap (λ n. 1 + (1 + (1 + n))) z
-name_len I64 rest z = ap (λ n. 1 + (1 + (1 + n))) z
-name_len U8 rest z = ap (λ n. 1 + (1 + n)) z
-name_len U16 rest z = ap (λ n. 1 + (1 + (1 + n))) z
-name_len U32 rest z = ap (λ n. 1 + (1 + (1 + n))) z
-name_len U64 rest z = ap (λ n. 1 + (1 + (1 + n))) z
-
 none_common : (bytes : List ℕ) → common bytes [] ≡ 0
 none_common [] = refl
 none_common (b ∷ bs) = refl
@@ -163,7 +140,7 @@ name_common U16 rest = ap (λ n. 1 + (1 + (1 + n))) (none_common rest)
 name_common U32 rest = ap (λ n. 1 + (1 + (1 + n))) (none_common rest)
 name_common U64 rest = ap (λ n. 1 + (1 + (1 + n))) (none_common rest)
 
-type_is : (ty : IntType) (rest : List ℕ) → word_len (name_of ty ++ rest) ≡ length (name_of ty) → type_at (name_of ty ++ rest) ≡ Some ty
+type_is : (ty : IntType) (rest : List ℕ) → name_goes_on rest ≡ false → type_at (name_of ty ++ rest) ≡ Some ty
 unfolding type_at is_word
 type_is I8 rest z = rw (z, name_common I8 rest) refl
 type_is I16 rest z = rw (z, name_common I16 rest) refl
@@ -174,21 +151,22 @@ type_is U16 rest z = rw (z, name_common U16 rest) refl
 type_is U32 rest z = rw (z, name_common U32 rest) refl
 type_is U64 rest z = rw (z, name_common U64 rest) refl
 
-suffix_by : (bytes : List ℕ) (ty : IntType) (n : ℕ) → type_at bytes ≡ Some ty → word_len bytes ≡ n → suffix_at bytes ≡ Ok (record { ty = Some ty; length = n })
+suffix_by : (bytes : List ℕ) (ty : IntType) → type_at bytes ≡ Some ty → suffix_at bytes ≡ Ok (record { ty = Some ty; length = length (name_of ty) })
 unfolding suffix_at
-suffix_by bytes ty n t l = rw (t, l) refl
+suffix_by bytes ty t = rw t refl
 
-no_type : (bytes : List ℕ) → word_len bytes ≡ 0 → type_at bytes ≡ None
-unfolding type_at is_word
-no_type bytes z = rw z refl
+no_type : (bytes : List ℕ) → name_goes_on bytes ≡ false → type_at bytes ≡ None
+unfolding type_at is_word goes_on_name
+no_type [] z = refl
+no_type (b ∷ bs) z = rw (ends_letter b 105 bs z refl refl, ends_letter b 117 bs z refl refl) refl
 
-no_suffix : (bytes : List ℕ) → type_at bytes ≡ None → word_len bytes ≡ 0 → suffix_at bytes ≡ Ok (record { ty = None; length = 0 })
+no_suffix : (bytes : List ℕ) → type_at bytes ≡ None → name_goes_on bytes ≡ false → suffix_at bytes ≡ Ok (record { ty = None; length = 0 })
 unfolding suffix_at
 no_suffix bytes t z = rw (t, z) refl
 
-suffix_is : (named : Option IntType) (rest : List ℕ) → word_len rest ≡ 0 → suffix_at (suffix named ++ rest) ≡ Ok (record { ty = named; length = length (suffix named) })
+suffix_is : (named : Option IntType) (rest : List ℕ) → name_goes_on rest ≡ false → suffix_at (suffix named ++ rest) ≡ Ok (record { ty = named; length = length (suffix named) })
 suffix_is None rest z = no_suffix rest (no_type rest z) z
-suffix_is (Some ty) rest z = let l = name_len ty rest z in suffix_by (name_of ty ++ rest) ty (length (name_of ty)) (type_is ty rest l) l
+suffix_is (Some ty) rest z = suffix_by (name_of ty ++ rest) ty (type_is ty rest z)
 
 -- ---- an integer
 
@@ -196,9 +174,10 @@ suffix_is (Some ty) rest z = let l = name_len ty rest z in suffix_by (name_of ty
 second_byte : (z x : ℕ) (bs : List ℕ) → (x == 120) ≡ false → (x == 98) ≡ false → base_at (z ∷ x ∷ bs) ≡ Decimal
 second_byte z x bs e f = third (z == 48 && x == 120) (z == 48 && x == 98) _ _ _ (never (z == 48) (x == 120) e) (never (z == 48) (x == 98) f)
 
-one_digit : (c : ℕ) (named : Option IntType) (rest : List ℕ) → word_len rest ≡ 0 → base_at (c ∷ (suffix named ++ rest)) ≡ Decimal
+one_digit : (c : ℕ) (named : Option IntType) (rest : List ℕ) → name_goes_on rest ≡ false → base_at (c ∷ (suffix named ++ rest)) ≡ Decimal
+unfolding goes_on_name
 one_digit c None [] z = refl
-one_digit c None (b ∷ bs) z = let e = ends b bs z in second_byte c b bs (differs is_in_name b 120 false true e refl (λ h. cc)) (differs is_in_name b 98 false true e refl (λ h. cc))
+one_digit c None (b ∷ bs) z = second_byte c b bs (ends_letter b 120 bs z refl refl) (ends_letter b 98 bs z refl refl)
 one_digit c (Some I8) rest z = second_byte c 105 (56 ∷ rest) refl refl
 one_digit c (Some I16) rest z = second_byte c 105 (49 ∷ 54 ∷ rest) refl refl
 one_digit c (Some I32) rest z = second_byte c 105 (51 ∷ 50 ∷ rest) refl refl
@@ -208,7 +187,7 @@ one_digit c (Some U16) rest z = second_byte c 117 (49 ∷ 54 ∷ rest) refl refl
 one_digit c (Some U32) rest z = second_byte c 117 (51 ∷ 50 ∷ rest) refl refl
 one_digit c (Some U64) rest z = second_byte c 117 (54 ∷ 52 ∷ rest) refl refl
 
-base_is : (base : Base) (digits : List ℕ) (named : Option IntType) (rest : List ℕ) → IsNumber base digits → word_len rest ≡ 0 → base_at (prefix base ++ (digits ++ (suffix named ++ rest))) ≡ base
+base_is : (base : Base) (digits : List ℕ) (named : Option IntType) (rest : List ℕ) → IsNumber base digits → name_goes_on rest ≡ false → base_at (prefix base ++ (digits ++ (suffix named ++ rest))) ≡ base
 base_is Hexadecimal digits named rest h z = refl
 base_is Binary digits named rest h z = refl
 base_is Decimal [] named rest h z = let s = h.starts in absurd cc
@@ -230,7 +209,7 @@ unsigned_by : (minus n v m : ℕ) (base : Base) (ty : Option IntType) (bytes dig
     → suffix_at tail ≡ Ok (record { ty = ty; length = m }) → unsigned_at minus bytes ≡ Ok (record { form = form.Integer (minus == 1) v ty; length = minus + prefix_of base + n + m })
 unsigned_by minus n v m base ty bytes digits tail b s o d t = rw (b, s, o, d, t) refl
 
-unsigned_is : (minus : ℕ) (base : Base) (digits : List ℕ) (named : Option IntType) (rest : List ℕ) → IsNumber base digits → word_len rest ≡ 0
+unsigned_is : (minus : ℕ) (base : Base) (digits : List ℕ) (named : Option IntType) (rest : List ℕ) → IsNumber base digits → name_goes_on rest ≡ false
     → unsigned_at minus (prefix base ++ (digits ++ (suffix named ++ rest))) ≡ Ok (spelled_so minus base digits named)
 unsigned_is minus base digits named rest h z =
     unsigned_by minus (length digits) (value_on base 0 digits) (length (suffix named)) base named (prefix base ++ (digits ++ (suffix named ++ rest))) (digits ++ (suffix named ++ rest)) (suffix named ++ rest) (base_is base digits named rest h z)
@@ -289,7 +268,7 @@ signed_is false bytes first =
     let d = first.3 in
     (ap spelled_at e ∙ plain c cs d ∙ ap (unsigned_at 0) (sym e), ap gap_at e ∙ no_gap_at c cs (ap (λ t. t && begins_with 45 cs) (no_minus c d)) (no_blank c d))
 
-integer_is : (negative : Bool) (base : Base) (digits : List ℕ) (named : Option IntType) (rest : List ℕ) → IsNumber base digits → word_len rest ≡ 0
+integer_is : (negative : Bool) (base : Base) (digits : List ℕ) (named : Option IntType) (rest : List ℕ) → IsNumber base digits → name_goes_on rest ≡ false
     → (spelled_at (sign negative ++ (prefix base ++ (digits ++ (suffix named ++ rest)))) ≡ Ok (record { form = form.Integer negative (value_on base 0 digits) named; length = one_if negative + prefix_of base + length digits + length (suffix named) }))
     × (gap_at (sign negative ++ (prefix base ++ (digits ++ (suffix named ++ rest)))) ≡ 0)
 integer_is negative base digits named rest h z =
@@ -342,8 +321,8 @@ true_common rest = ap (λ n. 1 + (1 + (1 + (1 + n)))) (none_common rest)
 false_common : (rest : List ℕ) → common (codes "false" ++ rest) (codes "false") ≡ 5
 false_common rest = ap (λ n. 1 + (1 + (1 + (1 + (1 + n))))) (none_common rest)
 
-found : (ty : ScalarType) (word rest : List ℕ) (value : Scalar) → Spells ty word value → word_len rest ≡ 0 → Found ty word rest value
-unfolding gap_at word_at is_word word_len
+found : (ty : ScalarType) (word rest : List ℕ) (value : Scalar) → Spells ty word value → name_goes_on rest ≡ false → Found ty word rest value
+unfolding gap_at word_at is_word
 found _ _ rest _ truth z = record { no_gap = refl; form = form.Truth true; spelled = rw (z, true_common rest) refl; is = λ position. refl }
 found _ _ rest _ falsehood z = record { no_gap = refl; form = form.Truth false; spelled = rw (z, false_common rest) refl; is = λ position. refl }
 found _ _ rest _ (integer {ty} {value} negative base digits named h m v) z =

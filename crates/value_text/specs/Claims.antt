@@ -1,14 +1,25 @@
 -- What is proved of the text of values.
-use Rattle.std.specs.Prelude.{◌≡◌, ℕ, ◌<◌, ◌^◌, ℤ, List, [], ◌∷◌, map, All, Some}
+use Rattle.std.specs.Prelude.{◌≡◌, ℕ, ◌<◌, ◌^◌, ℤ, true, List, [], ◌∷◌, ◌++◌, map, All, Some}
+use Rattle.std.specs.Char.{encode_utf8, IsScalar}
 use Rattle.fut_scalar.specs.Integers.{FitsType, integer_of, width_of}
 use Rattle.fut_scalar.specs.declared.scalar.IntType.{IntType}
 use Rattle.fut_scalar.specs.declared.scalar.Scalar.{Scalar}
 use Rattle.fut_scalar.specs.declared.scalar.Scalar.TheVariants as scalar
 use Rattle.fut_scalar.specs.declared.scalar.ScalarType.{ScalarType}
 use Rattle.fut_arithmetic.specs.Types.{type_of}
+use Rattle.name_characters.specs.Names.{goes_on_name}
 use Rattle.value_text.specs.Grammar.{Text}
 use Rattle.value_text.specs.Printing.{text_of, output_of}
 use Rattle.value_text.specs.Reading.{Reads, value_in}
+use Rattle.value_text.specs.Words.{name_goes_on}
+
+-- a character that continues a name does so at the front of a text
+abbrev pub NamesGoOn : Type 0
+NamesGoOn = (c : ℕ) (rest : List ℕ) → IsScalar c → goes_on_name c ≡ true → name_goes_on (encode_utf8 c ++ rest) ≡ true
+
+-- and nothing else does
+abbrev pub NothingElseGoesOn : Type 0
+NothingElseGoesOn = (bytes : List ℕ) → name_goes_on bytes ≡ true → (c : ℕ) × (rest : List ℕ) × IsScalar c × (goes_on_name c ≡ true) × (bytes ≡ encode_utf8 c ++ rest)
 
 -- a text of the grammar reads as its values
 abbrev pub TextsAreRead : Type 0

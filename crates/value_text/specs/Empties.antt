@@ -1,9 +1,9 @@
 -- How an empty array is spelled behind the word `empty`: `(`, its dimensions in brackets, the name of its scalar type, `)`.
-use Rattle.std.specs.Prelude.{ℕ, zero, suc, ◌+◌, Bool, true, false, cond, max, ◌==◌, ◌||◌, List, length, drop, Option, Some, None, Result, Ok, Err, codes}
+use Rattle.std.specs.Prelude.{ℕ, zero, suc, ◌+◌, cond, max, ◌==◌, List, length, drop, Option, Some, None, Result, Ok, Err, codes}
 use Rattle.std.specs.List.{prefix_len}
 use Rattle.fut_scalar.specs.declared.scalar.IntType.{IntType}
 use Rattle.value_text.specs.Gaps.{begins_with, gap_at}
-use Rattle.value_text.specs.Words.{is_digit, common, is_word, type_at, type_front, word_len}
+use Rattle.value_text.specs.Words.{is_digit, common, is_word, name_of, type_at, type_front}
 
 -- what reads a part answers how many bytes it takes, or how many at the front begin such a part
 abbrev pub Part : Type 0
@@ -31,17 +31,16 @@ digit_len bytes = prefix_len is_digit bytes
 unfoldable pub digits : Part
 digits bytes = cond (digit_len (drop (gap_at bytes) bytes) == 0) (Err (gap_at bytes)) (Ok (gap_at bytes + digit_len (drop (gap_at bytes) bytes)))
 
-abbrev pub is_some : Option IntType → Bool
-is_some None = false
-is_some (Some ty) = true
+abbrev pub name_or_bool : Option IntType → Part
+name_or_bool (Some ty) bytes = Ok (length (name_of ty))
+name_or_bool None bytes = cond (is_word bytes (codes "bool")) (Ok 4) (Err (max (type_front bytes) (common bytes (codes "bool"))))
 
-abbrev pub names_scalar : List ℕ → Bool
-names_scalar bytes = is_some (type_at bytes) || is_word bytes (codes "bool")
+-- the name of a scalar type at the front
+unfoldable pub scalar_at : Part
+scalar_at bytes = name_or_bool (type_at bytes) bytes
 
 unfoldable pub scalar_name : Part
-scalar_name bytes =
-    cond (names_scalar (drop (gap_at bytes) bytes)) (Ok (gap_at bytes + word_len (drop (gap_at bytes) bytes)))
-    (Err (gap_at bytes + max (type_front (drop (gap_at bytes) bytes)) (common (drop (gap_at bytes) bytes) (codes "bool"))))
+scalar_name bytes = shift (gap_at bytes) (scalar_at (drop (gap_at bytes) bytes))
 
 abbrev pub size : Part
 size = then_part digits (mark 93)

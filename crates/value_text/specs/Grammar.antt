@@ -1,5 +1,5 @@
--- The grammar of a text: a value for each type, with blanks and comments before it, and behind the last one. What stands
--- directly behind a value goes on no name.
+-- The grammar of a text: a value for each type, with blanks and comments before it, and behind the last one. No character
+-- that continues a name stands directly behind a value.
 use Rattle.std.specs.Prelude.{◌≡◌, ◌+◌, ◌*◌, ◌^◌, ◌<◌, ◌++◌, ℕ, Bool, true, false, cond, ◌==◌, List, [], ◌∷◌, Option, Some, None, codes}
 use Rattle.fut_scalar.specs.declared.scalar.IntType.{IntType}
 use Rattle.fut_scalar.specs.declared.scalar.Scalar.{Scalar}
@@ -9,7 +9,7 @@ use Rattle.fut_scalar.specs.declared.scalar.ScalarType.TheVariants as sort
 use Rattle.value_text.specs.Gaps.{is_blank}
 use Rattle.value_text.specs.Numbers.{digit_of, ends_in_underscore, is_in_number, radix, starts_digit}
 use Rattle.value_text.specs.Reading.{may_be, signed, value_in}
-use Rattle.value_text.specs.Words.{name_of, word_len}
+use Rattle.value_text.specs.Words.{name_of, name_goes_on}
 use Rattle.value_text.specs.declared.numbers.Base.{Base}
 use Rattle.value_text.specs.declared.numbers.Base.TheVariants.{Decimal, Hexadecimal, Binary}
 
@@ -66,5 +66,5 @@ pub data Spells : ScalarType → List ℕ → Scalar → Type 0 where
 
 pub data Text : List ScalarType → List ℕ → List Scalar → Type 0 where
   ended : {bytes : List ℕ} → Last_gap bytes → Text [] bytes []
-  value_and : {ty : ScalarType} {types : List ScalarType} {value : Scalar} {values : List Scalar} (gap word rest : List ℕ) → Gap gap → Spells ty word value → word_len rest ≡ 0 → Text types rest values
+  value_and : {ty : ScalarType} {types : List ScalarType} {value : Scalar} {values : List Scalar} (gap word rest : List ℕ) → Gap gap → Spells ty word value → name_goes_on rest ≡ false → Text types rest values
       → Text (ty ∷ types) (gap ++ (word ++ rest)) (value ∷ values)

@@ -1,20 +1,21 @@
 -- Words: names of types, and truth values.
-use Rattle.std.specs.Prelude.{ℕ, ◌+◌, Bool, cond, nat_le, max, ◌==◌, ◌&&◌, ◌||◌, List, [], ◌∷◌, length, Option, Some, None, Result, Ok, Err, codes}
-use Rattle.std.specs.List.{prefix_len}
+use Rattle.std.specs.Prelude.{ℕ, ◌+◌, Bool, false, not, cond, nat_le, max, ◌==◌, ◌&&◌, List, [], ◌∷◌, length, drop, Option, Some, None, Result, Ok, Err, codes}
+use Rattle.bstr.specs.Utf8.{decoded}
 use Rattle.fut_scalar.specs.declared.scalar.IntType.{IntType}
 use Rattle.fut_scalar.specs.declared.scalar.IntType.TheVariants.{I8, I16, I32, I64, U8, U16, U32, U64}
+use Rattle.name_characters.specs.Names.{goes_on_name}
 use Rattle.value_text.specs.declared.words.Suffix.{Suffix}
 
 abbrev pub is_digit : ℕ → Bool
 is_digit b = nat_le 48 b && nat_le b 57
 
--- a letter, a digit, `_`, `'`, or a byte of a character beyond ASCII: what makes a value part of a longer name
-abbrev pub is_in_name : ℕ → Bool
-is_in_name b = is_digit b || (nat_le 97 b && nat_le b 122) || (nat_le 65 b && nat_le b 90) || b == 95 || b == 39 || nat_le 128 b
+abbrev pub continues_name : Option ℕ → Bool
+continues_name None = false
+continues_name (Some c) = goes_on_name c
 
--- how many bytes the word at the front has
-unfoldable pub word_len : List ℕ → ℕ
-word_len bytes = prefix_len is_in_name bytes
+-- a character that continues a name stands at the front, in UTF-8: it makes what is before it part of a longer name
+unfoldable pub name_goes_on : List ℕ → Bool
+name_goes_on bytes = continues_name (decoded bytes).char
 
 -- how many bytes two texts have in common at their front
 abbrev pub common : List ℕ → List ℕ → ℕ
@@ -22,9 +23,9 @@ common [] word = 0
 common (b ∷ bs) [] = 0
 common (b ∷ bs) (c ∷ cs) = cond (b == c) (1 + common bs cs) 0
 
--- the whole word at the front is this one
+-- this word stands at the front, and is no part of a longer name
 unfoldable pub is_word : List ℕ → List ℕ → Bool
-is_word bytes word = word_len bytes == length word && common bytes word == length word
+is_word bytes word = common bytes word == length word && not (name_goes_on (drop (length word) bytes))
 
 abbrev pub name_of : IntType → List ℕ
 name_of I8 = codes "i8"
@@ -59,9 +60,9 @@ unfoldable pub type_front : List ℕ → ℕ
 type_front bytes = max (signed_front bytes) (unsigned_front bytes)
 
 abbrev pub suffix_of : Option IntType → List ℕ → Result Suffix ℕ
-suffix_of (Some ty) bytes = Ok (record { ty = Some ty; length = word_len bytes })
-suffix_of None bytes = cond (word_len bytes == 0) (Ok (record { ty = None; length = 0 })) (Err (type_front bytes))
+suffix_of (Some ty) bytes = Ok (record { ty = Some ty; length = length (name_of ty) })
+suffix_of None bytes = cond (name_goes_on bytes) (Err (type_front bytes)) (Ok (record { ty = None; length = 0 }))
 
--- what stands behind the digits of an integer: the name of a type or no word; or how many bytes begin such a name
+-- what stands behind the digits of an integer: the name of a type, or nothing that continues a name; or how many bytes begin such a name
 unfoldable pub suffix_at : List ℕ → Result Suffix ℕ
 suffix_at bytes = suffix_of (type_at bytes) bytes

@@ -1,9 +1,9 @@
 // How an empty array is spelled behind the word `empty`.
 ghost use Rattle.std.specs.Prelude.{◌≡◌, ◌≤◌, ◌<◌, ◌+◌, ◌^◌, length, MatchResult};
-ghost use Rattle.value_text.specs.Empties.{digit_len, digits, dimension, dimensions, empty_len, ending, mark, names_scalar, scalar_name, shift, size, then_part};
+ghost use Rattle.value_text.specs.Empties.{digit_len, digits, dimension, dimensions, empty_len, ending, mark, scalar_at, scalar_name, shift, size, then_part};
 
 use crate::gaps::{begins_with, behind, gap};
-use crate::words::{common, greater, is_digit, is_word, type_at, type_front, word_len};
+use crate::words::{common, greater, is_digit, is_word, name_of, type_at, type_front};
 
 /// What a part behind so many bytes answers, from their front on.
 fn shift(before: usize, part: Result<usize, usize>) -> Result<usize, usize>
@@ -53,10 +53,22 @@ fn digits(text: &[u8]) -> Result<usize, usize>
     }
 }
 
-fn names_scalar(text: &[u8]) -> bool
-    ensures { result ≡ names_scalar text.now }
+/// The name of a scalar type at the front.
+#[tactic(auto, unfolding(crate::specs::Empties::scalar_at))]
+fn scalar_at(text: &[u8]) -> Result<usize, usize>
+    ensures value { result ≡ scalar_at text.now }
+    ensures within { MatchResult result (λ n. n ≤ length text.now) (λ n. n ≤ length text.now) }
 {
-    type_at(text).is_some() || is_word(text, b"bool")
+    match type_at(text) {
+        Some(ty) => Ok(name_of(ty).len()),
+        None => {
+            if is_word(text, b"bool") {
+                Ok(4)
+            } else {
+                Err(greater(type_front(text), common(text, b"bool")))
+            }
+        }
+    }
 }
 
 /// The name of a scalar type.
@@ -66,12 +78,7 @@ fn scalar_name(text: &[u8]) -> Result<usize, usize>
     ensures within { MatchResult result (λ n. n ≤ length text.now) (λ n. n ≤ length text.now) }
 {
     let blanks = gap(text);
-    let here = behind(text, blanks);
-    if names_scalar(here) {
-        Ok(blanks + word_len(here))
-    } else {
-        Err(blanks + greater(type_front(here), common(here, b"bool")))
-    }
+    shift(blanks, scalar_at(behind(text, blanks)))
 }
 
 /// What stands behind the `[` of a dimension.

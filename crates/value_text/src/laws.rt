@@ -1,10 +1,16 @@
 // Laws of the text of values, each carried by a call.
-ghost use Rattle.value_text.specs.Claims.{FoundIntegersStand, IntegersAreFound, OnlyTextsAreRead, OutputReadsBack, TextReadsBack, TextsAreRead};
+ghost use Rattle.value_text.specs.Claims.{FoundIntegersStand, IntegersAreFound, NamesGoOn, NothingElseGoesOn, OnlyTextsAreRead, OutputReadsBack, TextReadsBack, TextsAreRead};
 
 /// The law that a text of the grammar (`specs/Grammar.antt`) reads as its values, and no other text as any.
 pub fn texts_are_read()
     ensures all { TextsAreRead }
     ensures only { OnlyTextsAreRead }
+{}
+
+/// The law that a name goes on exactly where a text begins with the UTF-8 of a character that continues one.
+pub fn names_go_on()
+    ensures all { NamesGoOn }
+    ensures only { NothingElseGoesOn }
 {}
 
 /// The law that the text of a value reads as that value, and what is printed reads as the values that were printed.

@@ -17,6 +17,6 @@ mod spelled;
 mod wanted;
 mod words;
 
-pub use laws::{integers_are_kept, printed_values_read_back, texts_are_read};
+pub use laws::{integers_are_kept, names_go_on, printed_values_read_back, texts_are_read};
 pub use printing::{print_value, print_values};
 pub use reading::{TextErr, read_args};

@@ -1,8 +1,11 @@
 // Words, and the names of types.
-ghost use Rattle.std.specs.Prelude.{◌≡◌, ◌≤◌, length, max, true, IfOk, IfErr};
-ghost use Rattle.value_text.specs.Words.{common, is_digit, is_in_name, is_word, name_of, signed_front, suffix_at, type_at, type_front, unsigned_front, word_len};
+ghost use Rattle.std.specs.Prelude.{◌≡◌, ◌≤◌, length, max, true, IfOk, IfErr, IfSome};
+ghost use Rattle.value_text.specs.Words.{common, is_digit, is_word, name_goes_on, name_of, signed_front, suffix_at, type_at, type_front, unsigned_front};
 
+use crate::gaps::behind;
+use bstr::decode_utf8;
 use fut_scalar::IntType;
+use name_characters::goes_on_name;
 
 /// The type behind an integer, if one is there, and how many bytes it takes.
 #[derive(Clone, Copy)]
@@ -17,25 +20,15 @@ pub fn is_digit(byte: u8) -> bool
     b'0' <= byte && byte <= b'9'
 }
 
-/// Whether a byte makes what stands before it part of a longer name.
-fn is_in_name(byte: u8) -> bool
-    ensures { result ≡ is_in_name byte }
+/// Whether a character at the front makes what stands before it part of a longer name.
+#[tactic(auto, unfolding(crate::specs::Words::name_goes_on))]
+fn name_goes_on(text: &[u8]) -> bool
+    ensures { result ≡ name_goes_on text.now }
 {
-    is_digit(byte)
-        || (b'a' <= byte && byte <= b'z')
-        || (b'A' <= byte && byte <= b'Z')
-        || byte == b'_'
-        || byte == b'\''
-        || byte >= 128
-}
-
-/// How many bytes the word at the front has.
-#[tactic(auto, using(crate::proofs::Between::prefix_within), unfolding(crate::specs::Words::word_len))]
-pub fn word_len(text: &[u8]) -> usize
-    ensures value { result ≡ word_len text.now }
-    ensures within { result ≤ length text.now }
-{
-    text.iter().take_while(|byte| is_in_name(**byte)).count()
+    match decode_utf8(text).0 {
+        Some(c) => goes_on_name(c),
+        None => false,
+    }
 }
 
 /// How many bytes two texts have in common at their front.
@@ -58,13 +51,13 @@ pub fn common(text: &[u8], word: &[u8]) -> usize
     }
 }
 
-/// Whether the whole word at the front is this one.
+/// Whether a word stands at the front and is no part of a longer name.
 #[tactic(auto, unfolding(crate::specs::Words::is_word))]
 pub fn is_word(text: &[u8], word: &[u8]) -> bool
     ensures value { result ≡ is_word text.now word.now }
     ensures within { result ≡ true → length word.now ≤ length text.now }
 {
-    word_len(text) == word.len() && common(text, word) == word.len()
+    common(text, word) == word.len() && !name_goes_on(behind(text, word.len()))
 }
 
 pub fn greater(a: usize, b: usize) -> usize
@@ -92,7 +85,8 @@ pub fn name_of(ty: IntType) -> &'static [u8]
 /// The integer type whose name is the word at the front.
 #[tactic(auto, unfolding(crate::specs::Words::type_at))]
 pub fn type_at(text: &[u8]) -> Option<IntType>
-    ensures { result ≡ type_at text.now }
+    ensures value { result ≡ type_at text.now }
+    ensures within { IfSome result (λ ty. length (name_of ty) ≤ length text.now) }
 {
     if is_word(text, b"i8") {
         Some(IntType::I8)
@@ -146,24 +140,26 @@ pub fn type_front(text: &[u8]) -> usize
     greater(signed_front(text), unsigned_front(text))
 }
 
-/// What stands behind the digits of an integer: the name of a type or no word; or how many bytes begin such a name.
+/// What stands behind the digits of an integer: the name of a type, or nothing that continues a name; or how many bytes begin such a name.
 #[tactic(auto, unfolding(crate::specs::Words::suffix_at))]
 pub fn suffix_at(text: &[u8]) -> Result<Suffix, usize>
     ensures value { result ≡ suffix_at text.now }
     ensures within { IfOk result (λ suffix. suffix.length ≤ length text.now) }
     ensures place { IfErr result (λ offset. offset ≤ length text.now) }
 {
-    let length = word_len(text);
     match type_at(text) {
         Some(ty) => Ok(Suffix {
             ty: Some(ty),
-            length,
+            length: name_of(ty).len(),
         }),
         None => {
-            if length == 0 {
-                Ok(Suffix { ty: None, length })
-            } else {
+            if name_goes_on(text) {
                 Err(type_front(text))
+            } else {
+                Ok(Suffix {
+                    ty: None,
+                    length: 0,
+                })
             }
         }
     }

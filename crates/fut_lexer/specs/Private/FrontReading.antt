@@ -8,11 +8,12 @@ use Rattle.fut_token.specs.declared.token.Lift.{Lift}
 use Rattle.fut_token.specs.declared.token.Lift.TheVariants as lift
 use Rattle.fut_token.specs.declared.token.TokenKind.{TokenKind}
 use Rattle.fut_token.specs.declared.token.TokenKind.TheVariants as kind
+use Rattle.name_characters.specs.Names.{goes_on_name, starts_name}
 use Rattle.fut_lexer.specs.declared.front.Front.{Front}
 use Rattle.fut_lexer.specs.declared.front.Front.TheVariants as front
 use Rattle.fut_lexer.specs.declared.number.Base.{Base}
 use Rattle.fut_lexer.specs.declared.number.Base.TheVariants as base
-use Rattle.fut_lexer.specs.Words.{is_blank, is_digit, is_in_text, begins_with, starts_name, goes_on_name, keyword, suffix_of, symbol_1, symbol_2, symbol_3}
+use Rattle.fut_lexer.specs.Words.{is_blank, is_digit, is_in_text, begins_with, keyword, suffix_of, symbol_1, symbol_2, symbol_3}
 use Rattle.fut_lexer.specs.Numbers.{is_in_number, value, ends_in_underscore, starts_digit, begins_in, is_float}
 use Rattle.fut_lexer.specs.Rules.{close_len}
 
