@@ -32,6 +32,14 @@ module _ {X : Type 0} where
   abbrev pub parts_of : View X → ℕ
   parts_of v = v.parts
 
+  -- the first seat has all parts
+  pub parts_first : (n : ℕ) → PartsKept {X = X} n (view n [] ∷ [])
+  parts_first n = record { add_up = omega arith; spent = only }
+    where
+      only : (j : ℕ) (v : View X) → get_elem? (view n [] ∷ []) j ≡ some v → v.parts ≡ 0 → v.seen ≡ []
+      only zero v at none = ap seen (sym (some-injective (view n []) v at))
+      only (suc j) v at none = absurd (some-ne-none v (sym at))
+
   -- the seat i has a new list and its old parts
   pub parts_step : (n : ℕ) (views : List (View X)) (i : ℕ) (v : View X) (xs : List X) → get_elem? views i ≡ some v → 0 < v.parts → PartsKept n views → PartsKept n (set views i (view v.parts xs))
   parts_step n views i v xs at some_part h = record {

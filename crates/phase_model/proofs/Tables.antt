@@ -1,7 +1,7 @@
 -- Each kind of step keeps the rule of a table of pairs, and what the last seat knows.
 use Rattle.std.proofs.Common.{◌≡◌, ℕ, zero, suc, ◌+◌, ◌-◌, ◌<◌, ◌≤◌, List, [], ◌∷◌, ◌++◌, take, length, set, flat_map, slice_index, slice_set, sym, refl, ap, ◌∙◌, subst, arith}
 use Rattle.std.proofs.Math.Seq.{take-length}
-use mathlib.Core.Option.{some, some-injective, some-ne-none}
+use mathlib.Core.Option.{some}
 use lib.ListN.{get_elem?}
 use Rattle.phase_model.specs.declared.Pair.{Pair}
 use Rattle.phase_model.specs.declared.View.{View}
@@ -10,7 +10,7 @@ use Rattle.phase_model.specs.Parts.{view, seen}
 use Rattle.phase_model.specs.Tables.{pair, padded, PairsKept}
 use Rattle.phase_model.proofs.Together.{grown, kept, added, merged, at_other}
 use Rattle.phase_model.proofs.Orders.{done_none, done_more, done_along, done_length}
-use Rattle.phase_model.proofs.Parts.{parts_step, parts_split, parts_join, has_all}
+use Rattle.phase_model.proofs.Parts.{parts_first, parts_step, parts_split, parts_join, has_all}
 
 -- a word of the destination is the word of the table with its number
 padded_at : (dest : List ℕ) (i : ℕ) → i < length dest → slice_index (padded dest) i ≡ slice_index dest i
@@ -38,12 +38,8 @@ module _ (op : ℕ → ℕ → ℕ) (old : List ℕ) (parts : ℕ) where
     dest = old;
     words_are = refl;
     pairs_done = done_none op old;
-    shared = record { add_up = omega arith; spent = λ j v at none. only j v at };
+    shared = parts_first parts;
   }
-    where
-      only : (j : ℕ) (v : View Pair) → get_elem? (view {X = Pair} parts [] ∷ []) j ≡ some v → v.seen ≡ []
-      only zero v at = ap seen (sym (some-injective (view parts []) v at))
-      only (suc j) v at = absurd (some-ne-none v (sym at))
 
   -- the seat id does the pair of a place and x. The word becomes `new`, which is what op makes of it
   pub pair_step : (words : List ℕ) (views : List (View Pair)) (id : ℕ) (v : View Pair) (place x new : ℕ) → place < length old → new ≡ op (slice_index words place) x → get_elem? views id ≡ some v → 0 < v.parts
