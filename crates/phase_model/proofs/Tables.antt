@@ -1,5 +1,5 @@
 -- Each kind of step keeps the rule of a table of pairs, and what the last seat knows.
-use Rattle.std.proofs.Common.{◌≡◌, ℕ, zero, suc, ◌+◌, ◌-◌, ◌<◌, ◌≤◌, List, [], ◌∷◌, ◌++◌, take, length, set, flat_map, slice_index, slice_set, sym, refl, ap, ◌∙◌, subst, arith}
+use Rattle.std.proofs.Common.{◌≡◌, ◌≢◌, ℕ, zero, suc, ◌+◌, ◌-◌, ◌<◌, ◌≤◌, List, [], ◌∷◌, ◌++◌, take, length, set, flat_map, slice_index, slice_set, sym, refl, ap, ◌∙◌, subst, arith}
 use Rattle.std.proofs.Math.Seq.{take-length}
 use mathlib.Core.Option.{some}
 use lib.ListN.{get_elem?}
@@ -26,17 +26,21 @@ padded_take : (dest : List ℕ) → take (length dest) (padded dest) ≡ dest
 padded_take [] = refl
 padded_take (x ∷ xs) = take-length (x ∷ xs)
 
--- a table has room for the destination
-pub padded_long : (dest : List ℕ) → length dest ≤ length (padded dest)
-padded_long [] = omega arith
-padded_long (x ∷ xs) = omega arith
+-- of no word one is made, and some are left as they are
+pub padded_none : (words : List ℕ) → length words ≡ 0 → padded words ≡ 0 ∷ []
+padded_none [] e = refl
+padded_none (x ∷ xs) e = absurd (omega arith)
+
+pub padded_some : (words : List ℕ) → length words ≢ 0 → padded words ≡ words
+padded_some [] n = absurd (n refl)
+padded_some (x ∷ xs) n = refl
 
 module _ (op : ℕ → ℕ → ℕ) (old : List ℕ) (parts : ℕ) where
   -- the table as it is opened
-  pub pair_first : PairsKept op old parts (padded old) (view parts [] ∷ [])
-  pair_first = record {
+  pub pair_first : (words : List ℕ) → words ≡ padded old → PairsKept op old parts words (view parts [] ∷ [])
+  pair_first words e = record {
     dest = old;
-    words_are = refl;
+    words_are = e;
     pairs_done = done_none op old;
     shared = parts_first parts;
   }
