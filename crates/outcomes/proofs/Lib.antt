@@ -1,0 +1,5 @@
+pub mod Each
+pub mod Glue
+pub mod Trees
+pub mod Winners
+pub mod Combined

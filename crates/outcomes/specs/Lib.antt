@@ -1,0 +1,4 @@
+pub mod Stages
+pub mod Trees
+pub mod Wide
+pub mod Combined
