@@ -1,5 +1,5 @@
 -- How the walk of an expression follows from that of its form.
-use Rattle.std.proofs.Common.{◌≡◌, ℕ, ◌≤◌, List, map, true, false, Some, Ok, Err, refl, sym, subst, arith}
+use Rattle.std.proofs.Common.{◌≡◌, ℕ, ◌≤◌, ◌<◌, List, length, map, true, false, Some, Ok, Err, refl, sym, subst, arith}
 use Rattle.std.specs.Prelude.{Result}
 use Rattle.std.specs.Borrow.{Bor}
 use Rattle.fut_scalar.specs.declared.place.Place.{Place}
@@ -13,12 +13,13 @@ use Rattle.fut_flat.specs.declared.pat.Pat.{Pat}
 use Rattle.fut_flat.specs.declared.prim.Ref.{Ref}
 use Rattle.fut_flat.specs.Erased.{FlatTerm, operation_of, pattern_of, patterns, term_of, terms}
 use Rattle.fut_flat.specs.Terms.{Strict, Apply, If}
-use Rattle.fut_flat.proofs.ErasedForms.{loop_of, term_use, term_strict, term_lambda, term_apply, term_if, term_loop}
+use Rattle.fut_flat.proofs.ErasedForms.{loop_of, term_use, term_strict, term_lambda, term_apply, term_lets, term_if, term_loop}
 use Rattle.fut_meaning.specs.Knowns.{Known, Data, Known_tuple, Known_record, Known_function, Known_primitive, Scope, is_data, known_use}
-use Rattle.fut_meaning.specs.Walk.{is_let, is_visit, Visits, v_use, v_lambda}
+use Rattle.fut_meaning.specs.Walk.{is_visit, Visits, v_use, v_lambda}
 use Rattle.fut_meaning.specs.Comes.{comes_here, no_name}
 use Rattle.measure.specs.Held.{known_of}
 use Rattle.measure.specs.Plain.{Plain}
+use Rattle.measure.specs.Rows.{behind}
 use Rattle.measure.specs.declared.known.Known.{Known as Held_known}
 use Rattle.measure.specs.declared.stop.Stop.{Stop}
 use Rattle.measure.specs.declared.stop.Stop.TheVariants.{Nodes, Depth, Lost}
@@ -63,6 +64,9 @@ module _ (tops sc : Scope) (level spent : ℕ) where
       pub form_apply : (f x : Bor Exp) → e.form ≡ form.Apply f x → Walked_to tops sc level spent (Apply (term_of f.now) (term_of x.now)) r → Walked_to tops sc level spent (term_of e) r
       form_apply f x is h = as_term _ r (term_apply e f x is) h
 
+      pub form_lets : (ls : Bor (List Let)) (b : Bor Exp) → e.form ≡ form.Lets ls b → Walked_to tops sc level spent (behind ls.now b.now) r → Walked_to tops sc level spent (term_of e) r
+      form_lets ls b is h = as_term _ r (term_lets e ls b is) h
+
       pub form_if : (c a b : Bor Exp) → e.form ≡ form.If c a b → Walked_to tops sc level spent (If (term_of c.now) (term_of a.now) (term_of b.now)) r → Walked_to tops sc level spent (term_of e) r
       form_if c a b is h = as_term _ r (term_if e c a b is) h
 
@@ -83,11 +87,11 @@ module _ (tops sc : Scope) (level spent : ℕ) where
 pub plain_visit : (e : Exp) (a : Act) (mark : Place) (es : Bor (List Exp)) → Plain e → e.form ≡ form.Strict a mark es → is_visit (operation_of a) (terms (map term_of es.now)) ≡ true
 plain_visit e a mark es p is = p.strict a mark es is
 
-pub plain_row : (e : Exp) (ls : Bor (List Let)) (b : Bor Exp) → Plain e → e.form ≡ form.Lets ls b → is_let (term_of e) ≡ true
+pub plain_row : (e : Exp) (ls : Bor (List Let)) (b : Bor Exp) → Plain e → e.form ≡ form.Lets ls b → 0 < length ls.now
 plain_row e ls b p is = p.row ls b is
 
 pub ruleset limits = (too_deep, too_many, peeled_walk)
 
 pub ruleset datas = (data_ok, data_function, data_stopped)
 
-pub ruleset forms = (form_use, form_unknown, form_lambda, form_strict, form_apply, form_if, form_loop, plain_visit, plain_row)
+pub ruleset forms = (form_use, form_unknown, form_lambda, form_strict, form_apply, form_lets, form_if, form_loop, plain_visit, plain_row)

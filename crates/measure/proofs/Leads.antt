@@ -1,18 +1,15 @@
 -- A walk that goes on: what is left of something, from what it has had.
-use Rattle.std.proofs.Common.{◌≡◌, ℕ, suc, ◌+◌, ◌<◌, ◌++◌, max, List, [], ◌∷◌, map, length, get_or, drop, Some, Ok, Err, sym, subst, arith}
+use Rattle.std.proofs.Common.{◌≡◌, ℕ, suc, ◌+◌, ◌++◌, max, true, List, [], ◌∷◌, Some, sym, subst, arith}
 use Rattle.std.proofs.Common.{append_assoc}
-use Rattle.fut_flat.specs.declared.exp.Let.{Let}
-use Rattle.fut_flat.specs.Erased.{FlatTerm, Row, terms, lets}
-use Rattle.fut_flat.proofs.ErasedForms.{row_of}
+use Rattle.fut_scalar.specs.declared.place.BindId.{BindId}
+use Rattle.fut_flat.specs.declared.prim.Ref.{Ref}
+use Rattle.fut_flat.specs.Erased.{FlatTerm, terms}
+use Rattle.fut_flat.specs.Terms.{Binding, Let}
 use Rattle.fut_meaning.specs.Knowns.{Known, Data, Knowns, Scope, known_bound}
-use Rattle.fut_meaning.specs.Walk.{Visits, All_visits, v_more, Row_visits, v_let, Runs, Given_visits, g_more, Function_visits, f_applied}
-use Rattle.fut_meaning.specs.Comes.{Inside_all, in_rest, Inside_row, in_value, in_next, Inside_given, in_later, Inside_function, in_applied_on, Stuck_given, stuck_later, Stuck_function, stuck_on, Stuck_row, no_pattern_here, no_pattern_later}
-use Rattle.measure.specs.Held.{knowns, scope_of}
-use Rattle.measure.specs.declared.stop.Stop.{Stop}
-use Rattle.measure.specs.declared.walked.Row.{Row as Held_row}
-use Rattle.measure.specs.Answers.{Ended, ended_at, is_stuck, no_memory_left, Let_to, let_bound, let_stopped, let_unbound, let_memory, Leads}
-use Rattle.measure.proofs.Walks.{within}
-use Rattle.reach.proofs.Lists.{one_more}
+use Rattle.fut_meaning.specs.Walk.{is_let, Visits, All_visits, v_more, Row_visits, v_let, Runs, Given_visits, g_more, Function_visits, f_applied}
+use Rattle.fut_meaning.specs.Comes.{Inside_all, in_rest, Inside_row, in_next, Inside_given, in_later, Inside_function, in_applied_on, Stuck_given, stuck_later, Stuck_function, stuck_on, Stuck_row, no_pattern_later}
+use Rattle.measure.specs.Held.{knowns}
+use Rattle.measure.specs.Answers.{Leads}
 
 -- nothing was had so far
 from_none : (P : ℕ → ℕ → Type 0) (m d : ℕ) → P m d → P (0 + m) (max 0 d)
@@ -33,33 +30,8 @@ leads_on {tops} {sc} {e = e} {n1 = n1} {d1} {n2} {d2} a b = record {
   stuck = λ s. a.stuck (b.stuck s);
 }
 
-pub leads_let : {tops sc inner : Scope} {l : Row} {e : FlatTerm} {s : Known} {m d : ℕ} → Visits tops sc l.1 s m d → known_bound l.0.pattern s sc ≡ Some inner → Leads tops sc (Rattle.fut_flat.specs.Terms.Let l.0 l.1 e) m d inner e
-leads_let v h = record { visits = λ s m d r. v_let v h r; inside = λ n inner t i. in_next v h i; stuck = λ s. no_pattern_later v h s }
-
--- how far a row of lets has come, whatever stands behind it
-pub data Rows_lead (tops sc : Scope) (ls : List Row) (nodes depth : ℕ) (at : Held_row) (rest : List Row) : Type 0 where
-  rows_lead : {m d : ℕ} → ((body : FlatTerm) → Leads tops sc (lets ls body) m d (scope_of at.scope.now) (lets rest body)) → at.nodes ≡ nodes + m → at.depth ≡ max depth d → Rows_lead tops sc ls nodes depth at rest
-
-module _ (tops sc : Scope) (ls : List Let) (nodes depth : ℕ) where
-  pub rows_start : (at : Held_row) → scope_of at.scope.now ≡ sc → at.nodes ≡ nodes → at.depth ≡ depth → Rows_lead tops sc (map row_of ls) nodes depth at (map row_of ls)
-  rows_start at e e' e'' = rows_lead {m = 0} {d = 0} (λ body. subst (λ z. Leads tops sc (lets (map row_of ls) body) 0 0 z (lets (map row_of ls) body)) (sym e) leads_start) (omega (arith, e')) (omega (arith, e''))
-
-  pub rows_more : (i : ℕ) (l : Let) (level spent : ℕ) (at at' : Held_row) → i < length ls → Rows_lead tops sc (map row_of ls) nodes depth at (map row_of (drop i ls)) → Let_to tops (scope_of at.scope.now) level spent at.nodes at.depth (row_of (get_or ls i l)) (Ok at') → Rows_lead tops sc (map row_of ls) nodes depth at' (map row_of (drop (i + 1) ls))
-  unfolding lets
-  rows_more i l level spent at at' lt (rows_lead {m = m} {d} f q q') (let_bound {m = m1} {d = d1} v h e e') =
-      rows_lead {m = m + m1} {d = max d d1} (λ body. leads_on (subst (λ z. Leads tops sc (lets (map row_of ls) body) m d (scope_of at.scope.now) (lets (map row_of z) body)) (one_more ls i l lt) (f body)) (leads_let v h)) (omega (arith, q, e)) (omega (arith, q', e'))
-
-  pub rows_fail : (i : ℕ) (l : Let) (level spent : ℕ) (at : Held_row) (r : Stop) → i < length ls → Rows_lead tops sc (map row_of ls) nodes depth at (map row_of (drop i ls)) → Let_to tops (scope_of at.scope.now) level spent at.nodes at.depth (row_of (get_or ls i l)) (Err r) → (body : FlatTerm) → Ended tops (Inside_row tops sc (lets (map row_of ls) body)) (Stuck_row tops sc (lets (map row_of ls) body)) level (spent + nodes) r
-  unfolding lets
-  rows_fail i l level spent at r lt (rows_lead {m = m} {d} f q q') h body = within m (here h) (λ n inner t x. lead.inside n inner t x) lead.stuck (omega (arith, q))
-    where
-      lead : Leads tops sc (lets (map row_of ls) body) m d (scope_of at.scope.now) (lets (row_of (get_or ls i l) ∷ map row_of (drop (i + 1) ls)) body)
-      lead = subst (λ z. Leads tops sc (lets (map row_of ls) body) m d (scope_of at.scope.now) (lets (map row_of z) body)) (one_more ls i l lt) (f body)
-
-      here : {r : Stop} → Let_to tops (scope_of at.scope.now) level spent at.nodes at.depth (row_of (get_or ls i l)) (Err r) → Ended tops (Inside_row tops (scope_of at.scope.now) (lets (row_of (get_or ls i l) ∷ map row_of (drop (i + 1) ls)) body)) (Stuck_row tops (scope_of at.scope.now) (lets (row_of (get_or ls i l) ∷ map row_of (drop (i + 1) ls)) body)) level (spent + at.nodes) r
-      here (let_stopped s) = ended_at in_value (omega arith) s
-      here (let_unbound v n) = is_stuck (no_pattern_here v n)
-      here let_memory = no_memory_left
+pub leads_let : {tops sc inner : Scope} {b : Binding Ref BindId} {v e : FlatTerm} {s : Known} {m d : ℕ} → is_let (Let b v e) ≡ true → Visits tops sc v s m d → known_bound b.pattern s sc ≡ Some inner → Leads tops sc (Let b v e) m d inner e
+leads_let l v h = record { visits = λ s m d r. v_let l v h r; inside = λ n inner t i. in_next l v h i; stuck = λ s. no_pattern_later l v h s }
 
 -- ---- functions applied to data
 

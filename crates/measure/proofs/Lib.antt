@@ -13,5 +13,6 @@ pub mod Forms
 pub mod Endings
 pub mod Stepping
 pub mod Rows
+pub mod Asserting
 pub mod Running
 pub mod Definitions

@@ -18,7 +18,7 @@ use Rattle.fut_flat.specs.declared.ty.TypeExp.{TypeExp}
 use Rattle.fut_flat.specs.Erased.{operation_of, type_of}
 use Rattle.fut_positions.specs.Positions.{Spelled}
 use Rattle.fut_positions.proofs.Taken.{taken, none_taken}
-use Rattle.fut_flat.specs.Terms.{Operation, Ascribe, Assert, Coerce, Declared, Project, Replace}
+use Rattle.fut_flat.specs.Terms.{Operation, Ascribe, Coerce, Declared, Project, Replace}
 use Rattle.measure.specs.declared.stop.Stop.TheVariants.{Lost, Memory}
 use Rattle.measure.specs.Answers.{one_or_data, Known_to, known_is, not_known, no_memory_to_know}
 use Rattle.measure.specs.Held.{known_of, knowns}
@@ -170,84 +170,27 @@ projected_other [] f n = refl
 projected_other (x ∷ []) f n = absurd (n refl)
 projected_other (x ∷ y ∷ ss) f n = refl
 
--- ---- assertions
-
-abbrev pub assertion : Operation Ref BindId
-assertion = Assert
-
-pub assert_ok : (ss : List Held_known) (d d' : Held_known) → length ss ≡ 2 → is_data (known_of (get_or ss 0 d)) ≡ true → known_result assertion (Parts_of ss) ≡ Some (known_of (get_or ss 1 d'))
-unfolding known_result knowns
-assert_ok [] d d' n h = absurd (omega (arith, n))
-assert_ok (x ∷ []) d d' n h = absurd (omega (arith, n))
-assert_ok (x ∷ y ∷ []) d d' n h = by_first (known_of x) h
-  where
-    by_first : (k : Known) → is_data k ≡ true → known_result assertion (known_and k (known_and (known_of y) known_none)) ≡ Some (known_of y)
-    by_first Data h = refl
-    by_first (Known_tuple ss) h = absurd (let z : false ≡ true = h in cc)
-    by_first (Known_record fs) h = absurd (let z : false ≡ true = h in cc)
-    by_first (Known_function ps e sc) h = absurd (let z : false ≡ true = h in cc)
-    by_first (Known_primitive p ss) h = absurd (let z : false ≡ true = h in cc)
-assert_ok (x ∷ y ∷ w ∷ ss) d d' n h = absurd (omega (arith, n))
-
-pub assert_function : (ss : List Held_known) (d : Held_known) → length ss ≡ 2 → is_data (known_of (get_or ss 0 d)) ≡ false → known_result assertion (Parts_of ss) ≡ data_of (Parts_of ss)
-unfolding known_result knowns
-assert_function [] d n h = absurd (omega (arith, n))
-assert_function (x ∷ []) d n h = absurd (omega (arith, n))
-assert_function (x ∷ y ∷ []) d n h = by_first (known_of x) h
-  where
-    by_first : (k : Known) → is_data k ≡ false → known_result assertion (known_and k (known_and (known_of y) known_none)) ≡ data_of (known_and k (known_and (known_of y) known_none))
-    by_first Data h = absurd (let z : true ≡ false = h in cc)
-    by_first (Known_tuple ss) h = refl
-    by_first (Known_record fs) h = refl
-    by_first (Known_function ps e sc) h = refl
-    by_first (Known_primitive p ss) h = refl
-assert_function (x ∷ y ∷ w ∷ ss) d n h = absurd (omega (arith, n))
-
-pub assert_other : (ss : List Held_known) → (length ss ≡ 2 → ⊥) → known_result assertion (Parts_of ss) ≡ data_of (Parts_of ss)
-unfolding known_result knowns
-assert_other [] n = refl
-assert_other (x ∷ []) n = by_first (known_of x)
-  where
-    by_first : (k : Known) → known_result assertion (known_and k known_none) ≡ data_of (known_and k known_none)
-    by_first Data = refl
-    by_first (Known_tuple ss) = refl
-    by_first (Known_record fs) = refl
-    by_first (Known_function ps e sc) = refl
-    by_first (Known_primitive p ss) = refl
-assert_other (x ∷ y ∷ []) n = absurd (n refl)
-assert_other (x ∷ y ∷ w ∷ ss) n = by_first (known_of x) (known_of y) (known_of w) (Parts_of ss)
-  where
-    by_first : (k k' k'' : Known) (ss : Knowns) → known_result assertion (known_and k (known_and k' (known_and k'' ss))) ≡ data_of (known_and k (known_and k' (known_and k'' ss)))
-    by_first Data k' k'' ss = refl
-    by_first (Known_tuple us) k' k'' ss = refl
-    by_first (Known_record fs) k' k'' ss = refl
-    by_first (Known_function ps e sc) k' k'' ss = refl
-    by_first (Known_primitive p us) k' k'' ss = refl
-
-pub result_asserted : (a : Act) (ss : List Held_known) → a ≡ act.Assert → known_result (operation_of a) (Parts_of ss) ≡ known_result assertion (Parts_of ss)
-result_asserted a ss e = ap (λ z. known_result (operation_of z) (Parts_of ss)) e
-
 -- ---- every other operation makes data of data
 
-pub result_other : (a : Act) (ss : List Held_known) → (a ≡ act.Tuple → ⊥) → ((fs : Bor (List (Bor Text))) → a ≡ act.Record fs → ⊥) → ((f : Bor Text) → a ≡ act.Project f → ⊥) → ((t : Bor TypeExp) → a ≡ act.Ascribe t → ⊥) → ((t : Bor TypeExp) → a ≡ act.Coerce t → ⊥) → ((t : Bor TypeExp) → a ≡ act.Declared t → ⊥) → (a ≡ act.Assert → ⊥) → ((f : Bor Text) → a ≡ act.Replace f → ⊥) → known_result (operation_of a) (Parts_of ss) ≡ data_of (Parts_of ss)
+pub result_other : (a : Act) (ss : List Held_known) → (a ≡ act.Tuple → ⊥) → ((fs : Bor (List (Bor Text))) → a ≡ act.Record fs → ⊥) → ((f : Bor Text) → a ≡ act.Project f → ⊥) → ((t : Bor TypeExp) → a ≡ act.Ascribe t → ⊥) → ((t : Bor TypeExp) → a ≡ act.Coerce t → ⊥) → ((t : Bor TypeExp) → a ≡ act.Declared t → ⊥) → ((f : Bor Text) → a ≡ act.Replace f → ⊥) → known_result (operation_of a) (Parts_of ss) ≡ data_of (Parts_of ss)
 unfolding known_result
-result_other act.Tuple ss t r p a c d s u = absurd (t refl)
-result_other (act.Record fs) ss t r p a c d s u = absurd (r fs refl)
-result_other (act.Project f) ss t r p a c d s u = absurd (p f refl)
-result_other (act.Ascribe v) ss t r p a c d s u = absurd (a v refl)
-result_other (act.Coerce v) ss t r p a c d s u = absurd (c v refl)
-result_other (act.Declared v) ss t r p a c d s u = absurd (d v refl)
-result_other act.Assert ss t r p a c d s u = absurd (s refl)
-result_other (act.Replace f) ss t r p a c d s u = absurd (u f refl)
-result_other (act.Int n v) ss t r p a c d s u = refl
-result_other (act.Truth b) ss t r p a c d s u = refl
-result_other act.Array ss t r p a c d s u = refl
-result_other (act.Binary op) ss t r p a c d s u = refl
-result_other act.Negate ss t r p a c d s u = refl
-result_other act.Complement ss t r p a c d s u = refl
-result_other (act.Index ps) ss t r p a c d s u = refl
-result_other act.Update ss t r p a c d s u = refl
-result_other (act.Range b e) ss t r p a c d s u = refl
+result_other act.Tuple ss t r p a c d u = absurd (t refl)
+result_other (act.Record fs) ss t r p a c d u = absurd (r fs refl)
+result_other (act.Project f) ss t r p a c d u = absurd (p f refl)
+result_other (act.Ascribe v) ss t r p a c d u = absurd (a v refl)
+result_other (act.Coerce v) ss t r p a c d u = absurd (c v refl)
+result_other (act.Declared v) ss t r p a c d u = absurd (d v refl)
+result_other act.Assert ss t r p a c d u = refl
+result_other (act.Replace f) ss t r p a c d u = absurd (u f refl)
+result_other (act.Int n v) ss t r p a c d u = refl
+result_other (act.Truth b) ss t r p a c d u = refl
+result_other act.Array ss t r p a c d u = refl
+result_other (act.Binary op) ss t r p a c d u = refl
+result_other act.Negate ss t r p a c d u = refl
+result_other act.Complement ss t r p a c d u = refl
+result_other (act.Index ps) ss t r p a c d u = refl
+result_other act.Update ss t r p a c d u = refl
+result_other (act.Range b e) ss t r p a c d u = refl
 
 -- ---- a field that is replaced
 

@@ -1,5 +1,5 @@
 -- Expressions that are no visits of their own.
-use Rattle.std.proofs.Common.{◌≡◌, ℕ, List, [], ◌∷◌, map, length, get_or, Bool, true, false, refl, sym, ap, ◌∙◌, subst, arith, Result}
+use Rattle.std.proofs.Common.{◌≡◌, ◌<◌, ℕ, List, [], ◌∷◌, map, length, get_or, Bool, true, false, refl, sym, ap, ◌∙◌, subst, arith, Result}
 use Rattle.std.specs.Borrow.{Bor}
 use Rattle.fut_scalar.specs.declared.place.Place.{Place}
 use Rattle.fut_flat.specs.declared.act.Act.{Act}
@@ -12,7 +12,7 @@ use Rattle.fut_flat.specs.Erased.{FlatTerm, operation_of, term_of, terms, lets}
 use Rattle.fut_flat.specs.Terms.{Strict, Declared, no_term, term_and}
 use Rattle.fut_flat.proofs.ErasedForms.{Layer, row_of, term_strict, term_lets}
 use Rattle.fut_meaning.specs.Knowns.{Scope}
-use Rattle.fut_meaning.specs.Walk.{is_let, is_visit, Visits, v_declared}
+use Rattle.fut_meaning.specs.Walk.{is_visit, Visits, v_declared}
 use Rattle.fut_meaning.specs.Comes.{comes_in_declared}
 use Rattle.measure.specs.Plain.{is_declared, Peels, bare, declared, Plain}
 use Rattle.measure.specs.declared.stop.Stop.{Stop}
@@ -90,8 +90,18 @@ plain_strict e a mark es is h = record { strict = strict; row = row }
     strict : (a' : Act) (mark' : Place) (es' : Bor (List Exp)) → e.form ≡ form.Strict a' mark' es' → is_visit (operation_of a') (terms (map term_of es'.now)) ≡ true
     strict a' mark' es' is' = ap counted_layer (sym (form.outs-Strict a' mark' es') ∙ ap out-Form (sym is' ∙ is) ∙ form.outs-Strict a mark es) ∙ is_counted a es.now h
 
-    row : (ls : Bor (List Let)) (b : Bor Exp) → e.form ≡ form.Lets ls b → is_let (term_of e) ≡ true
+    row : (ls : Bor (List Let)) (b : Bor Exp) → e.form ≡ form.Lets ls b → 0 < length ls.now
     row ls b is' = absurd (let z : Form-F.Strict a mark es ≡ Form-F.Lets ls b = sym (form.outs-Strict a mark es) ∙ ap out-Form (sym is ∙ is') ∙ form.outs-Lets ls b in cc)
+
+-- the lets of a form that has some
+abbrev lets_of : Layer → List Let
+lets_of (Form-F.Lets ls b) = ls.now
+lets_of (Form-F.Use r k) = []
+lets_of (Form-F.Strict a mark es) = []
+lets_of (Form-F.Lambda ps e) = []
+lets_of (Form-F.Apply f e) = []
+lets_of (Form-F.If c a b) = []
+lets_of (Form-F.Loop l) = []
 
 pub plain_lets : (e : Exp) (ls : Bor (List Let)) (b : Bor Exp) → e.form ≡ form.Lets ls b → (length ls.now ≡ 0 → ⊥) → Plain e
 unfolding lets
@@ -100,12 +110,15 @@ plain_lets e ls b is h = record { strict = strict; row = row }
     strict : (a : Act) (mark : Place) (es : Bor (List Exp)) → e.form ≡ form.Strict a mark es → is_visit (operation_of a) (terms (map term_of es.now)) ≡ true
     strict a mark es is' = absurd (let z : Form-F.Strict a mark es ≡ Form-F.Lets ls b = sym (form.outs-Strict a mark es) ∙ ap out-Form (sym is' ∙ is) ∙ form.outs-Lets ls b in cc)
 
-    is_row : (xs : List Let) → (length xs ≡ 0 → ⊥) → is_let (lets (map row_of xs) (term_of b.now)) ≡ true
-    is_row [] h = absurd (h refl)
-    is_row (x ∷ xs) h = refl
+    row : (ls' : Bor (List Let)) (b' : Bor Exp) → e.form ≡ form.Lets ls' b' → 0 < length ls'.now
+    row ls' b' is' = some ls'.now (λ n. h (ap (length {A = Let}) (same ls' b' is') ∙ n))
+      where
+        same : (ls' : Bor (List Let)) (b' : Bor Exp) → e.form ≡ form.Lets ls' b' → ls.now ≡ ls'.now
+        same ls' b' is' = ap lets_of (sym (form.outs-Lets ls b) ∙ ap out-Form (sym is ∙ is') ∙ form.outs-Lets ls' b')
 
-    row : (ls' : Bor (List Let)) (b' : Bor Exp) → e.form ≡ form.Lets ls' b' → is_let (term_of e) ≡ true
-    row ls' b' is' = ap is_let (term_lets e ls b is) ∙ is_row ls.now h
+        some : (xs : List Let) → (length xs ≡ 0 → ⊥) → 0 < length xs
+        some [] h = absurd (h refl)
+        some (x ∷ xs) h = omega arith
 
 pub plain_other : (e : Exp) → ((a : Act) (mark : Place) (es : Bor (List Exp)) → e.form ≡ form.Strict a mark es → ⊥) → ((ls : Bor (List Let)) (b : Bor Exp) → e.form ≡ form.Lets ls b → ⊥) → Plain e
 plain_other e h h' = record { strict = λ a mark es is. absurd (h a mark es is); row = λ ls b is. absurd (h' ls b is) }

@@ -1,5 +1,5 @@
 -- Parts and rows of lets, one after the other.
-use Rattle.std.proofs.Common.{◌≡◌, ℕ, ◌+◌, ◌≤◌, ◌<◌, ◌++◌, max, List, [], ◌∷◌, map, length, get_or, drop, Bool, true, false, cond, nat_lt, ◌==◌, Ok, Err, refl, sym, ap, ◌∙◌, subst, arith, ltb-true, ltb-false}
+use Rattle.std.proofs.Common.{◌≡◌, ℕ, ◌+◌, ◌≤◌, ◌<◌, ◌++◌, max, List, [], ◌∷◌, map, length, get_or, drop, Bool, true, false, cond, nat_lt, ◌==◌, Ok, Err, None, Some, refl, sym, ap, ◌∙◌, subst, arith, ltb-true, ltb-false}
 use Rattle.std.specs.Ordering.{ord_max, is_lt, nat_cmp}
 use Rattle.std.proofs.Common.{append-nil}
 use mathlib.Core.List.{map-append}
@@ -18,7 +18,7 @@ use Rattle.fut_flat.specs.Terms.{Binding, Let, Use, Strict, Lambda, Apply, If, L
 use Rattle.fut_flat.proofs.ErasedForms.{Layer, layer, exp_term, form_term_at, loop_is, row_of, row_is, term_lets}
 use Rattle.fut_meaning.specs.Knowns.{Scope, known_bound}
 use Rattle.fut_meaning.specs.Walk.{is_let, Visits, v_lets, All_visits, v_none, v_body}
-use Rattle.fut_meaning.specs.Comes.{Inside, in_lets, in_here, Inside_row, in_row_body, Stuck_row, no_row}
+use Rattle.fut_meaning.specs.Comes.{Inside, in_lets, in_here, Inside_row, in_value, in_row_body, Stuck_row, no_pattern_here, no_row}
 use Rattle.measure.specs.Held.{known_of, knowns, scope_of}
 use Rattle.measure.specs.declared.known.Known.{Known as Held_known}
 use Rattle.measure.specs.declared.known.Scope.{Scope as Held_scope}
@@ -26,9 +26,11 @@ use Rattle.measure.specs.declared.stop.Stop.{Stop}
 use Rattle.measure.specs.declared.stop.Stop.TheVariants.{Memory}
 use Rattle.measure.specs.declared.walked.Walked.{Walked}
 use Rattle.measure.specs.declared.walked.Row.{Row as Held_row}
-use Rattle.measure.specs.Answers.{Bound_to, bound_is, not_bound, no_memory_to_bind, Ended, ended_at, no_memory_left, Walked_to, walked, stopped, Stopped, Parts_to, parts_walked, parts_stopped, Let_to, let_bound, let_stopped, let_unbound, let_memory, Leads, Rows_to, rows_bound, rows_stopped}
+use Rattle.measure.specs.Answers.{Bound_to, bound_is, not_bound, no_memory_to_bind, Ended, ended_at, is_stuck, no_memory_left, Walked_to, walked, stopped, Stopped, no_memory, Parts_to, parts_walked, parts_stopped, Leads}
+use Rattle.measure.specs.Rows.{Left_of, left_of, none_left, behind, binding_of, how_many}
+use Rattle.measure.specs.declared.lets.Left.{Left}
 use Rattle.measure.proofs.Walks.{up, into}
-use Rattle.measure.proofs.Leads.{leads_start, leads_on, Rows_lead, rows_lead, rows_start, rows_more, rows_fail, All_lead, all_start, all_on}
+use Rattle.measure.proofs.Leads.{leads_start, leads_on, leads_let, All_lead, all_start, all_on}
 use Rattle.reach.proofs.Lists.{one_more, drop_end}
 
 -- the greater of two numbers, as code has it
@@ -69,35 +71,7 @@ module _ (tops sc : Scope) (es : List Exp) (nodes depth : ℕ) (ss : List Held_k
       a' : All_lead tops sc (map term_of es) nodes depth (map known_of ss) []
       a' = subst (λ z. All_lead tops sc (map term_of es) nodes depth (map known_of ss) (map term_of z)) (drop_end i es le) a
 
--- ---- one let
-
-module _ (tops sc : Scope) (level spent nodes depth : ℕ) (l : LetTree) where
-  one_let : {r : Result Held_row Stop} → Let_to tops sc level spent nodes depth (record { sizes = l.sizes.now; parameters = Rattle.fut_flat.specs.Erased.parameters l.heads.now; is_function = l.is_function; pattern = pattern_of l.pat }, term_of l.value) r → Let_to tops sc level spent nodes depth (row_of l) r
-  one_let {r} h = subst (λ z. Let_to tops sc level spent nodes depth z r) (sym (row_is l)) h
-
-  pub let_value : (r : Stop) → Walked_to tops sc level (spent + nodes) (term_of l.value) (Err r) → Let_to tops sc level spent nodes depth (row_of l) (Err r)
-  let_value r (stopped s) = one_let (let_stopped s)
-
-  module _ (r : Walked) where
-    pub let_ok : (inner : Bor Held_scope) → Walked_to tops sc level (spent + nodes) (term_of l.value) (Ok r) → Bound_to (known_bound (pattern_of l.pat) (known_of r.known) sc) (Ok inner) → Let_to tops sc level spent nodes depth (row_of l) (Ok (record { scope = inner; nodes = nodes + r.nodes; depth = max depth r.depth }))
-    let_ok inner (walked v) (bound_is q) = one_let (let_bound v q refl refl)
-
-    pub let_pattern : (s : Stop) → Walked_to tops sc level (spent + nodes) (term_of l.value) (Ok r) → Bound_to (known_bound (pattern_of l.pat) (known_of r.known) sc) (Err s) → Let_to tops sc level spent nodes depth (row_of l) (Err s)
-    let_pattern _ (walked v) (not_bound n) = one_let (let_unbound v n)
-    let_pattern _ (walked v) no_memory_to_bind = one_let let_memory
-
--- ---- a row of lets, to its end
-
-pub rows_done : (tops sc : Scope) (ls : List LetTree) (nodes depth level spent i : ℕ) (at : Held_row) → length ls ≤ i → Rows_lead tops sc (map row_of ls) nodes depth at (map row_of (drop i ls)) → Rows_to tops sc level spent nodes depth (map row_of ls) (Ok at)
-unfolding lets
-rows_done tops sc ls nodes depth level spent i at le (rows_lead {m = m} {d} f q q') = rows_bound {m = m} {d = d} (λ body. subst (λ z. Leads tops sc (lets (map row_of ls) body) m d (scope_of at.scope.now) (lets (map row_of z) body)) (drop_end i ls le) (f body)) q q'
-
-pub rows_ended : (tops sc : Scope) (ls : List LetTree) (nodes depth level spent i : ℕ) (l : LetTree) (at : Held_row) (r : Stop) → i < length ls → Rows_lead tops sc (map row_of ls) nodes depth at (map row_of (drop i ls)) → Let_to tops (scope_of at.scope.now) level spent at.nodes at.depth (row_of (get_or ls i l)) (Err r) → Rows_to tops sc level spent nodes depth (map row_of ls) (Err r)
-rows_ended tops sc ls nodes depth level spent i l at r lt a h = rows_stopped (λ body. rows_fail tops sc ls nodes depth i l level spent at r lt a h body)
-
-pub ruleset rows = (rows_start, rows_more, rows_done, rows_ended)
-
--- ---- rows of lets, and the body behind them
+-- ---- rows of lets, and what stands behind them
 
 pub not_row : (e : Exp) → ((ls : Bor (List LetTree)) (b : Bor Exp) → e.form ≡ form.Lets ls b → ⊥) → is_let (term_of e) ≡ false
 not_row e h = ap is_let (exp_term e ∙ form_term_at e.form e.place) ∙ other (out-Form e.form) refl
@@ -111,42 +85,64 @@ not_row e h = ap is_let (exp_term e ∙ form_term_at e.form e.place) ∙ other (
     other (Form-F.If c a b) q = refl
     other (Form-F.Loop l) q = ap is_let (loop_is l.now)
 
-is_row : (e : FlatTerm) (P : FlatTerm → Type 0) → is_let e ≡ true → ((b : Binding Ref BindId) (v x : FlatTerm) → P (Let b v x)) → P e
-is_row (Let b v x) P h f = f b v x
-is_row (Use r at k) P h f = absurd (let z : false ≡ true = h in cc)
-is_row (Strict o m ts) P h f = absurd (let z : false ≡ true = h in cc)
-is_row (Lambda ps x) P h f = absurd (let z : false ≡ true = h in cc)
-is_row (Apply g x) P h f = absurd (let z : false ≡ true = h in cc)
-is_row (If c a b) P h f = absurd (let z : false ≡ true = h in cc)
-is_row (Loop m s p x t b) P h f = absurd (let z : false ≡ true = h in cc)
+as_row : (e : FlatTerm) (P : FlatTerm → Type 0) → is_let e ≡ true → ((b : Binding Ref BindId) (v x : FlatTerm) → is_let (Let b v x) ≡ true → P (Let b v x)) → P e
+as_row (Let b v x) P h f = f b v x h
+as_row (Use r at k) P h f = absurd (let z : false ≡ true = h in cc)
+as_row (Strict o m ts) P h f = absurd (let z : false ≡ true = h in cc)
+as_row (Lambda ps x) P h f = absurd (let z : false ≡ true = h in cc)
+as_row (Apply g x) P h f = absurd (let z : false ≡ true = h in cc)
+as_row (If c a b) P h f = absurd (let z : false ≡ true = h in cc)
+as_row (Loop m s p x t b) P h f = absurd (let z : false ≡ true = h in cc)
 
-module _ (tops sc : Scope) (level spent : ℕ) (e : FlatTerm) where
-  -- one row further
-  pub lets_more : (row row' : Held_row) (rest : Exp) (ls : Bor (List LetTree)) (b : Bor Exp) (around before : ℕ) → Leads tops sc e row.nodes row.depth (scope_of row.scope.now) (term_of rest) → rest.form ≡ form.Lets ls b → Rows_to tops (scope_of row.scope.now) around before row.nodes row.depth (map row_of ls.now) (Ok row') → Leads tops sc e row'.nodes row'.depth (scope_of row'.scope.now) (term_of b.now)
-  lets_more row row' rest ls b around before a is (rows_bound {m = m} {d} f q q') =
-      subst (λ z. Leads tops sc e z row'.depth (scope_of row'.scope.now) (term_of b.now)) (sym q) (subst (λ z. Leads tops sc e (row.nodes + m) z (scope_of row'.scope.now) (term_of b.now)) (sym q') (leads_on (subst (λ z. Leads tops sc e row.nodes row.depth (scope_of row.scope.now) z) (term_lets rest ls b is) a) (f (term_of b.now))))
+pub ends : {t : FlatTerm} → Left_of t None → is_let t ≡ false
+ends (none_left n) = n
 
-  pub lets_row : (row : Held_row) (rest : Exp) (ls : Bor (List LetTree)) (b : Bor Exp) (r : Stop) → is_let e ≡ true → Leads tops sc e row.nodes row.depth (scope_of row.scope.now) (term_of rest) → rest.form ≡ form.Lets ls b → Rows_to tops (scope_of row.scope.now) (level + 1) (spent + 1) row.nodes row.depth (map row_of ls.now) (Err r) → Walked_to tops sc level spent e (Err r)
-  lets_row row rest ls b r h a is (rows_stopped f) = stopped (from_row e h (subst (λ z. Leads tops sc e row.nodes row.depth (scope_of row.scope.now) z) (term_lets rest ls b is) a) (f (term_of b.now)))
-    where
-      from_row : (e : FlatTerm) → is_let e ≡ true → Leads tops sc e row.nodes row.depth (scope_of row.scope.now) (lets (map row_of ls.now) (term_of b.now)) → Ended tops (Inside_row tops (scope_of row.scope.now) (lets (map row_of ls.now) (term_of b.now))) (Stuck_row tops (scope_of row.scope.now) (lets (map row_of ls.now) (term_of b.now))) (level + 1) (spent + 1 + row.nodes) r → Stopped tops sc level spent e r
-      from_row e h = is_row e (λ e. Leads tops sc e row.nodes row.depth (scope_of row.scope.now) (lets (map row_of ls.now) (term_of b.now)) → Ended tops (Inside_row tops (scope_of row.scope.now) (lets (map row_of ls.now) (term_of b.now))) (Stuck_row tops (scope_of row.scope.now) (lets (map row_of ls.now) (term_of b.now))) (level + 1) (spent + 1 + row.nodes) r → Stopped tops sc level spent e r) h (λ b v x a k. into (1 + row.nodes) k (λ n inner t i. subst (λ z. Inside tops sc (Let b v x) z inner t) (omega arith) (in_lets (a.inside n inner t i))) (λ s. no_row (a.stuck s)) refl (omega arith))
+-- lets, by the first
+pub first_is : (ls : List LetTree) (d : LetTree) (b : Exp) → 0 < length ls → behind ls b ≡ Let (binding_of (get_or ls 0 d)) (term_of (get_or ls 0 d).value) (behind (drop 1 ls) b)
+unfolding lets
+first_is [] d b n = absurd (omega (arith, n))
+first_is (l ∷ ls) d b n = λ i. Let (row_is l i).0 (row_is l i).1 (behind ls b)
 
-  module _ (row : Held_row) (rest : FlatTerm) where
-    pub lets_last : (r : Stop) → is_let e ≡ true → is_let rest ≡ false → Leads tops sc e row.nodes row.depth (scope_of row.scope.now) rest → Walked_to tops (scope_of row.scope.now) (level + 1) (spent + 1 + row.nodes) rest (Err r) → Walked_to tops sc level spent e (Err r)
-    lets_last r h n a (stopped s) = stopped (from_last e h a s)
-      where
-        from_last : (e : FlatTerm) → is_let e ≡ true → Leads tops sc e row.nodes row.depth (scope_of row.scope.now) rest → Stopped tops (scope_of row.scope.now) (level + 1) (spent + 1 + row.nodes) rest r → Stopped tops sc level spent e r
-        from_last e h = is_row e (λ e. Leads tops sc e row.nodes row.depth (scope_of row.scope.now) rest → Stopped tops (scope_of row.scope.now) (level + 1) (spent + 1 + row.nodes) rest r → Stopped tops sc level spent e r) h (λ b v x a s. up (in_lets (a.inside 0 (scope_of row.scope.now) rest (in_row_body n))) refl (omega arith) s)
+first_left : {t : FlatTerm} (n : Left) (d : LetTree) → Left_of t (Some n) → t ≡ Let (binding_of (get_or n.lets.now 0 d)) (term_of (get_or n.lets.now 0 d).value) (behind (drop 1 n.lets.now) n.body.now)
+first_left n d (left_of l q some) = q ∙ first_is n.lets.now d n.body.now some
 
-    pub lets_ok : (r : Walked) → is_let e ≡ true → is_let rest ≡ false → Leads tops sc e row.nodes row.depth (scope_of row.scope.now) rest → Walked_to tops (scope_of row.scope.now) (level + 1) (spent + 1 + row.nodes) rest (Ok r) → Walked_to tops sc level spent e (Ok (record { known = r.known; nodes = 1 + (row.nodes + r.nodes); depth = 1 + max row.depth r.depth }))
-    lets_ok r h n a (walked v) = walked (from_ok e h a)
-      where
-        from_ok : (e : FlatTerm) → is_let e ≡ true → Leads tops sc e row.nodes row.depth (scope_of row.scope.now) rest → Visits tops sc e (known_of r.known) (1 + (row.nodes + r.nodes)) (1 + max row.depth r.depth)
-        from_ok e h = is_row e (λ e. Leads tops sc e row.nodes row.depth (scope_of row.scope.now) rest → Visits tops sc e (known_of r.known) (1 + (row.nodes + r.nodes)) (1 + max row.depth r.depth)) h (λ b w x a. v_lets (a.visits (known_of r.known) r.nodes r.depth (v_body n v)))
+goes_on : {t : FlatTerm} (n : Left) → Left_of t (Some n) → is_let t ≡ true
+goes_on n (left_of l q some) = l
+
+-- each let leaves less of its row
+pub row_shrinks : {t : FlatTerm} (n : Left) (d : LetTree) (rest : List LetTree) (b : Exp) → Left_of t (Some n) → rest ≡ drop 1 n.lets.now → b ≡ n.body.now → how_many (behind rest b) < how_many t
+row_shrinks n d rest b k same same' = subst (λ z. how_many (behind rest b) < z) (sym (ap how_many (first_left n d k) ∙ (λ i. how_many (Let (binding_of (get_or n.lets.now 0 d)) (term_of (get_or n.lets.now 0 d).value) (behind (sym same i) (sym same' i)))))) (omega arith)
+
+module _ (tops sc : Scope) (level spent : ℕ) (e : FlatTerm) (row : Held_row) (t : FlatTerm) where
+  abbrev So_far : Type 0
+  So_far = Leads tops sc e row.nodes row.depth (scope_of row.scope.now) t
+
+  inside_row : {r : Stop} → is_let e ≡ true → So_far → Ended tops (Inside_row tops (scope_of row.scope.now) t) (Stuck_row tops (scope_of row.scope.now) t) (level + 1) (spent + 1 + row.nodes) r → Stopped tops sc level spent e r
+  inside_row {r} h = as_row e (λ e. Leads tops sc e row.nodes row.depth (scope_of row.scope.now) t → Ended tops (Inside_row tops (scope_of row.scope.now) t) (Stuck_row tops (scope_of row.scope.now) t) (level + 1) (spent + 1 + row.nodes) r → Stopped tops sc level spent e r) h
+      (λ b v x l a k. into (1 + row.nodes) k (λ n inner t i. subst (λ z. Inside tops sc (Let b v x) z inner t) (omega arith) (in_lets l (a.inside n inner t i))) (λ s. no_row l (a.stuck s)) refl (omega arith))
+
+  -- one let further
+  module _ (left : Left) (d : LetTree) where
+    pub row_more : (around before : ℕ) (r : Walked) (inner : Bor Held_scope) (rest : List LetTree) (b : Exp) → So_far → Left_of t (Some left) → Walked_to tops (scope_of row.scope.now) around before (term_of (get_or left.lets.now 0 d).value) (Ok r) → Bound_to (known_bound (pattern_of (get_or left.lets.now 0 d).pat) (known_of r.known) (scope_of row.scope.now)) (Ok inner) → rest ≡ drop 1 left.lets.now → b ≡ left.body.now
+        → Leads tops sc e (row.nodes + r.nodes) (max row.depth r.depth) (scope_of inner.now) (behind rest b)
+    row_more around before r inner rest b a k (walked v) (bound_is h) same same' =
+        subst (λ z. Leads tops sc e (row.nodes + r.nodes) (max row.depth r.depth) (scope_of inner.now) z) (λ i. behind (sym same i) (sym same' i))
+        (leads_on (subst (λ z. Leads tops sc e row.nodes row.depth (scope_of row.scope.now) z) (first_left left d k) a) (leads_let (subst (λ z. is_let z ≡ true) (first_left left d k) (goes_on left k)) v h))
+
+    pub row_value : (r : Stop) → is_let e ≡ true → So_far → Left_of t (Some left) → Walked_to tops (scope_of row.scope.now) (level + 1) (spent + 1 + row.nodes) (term_of (get_or left.lets.now 0 d).value) (Err r) → Walked_to tops sc level spent e (Err r)
+    row_value r h a k (stopped s) = stopped (inside_row h a (ended_at (subst (λ z. Inside_row tops (scope_of row.scope.now) z 0 (scope_of row.scope.now) (term_of (get_or left.lets.now 0 d).value)) (sym (first_left left d k)) (in_value (subst (λ z. is_let z ≡ true) (first_left left d k) (goes_on left k)))) (omega arith) s))
+
+    pub row_pattern : (around before : ℕ) (r : Walked) (s : Stop) → is_let e ≡ true → So_far → Left_of t (Some left) → Walked_to tops (scope_of row.scope.now) around before (term_of (get_or left.lets.now 0 d).value) (Ok r) → Bound_to (known_bound (pattern_of (get_or left.lets.now 0 d).pat) (known_of r.known) (scope_of row.scope.now)) (Err s) → Walked_to tops sc level spent e (Err s)
+    row_pattern around before r _ h a k (walked v) (not_bound n) = stopped (inside_row h a (is_stuck (subst (Stuck_row tops (scope_of row.scope.now)) (sym (first_left left d k)) (no_pattern_here (subst (λ z. is_let z ≡ true) (first_left left d k) (goes_on left k)) v n))))
+    row_pattern around before r _ h a k w no_memory_to_bind = stopped no_memory
+
+  -- what stands behind the row
+  pub row_last : (r : Stop) → is_let e ≡ true → So_far → Left_of t None → Walked_to tops (scope_of row.scope.now) (level + 1) (spent + 1 + row.nodes) t (Err r) → Walked_to tops sc level spent e (Err r)
+  row_last r h a n (stopped s) = stopped (inside_row h a (ended_at (in_row_body (ends n)) (omega arith) s))
+
+  pub row_ok : (r : Walked) → is_let e ≡ true → So_far → Left_of t None → Walked_to tops (scope_of row.scope.now) (level + 1) (spent + 1 + row.nodes) t (Ok r) → Walked_to tops sc level spent e (Ok (record { known = r.known; nodes = 1 + (row.nodes + r.nodes); depth = 1 + max row.depth r.depth }))
+  row_ok r h a n (walked v) = walked (as_row e (λ e. Leads tops sc e row.nodes row.depth (scope_of row.scope.now) t → Visits tops sc e (known_of r.known) (1 + (row.nodes + r.nodes)) (1 + max row.depth r.depth)) h (λ b w x l a. v_lets l (a.visits (known_of r.known) r.nodes r.depth (v_body (ends n) v))) a)
 
 pub ruleset parts = (all_start, parts_more, parts_fail, parts_memory, parts_done)
 
-pub ruleset whole_rows = (leads_start, lets_more, lets_row, lets_last, lets_ok)
-
-pub ruleset one_lets = (let_value, let_ok, let_pattern)
+pub ruleset rows = (leads_start, row_more, row_shrinks, row_value, row_pattern, row_last, row_ok)

@@ -4,7 +4,7 @@ use Rattle.std.specs.Prelude.{◌≡◌, ◌≤◌, ◌+◌, ℕ, max, List, map
 use Rattle.std.specs.Borrow.{Bor}
 use Rattle.fut_scalar.specs.declared.place.BindId.{BindId}
 use Rattle.fut_flat.specs.declared.prim.Ref.{Ref}
-use Rattle.fut_flat.specs.Erased.{FlatTerm, Row, lets}
+use Rattle.fut_flat.specs.Erased.{FlatTerm}
 use Rattle.fut_flat.specs.Terms.{Terms}
 use Rattle.fut_meaning.specs.Knowns.{Known, Data, Knowns, known_none, known_and, Scope, data_of, is_data, known_bound}
 use Rattle.fut_meaning.specs.Walk.{Visits, All_visits, Row_visits, Runs, Given_visits, Function_visits}
@@ -18,7 +18,6 @@ use Rattle.measure.specs.declared.stop.Stop.TheVariants.{Nodes, Depth, Lost, Mem
 use Rattle.measure.specs.declared.walked.Walked.{Walked}
 use Rattle.measure.specs.declared.walked.Count.{Count}
 use Rattle.measure.specs.declared.walked.Parts.{Parts}
-use Rattle.measure.specs.declared.walked.Row.{Row as Held_row}
 
 -- what has one part is as that part
 unfoldable pub one_or_data : Knowns → Option Known
@@ -63,23 +62,11 @@ pub data Parts_to (tops sc : Scope) (level spent : ℕ) (ts : Terms Ref BindId) 
   parts_walked : {r : Parts} → All_visits tops sc ts (knowns (map known_of r.knowns.now)) r.nodes r.depth → Parts_to tops sc level spent ts (Ok r)
   parts_stopped : {r : Stop} → Ended tops (Inside_all tops sc ts) ⊥ level spent r → Parts_to tops sc level spent ts (Err r)
 
--- one more let of a row
-pub data Let_to (tops sc : Scope) (level spent nodes depth : ℕ) (l : Row) : Result Held_row Stop → Type 0 where
-  let_bound : {r : Held_row} {s : Known} {m d : ℕ} → Visits tops sc l.1 s m d → known_bound l.0.pattern s sc ≡ Some (scope_of r.scope.now) → r.nodes ≡ nodes + m → r.depth ≡ max depth d → Let_to tops sc level spent nodes depth l (Ok r)
-  let_stopped : {r : Stop} → Stopped tops sc level (spent + nodes) l.1 r → Let_to tops sc level spent nodes depth l (Err r)
-  let_unbound : {s : Known} {m d : ℕ} → Visits tops sc l.1 s m d → known_bound l.0.pattern s sc ≡ None → Let_to tops sc level spent nodes depth l (Err Lost)
-  let_memory : Let_to tops sc level spent nodes depth l (Err Memory)
-
 -- what a row still has, from what it has had: `nodes` visits, and so many of them inside each other
 pub record Leads (tops sc : Scope) (e : FlatTerm) (nodes depth : ℕ) (sc' : Scope) (e' : FlatTerm) : Type 0 where
   pub visits : (s : Known) (m d : ℕ) → Row_visits tops sc' e' s m d → Row_visits tops sc e s (nodes + m) (max depth d)
   pub inside : (n : ℕ) (inner : Scope) (t : FlatTerm) → Inside_row tops sc' e' n inner t → Inside_row tops sc e (nodes + n) inner t
   pub stuck : Stuck_row tops sc' e' → Stuck_row tops sc e
-
--- more lets of a row, whatever stands behind them
-pub data Rows_to (tops sc : Scope) (level spent nodes depth : ℕ) (ls : List Row) : Result Held_row Stop → Type 0 where
-  rows_bound : {r : Held_row} {m d : ℕ} → ((body : FlatTerm) → Leads tops sc (lets ls body) m d (scope_of r.scope.now) body) → r.nodes ≡ nodes + m → r.depth ≡ max depth d → Rows_to tops sc level spent nodes depth ls (Ok r)
-  rows_stopped : {r : Stop} → ((body : FlatTerm) → Ended tops (Inside_row tops sc (lets ls body)) (Stuck_row tops sc (lets ls body)) level (spent + nodes) r) → Rows_to tops sc level spent nodes depth ls (Err r)
 
 -- a known function applied to an argument
 pub data Ran_to (tops : Scope) (level spent : ℕ) (h s : Known) : Result Walked Stop → Type 0 where

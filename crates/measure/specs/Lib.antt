@@ -1,5 +1,6 @@
 pub mod Held
 pub mod Answers
+pub mod Rows
 pub mod Steps
 pub mod Plain
 pub mod Patterns

@@ -5,6 +5,7 @@
 #![tactic(auto)]
 
 mod known;
+mod lets;
 mod lists;
 mod operations;
 mod patterns;

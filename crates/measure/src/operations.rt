@@ -1,7 +1,7 @@
 // What is known of the values of operations.
 ghost use Rattle.std.specs.Prelude.{Some, map};
 ghost use Rattle.fut_flat.specs.Erased.{operation_of, texts};
-ghost use Rattle.fut_flat.specs.Terms.{Assert, Project, Replace};
+ghost use Rattle.fut_flat.specs.Terms.{Project, Replace};
 ghost use Rattle.fut_meaning.specs.Knowns.{data_of, known_fields, known_part, known_part_from, known_result, known_tuple, replaced_in, some_record};
 ghost use Rattle.measure.specs.Held.{known_of, knowns};
 ghost use Rattle.measure.specs.Answers.{Known_to, one_or_data};
@@ -138,25 +138,7 @@ pub fn result_of<'a>(
         Act::Ascribe(_) => same_of(parts),
         Act::Coerce(_) => same_of(parts),
         Act::Declared(_) => same_of(parts),
-        Act::Assert => asserted(parts),
         _ => data_of(parts),
-    }
-}
-
-// What is asserted under a condition that is data.
-fn asserted<'a>(parts: &'a [Known<'a>]) -> Result<Known<'a>, Stop>
-    ensures { Known_to (known_result Assert (knowns (map known_of parts.now))) result }
-{
-    if parts.len() == 2 {
-        let test = &parts[0];
-        if is_data(*test) {
-            let value = &parts[1];
-            Ok(*value)
-        } else {
-            data_of(parts)
-        }
-    } else {
-        data_of(parts)
     }
 }
 

@@ -1,19 +1,21 @@
 // The walk of visits.
-ghost use Rattle.std.specs.Prelude.{true, ◌≡◌, ◌≤◌, ◌<◌, ◌+◌, IfOk, map};
+ghost use Rattle.std.specs.Prelude.{true, ◌≡◌, ◌≤◌, ◌<◌, ◌+◌, IfOk, length, map};
 ghost use Rattle.fut_flat.specs.Terms.{Apply, Strict};
 ghost use Rattle.fut_flat.specs.Erased.{operation_of, pattern_of, patterns, term_of, terms};
-ghost use Rattle.fut_flat.proofs.ErasedForms.{loop_of, row_of};
+ghost use Rattle.fut_flat.proofs.ErasedForms.{loop_of};
 ghost use Rattle.fut_meaning.specs.Knowns.{Known_function, Known_primitive};
 ghost use Rattle.measure.specs.Held.{known_of, knowns, scope_of};
-ghost use Rattle.measure.specs.Answers.{Data_to, Function_to, Given_to, Parts_to, Ran_to, Rows_to, Walked_to};
+ghost use Rattle.measure.specs.Answers.{Data_to, Function_to, Given_to, Parts_to, Ran_to, Walked_to};
+ghost use Rattle.measure.specs.Rows.{Guards, behind};
 ghost use Rattle.measure.specs.Steps.{Stepped_to};
 ghost use Rattle.fut_meaning.specs.Walk.{is_let, is_visit};
 ghost use Rattle.measure.specs.Plain.{Plain};
 
 use crate::known::{Closure, Known, KnownForm, Scope, held, is_data, known_data};
+use crate::lets::{Left, behind_first, condition_of, left_of_row};
 use crate::lists::with_last;
 use crate::operations::result_of;
-use crate::patterns::bind;
+use crate::patterns::{bind, bind_data};
 use crate::peel::peeled;
 use crate::primitives::parameters_of;
 use crate::scope::captured;
@@ -22,7 +24,7 @@ use crate::stop::Stop;
 use crate::tops::{Tops, known_use};
 use crate::walked::{Count, MOST_DEPTH, MOST_NESTED, MOST_NODES, Parts, Row, Used, Walked};
 use bumpalo::collections::into_bump_slice;
-use fut_flat::{Act, Exp, Form, Let, Loop, Primitive};
+use fut_flat::{Act, Exp, Form, Let, Loop, Pat, Primitive};
 use fut_scalar::Place;
 
 /// What is known of the value of an expression, and the visits that it takes.
@@ -82,7 +84,7 @@ fn walk_form<'a>(
             Err(stop) => Err(stop),
         },
         Form::Apply(function, argument) => { walk_apply(tops, used, scope, function, argument) }
-        Form::Lets(_, _) => walk_lets(tops, used, scope, exp),
+        Form::Lets(lets, body) => walk_lets(tops, used, scope, lets, body),
         Form::If(test, yes, no) => { walk_steps(tops, used, scope, test, scope, yes, scope, no) }
         Form::Loop(whole) => walk_loop(tops, used, scope, whole),
     }
@@ -343,104 +345,169 @@ fn walk_parts<'a>(
     })
 }
 
-// A row of `let`s and the body behind it, which may be a row again: one visit, counted before.
+// `let`s before a body: a row, or an assertion, which is a row of its own.
 #[cycle(walk)]
-#[tactic(auto, using(crate::proofs::Rows::whole_rows))]
+#[tactic(auto, using(crate::proofs::Asserting::firsts))]
 fn walk_lets<'a>(
     tops: &Tops<'a>,
     used: Used,
     scope: &'a Scope<'a>,
-    exp: &'a Exp<'a>,
+    lets: &'a [Let<'a>],
+    body: &'a Exp<'a>,
 ) -> Result<Walked<'a>, Stop>
     requires level { used.level < 1000 }
     requires spent { used.spent < 1048576 }
-    requires row { is_let (term_of exp.now) ≡ true }
-    ensures walk { Walked_to (scope_of tops.now.known.now) (scope_of scope.now) used.level used.spent (term_of exp.now) result }
+    requires some { 0 < length lets.now }
+    ensures walk { Walked_to (scope_of tops.now.known.now) (scope_of scope.now) used.level used.spent (behind lets.now body.now) result }
     ensures few { IfOk result (λ r. used.spent + r.nodes ≤ 1048576) }
     ensures flat { IfOk result (λ r. used.level + r.depth ≤ 1000) }
 {
-    let mut rest = exp;
-    let mut row = Row {
-        scope,
-        nodes: 0,
-        depth: 0,
-    };
-    while let Form::Lets(lets, body) = rest.form {
-        row = match walk_row(
-            tops,
-            Used {
-                nested: used.nested,
-                level: used.level + 1,
-                spent: used.spent + 1,
-            },
-            row,
-            lets,
-        ) {
-            Ok(next) => next,
-            Err(stop) => return Err(stop),
-        };
-        rest = body;
+    let first = &lets[0];
+    match condition_of(&first.value) {
+        Some(test) => walk_assertion(tops, used, scope, test, &first.pat, &lets[1..], body),
+        None => walk_row(tops, used, scope, lets, body),
     }
-    let last = match walk(
+}
+
+// An assertion: its condition, and then what it guards.
+#[cycle(walk)]
+#[tactic(auto, using(crate::proofs::Asserting::assertions))]
+fn walk_assertion<'a>(
+    tops: &Tops<'a>,
+    used: Used,
+    scope: &'a Scope<'a>,
+    test: &'a Exp<'a>,
+    pat: &'a Pat<'a>,
+    lets: &'a [Let<'a>],
+    body: &'a Exp<'a>,
+) -> Result<Walked<'a>, Stop>
+    requires level { used.level < 1000 }
+    requires spent { used.spent < 1048576 }
+    ensures walk { Guards (scope_of tops.now.known.now) (scope_of scope.now) used.level used.spent (pattern_of pat.now) (term_of test.now) (behind lets.now body.now) result }
+    ensures few { IfOk result (λ r. used.spent + r.nodes ≤ 1048576) }
+    ensures flat { IfOk result (λ r. used.level + r.depth ≤ 1000) }
+{
+    let inside = Used {
+        nested: used.nested,
+        level: used.level + 1,
+        spent: used.spent + 1,
+    };
+    let asked = match walk_data(tops, inside, scope, test) {
+        Ok(asked) => asked,
+        Err(stop) => return Err(stop),
+    };
+    let inner = match bind_data(tops.bump, pat, scope) {
+        Ok(inner) => inner,
+        Err(stop) => return Err(stop),
+    };
+    let guarded = match walk_behind(
         tops,
         Used {
-            nested: used.nested,
-            level: used.level + 1,
-            spent: used.spent + 1 + row.nodes,
+            spent: inside.spent + asked.nodes,
+            ..inside
         },
-        row.scope,
-        rest,
+        inner,
+        lets,
+        body,
     ) {
-        Ok(last) => last,
+        Ok(guarded) => guarded,
         Err(stop) => return Err(stop),
     };
     Ok(Walked {
-        known: last.known,
-        nodes: 1 + (row.nodes + last.nodes),
-        depth: 1 + row.depth.max(last.depth),
+        known: guarded.known,
+        nodes: 1 + asked.nodes + guarded.nodes,
+        depth: 1 + asked.depth.max(guarded.depth),
     })
 }
 
+// What stands behind a `let`.
+#[cycle(walk)]
+#[tactic(auto, using(crate::proofs::Asserting::rests))]
+fn walk_behind<'a>(
+    tops: &Tops<'a>,
+    used: Used,
+    scope: &'a Scope<'a>,
+    lets: &'a [Let<'a>],
+    body: &'a Exp<'a>,
+) -> Result<Walked<'a>, Stop>
+    ensures walk { Walked_to (scope_of tops.now.known.now) (scope_of scope.now) used.level used.spent (behind lets.now body.now) result }
+    ensures few { IfOk result (λ r. used.spent + r.nodes ≤ 1048576) }
+    ensures flat { IfOk result (λ r. used.level + r.depth ≤ 1000) }
+{
+    if lets.len() == 0 {
+        return walk(tops, used, scope, body);
+    }
+    if used.level >= MOST_DEPTH {
+        return Err(Stop::Depth);
+    }
+    if used.spent >= MOST_NODES {
+        return Err(Stop::Nodes);
+    }
+    walk_lets(tops, used, scope, lets, body)
+}
+
+// A row of `let`s: one visit, and then what stands behind it.
 #[cycle(walk)]
 #[tactic(auto, using(crate::proofs::Rows::rows))]
 fn walk_row<'a>(
     tops: &Tops<'a>,
     used: Used,
-    row: Row<'a>,
+    scope: &'a Scope<'a>,
     lets: &'a [Let<'a>],
-) -> Result<Row<'a>, Stop>
-    requires level { used.level ≤ 1000 }
-    requires spent { used.spent + row.nodes ≤ 1048576 }
-    requires depth { used.level + row.depth ≤ 1000 }
-    ensures walk { Rows_to (scope_of tops.now.known.now) (scope_of row.entry.scope.now) used.level used.spent row.entry.nodes row.entry.depth (map row_of lets.now) result }
+    body: &'a Exp<'a>,
+) -> Result<Walked<'a>, Stop>
+    requires level { used.level < 1000 }
+    requires spent { used.spent < 1048576 }
+    requires row { is_let (behind lets.now body.now) ≡ true }
+    ensures walk { Walked_to (scope_of tops.now.known.now) (scope_of scope.now) used.level used.spent (behind lets.now body.now) result }
     ensures few { IfOk result (λ r. used.spent + r.nodes ≤ 1048576) }
     ensures flat { IfOk result (λ r. used.level + r.depth ≤ 1000) }
 {
-    let mut at = row;
-    for one in lets {
-        let value = match walk(
-            tops,
-            Used {
-                spent: used.spent + at.nodes,
-                ..used
-            },
-            at.scope,
-            &one.value,
-        ) {
+    let inside = Used {
+        nested: used.nested,
+        level: used.level + 1,
+        spent: used.spent + 1,
+    };
+    let mut row = Row {
+        scope,
+        nodes: 0,
+        depth: 0,
+    };
+    let mut left = Left { lets, body };
+    while let Some(at) = left_of_row(left.lets, left.body) {
+        let one = &at.lets[0];
+        let spent = Used {
+            spent: inside.spent + row.nodes,
+            ..inside
+        };
+        let value = match walk(tops, spent, row.scope, &one.value) {
             Ok(value) => value,
             Err(stop) => return Err(stop),
         };
-        let scope = match bind(tops.bump, &one.pat, value.known, at.scope) {
-            Ok(scope) => scope,
+        let names = match bind(tops.bump, &one.pat, value.known, row.scope) {
+            Ok(names) => names,
             Err(stop) => return Err(stop),
         };
-        at = Row {
-            scope,
-            nodes: at.nodes + value.nodes,
-            depth: at.depth.max(value.depth),
+        row = Row {
+            scope: names,
+            nodes: row.nodes + value.nodes,
+            depth: row.depth.max(value.depth),
         };
+        left = behind_first(at);
     }
-    Ok(at)
+    let spent = Used {
+        spent: inside.spent + row.nodes,
+        ..inside
+    };
+    let rest = match walk_behind(tops, spent, row.scope, left.lets, left.body) {
+        Ok(rest) => rest,
+        Err(stop) => return Err(stop),
+    };
+    Ok(Walked {
+        known: rest.known,
+        nodes: 1 + (row.nodes + rest.nodes),
+        depth: 1 + row.depth.max(rest.depth),
+    })
 }
 
 // A known function applied to an argument.

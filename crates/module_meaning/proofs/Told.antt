@@ -158,7 +158,7 @@ layer_told (Form-F.Update a es e) at mark = (a.1, then_told _ _ (exps_told es) e
 layer_told (Form-F.Replace r x e) at mark = (r.1, (e.1, tt))
 layer_told (Form-F.Ascribe e t) at mark = (e.1, tt)
 layer_told (Form-F.Coerce e t) at mark = (e.1, tt)
-layer_told (Form-F.Assert c e) at mark = (c.1, (e.1, tt))
+layer_told (Form-F.Assert c e) at mark = ((c.1, tt), e.1)
 layer_told (Form-F.Range e None end g) at mark = (e.1, (g.1, tt))
 layer_told (Form-F.Range e (Some f) end g) at mark = (e.1, (f.1, (g.1, tt)))
 

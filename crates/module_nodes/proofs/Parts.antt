@@ -1,5 +1,5 @@
 -- Nodes that are made of other builders' nodes.
-use Rattle.std.proofs.Common.{◌≡◌, ℕ, ◌+◌, ◌<◌, ◌≤◌, List, [], ◌∷◌, map, length, drop, get_or, Bool, true, false, refl, sym, ◌∙◌, ap, Result, Ok}
+use Rattle.std.proofs.Common.{◌≡◌, ℕ, ◌+◌, ◌<◌, ◌≤◌, List, [], ◌∷◌, map, length, drop, get_or, Bool, true, false, refl, sym, ◌∙◌, ap, Result, Ok, Err}
 use Rattle.std.proofs.Math.ListN.{drop_of_length-le}
 use Rattle.std.proofs.lemmas.List.{drop_more}
 use Rattle.std.specs.Borrow.{Bor}
@@ -13,10 +13,10 @@ use Rattle.fut_flat.specs.declared.exp.Let.{Let as LetTree}
 use Rattle.fut_flat.specs.declared.pat.Pat.{Pat}
 use Rattle.fut_flat.specs.declared.pat.PatForm.TheVariants as pat_form
 use Rattle.fut_flat.specs.declared.prim.Ref.{Ref}
-use Rattle.fut_flat.specs.Terms.{Project, Use, Strict, Lambda, Apply, Bound_pattern, pattern_and, no_pattern, term_and, no_term}
+use Rattle.fut_flat.specs.Terms.{nameless, Assert, Project, Use, Strict, Lambda, Apply, Let, Bound_pattern, pattern_and, no_pattern, term_and, no_term}
 use Rattle.fut_flat.specs.Erased.{FlatTerm, lets, operation_of, parameters, patterns, pattern_of, term_of, terms, texts}
 use Rattle.fut_flat.proofs.ErasedForms.{row_of, row_is, term_use}
-use Rattle.fut_flat.proofs.ErasedPatterns.{pattern_bound}
+use Rattle.fut_flat.proofs.ErasedPatterns.{pattern_bound, pattern_wild}
 use Rattle.module_scopes.specs.declared.refusal.Stop.{Stop}
 use Rattle.module_scopes.specs.Resolve.{projected}
 use Rattle.module_scopes.proofs.Walking.{from_here}
@@ -65,6 +65,35 @@ path_end at all fs i _ k (projects {x = x} so) = built0 (sym (ap (λ l. projecte
 path_end at all fs i _ k projects_not = no_memory0
 
 pub ruleset paths = (path_start, path_next, path_next_at, path_end)
+
+-- ---- assertions
+
+pub unnamed_made : (l : LetTree) → l.sizes.now ≡ [] → l.heads.now ≡ [] → l.is_function ≡ false → l.pat.form ≡ pat_form.Wild → row_of l ≡ (nameless, term_of l.value)
+unnamed_made l none no_heads plain is = row_is l ∙ λ i. (record { sizes = none i; parameters = parameters (no_heads i); is_function = plain i; pattern = pattern_wild l.pat is i }, term_of l.value)
+
+pub asked_made : (mark : Place) (x : Bor Exp) (l : LetTree) (c : Result (Bor Exp) Stop) (ls : Result (Bor (List LetTree)) Stop)
+    → Built1 (λ (e x : Bor Exp). term_of x.now ≡ Strict Assert mark (term_and (term_of e.now) no_term)) c (Ok x) → row_of l ≡ (nameless, term_of x.now) → Built0 (λ ls. ls.now ≡ l ∷ []) ls
+    → Built1 (λ (c : Bor Exp) (ls : Bor (List LetTree)). map row_of ls.now ≡ (nameless, Strict Assert mark (term_and (term_of c.now) no_term)) ∷ []) c ls
+asked_made mark x l _ _ (built1 eq) row (built0 is) = built1 (ap (map row_of) is ∙ λ i. (row ∙ λ j. (nameless, eq j)) i ∷ [])
+asked_made mark x l _ _ (built1 eq) row no_memory0 = no_memory1
+
+pub asked_stops : (mark : Place) (e : Stop) (c : Result (Bor Exp) Stop) → Built1 (λ (e x : Bor Exp). term_of x.now ≡ Strict Assert mark (term_and (term_of e.now) no_term)) c (Err e)
+    → Built1 (λ (c : Bor Exp) (ls : Bor (List LetTree)). map row_of ls.now ≡ (nameless, Strict Assert mark (term_and (term_of c.now) no_term)) ∷ []) c (Err e)
+asked_stops mark e _ stops1 = stops1
+asked_stops mark _ c no_memory1 = no_memory1
+
+pub asserted_made : (mark : Place) (c v r : Result (Bor Exp) Stop) (ls : Result (Bor (List LetTree)) Stop)
+    → Built1 (λ (c : Bor Exp) (ls : Bor (List LetTree)). map row_of ls.now ≡ (nameless, Strict Assert mark (term_and (term_of c.now) no_term)) ∷ []) c ls
+    → Built2 (λ (ls : Bor (List LetTree)) (e x : Bor Exp). term_of x.now ≡ lets (map row_of ls.now) (term_of e.now)) ls v r
+    → Built2 (λ (c e x : Bor Exp). term_of x.now ≡ Let nameless (Strict Assert mark (term_and (term_of c.now) no_term)) (term_of e.now)) c v r
+unfolding lets
+asserted_made mark _ _ _ _ (built1 row) (built2 {b = e} eq) = built2 (eq ∙ ap (λ l. lets l (term_of e.now)) row)
+asserted_made mark _ _ _ _ (built1 row) second_of_two = second_of_two
+asserted_made mark _ v _ _ (built1 row) no_memory2 = no_memory2
+asserted_made mark _ v _ _ stops1 first_of_two = first_of_two
+asserted_made mark _ v _ _ stops1 no_memory2 = no_memory2
+asserted_made mark c v _ _ no_memory1 first_of_two = no_memory2
+asserted_made mark c v _ _ no_memory1 no_memory2 = no_memory2
 
 -- ---- compositions
 

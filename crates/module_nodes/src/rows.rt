@@ -1,16 +1,16 @@
 // Lets, loops and compositions.
-ghost use Rattle.std.specs.Prelude.{◌≡◌, [], map};
+ghost use Rattle.std.specs.Prelude.{◌∷◌, ◌≡◌, [], map};
 ghost use Rattle.fut_flat.specs.Erased.{lets, pattern_of, term_of};
-ghost use Rattle.fut_flat.specs.Terms.{Bound_pattern, Lambda, Loop, no_pattern, pattern_and};
+ghost use Rattle.fut_flat.specs.Terms.{Assert, Bound_pattern, Lambda, Let as LetTerm, Loop, Strict, nameless, no_pattern, no_term, pattern_and, term_and};
 ghost use Rattle.fut_flat.proofs.ErasedForms.{row_of, turns_of};
 ghost use Rattle.module_nodes.specs.Built.{Built0, Built1, Built2, Built4};
 ghost use Rattle.module_nodes.specs.Composed.{composition, name_alone, ordered, twice_applied, use_at};
 
 use crate::both::both;
-use crate::exps::{applied, lambda, node};
+use crate::exps::{applied, lambda, node, on_part};
 use bumpalo::Bump;
 use fut_flat as flat;
-use fut_flat::{Exp, Form, Let, LoopForm, Pat, PatForm, Ref};
+use fut_flat::{Act, Exp, Form, Let, LoopForm, Pat, PatForm, Ref};
 use fut_scalar::{BindId, Place};
 use module_scopes::Stop;
 
@@ -27,6 +27,50 @@ pub fn rowed<'a>(
         Ok((rows, body)) => node(bump, place, Form::Lets(rows, body)),
         Err(stop) => Err(stop),
     }
+}
+
+/// A let of no name.
+fn unnamed_value<'a>(at: Place, value: &'a Exp<'a>) -> Let<'a>
+    ensures { row_of result ≡ (nameless, term_of value.now) }
+{
+    Let {
+        sizes: &[],
+        heads: &[],
+        is_function: false,
+        pat: Pat {
+            place: at,
+            form: PatForm::Wild,
+        },
+        value: *value,
+    }
+}
+
+/// What asks for a condition, as a row.
+fn asked<'a>(
+    bump: &'a Bump,
+    place: Place,
+    mark: Place,
+    test: Result<&'a Exp<'a>, Stop<'a>>,
+) -> Result<&'a [Let<'a>], Stop<'a>>
+    ensures { Built1 (λ c ls. map row_of ls.now ≡ (nameless, Strict Assert mark (term_and (term_of c.now) no_term)) ∷ []) test.entry result }
+{
+    match on_part(bump, place, mark, Act::Assert, test) {
+        Ok(test) => held_rows(bump, &[unnamed_value(place, test)]),
+        Err(stop) => Err(stop),
+    }
+}
+
+/// An assertion: its condition is asked for before its value is evaluated.
+pub fn asserted<'a>(
+    bump: &'a Bump,
+    place: Place,
+    mark: Place,
+    test: Result<&'a Exp<'a>, Stop<'a>>,
+    value: Result<&'a Exp<'a>, Stop<'a>>,
+) -> Result<&'a Exp<'a>, Stop<'a>>
+    ensures { Built2 (λ c e x. term_of x.now ≡ LetTerm nameless (Strict Assert mark (term_and (term_of c.now) no_term)) (term_of e.now)) test.entry value.entry result }
+{
+    rowed(bump, place, asked(bump, place, mark, test), value)
 }
 
 /// The size names and the pattern of a loop.

@@ -267,12 +267,11 @@ binary_never places o (x ∷ []) ne N K a t u h = h
 binary_never places o (x ∷ y ∷ []) ne N K a t u h = ne refl
 binary_never places o (x ∷ y ∷ z ∷ l) ne N K a t u h = h
 
-assert_never : (places : Kind) (l : List ℕ) → (length l ≡ 2 → ⊥) → Never_rule places (Assert) l
+assert_never : (places : Kind) (l : List ℕ) → (length l ≡ 1 → ⊥) → Never_rule places Assert l
 unfolding types_of
 assert_never places [] ne N K a t u h = h
-assert_never places (x ∷ []) ne N K a t u h = h
-assert_never places (x ∷ y ∷ []) ne N K a t u h = ne refl
-assert_never places (x ∷ y ∷ z ∷ l) ne N K a t u h = h
+assert_never places (x ∷ []) ne N K a t u h = ne refl
+assert_never places (x ∷ y ∷ l) ne N K a t u h = h
 
 replace_never : (places : Kind) (f : Text) (l : List ℕ) → (length l ≡ 2 → ⊥) → Never_rule places (Replace f) l
 unfolding types_of

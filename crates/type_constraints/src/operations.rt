@@ -36,9 +36,9 @@ fn works_on(act: &Act<'_>, count: usize) -> bool
 {
     match *act {
         Act::Int { .. } | Act::Truth(_) => count == 0,
-        Act::Negate | Act::Complement | Act::Project(_) => count == 1,
+        Act::Negate | Act::Complement | Act::Project(_) | Act::Assert => count == 1,
         Act::Ascribe(_) | Act::Coerce(_) | Act::Declared(_) => count == 1,
-        Act::Binary(_) | Act::Assert | Act::Replace(_) => count == 2,
+        Act::Binary(_) | Act::Replace(_) => count == 2,
         Act::Range { stepped, .. } => { if stepped { count == 3 } else { count == 2 } }
         Act::Tuple | Act::Array | Act::Index(_) | Act::Update | Act::Record(_) => true,
     }

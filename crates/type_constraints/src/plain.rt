@@ -45,7 +45,7 @@ pub fn plain_rule(act: &Act<'_>, lo: u32, parts: &[u32]) -> Plain
         Act::Negate => Plain::Two(negation(lo, parts[0])),
         Act::Complement => Plain::Two(complement(lo, parts[0])),
         Act::Binary(op) => Plain::Four(binary(op, lo, 1 + lo, parts[0], parts[1])),
-        Act::Assert => Plain::Two(assertion(lo, parts[0], parts[1])),
+        Act::Assert => Plain::Two(assertion(lo, parts[0])),
         Act::Range { stepped, .. } => {
             if stepped {
                 return Plain::Four(range_by(lo, parts[0], parts[1], parts[2]));

@@ -42,13 +42,16 @@ pub fn complement(id: u32, part: u32) -> [Demand; 2]
     [Demand::Same(id, part), Demand::Has(id, Kind::Scalar)]
 }
 
-/// An assertion: a truth value, and a value of the type of the whole.
-pub fn assertion(id: u32, test: u32, part: u32) -> [Demand; 2]
-    ensures says { (N : Names) (places : Kind) (u : Ty) → Say result (λ K a. Rule N places K Assert (a id) u (more (a test) (more (a part) none))) }
-    ensures within { Stay_within result (id ∷ test ∷ part ∷ []) }
+/// An assertion: a truth value, and a truth value again.
+pub fn assertion(id: u32, test: u32) -> [Demand; 2]
+    ensures says { (N : Names) (places : Kind) (u : Ty) → Say result (λ K a. Rule N places K Assert (a id) u (more (a test) none)) }
+    ensures within { Stay_within result (id ∷ test ∷ []) }
     ensures allowed { Always_allowed result }
 {
-    [Demand::Is(test, ScalarType::Bool), Demand::Same(id, part)]
+    [
+        Demand::Is(test, ScalarType::Bool),
+        Demand::Is(id, ScalarType::Bool),
+    ]
 }
 
 /// A range without a second element: the ends are integers of one type.

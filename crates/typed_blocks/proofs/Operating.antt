@@ -215,10 +215,10 @@ module _ (N : Names) (integer_at : ℕ → IntType) (K : Kinds) where
         known : (n n' : ℕ) (bs : Bindings) (r : Known) → Operates i (Declared e) at (s ∷ []) n bs r n' → At tops t r
         known _ _ _ _ o_declared = h
 
-    assert_gives : (t : Ty) (u : Atom) (s : Known) → At tops t s → Gives Assert (Scalar_known u ∷ s ∷ []) t
-    assert_gives t u s h = ((λ g. g 0 0 _ _ o_assert), (λ n n' bs r x. known n n' bs r x))
+    assert_gives : (t : Ty) (u : Atom) → At tops t (Scalar_known u) → Gives Assert (Scalar_known u ∷ []) t
+    assert_gives t u h = ((λ g. g 0 0 _ _ o_assert), (λ n n' bs r x. known n n' bs r x))
       where
-        known : (n n' : ℕ) (bs : Bindings) (r : Known) → Operates i Assert at (Scalar_known u ∷ s ∷ []) n bs r n' → At tops t r
+        known : (n n' : ℕ) (bs : Bindings) (r : Known) → Operates i Assert at (Scalar_known u ∷ []) n bs r n' → At tops t r
         known _ _ _ _ o_assert = h
 
     -- ---- scalars
@@ -304,5 +304,5 @@ module _ (N : Names) (integer_at : ℕ → IntType) (K : Kinds) where
     operation_gives (Ascribe e) = one_part (Ascribe e) (λ t u r. r) (λ t u x s m r h. ascribe_gives e t s (same_fits t x s r h)) (λ t u x y ts r. r)
     operation_gives (Coerce e) = one_part (Coerce e) (λ t u r. r) (λ t u x s m r h. coerce_gives e t s (same_fits t x s r h)) (λ t u x y ts r. r)
     operation_gives (Declared e) = one_part (Declared e) (λ t u r. r) (λ t u x s m r h. declared_gives e t s (same_fits t x s r h)) (λ t u x y ts r. r)
-    operation_gives Assert = two_parts Assert (λ t u r. r) (λ t u x r. r) (λ t u x y s s' m r h g. let q = scalar_fits tops types.Bool x s r.0 h in gives_both Assert s s' (Scalar_known q.0) s' t q.1 refl (assert_gives t q.0 s' (same_fits t y s' r.1 g))) (λ t u x y z ts r. r)
+    operation_gives Assert = one_part Assert (λ t u r. r) (λ t u x s m r h. let k = same_fits t x s (r.1 ∙ sym r.0) h in let q = scalar_fits tops types.Bool t s r.1 k in gives_as Assert s (Scalar_known q.0) t q.1 (assert_gives t q.0 (subst (At tops t) q.1 k))) (λ t u x y ts r. r)
     operation_gives (Range stepped end) = λ t u ts ss m r l lt h. absurd m

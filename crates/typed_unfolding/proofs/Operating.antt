@@ -176,11 +176,11 @@ module _ (N : Names) (integer_at : ℕ → IntType) (K : Kinds) where
     declared_gives : (e : FlatType) (t : Ty) (s : Known) → At w t s → Gives (Declared e) (s ∷ []) t
     declared_gives e t s h n _ _ _ b o_declared = comes_none w n (Is_of t s) b h
 
-    assert_gives : (t x : Ty) (c s : Known) → x ≡ bool_ty → At w x c → At w t s → Gives Assert (c ∷ s ∷ []) t
+    assert_gives : (t x : Ty) (c : Known) → x ≡ bool_ty → At w x c → At w t c → Gives Assert (c ∷ []) t
     unfolding Act_typed
-    assert_gives t x _ s e hc h n _ _ _ b (o_assert {u = u}) =
+    assert_gives t x _ e hc h n _ _ _ b (o_assert {u = u}) =
         let g = binds_types w.1 n [] n [] (omega arith) b refl in
-        comes_step w n [] (Operate (operation.Assert at u)) [] (Is_of t s) ((is_sort types.Bool x e).0 w (Scalar_known u) hc, refl) g (fits_learn N integer_at t w (w.0, g.types) (learns_types w g.types g.kept) s h)
+        comes_step w n [] (Operate (operation.Assert at u)) [] (Is_of t (Scalar_known u)) ((is_sort types.Bool x e).0 w (Scalar_known u) hc, refl) g (fits_learn N integer_at t w (w.0, g.types) (learns_types w g.types g.kept) (Scalar_known u) h)
 
     -- ---- scalars
     negate_gives : (t : Ty) (s : Known) → HasKind K kind.Integer t → At w t s → Gives Negate (s ∷ []) t
@@ -257,5 +257,5 @@ module _ (N : Names) (integer_at : ℕ → IntType) (K : Kinds) where
     operation_gives (Ascribe e) = one_part (Ascribe e) (λ t u r. r) (λ t u x s m r h. ascribe_gives e t s (same_fits t x s r h)) (λ t u x y ts r. r)
     operation_gives (Coerce e) = one_part (Coerce e) (λ t u r. r) (λ t u x s m r h. coerce_gives e t s (same_fits t x s r h)) (λ t u x y ts r. r)
     operation_gives (Declared e) = one_part (Declared e) (λ t u r. r) (λ t u x s m r h. declared_gives e t s (same_fits t x s r h)) (λ t u x y ts r. r)
-    operation_gives Assert = two_parts Assert (λ t u r. r) (λ t u x r. r) (λ t u x y s s' m r h g. assert_gives t x s s' r.0 h (same_fits t y s' r.1 g)) (λ t u x y z ts r. r)
+    operation_gives Assert = one_part Assert (λ t u r. r) (λ t u x s m r h. assert_gives t x s r.0 h (same_fits t x s (r.1 ∙ sym r.0) h)) (λ t u x y ts r. r)
     operation_gives (Range stepped end) = λ t u ts ss m r l lt h. absurd m

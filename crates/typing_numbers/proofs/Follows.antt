@@ -288,7 +288,7 @@ module _ (M N : Names) (turn : Turn) (faithful : Faithful M N turn) (places : Ki
   rule_follows (Ascribe e) t u (more x none) h = ap (sent turn I) h
   rule_follows (Coerce e) t u (more x none) h = ap (sent turn I) h
   rule_follows (Declared e) t u (more x none) h = ap (sent turn I) h
-  rule_follows Assert t u (more c (more x none)) h = (ap (sent turn I) h.0, ap (sent turn I) h.1)
+  rule_follows Assert t u (more c none) h = (ap (sent turn I) h.0, ap (sent turn I) h.1)
   rule_follows (Range true end) t u (more x (more y (more z none))) h = (sent turn I h.0, sent_array t h.0 h.1, sent_kind kind.Integer h.0 h.2, sent_all_are h.0 (more x (more y (more z none))) h.3)
   rule_follows (Range false end) t u (more x (more z none)) h = (sent turn I h.0, sent_array t h.0 h.1, sent_kind kind.Integer h.0 h.2, sent_all_are h.0 (more x (more z none)) h.3)
   rule_follows o t u ts h = absurd h

@@ -256,7 +256,7 @@ module _ (budget : ℕ) (dir : Bool) where
   operates_sim o_ascribe (all_more h all_none) = none_sim budget dir _ refl h
   operates_sim o_coerce (all_more h all_none) = none_sim budget dir _ refl h
   operates_sim o_declared (all_more h all_none) = none_sim budget dir _ refl h
-  operates_sim (o_assert {at = at}) (all_more (s_scalar h) (all_more k all_none)) = assert_sim at h k
+  operates_sim (o_assert {at = at}) (all_more (s_scalar h) all_none) = assert_sim at h (s_scalar h)
 
   pub primitive_sim : {p : Primitive} {at : Place} {ss : List Known} {n m : ℕ} {bs : Bindings} {s : Known} {d : Names Component} {vs : List FlatValue} → Primitive_operates p at ss n bs s m → All_same (Stands d n) ss vs → Sim (Gives d n (Standing s m)) (run budget bs d) (the (primitive p at vs)) dir
   unfolding primitive operated

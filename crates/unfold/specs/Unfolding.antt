@@ -108,7 +108,7 @@ pub data Operates (t : IntType) : Operation Ref BindId → Place → List Known 
   o_coerce : {n : ℕ} {at : Place} {u : FlatType} {s : Known} → Operates t (Coerce u) at (s ∷ []) n [] s n
   o_declared : {n : ℕ} {at : Place} {u : FlatType} {s : Known} → Operates t (Declared u) at (s ∷ []) n [] s n
   -- the condition is asserted by a step without names
-  o_assert : {n : ℕ} {at : Place} {u : Atom} {s : Known} → Operates t Assert at (Scalar_known u ∷ s ∷ []) n (step [] (Operate (operation.Assert at u))) s n
+  o_assert : {n : ℕ} {at : Place} {u : Atom} → Operates t Assert at (Scalar_known u ∷ []) n (step [] (Operate (operation.Assert at u))) (Scalar_known u) n
 
 -- the numbers of a type
 abbrev pub constant_of : Primitive → Option Scalar

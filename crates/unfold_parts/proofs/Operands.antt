@@ -107,11 +107,11 @@ module _ (t : IntType) (at : Place) where
   pub declared_lacks : (u : FlatType) (ss : List Known) → Not_one ss → No_operation t (Declared u) at ss
   declared_lacks u _ lacks n _ _ _ (o_declared {s = s}) = lacks s refl
 
-  pub assert_two : (ss : List Known) → length ss ≢ 2 → No_operation t Assert at ss
-  assert_two _ ne n _ _ _ o_assert = ne refl
+  pub assert_one : (ss : List Known) → length ss ≢ 1 → No_operation t Assert at ss
+  assert_one _ ne n _ _ _ o_assert = ne refl
 
-  pub assert_lacks : (s r : Known) → No_scalar s → No_operation t Assert at (s ∷ r ∷ [])
-  assert_lacks _ r lacks n _ _ _ (o_assert {u = u}) = lacks u refl
+  pub assert_lacks : (s : Known) → No_scalar s → No_operation t Assert at (s ∷ [])
+  assert_lacks _ lacks n _ _ _ (o_assert {u = u}) = lacks u refl
 
   -- what arrays take is not unfolded
   pub array_lacks : (ss : List Known) → No_operation t Array_of at ss

@@ -56,7 +56,7 @@ use Rattle.unfold_parts.proofs.Parting.{not_one, one_is, two_are}
 use Rattle.unfold_parts.specs.declared.refusal.Refusal.{Refusal}
 use Rattle.unfold_parts.specs.declared.refusal.Refusal.TheVariants.{Lost, Memory}
 use Rattle.unfold_parts.proofs.Lacking.{No_record}
-use Rattle.unfold_parts.proofs.Operands.{integer_lacks, truth_lacks, record_lacks, project_lacks, project_one, replace_two, replace_lacks, negate_lacks, complement_lacks, ascribe_lacks, coerce_lacks, declared_lacks, assert_two, assert_lacks, array_lacks, index_lacks, update_lacks, range_lacks, binary_lacks, equal_lacks, unequal_lacks, convert_lacks, min_lacks, max_lacks, abs_lacks, popc_lacks, other_lacks}
+use Rattle.unfold_parts.proofs.Operands.{integer_lacks, truth_lacks, record_lacks, project_lacks, project_one, replace_two, replace_lacks, negate_lacks, complement_lacks, ascribe_lacks, coerce_lacks, declared_lacks, assert_one, assert_lacks, array_lacks, index_lacks, update_lacks, range_lacks, binary_lacks, equal_lacks, unequal_lacks, convert_lacks, min_lacks, max_lacks, abs_lacks, popc_lacks, other_lacks}
 use Rattle.unfold_parts.proofs.Refusing.{refused_as, only_memory, answered_as}
 
 -- ---- answers
@@ -178,15 +178,22 @@ module _ (at : Place) (op : BinOp) (ss : List Known) (n next : ℕ) (before afte
       both (Ok s) (answered bs q (both_equal {s = c} {t = d} f x)) (answered cs k y) = answered (bs ++ cs) (k ∙ ap (λ z. z ++ cs) q ∙ append_assoc before bs cs) (by_step c d bs cs (known_of s) next f x y)
       both (Err e) h (unanswered y) = unanswered (refused_as (λ never. absurd never) y)
 
-pub assert_ok : (t : IntType) (at : Place) (ss : List Held_known) (c d : Held_known) (n : ℕ) (before after : Bindings) (u : Atom) (none : Bor (List ℕ)) (x : Unit {0}) → length ss ≡ 2 → Is_scalar (known_of (get_or ss 0 c)) (Some u) → none.now ≡ [] → Pushed (binding_of (roll-Step record { names = none; act = act.Operate (operation.Assert at u) })) before after (Ok x) → Operated t Assert at (map known_of ss) n before after n (Ok (get_or ss 1 d))
-assert_ok t at ss c d n before after u none x i2 (a_scalar q) k (pushed h) = answered (step [] (Operate (operation.Assert at u))) (h ∙ ap (λ z. before ++ z ∷ []) (binding_of-made (record { names = none; act = act.Operate (operation.Assert at u) }) ∙ ap (λ z. (z, action_of (act.Operate (operation.Assert at u)))) k ∙ ap (λ z. ([], z)) (action_of-Operate (operation.Assert at u)))) (subst (λ z. Operates t Assert at z n (step [] (Operate (operation.Assert at u))) (known_of (get_or ss 1 d)) n) (sym (two_are ss c d i2 ∙ ap (λ z. z ∷ known_of (get_or ss 1 d) ∷ []) q)) o_assert)
+same_first : (ss : List Held_known) (c d : Held_known) → length ss ≡ 1 → get_or ss 0 d ≡ get_or ss 0 c
+same_first [] c d i = absurd (omega (arith, i))
+same_first (s ∷ ss) c d i = refl
+
+pub assert_ok : (t : IntType) (at : Place) (ss : List Held_known) (c d : Held_known) (n : ℕ) (before after : Bindings) (u : Atom) (none : Bor (List ℕ)) (x : Unit {0}) → length ss ≡ 1 → Is_scalar (known_of (get_or ss 0 c)) (Some u) → none.now ≡ [] → Pushed (binding_of (roll-Step record { names = none; act = act.Operate (operation.Assert at u) })) before after (Ok x) → Operated t Assert at (map known_of ss) n before after n (Ok (get_or ss 0 d))
+assert_ok t at ss c d n before after u none x i (a_scalar q) k (pushed h) =
+    answered (step [] (Operate (operation.Assert at u))) (h ∙ ap (λ z. before ++ z ∷ []) (binding_of-made (record { names = none; act = act.Operate (operation.Assert at u) }) ∙ ap (λ z. (z, action_of (act.Operate (operation.Assert at u)))) k ∙ ap (λ z. ([], z)) (action_of-Operate (operation.Assert at u))))
+    (subst (λ z. Operates t Assert at z n (step [] (Operate (operation.Assert at u))) (known_of (get_or ss 0 d)) n) (sym (one_is ss c i ∙ ap (λ z. z ∷ []) q))
+    (subst (λ z. Operates t Assert at (Scalar_known u ∷ []) n (step [] (Operate (operation.Assert at u))) z n) (sym (ap known_of (same_first ss c d i) ∙ q)) o_assert))
 
 module _ (t : IntType) (at : Place) (ss : List Held_known) (n next : ℕ) (before after : Bindings) where
-  pub assert_many : (length ss ≡ 2 → ⊥) → Operated t Assert at (map known_of ss) n before after next (Err Lost)
-  assert_many h = unanswered (lost (assert_two t at (map known_of ss) (λ e. h (sym (length-map ss known_of) ∙ e))))
+  pub assert_many : (length ss ≡ 1 → ⊥) → Operated t Assert at (map known_of ss) n before after next (Err Lost)
+  assert_many h = unanswered (lost (assert_one t at (map known_of ss) (λ e. h (sym (length-map ss known_of) ∙ e))))
 
-  pub assert_none : (c : Held_known) → length ss ≡ 2 → Is_scalar (known_of (get_or ss 0 c)) None → Operated t Assert at (map known_of ss) n before after next (Err Lost)
-  assert_none c i2 (no_scalar lacks) = unanswered (lost (subst (No_operation t Assert at) (sym (two_are ss c c i2)) (assert_lacks t at (known_of (get_or ss 0 c)) (known_of (get_or ss 1 c)) lacks)))
+  pub assert_none : (c : Held_known) → length ss ≡ 1 → Is_scalar (known_of (get_or ss 0 c)) None → Operated t Assert at (map known_of ss) n before after next (Err Lost)
+  assert_none c i (no_scalar lacks) = unanswered (lost (subst (No_operation t Assert at) (sym (one_is ss c i)) (assert_lacks t at (known_of (get_or ss 0 c)) lacks)))
 
   pub assert_err : {s : List ℕ × Action} {between later : Bindings} (x : Refusal) → Pushed s between later (Err x) → Operated t Assert at (map known_of ss) n before after next (Err x)
   assert_err _ not_pushed = unanswered no_memory

@@ -126,7 +126,7 @@ fn operate_binary<'a>(
     }
 }
 
-// The condition is asserted by a step without names.
+// The condition is asserted by a step without names, and is its own value.
 #[tactic(auto, using(crate::proofs::Operated::assert_ok))]
 fn assert_first<'a>(
     work: &mut Unfolding<'a>,
@@ -136,7 +136,7 @@ fn assert_first<'a>(
 ) -> Result<Known<'a>, Refusal>
     ensures { Operated ty Assert mark (map known_of parts.now) work.old.next (steps_of work.old) (steps_of work.new) work.new.next result }
 {
-    if parts.len() != 2 {
+    if parts.len() != 1 {
         return Err(Refusal::Lost);
     }
     match scalar(&parts[0]) {
@@ -145,7 +145,7 @@ fn assert_first<'a>(
                 names: &[],
                 act: StepAct::Operate(Operation::Assert(mark, atom)),
             }) {
-                Ok(()) => Ok(parts[1]),
+                Ok(()) => Ok(parts[0]),
                 Err(refusal) => Err(refusal),
             }
         }

@@ -1,4 +1,4 @@
-use Rattle.measure.proofs.Parts.{known_as_wanted, result_tuple, result_record, result_projected, result_ascribed, result_coerced, result_declared, result_asserted, result_other, result_replaced}
+use Rattle.measure.proofs.Parts.{known_as_wanted, result_tuple, result_record, result_projected, result_ascribed, result_coerced, result_declared, result_other, result_replaced}
 use Rattle.measure.proofs.operations.result_of.Goals as goal
 
 pub returns-in-Tuple : goal.returns-in-Tuple
@@ -22,8 +22,5 @@ returns-in-Coerce c = known_as_wanted (result_coerced _ _ _ c.in-Coerce.is) c.sa
 pub returns-in-Declared : goal.returns-in-Declared
 returns-in-Declared c = known_as_wanted (result_declared _ _ _ c.in-Declared.is) c.same_of-in-Declared.ensures
 
-pub returns-in-Assert : goal.returns-in-Assert
-returns-in-Assert c = known_as_wanted (result_asserted _ _ c.in-Assert.is) c.asserted.ensures
-
 pub returns-in_default : goal.returns-in_default
-returns-in_default c = known_as_wanted (result_other _ _ c.in_default.not-Tuple c.in_default.not-Record c.in_default.not-Project c.in_default.not-Ascribe c.in_default.not-Coerce c.in_default.not-Declared c.in_default.not-Assert c.in_default.not-Replace) c.data_of.ensures
+returns-in_default c = known_as_wanted (result_other _ _ c.in_default.not-Tuple c.in_default.not-Record c.in_default.not-Project c.in_default.not-Ascribe c.in_default.not-Coerce c.in_default.not-Declared c.in_default.not-Replace) c.data_of.ensures

@@ -1,9 +1,10 @@
 use Rattle.std.proofs.Common.{[], ◌∙◌, sym, refl, arith}
 use Rattle.std.proofs.lemmas.Slice.{between_to_end}
 use Rattle.measure.proofs.Walks.{apply_function, apply_argument, apply_run, apply_ok, strict_parts, strict_lost, strict_ok}
-use Rattle.measure.proofs.Forms.{too_deep, too_many, form_use, form_unknown, form_lambda, form_strict, form_apply, form_if, form_loop, data_ok, data_function, data_stopped, plain_visit, plain_row}
-use Rattle.measure.proofs.Rows.{greater, parts_more, parts_fail, parts_memory, parts_done, let_value, let_ok, let_pattern, rows_ended, rows_done, not_row, lets_more, lets_row, lets_last, lets_ok}
-use Rattle.measure.proofs.Leads.{leads_start, rows_start, rows_more, all_start, given_start, function_start}
+use Rattle.measure.proofs.Forms.{too_deep, too_many, form_use, form_unknown, form_lambda, form_strict, form_apply, form_lets, form_if, form_loop, data_ok, data_function, data_stopped, plain_visit, plain_row}
+use Rattle.measure.proofs.Rows.{greater, parts_more, parts_fail, parts_memory, parts_done, row_more, row_value, row_pattern, row_last, row_ok, row_shrinks}
+use Rattle.measure.proofs.Asserting.{first_asserts, first_in_row, nothing_left, assert_condition, assert_memory, assert_guarded, assert_ok}
+use Rattle.measure.proofs.Leads.{leads_start, all_start, given_start, function_start}
 use Rattle.measure.proofs.Running.{function_at, run_other, run_of_function, run_of_primitive, run_none, run_pattern, run_last, run_waits, primitive_waits, primitive_stopped, primitive_ran, given_more, given_fail, given_many, given_few, given_done, function_more, function_fail, function_data, function_other}
 use Rattle.measure.proofs.Peeling.{peeled_walk}
 use Rattle.measure.proofs.Making.{known_gives}
@@ -113,7 +114,10 @@ pub walk_form-returns-in-Strict : goal.walk_form-returns-in-Strict
 walk_form-returns-in-Strict t c = record { walk = form_strict _ _ _ _ _ _ _ _ _ c.in-Strict.is c.walk_strict.ensures.walk; few = c.walk_strict.ensures.few; flat = c.walk_strict.ensures.flat }
 
 pub walk_form-returns-in-Lets : goal.walk_form-returns-in-Lets
-walk_form-returns-in-Lets t c = record { walk = c.walk_lets.ensures.walk; few = c.walk_lets.ensures.few; flat = c.walk_lets.ensures.flat }
+walk_form-returns-in-Lets t c = record { walk = form_lets _ _ _ _ _ _ _ _ c.in-Lets.is c.walk_lets.ensures.walk; few = c.walk_lets.ensures.few; flat = c.walk_lets.ensures.flat }
+
+pub walk_form-walk_lets-requires : goal.walk_form-walk_lets-requires
+walk_form-walk_lets-requires t c = (omega arith, (c.requires.level, (c.requires.spent, plain_row _ _ _ c.requires.plain c.in-Lets.is)))
 
 pub walk_form-returns-in-Ok : goal.walk_form-returns-in-Ok
 walk_form-returns-in-Ok t c = record { walk = form_use _ _ _ _ _ _ _ _ c.in-Use.is (known_gives c.in-Ok.ensures); few = omega (arith, c.requires.spent); flat = omega (arith, c.requires.level) }
@@ -127,12 +131,6 @@ walk_form-returns-in-Ok-captured t c = record { walk = form_lambda _ _ _ _ _ _ _
 pub walk_form-returns-in-Err-captured : goal.walk_form-returns-in-Err-captured
 walk_form-returns-in-Err-captured t c = record { walk = walk_memory _ c.in-Err-captured.ensures.err; few = tt; flat = tt }
 
-pub walk_lets-returns-in-Err : goal.walk_lets-returns-in-Err
-walk_lets-returns-in-Err t c = record { walk = lets_row _ _ _ _ _ c.loop-rest.row _ _ _ _ c.requires.row c.loop-rest.invariant.0 c.in-Lets.is c.in-Err.ensures.walk; few = tt; flat = tt }
-
-pub walk_row-returns : goal.walk_row-returns
-walk_row-returns t c = record { walk = rows_done _ _ _ _ _ _ _ _ _ (omega (arith, c.loop-one-test.false)) c.loop-one.invariant.0; few = c.loop-one.invariant.1; flat = c.loop-one.invariant.2 }
-
 pub walk_strict-returns-in-Err : goal.walk_strict-returns-in-Err
 walk_strict-returns-in-Err t c = record { walk = strict_parts _ _ _ _ _ _ _ c.requires.visit _ c.in-Err.ensures.walk; few = tt; flat = tt }
 
@@ -145,22 +143,6 @@ walk_strict-returns t c = record { walk = strict_ok _ _ _ _ _ _ _ c.requires.vis
 pub walk_form-walk_strict-requires : goal.walk_form-walk_strict-requires
 walk_form-walk_strict-requires t c = (omega arith, (c.requires.level, (c.requires.spent, plain_visit _ _ _ _ c.requires.plain c.in-Strict.is)))
 
-pub walk_form-walk_lets-requires : goal.walk_form-walk_lets-requires
-walk_form-walk_lets-requires t c = (omega arith, (c.requires.level, (c.requires.spent, plain_row _ _ _ c.requires.plain c.in-Lets.is)))
-
-pub walk_lets-returns-in-Err-walk : goal.walk_lets-returns-in-Err-walk
-walk_lets-returns-in-Err-walk t c = record { walk = lets_last _ _ _ _ _ c.loop-rest.row _ _ c.requires.row (not_row _ c.in_default.not-Lets) c.loop-rest.invariant.0 c.in-Err-walk.ensures.walk; few = tt; flat = tt }
-
-pub walk_lets-returns : goal.walk_lets-returns
-walk_lets-returns t c = rw c.max.ensures (record {
-  walk = lets_ok _ _ _ _ _ c.loop-rest.row _ _ c.requires.row (not_row _ c.in_default.not-Lets) c.loop-rest.invariant.0 c.in-Ok-walk.ensures.walk;
-  few = omega (arith, c.in-Ok-walk.ensures.few);
-  flat = omega (arith, c.in-Ok-walk.ensures.flat, c.loop-rest.invariant.2);
-})
-
-pub walk_row-loop-one-init : goal.walk_row-loop-one-init
-walk_row-loop-one-init t c = (rows_start _ _ _ _ _ _ refl refl refl, c.requires.spent, c.requires.depth)
-
 pub run_given-loop-known-init : goal.run_given-loop-known-init
 run_given-loop-known-init t c = (given_start, refl, omega (arith, c.requires.spent), omega (arith, c.requires.level))
 
@@ -172,12 +154,6 @@ run_with_data-loop-left-init t c = (function_start, omega (arith, c.requires.spe
 
 pub run_with_data-loop-left-preserved : goal.run_with_data-loop-left-preserved
 run_with_data-loop-left-preserved t c = rw c.max.ensures (function_more _ _ _ _ _ _ _ _ _ c.loop-left-test.true c.loop-left.invariant.0 c.known_data.ensures c.in-Ok.ensures.walk, omega (arith, c.in-Ok.ensures.few), omega (arith, c.in-Ok.ensures.flat, c.loop-left.invariant.2))
-
-pub walk_lets-loop-rest-init : goal.walk_lets-loop-rest-init
-walk_lets-loop-rest-init t c = (leads_start, omega (arith, c.requires.spent), omega (arith, c.requires.level))
-
-pub walk_lets-loop-rest-preserved : goal.walk_lets-loop-rest-preserved
-walk_lets-loop-rest-preserved t c = (lets_more _ _ 0 0 _ c.loop-rest.row _ _ _ _ _ _ c.loop-rest.invariant.0 c.in-Lets.is c.in-Ok.ensures.walk, c.in-Ok.ensures.few, c.in-Ok.ensures.flat)
 
 pub walk_strict-walk_parts-requires : goal.walk_strict-walk_parts-requires
 walk_strict-walk_parts-requires t c = (omega (arith, c.requires.level), (omega (arith, c.requires.level), omega (arith, c.requires.spent)))
@@ -196,12 +172,6 @@ walk_data-walk-requires t c = (omega arith, tt)
 
 pub walk_parts-walk-requires : goal.walk_parts-walk-requires
 walk_parts-walk-requires t c = (omega arith, tt)
-
-pub walk_lets-walk_row-requires : goal.walk_lets-walk_row-requires
-walk_lets-walk_row-requires t c = (omega (arith, c.requires.level), (omega (arith, c.requires.level), (c.loop-rest.invariant.1, c.loop-rest.invariant.2)))
-
-pub walk_lets-walk-requires : goal.walk_lets-walk-requires
-walk_lets-walk-requires t c = (omega (arith, c.requires.level), tt)
 
 pub run-run_function-requires : goal.run-run_function-requires
 run-run_function-requires t c = (omega arith, (c.requires.level, c.requires.spent))
@@ -245,18 +215,6 @@ walk_steps-walk_data-requires-2 t c = (omega (arith, c.requires.level), (omega (
 pub walk_steps-walk_data-requires-3 : goal.walk_steps-walk_data-requires-3
 walk_steps-walk_data-requires-3 t c = (omega (arith, c.requires.level), (omega (arith, c.requires.level), omega (arith, c.in-Ok-walk_data.ensures.few)))
 
-pub walk_row-returns-in-Err : goal.walk_row-returns-in-Err
-walk_row-returns-in-Err t c = record { walk = rows_ended _ _ _ _ _ _ _ _ _ _ _ c.loop-one-test.true c.loop-one.invariant.0 (let_value _ _ _ _ _ _ _ _ c.in-Err.ensures.walk); few = tt; flat = tt }
-
-pub walk_row-returns-in-Err-bind : goal.walk_row-returns-in-Err-bind
-walk_row-returns-in-Err-bind t c = record { walk = rows_ended _ _ _ _ _ _ _ _ _ _ _ c.loop-one-test.true c.loop-one.invariant.0 (let_pattern _ _ _ _ _ _ _ _ _ c.in-Ok.ensures.walk c.in-Err-bind.ensures); few = tt; flat = tt }
-
-pub walk_row-loop-one-preserved : goal.walk_row-loop-one-preserved
-walk_row-loop-one-preserved t c = rw c.max.ensures (rows_more _ _ _ _ _ _ _ _ _ _ _ c.loop-one-test.true c.loop-one.invariant.0 (let_ok _ _ _ _ _ _ _ _ _ c.in-Ok.ensures.walk c.in-Ok-bind.ensures), omega (arith, c.in-Ok.ensures.few), omega (arith, c.in-Ok.ensures.flat, c.loop-one.invariant.2))
-
-pub walk_row-walk-requires : goal.walk_row-walk-requires
-walk_row-walk-requires t c = (omega arith, tt)
-
 pub walk_form-walk_steps-requires : goal.walk_form-walk_steps-requires
 walk_form-walk_steps-requires t c = (omega arith, (c.requires.level, c.requires.spent))
 
@@ -289,3 +247,64 @@ walk_loop-returns-in-Err t c = record { walk = walk_memory _ c.in-Err.ensures.er
 
 pub walk_loop-walk_steps-requires : goal.walk_loop-walk_steps-requires
 walk_loop-walk_steps-requires t c = (omega arith, (c.requires.level, c.requires.spent))
+
+pub walk_lets-returns-in-Some : goal.walk_lets-returns-in-Some
+walk_lets-returns-in-Some t c = record { walk = first_asserts _ _ _ _ _ _ _ _ _ _ c.requires.some c.in-Some.ensures (between_to_end c.args.lets.now 1 _ (omega (arith, c.requires.some))) c.walk_assertion.ensures.walk; few = c.walk_assertion.ensures.few; flat = c.walk_assertion.ensures.flat }
+
+pub walk_lets-walk_assertion-requires : goal.walk_lets-walk_assertion-requires
+walk_lets-walk_assertion-requires t c = (omega arith, (c.requires.level, c.requires.spent))
+
+pub walk_lets-walk_row-requires : goal.walk_lets-walk_row-requires
+walk_lets-walk_row-requires t c = (omega arith, (c.requires.level, (c.requires.spent, first_in_row _ _ _ c.requires.some c.in-None.ensures)))
+
+pub walk_assertion-returns-in-Err : goal.walk_assertion-returns-in-Err
+walk_assertion-returns-in-Err t c = record { walk = assert_condition _ _ _ _ _ _ _ _ c.in-Err.ensures.walk; few = tt; flat = tt }
+
+pub walk_assertion-returns-in-Err-bind_data : goal.walk_assertion-returns-in-Err-bind_data
+walk_assertion-returns-in-Err-bind_data t c = record { walk = assert_memory _ _ _ _ _ _ _ _ c.in-Err-bind_data.ensures.err; few = tt; flat = tt }
+
+pub walk_assertion-returns-in-Err-walk_behind : goal.walk_assertion-returns-in-Err-walk_behind
+walk_assertion-returns-in-Err-walk_behind t c = record { walk = assert_guarded _ _ _ _ _ _ _ _ _ _ c.in-Ok.ensures.walk c.in-Ok-bind_data.ensures.ok c.in-Err-walk_behind.ensures.walk; few = tt; flat = tt }
+
+pub walk_assertion-returns : goal.walk_assertion-returns
+walk_assertion-returns t c = rw c.max.ensures (record { walk = assert_ok _ _ _ _ _ _ _ _ _ _ c.in-Ok.ensures.walk c.in-Ok-bind_data.ensures.ok c.in-Ok-walk_behind.ensures.walk; few = omega (arith, c.in-Ok-walk_behind.ensures.few); flat = omega (arith, c.in-Ok.ensures.flat, c.in-Ok-walk_behind.ensures.flat) })
+
+pub walk_assertion-walk_data-requires : goal.walk_assertion-walk_data-requires
+walk_assertion-walk_data-requires t c = (omega (arith, c.requires.level), (omega (arith, c.requires.level), omega (arith, c.requires.spent)))
+
+pub walk_assertion-walk_behind-requires : goal.walk_assertion-walk_behind-requires
+walk_assertion-walk_behind-requires t c = (omega (arith, c.requires.level), tt)
+
+pub walk_behind-returns-then-lets-eq0 : goal.walk_behind-returns-then-lets-eq0
+walk_behind-returns-then-lets-eq0 t c = record { walk = nothing_left _ _ _ _ _ _ _ c.if-lets-eq0.true c.walk.ensures.walk; few = c.walk.ensures.few; flat = c.walk.ensures.flat }
+
+pub walk_behind-walk-requires : goal.walk_behind-walk-requires
+walk_behind-walk-requires t c = (omega arith, tt)
+
+pub walk_row-loop-at-init : goal.walk_row-loop-at-init
+walk_row-loop-at-init t c = (leads_start, omega (arith, c.requires.spent), omega (arith, c.requires.level))
+
+pub walk_row-loop-at-preserved : goal.walk_row-loop-at-preserved
+walk_row-loop-at-preserved t c = rw c.max.ensures (row_more _ _ 0 0 _ c.loop-at.row _ _ _ _ _ _ _ _ _ c.loop-at.invariant.0 c.in-Some.ensures c.in-Ok.ensures.walk c.in-Ok-bind.ensures c.behind_first-left.ensures.lets c.behind_first-left.ensures.body, omega (arith, c.in-Ok.ensures.few), omega (arith, c.in-Ok.ensures.flat, c.loop-at.invariant.2))
+
+pub walk_row-walk-requires : goal.walk_row-walk-requires
+walk_row-walk-requires t c = (omega (arith, c.requires.level), tt)
+
+pub walk_row-walk_behind-requires : goal.walk_row-walk_behind-requires
+walk_row-walk_behind-requires t c = (omega (arith, c.requires.level), tt)
+
+pub walk_row-returns-in-Err : goal.walk_row-returns-in-Err
+walk_row-returns-in-Err t c = record { walk = row_value _ _ _ _ _ c.loop-at.row _ _ _ _ c.requires.row c.loop-at.invariant.0 c.in-Some.ensures c.in-Err.ensures.walk; few = tt; flat = tt }
+
+pub walk_row-returns-in-Err-bind : goal.walk_row-returns-in-Err-bind
+walk_row-returns-in-Err-bind t c = record { walk = row_pattern _ _ _ _ _ c.loop-at.row _ _ _ _ _ _ _ c.requires.row c.loop-at.invariant.0 c.in-Some.ensures c.in-Ok.ensures.walk c.in-Err-bind.ensures; few = tt; flat = tt }
+
+pub walk_row-returns-in-Err-walk_behind : goal.walk_row-returns-in-Err-walk_behind
+walk_row-returns-in-Err-walk_behind t c = record { walk = row_last _ _ _ _ _ c.loop-at.row _ _ c.requires.row c.loop-at.invariant.0 c.in_default.ensures c.in-Err-walk_behind.ensures.walk; few = tt; flat = tt }
+
+pub walk_row-returns : goal.walk_row-returns
+walk_row-returns t c = rw c.max-2.ensures (record {
+  walk = row_ok _ _ _ _ _ c.loop-at.row _ _ c.requires.row c.loop-at.invariant.0 c.in_default.ensures c.in-Ok-walk_behind.ensures.walk;
+  few = omega (arith, c.in-Ok-walk_behind.ensures.few);
+  flat = omega (arith, c.in-Ok-walk_behind.ensures.flat, c.loop-at.invariant.2);
+})

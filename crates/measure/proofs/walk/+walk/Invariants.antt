@@ -1,10 +1,9 @@
 use Rattle.std.proofs.Common.{◌≡◌, ℕ, ◌+◌, ◌-◌, ◌*◌, ◌≤◌, map, drop}
-use Rattle.fut_flat.specs.declared.exp.Exp.{size-Exp}
 use Rattle.fut_flat.specs.Erased.{term_of}
-use Rattle.fut_flat.proofs.ErasedForms.{row_of}
 use Rattle.measure.specs.Held.{known_of, knowns, scope_of}
 use Rattle.measure.specs.Answers.{Leads}
-use Rattle.measure.proofs.Leads.{All_lead, Rows_lead, Given_leads, Function_leads}
+use Rattle.measure.specs.Rows.{behind, how_many}
+use Rattle.measure.proofs.Leads.{All_lead, Given_leads, Function_leads}
 use Rattle.measure.proofs.walk.+walk.Given as goal
 
 abbrev pub room : ℕ → ℕ → ℕ
@@ -29,7 +28,7 @@ abbrev pub decreases-walk_steps : goal.decreases-walk_steps
 decreases-walk_steps l = room l.used.level l.used.nested
 
 abbrev pub decreases-walk_lets : goal.decreases-walk_lets
-decreases-walk_lets l = room l.used.level l.used.nested
+decreases-walk_lets l = room l.used.level l.used.nested + 1
 
 abbrev pub decreases-walk_data : goal.decreases-walk_data
 decreases-walk_data l = room l.used.level l.used.nested + 4
@@ -38,7 +37,13 @@ abbrev pub decreases-walk_parts : goal.decreases-walk_parts
 decreases-walk_parts l = room l.used.level l.used.nested + 4
 
 abbrev pub decreases-walk_row : goal.decreases-walk_row
-decreases-walk_row l = room l.used.level l.used.nested + 4
+decreases-walk_row l = room l.used.level l.used.nested
+
+abbrev pub decreases-walk_assertion : goal.decreases-walk_assertion
+decreases-walk_assertion l = room l.used.level l.used.nested
+
+abbrev pub decreases-walk_behind : goal.decreases-walk_behind
+decreases-walk_behind l = room l.used.level l.used.nested + 4
 
 abbrev pub decreases-run : goal.decreases-run
 decreases-run l = room l.used.level l.used.nested + 5
@@ -58,9 +63,6 @@ decreases-run_with_data l = room l.used.level l.used.nested + 6
 abbrev pub invariant-walk_parts-loop-exp : goal.invariant-walk_parts-loop-exp
 invariant-walk_parts-loop-exp l = (All_lead (scope_of l.tops.known.now) (scope_of l.scope) (map term_of l.exps) l.nodes l.depth (map known_of l.knowns.items) (map term_of (drop l.exp-index l.exps))) × (l.used.spent + l.nodes ≤ 1048576) × (l.used.level + l.depth ≤ 1000)
 
-abbrev pub invariant-walk_row-loop-one : goal.invariant-walk_row-loop-one
-invariant-walk_row-loop-one l = (Rows_lead (scope_of l.tops.known.now) (scope_of l.row.scope.now) (map row_of l.lets) l.row.nodes l.row.depth l.at (map row_of (drop l.one-index l.lets))) × (l.used.spent + l.at.nodes ≤ 1048576) × (l.used.level + l.at.depth ≤ 1000)
-
 abbrev pub invariant-run_given-loop-known : goal.invariant-run_given-loop-known
 invariant-run_given-loop-known l = (Given_leads (scope_of l.tops.known.now) l.parameters (knowns (map known_of l.given)) l.made.nodes l.made.depth (drop l.at l.parameters) (knowns (map known_of (drop l.known-index l.given)))) × (l.known-index ≡ l.at) × (l.used.spent + l.made.nodes ≤ 1048576) × (l.used.level + l.made.depth ≤ 1000)
 
@@ -70,8 +72,8 @@ invariant-run_with_data-loop-left l = (Function_leads (scope_of l.tops.known.now
 abbrev pub decreases-run_with_data-loop-left : goal.decreases-run_with_data-loop-left
 decreases-run_with_data-loop-left l = l.left
 
-abbrev pub invariant-walk_lets-loop-rest : goal.invariant-walk_lets-loop-rest
-invariant-walk_lets-loop-rest l = (Leads (scope_of l.tops.known.now) (scope_of l.scope) (term_of l.exp) l.row.nodes l.row.depth (scope_of l.row.scope.now) (term_of l.rest)) × (l.used.spent + 1 + l.row.nodes ≤ 1048576) × (l.used.level + 1 + l.row.depth ≤ 1000)
+abbrev pub invariant-walk_row-loop-at : goal.invariant-walk_row-loop-at
+invariant-walk_row-loop-at l = (Leads (scope_of l.tops.known.now) (scope_of l.scope) (behind l.lets l.body) l.row.nodes l.row.depth (scope_of l.row.scope.now) (behind l.left.lets.now l.left.body.now)) × (l.inside.spent + l.row.nodes ≤ 1048576) × (l.inside.level + l.row.depth ≤ 1000)
 
-abbrev pub decreases-walk_lets-loop-rest : goal.decreases-walk_lets-loop-rest
-decreases-walk_lets-loop-rest l = size-Exp l.rest
+abbrev pub decreases-walk_row-loop-at : goal.decreases-walk_row-loop-at
+decreases-walk_row-loop-at l = how_many (behind l.left.lets.now l.left.body.now)

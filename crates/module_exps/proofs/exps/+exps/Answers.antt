@@ -10,6 +10,7 @@ use Rattle.module_nodes.specs.Built.{Built0}
 use Rattle.module_types.specs.Lists.{no_item, put}
 use Rattle.module_types.proofs.Nexts.{end_of, entered_list, next_put, start_of, stops_put, walked_list}
 use Rattle.module_exps.specs.Operations.{Operates}
+use Rattle.module_exps.proofs.AssertLaws.{assert_went}
 use Rattle.module_exps.proofs.ComposedLaws.{composed_at}
 use Rattle.module_exps.proofs.ExpLaws.{apply_went, behind_went, choice_went, exp_went, lambda_went, part_went, plain_body, turned_alike, typed_body}
 use Rattle.module_exps.proofs.HeldExps.{place_at}
@@ -30,8 +31,11 @@ walked_applying-returns-in-Apply t c = exp_went c.exp.inside _ _ c.exp.view_is c
 pub walked_applying-returns-in-Apply-2 : goal.walked_applying-returns-in-Apply-2
 walked_applying-returns-in-Apply-2 t c = exp_went c.exp.inside _ _ c.exp.view_is c.in-Apply-2.is (apply_went _ _ _ _ _ _ _ _ (turned_alike _ _ _ _ (sym c.in-Apply.is ∙ c.in-Apply-2.is) (sym c.is_behind.ensures ∙ c.if-is_behind.false)) c.walked-in-Apply-2.ensures c.walked-in-Apply-2-2.ensures c.applied.ensures)
 
-pub walked_choosing-returns : goal.walked_choosing-returns
-walked_choosing-returns t c = exp_went c.exp.inside _ _ c.exp.view_is c.in-If.is (choice_went _ _ _ _ _ _ _ _ _ _ _ c.walked.ensures c.walked-in-If.ensures c.walked-in-If-2.ensures c.choice.ensures)
+pub walked_choosing-returns-in-If : goal.walked_choosing-returns-in-If
+walked_choosing-returns-in-If t c = exp_went c.exp.inside _ _ c.exp.view_is c.in-If.is (choice_went _ _ _ _ _ _ _ _ _ _ _ c.walked.ensures c.walked-in-If.ensures c.walked-in-If-2.ensures c.choice.ensures)
+
+pub walked_choosing-returns-in-Assert : goal.walked_choosing-returns-in-Assert
+walked_choosing-returns-in-Assert t c = exp_went c.exp.inside _ _ c.exp.view_is c.in-Assert.is (assert_went _ _ _ _ _ _ _ _ _ _ _ c.looked_before-looked.ensures c.walked-test.ensures c.led-test.ensures c.walked-value.ensures c.asserted.ensures)
 
 pub walked_binding-walked_rows-went-requires : goal.walked_binding-walked_rows-went-requires
 walked_binding-walked_rows-went-requires t c = (omega (arith, lets_parts c.exp.inside _ c.exp.view_is c.in-Lets.binds c.in-Lets.body c.in-Lets.is), c.new-made.ensures.items)

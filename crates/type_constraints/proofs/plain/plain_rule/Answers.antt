@@ -21,7 +21,7 @@ pub returns-in-Binary : goal.returns-in-Binary
 returns-in-Binary c = rw c.in-Binary.is (demanded_operands (Binary c.in-Binary.op) c.args.lo c.args.parts.now c.binary.result refl (has_parts c.args.act.now (act.Binary c.in-Binary.op) (length c.args.parts.now) c.in-Binary.is c.requires.few) (λ places N K a. c.binary.ensures.says N places N.shapes K a) c.binary.ensures.within c.binary.ensures.allowed)
 
 pub returns-in-Assert : goal.returns-in-Assert
-returns-in-Assert c = rw c.in-Assert.is (demanded_two Assert c.args.lo c.args.parts.now c.assertion.result (has_parts c.args.act.now act.Assert (length c.args.parts.now) c.in-Assert.is c.requires.few) (λ places N K a. c.assertion.ensures.says N places (a c.args.lo) N.shapes K a) c.assertion.ensures.within c.assertion.ensures.allowed)
+returns-in-Assert c = rw c.in-Assert.is (demanded_one Assert c.args.lo c.args.parts.now c.assertion.result (has_parts c.args.act.now act.Assert (length c.args.parts.now) c.in-Assert.is c.requires.few) (λ places N K a. c.assertion.ensures.says N places (a c.args.lo) N.shapes K a) c.assertion.ensures.within c.assertion.ensures.allowed)
 
 pub returns-then-stepped : goal.returns-then-stepped
 returns-then-stepped c = rw (c.in-Range.is ∙ ap (λ b. act.Range b c.in-Range.end) c.if-stepped.true) (demanded_three (Range true c.in-Range.end) c.args.lo c.args.parts.now c.range_by.result (has_parts c.args.act.now (act.Range true c.in-Range.end) (length c.args.parts.now) (c.in-Range.is ∙ ap (λ b. act.Range b c.in-Range.end) c.if-stepped.true) c.requires.few) (λ places N K a. c.range_by.ensures.says N places c.in-Range.end (a c.args.lo) N.shapes K a) c.range_by.ensures.within c.range_by.ensures.allowed)
@@ -42,10 +42,7 @@ pub bounds-parts-1 : goal.bounds-parts-1
 bounds-parts-1 c = let few : length c.args.parts.now ≡ 2 = has_parts c.args.act.now (act.Binary c.in-Binary.op) (length c.args.parts.now) c.in-Binary.is c.requires.few in omega (arith, few)
 
 pub bounds-parts-0-in-Assert : goal.bounds-parts-0-in-Assert
-bounds-parts-0-in-Assert c = let few : length c.args.parts.now ≡ 2 = has_parts c.args.act.now act.Assert (length c.args.parts.now) c.in-Assert.is c.requires.few in omega (arith, few)
-
-pub bounds-parts-1-in-Assert : goal.bounds-parts-1-in-Assert
-bounds-parts-1-in-Assert c = let few : length c.args.parts.now ≡ 2 = has_parts c.args.act.now act.Assert (length c.args.parts.now) c.in-Assert.is c.requires.few in omega (arith, few)
+bounds-parts-0-in-Assert c = let few : length c.args.parts.now ≡ 1 = has_parts c.args.act.now act.Assert (length c.args.parts.now) c.in-Assert.is c.requires.few in omega (arith, few)
 
 pub bounds-parts-0-then-stepped : goal.bounds-parts-0-then-stepped
 bounds-parts-0-then-stepped c = let few : length c.args.parts.now ≡ 3 = has_parts c.args.act.now (act.Range true c.in-Range.end) (length c.args.parts.now) (c.in-Range.is ∙ ap (λ b. act.Range b c.in-Range.end) c.if-stepped.true) c.requires.few in omega (arith, few)

@@ -7,7 +7,7 @@ returns-clause-says c = λ N places u S K a. ((λ h. (h.0, h.1.0)), (λ h. (h.0,
 
 pub returns-clause-within : goal.returns-clause-within
 unfolding Are_demands IsDemand
-returns-clause-within c = λ table base w. (w.1.0, ((w.0, w.1.1.0), tt))
+returns-clause-within c = λ table base w. (w.1.0, (w.0, tt))
 
 pub returns-clause-allowed : goal.returns-clause-allowed
 unfolding All_allow Allows
