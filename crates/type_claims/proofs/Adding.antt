@@ -92,7 +92,7 @@ bound_links table m [] nodes b = subst (IsBound table m) (sym (links_none nodes)
 bound_links table m (p ∷ ps) nodes b = subst (IsBound table m) (sym (links_more p ps nodes)) (bound_links table m ps (nodes ++ new_node (form.Link p) ∷ []) (bound_push table m nodes (new_node (form.Link p)) b tt))
 
 -- a head that is no type parameter's makes what it makes
-maker_made : (v : Reading) (h : Head) (ts : Tys) → IsMaker h → type_made v h ts ≡ Made h ts
+pub maker_made : (v : Reading) (h : Head) (ts : Tys) → IsMaker h → type_made v h ts ≡ Made h ts
 maker_made v (head.Rigid n k) ts m = absurd m
 maker_made v (head.Scalar s) ts m = refl
 maker_made v head.Array ts m = refl

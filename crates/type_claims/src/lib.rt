@@ -4,20 +4,32 @@
 //! of the program's nodes alone: which of them can be carried on to all nodes (`specs/Claims.antt`).
 #![tactic(auto)]
 
+mod levels;
+
 ghost use Rattle.std.specs.Prelude.{◌≡◌, ◌<◌, ◌≤◌, ◌++◌, ◌∷◌, [], ℕ, length, OnOk, IfOk, IfErr};
 ghost use Rattle.fut_types.specs.Types.{Made};
 ghost use Rattle.fut_types.specs.Shapes.{IsTable, IsKnown};
 ghost use Rattle.fut_types.specs.declared.Kind.{Kind as TheKind};
+ghost use Rattle.fut_types.specs.declared.shapes.ShapeTable.{ShapeTable as TheTable};
 ghost use Rattle.type_graph.specs.Graph.{Each, IsTask, Tables, IsMaker, Told, Holds, Solved, Unmet, Grows, Kept, Tells};
 ghost use Rattle.type_claims.specs.Claims.{Sound, Extends, Adds, Nowhere, Allowed, Bears, Stands, new_node, parameter_node, links, types_of};
 
+use crate::levels::lower;
 use fut_scalar::List;
 use fut_types::{Head, Kind, ShapeTable};
 use std::alloc::Global;
 use type_graph::{Entry, FAR, Form, Node, Task, UnifyErr, solve};
 
+/// A graph has no more nodes than this: more is want of memory, before the machine is full.
+pub const MOST_NODES: usize = 33554432;
+
+// So many parts of a type are looked at for its level where something is asked of it again.
+const FEW_PARTS: u32 = 64;
+
 // The node of which a task asks something.
-fn asked(task: Task) -> u32 {
+fn asked(task: Task) -> u32
+    ensures { (table : TheTable) (n : ℕ) → IsTask table n task → result < n }
+{
     match task {
         Task::Same(node, _) => node,
         Task::Has(node, _, _) => node,
@@ -25,13 +37,15 @@ fn asked(task: Task) -> u32 {
     }
 }
 
-// Brings about one task. A refusal is told of the node of which it asks something.
+// Brings about one task. A refusal is told of the node of which it asks something, and the level of that node's type is lowered
+// to that of its parts, if they are no more than `most`.
 fn settle(
     alloc: Global,
     table: &ShapeTable,
     nodes: &mut List<Node>,
     entries: &mut List<Entry>,
     task: Task,
+    most: u32,
 ) -> Result<(), UnifyErr>
     requires table { IsTable table.now }
     requires sound { Sound table.now nodes.old entries.old }
@@ -46,9 +60,10 @@ fn settle(
         Ok(()) => {}
         Err(_) => return Err(UnifyErr::Memory),
     }
+    let number = asked(task);
     match solve(table, nodes, entries, &mut tasks) {
-        Ok(()) => Ok(()),
-        Err(error) => Err(error.told_of(asked(task))),
+        Ok(()) => lower(alloc, table, nodes, entries, number, most),
+        Err(error) => Err(error.told_of(number)),
     }
 }
 
@@ -60,7 +75,7 @@ pub fn push_node(nodes: &mut List<Node>, form: Form) -> Result<u32, UnifyErr>
     ensures err { IfErr result (Tells ⊥) }
 {
     let at = nodes.len();
-    if at >= 4294967294 {
+    if at >= MOST_NODES {
         return Err(UnifyErr::Memory);
     }
     match nodes.push(Node {
@@ -109,7 +124,7 @@ pub fn assert_task(
     ensures err { IfErr result (Tells ((T : Tables) → Told table.now entries.new T → Nowhere T base (λ K a. Holds T K a task) nodes.old)) }
     ensures before { IfErr result (Tells ((T : Tables) → Told table.now entries.new T → Told table.now entries.old T)) }
 {
-    settle(alloc, table, nodes, entries, task)
+    settle(alloc, table, nodes, entries, task, FEW_PARTS)
 }
 
 /// Asks that a node's type is made by a head of the types of others.
@@ -145,7 +160,10 @@ pub fn assert_made(
     }
     let form = Form::Made(head, first as u32, parts.len() as u32);
     match push_node(nodes, form) {
-        Ok(made) => settle(alloc, table, nodes, entries, Task::Same(number, made)),
+        Ok(made) => {
+            let task = Task::Same(number, made);
+            settle(alloc, table, nodes, entries, task, parts.len() as u32)
+        }
         Err(error) => Err(error),
     }
 }
@@ -170,7 +188,7 @@ pub fn push_parameter(
     ensures err { IfErr result (Tells ⊥) }
 {
     let at = nodes.len();
-    if at >= 4294967294 {
+    if at >= MOST_NODES {
         return Err(UnifyErr::Memory);
     }
     let node = Node {
@@ -204,5 +222,5 @@ pub fn assert_parameter(
     ensures err { IfErr result (Tells ((T : Tables) → Told table.now entries.new T → (n : ℕ) (k : TheKind) → Stands T nodes.old at n k → Nowhere T base (λ K a. a number ≡ T.rigid n k) nodes.old)) }
     ensures before { IfErr result (Tells ((T : Tables) → Told table.now entries.new T → Told table.now entries.old T)) }
 {
-    settle(alloc, table, nodes, entries, Task::Same(number, at))
+    settle(alloc, table, nodes, entries, Task::Same(number, at), 0)
 }

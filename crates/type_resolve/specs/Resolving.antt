@@ -1,6 +1,6 @@
 -- The type of a node, as far as the graph tells it.
 use Rattle.std.specs.Prelude.{◌≡◌, ℕ, zero, suc, ◌+◌, ◌<◌, ◌≤◌, List, [], ◌∷◌, length, slice_index_or, slice_set}
-use Rattle.fut_types.specs.Types.{Ty, Var, Made, Tys, none, more, Sub, Kinds, level, rank, applied, size, row}
+use Rattle.fut_types.specs.Types.{Ty, Var, Made, Tys, none, more, Sub, Kinds, level, rank, applied, row}
 use Rattle.type_graph.specs.declared.Form.{Form}
 use Rattle.type_graph.specs.declared.Form.TheVariants as form
 use Rattle.type_graph.specs.declared.Node.{Node}
@@ -78,20 +78,9 @@ unfoldable pub whites : List Mark → ℕ
 whites [] = 0
 whites (m ∷ ms) = white m + whites ms
 
--- what a walk leaves: fewer nodes are white, none more is open, and those that are done have types and heights
-pub record Marked (nodes : List Node) (entries : List Entry) (marks marks' : List Mark) : Type 0 where
-  pub long : length marks' ≡ length marks
-  pub fewer : whites marks' ≤ whites marks
-  pub opened : (i : ℕ) → mark_at marks' i ≡ mark.Open → mark_at marks i ≡ mark.Open
-  pub done : (i : ℕ) → mark_at marks' i ≡ mark.Done → Walked nodes entries i
-
 -- whatever the labels mean, no types solve the graph
 abbrev pub Unsolvable : List Node → List Entry → Type 0
 Unsolvable nodes entries = (T : Tables) → Listed entries T → (K : Kinds) (a : Sub) → Solves T K a nodes → ⊥
-
--- in each solution node i has a smaller type than the nodes that are open
-abbrev pub Below : Tables → List Node → List Mark → ℕ → Type 0
-Below T nodes marks i = (K : Kinds) (a : Sub) → Solves T K a nodes → (g : ℕ) → mark_at marks g ≡ mark.Open → size (a i) < size (a g)
 
 -- nodes and entries are those of some table of records
 pub record Placed (nodes : List Node) (entries : List Entry) : Type 0 where

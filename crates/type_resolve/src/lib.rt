@@ -5,17 +5,18 @@
 //! A node that is open stands for itself, as a variable with named parts.
 #![tactic(auto)]
 
-ghost use Rattle.std.specs.Prelude.{◌≡◌, ◌<◌, ◌+◌, ◌≤◌, ℕ, length, OnOk, IfOk, IfErr, true, false, []};
+ghost use Rattle.std.specs.Prelude.{◌≡◌, ◌<◌, ◌++◌, ◌∷◌, ℕ, length, OnOk, IfOk, IfErr, true, false, []};
 ghost use Rattle.type_graph.specs.declared.UnifyErr.TheVariants as err;
-ghost use Rattle.type_graph.specs.Graph.{IsGraph, Tells, Each, Tables, Listed, numbers, children, parts_of, node_at, far, Meeting};
+ghost use Rattle.type_graph.specs.Graph.{IsGraph, Tells, Tables, far, Meeting};
 ghost use Rattle.type_graph.specs.State.{State, Backed};
 ghost use Rattle.fut_types.specs.declared.Kind.{Kind as TheKind};
-ghost use Rattle.type_resolve.specs.Resolving.{Placed, Marked, Below, Unsolvable, SettledIn, FoundedIn, Walked, mark_at, with_mark, Laws};
+ghost use Rattle.type_resolve.specs.Resolving.{Placed, Unsolvable, SettledIn, FoundedIn, Walked, mark_at, with_mark, Laws};
+ghost use Rattle.type_resolve.specs.Walking.{Underway, Splits, Goes, step_of};
 ghost use Rattle.type_resolve.specs.Filling.{Fills};
 ghost use Rattle.type_resolve.specs.Rereading.{Bears_it, Deeper, Left, Rereads};
 ghost use Rattle.type_resolve.specs.declared.Mark.TheVariants as mark;
 
-use fut_scalar::List;
+use fut_scalar::{List, NoMemory};
 use std::alloc::Global;
 use type_graph::{Entry, Form, Node, UnifyErr, entry_of, find, node_of};
 
@@ -25,6 +26,13 @@ pub enum Mark {
     White,
     Open,
     Done,
+}
+
+/// A root whose parts are gone over, and what is left of them, as the parts of a form.
+#[derive(Clone, Copy)]
+pub struct Step {
+    pub root: u32,
+    pub left: Form,
 }
 
 #[tactic(auto, unfolding(crate::specs::Resolving::mark_at))]
@@ -43,120 +51,123 @@ fn set_mark(marks: &mut List<Mark>, number: u32, mark: Mark)
     marks.set(number as usize, mark);
 }
 
-// Goes over a node's type, and refuses a type that is a part of itself.
-#[cycle(visit)]
-fn visit(
+// A root is open from now on, and all of its parts are left.
+fn open(
     nodes: &List<Node>,
-    entries: &List<Entry>,
     marks: &mut List<Mark>,
-    start: u32,
-) -> Result<(), UnifyErr>
-    requires placed { Placed nodes.now entries.now }
-    requires long { length marks.old ≡ length nodes.now }
-    requires start { start < length nodes.now }
-    requires done { (i : ℕ) → mark_at marks.old i ≡ mark.Done → Walked nodes.now entries.now i }
-    requires grey { (T : Tables) → Listed entries.now T → Below T nodes.now marks.old start }
-    ensures ok { OnOk result (Marked nodes.now entries.now marks.old marks.new) }
-    ensures here { OnOk result (Walked nodes.now entries.now start) }
-    ensures err { IfErr result (Tells (Unsolvable nodes.now entries.now)) }
-{
-    let root = find(nodes, start);
-    match mark_of(marks, root) {
-        Mark::Done => Ok(()),
-        Mark::Open => Err(UnifyErr::Infinite(root)),
-        Mark::White => {
-            set_mark(marks, root, Mark::Open);
-            match visit_parts(nodes, entries, marks, root) {
-                Ok(()) => {}
-                Err(error) => return Err(error),
-            }
-            set_mark(marks, root, Mark::Done);
-            Ok(())
-        }
-    }
-}
-
-// Goes over the parts of a root's type.
-#[cycle(visit)]
-fn visit_parts(
-    nodes: &List<Node>,
-    entries: &List<Entry>,
-    marks: &mut List<Mark>,
+    steps: &mut List<Step>,
     root: u32,
-) -> Result<(), UnifyErr>
-    requires placed { Placed nodes.now entries.now }
-    requires long { length marks.old ≡ length nodes.now }
+) -> Result<(), NoMemory>
     requires root { root < length nodes.now }
-    requires done { (i : ℕ) → mark_at marks.old i ≡ mark.Done → Walked nodes.now entries.now i }
-    requires grey { (T : Tables) → Listed entries.now T → Each (Below T nodes.now marks.old) (parts_of T (node_at nodes.now root).form) }
-    ensures ok { OnOk result (Marked nodes.now entries.now marks.old marks.new) }
-    ensures here { OnOk result ((T : Tables) → Listed entries.now T → Each (Walked nodes.now entries.now) (parts_of T (node_at nodes.now root).form)) }
-    ensures err { IfErr result (Tells (Unsolvable nodes.now entries.now)) }
+    requires long { length marks.old ≡ length nodes.now }
+    ensures marks { marks.new ≡ with_mark marks.old root mark.Open }
+    ensures steps { OnOk result (steps.new ≡ steps.old ++ step_of nodes.now root ∷ []) }
 {
-    match node_of(nodes, root).form {
-        Form::Free | Form::Link(_) => Ok(()),
-        Form::Made(_, first, count) => visit_row(nodes, entries, marks, first, count),
-        Form::Open(start, count) => visit_chain(nodes, entries, marks, start, count),
-    }
+    set_mark(marks, root, Mark::Open);
+    let left = node_of(nodes, root).form;
+    steps.push(Step { root, left })
 }
 
-#[cycle(visit)]
-fn visit_row(
+// Looks at the first part that is left of the last step, and goes over its type first where that is not done.
+fn look(
     nodes: &List<Node>,
     entries: &List<Entry>,
     marks: &mut List<Mark>,
-    first: u32,
-    count: u32,
+    steps: &mut List<Step>,
+    step: Step,
+    child: u32,
+    after: Form,
 ) -> Result<(), UnifyErr>
     requires placed { Placed nodes.now entries.now }
-    requires long { length marks.old ≡ length nodes.now }
-    requires row { first + count ≤ length nodes.now }
-    requires done { (i : ℕ) → mark_at marks.old i ≡ mark.Done → Walked nodes.now entries.now i }
-    requires grey { (T : Tables) → Listed entries.now T → Each (Below T nodes.now marks.old) (numbers first count) }
-    ensures ok { OnOk result (Marked nodes.now entries.now marks.old marks.new) }
-    ensures here { OnOk result (Each (Walked nodes.now entries.now) (numbers first count)) }
+    requires underway { Underway nodes.now entries.now marks.old (steps.old ++ step ∷ []) }
+    requires splits { Splits nodes.now entries.now step.left child after }
+    ensures ok { OnOk result (Goes nodes.now entries.now marks.old (steps.old ++ step ∷ []) marks.new steps.new) }
     ensures err { IfErr result (Tells (Unsolvable nodes.now entries.now)) }
 {
-    let mut at = first;
-    let mut rest = count;
-    while rest > 0 {
-        match visit(nodes, entries, marks, at) {
-            Ok(()) => {}
-            Err(error) => return Err(error),
+    let root = find(nodes, child);
+    match mark_of(marks, root) {
+        Mark::Open => return Err(UnifyErr::Infinite(root)),
+        Mark::Done => {
+            let root = step.root;
+            steps.push(Step { root, left: after })?;
         }
-        at += 1;
-        rest -= 1;
+        Mark::White => {
+            steps.push(step)?;
+            open(nodes, marks, steps, root)?;
+        }
     }
     Ok(())
 }
 
-#[cycle(visit)]
-fn visit_chain(
+// A root whose parts are done is done.
+fn leave(marks: &mut List<Mark>, root: u32) -> Result<(), UnifyErr>
+    requires { root < length marks.old }
+    ensures marks { marks.new ≡ with_mark marks.old root mark.Done }
+    ensures err { IfErr result (Tells ⊥) }
+{
+    set_mark(marks, root, Mark::Done);
+    Ok(())
+}
+
+// Goes on with the last step, which was taken off. It stays off if no part is left.
+fn go_on(
     nodes: &List<Node>,
     entries: &List<Entry>,
     marks: &mut List<Mark>,
-    start: u32,
-    count: u32,
+    steps: &mut List<Step>,
+    step: Step,
 ) -> Result<(), UnifyErr>
     requires placed { Placed nodes.now entries.now }
-    requires long { length marks.old ≡ length nodes.now }
-    requires start { start < length entries.now }
-    requires done { (i : ℕ) → mark_at marks.old i ≡ mark.Done → Walked nodes.now entries.now i }
-    requires grey { (T : Tables) → Listed entries.now T → Each (Below T nodes.now marks.old) (children T start count) }
-    ensures ok { OnOk result (Marked nodes.now entries.now marks.old marks.new) }
-    ensures here { OnOk result ((T : Tables) → Listed entries.now T → Each (Walked nodes.now entries.now) (children T start count)) }
+    requires underway { Underway nodes.now entries.now marks.old (steps.old ++ step ∷ []) }
+    ensures ok { OnOk result (Goes nodes.now entries.now marks.old (steps.old ++ step ∷ []) marks.new steps.new) }
     ensures err { IfErr result (Tells (Unsolvable nodes.now entries.now)) }
 {
-    let mut at = start;
-    let mut rest = count;
-    while rest > 0 {
-        let entry = entry_of(entries, at);
-        match visit(nodes, entries, marks, entry.child) {
+    match step.left {
+        Form::Free | Form::Link(_) => leave(marks, step.root),
+        Form::Made(head, at, count) => {
+            if count == 0 {
+                return leave(marks, step.root);
+            }
+            let after = Form::Made(head, at + 1, count - 1);
+            look(nodes, entries, marks, steps, step, at, after)
+        }
+        Form::Open(start, count) => {
+            if count == 0 {
+                return leave(marks, step.root);
+            }
+            let entry = entry_of(entries, start);
+            let after = Form::Open(entry.next, count - 1);
+            look(nodes, entries, marks, steps, step, entry.child, after)
+        }
+    }
+}
+
+// Goes over a node's type, and refuses a type that is a part of itself.
+fn visit(
+    nodes: &List<Node>,
+    entries: &List<Entry>,
+    marks: &mut List<Mark>,
+    steps: &mut List<Step>,
+    start: u32,
+) -> Result<(), UnifyErr>
+    requires placed { Placed nodes.now entries.now }
+    requires start { start < length nodes.now }
+    requires empty { steps.old ≡ [] }
+    requires underway { Underway nodes.now entries.now marks.old [] }
+    ensures empty { OnOk result (steps.new ≡ []) }
+    ensures underway { OnOk result (Underway nodes.now entries.now marks.new []) }
+    ensures here { OnOk result (Walked nodes.now entries.now start) }
+    ensures err { IfErr result (Tells (Unsolvable nodes.now entries.now)) }
+{
+    let root = find(nodes, start);
+    if let Mark::White = mark_of(marks, root) {
+        open(nodes, marks, steps, root)?;
+    }
+    while let Some(step) = steps.pop() {
+        match go_on(nodes, entries, marks, steps, step) {
             Ok(()) => {}
             Err(error) => return Err(error),
         }
-        at = entry.next;
-        rest -= 1;
     }
     Ok(())
 }
@@ -186,9 +197,10 @@ pub fn resolve(alloc: Global, nodes: &List<Node>, entries: &List<Entry>) -> Resu
     ensures err { IfErr result (Tells (Unsolvable nodes.now entries.now)) }
 {
     let mut marks = white_marks(alloc, nodes.len())?;
+    let mut steps = List::new(alloc);
     let mut at = 0;
     while at < nodes.len() {
-        match visit(nodes, entries, &mut marks, at as u32) {
+        match visit(nodes, entries, &mut marks, &mut steps, at as u32) {
             Ok(()) => {}
             Err(error) => return Err(error.told_of(at as u32)),
         }

@@ -14,6 +14,9 @@ use fut_scalar::List;
 use fut_types::{Head, Kind};
 use type_graph::{Entry, Form, Node, UnifyErr, entry_of, find, node_of};
 
+/// The types of all definitions have no more parts than this: more is want of memory, before the machine is full.
+pub const MOST_PARTS: usize = 16777216;
+
 /// What a part of a definition's type is.
 #[derive(Clone, Copy)]
 pub enum PartForm {
@@ -144,7 +147,7 @@ fn enter(
     ensures err { IfErr result (Tells ⊥) }
 {
     let at = store.len();
-    if at >= 4294967294 {
+    if at >= MOST_PARTS {
         return Err(UnifyErr::Memory);
     }
     let root = find(nodes, number);

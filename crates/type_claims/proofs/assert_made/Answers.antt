@@ -30,3 +30,6 @@ returns-in-Ok-push_node-clause-err c = if_err c.settle.result (λ un T told. mad
 
 pub returns-in-Ok-push_node-clause-before : goal.returns-in-Ok-push_node-clause-before
 returns-in-Ok-push_node-clause-before c = if_err c.settle.result (λ un T told. told_grows _ _ c.args.entries.now c.settle.new.entries T c.settle.ensures.grows told) c.settle.ensures.err
+
+pub overflow_cast-parts : goal.overflow_cast-parts
+overflow_cast-parts c = omega (arith, c.in-Ok.ensures.room, ap length c.in-Ok.ensures.ok ∙ long_links c.args.parts.now c.args.nodes.now)

@@ -1,13 +1,16 @@
-use Rattle.std.proofs.Common.{sym, refl, ◌∙◌, arith}
+use Rattle.std.proofs.Common.{refl, ◌∙◌, arith}
 use Rattle.type_resolve.specs.Resolving.{Walked}
-use Rattle.type_resolve.proofs.Marks.{open_not_white, one_more}
+use Rattle.type_resolve.proofs.Marks.{one_more}
+use Rattle.type_resolve.proofs.Walking.{none_open}
 use Rattle.type_resolve.proofs.resolve.Goals as goal
+
+pub loop-at-init : goal.loop-at-init
+loop-at-init c = record { empty = c.new-steps.ensures; underway = none_open c.args.nodes.now c.args.entries.now c.in_ok-marks.marks (c.in_ok-marks.ensures.long ∙ c.len.ensures) c.in_ok-marks.ensures.white; here = λ i lt. absurd (omega arith); within = omega arith }
 
 pub loop-at-preserved : goal.loop-at-preserved
 loop-at-preserved c = record {
-  long = c.in-Ok.ensures.ok.long ∙ c.loop-at.invariant.long;
-  opened = λ i h. absurd (open_not_white (sym (c.in-Ok.ensures.ok.opened i h) ∙ c.loop-at.invariant.opened i (c.in-Ok.ensures.ok.opened i h)));
-  done = c.in-Ok.ensures.ok.done;
+  empty = c.in-Ok.ensures.empty;
+  underway = c.in-Ok.ensures.underway;
   here = λ i lt. one_more (Walked c.args.nodes.now c.args.entries.now) c.loop-at.at _ i lt refl c.loop-at.invariant.here c.in-Ok.ensures.here;
   within = omega (arith, c.len.ensures, c.loop-at-test.true);
 }
