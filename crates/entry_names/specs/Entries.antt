@@ -1,5 +1,5 @@
 -- The definition at which a run may begin under a name.
-use Rattle.std.specs.Prelude.{◌≡◌, ℕ, ◌==◌, ◌&&◌, Bool, true, false, Option, Some, None, slice_get}
+use Rattle.std.specs.Prelude.{◌≡◌, ℕ, ◌<◌, ◌==◌, ◌&&◌, Bool, true, false, Option, Some, None, slice_get}
 use Rattle.std.specs.Str.{bytes_eq}
 use Rattle.std.specs.Borrow.{Bor}
 use Rattle.fut_ast.specs.Sorts.{Text}
@@ -17,10 +17,11 @@ is_text None name = false
 abbrev pub begins : Flat → Text → Definition → Bool
 begins flat name d = d.is_entry && (d.file == named_file && is_text (slice_get flat.names.now d.bind.0) name)
 
--- a run may begin at this definition of the row
+-- a run may begin at this definition of the row. A file defines a name once, so there is no other; it is the first of the row.
 pub record Begins_at (flat : Flat) (name : Text) (at : ℕ) : Type 0 where
   pub definition : Definition
   pub is : slice_get flat.definitions.now at ≡ Some definition
+  pub first : (before : ℕ) (d : Definition) → before < at → slice_get flat.definitions.now before ≡ Some d → begins flat name d ≡ false
   pub begins : begins flat name definition ≡ true
 
 -- it may begin at none

@@ -19,8 +19,8 @@ use Rattle.front_types.specs.Mistyped.{Some_numbering}
 use Rattle.front_types.specs.declared.typed.Accepted.{Accepted}
 use Rattle.front_types.specs.declared.typed.TypeErr.TheVariants as types
 use Rattle.front_types.proofs.Numbered.{numbered}
-use Rattle.front.specs.Acceptance.{Is_accepted, IsBuiltProgram, IsParsed, IsPrelude, IsResolved, IsUntyped, Resolves, Typable, definitions_of, defined_of}
-use Rattle.front.specs.Stages.{Explains, IsMisnamed, Misnames, Untyped}
+use Rattle.front.specs.Acceptance.{IsBuiltProgram, IsParsed, IsPrelude, IsResolved, IsUntyped, Resolves, Typable, definitions_of, defined_of}
+use Rattle.front.specs.Stages.{Is_accepted, Explains, IsMisnamed, Misnames, Untyped}
 use Rattle.front.specs.declared.refusals.NameErr.TheVariants as names
 use Rattle.front.specs.declared.refusals.Refused.{Refused}
 use Rattle.front.specs.declared.refusals.Refused.TheVariants as why

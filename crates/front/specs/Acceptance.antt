@@ -18,12 +18,9 @@ use Rattle.fut_typing.specs.Answers.{Typing_is, NoType, FunctionPlace, Ambiguous
 use Rattle.module_scopes.specs.Names.{Refusal}
 use Rattle.module_scopes.specs.Names as refusal
 use Rattle.module_scopes.specs.Programs.{FlatDefinition, FlatProgram, resolve_program}
-use Rattle.module_elab.specs.Elaborated.{program_of as flat_of}
 use Rattle.module_elab.specs.declared.prelude.TheConstants.{PRELUDE}
 use Rattle.unbuilt_tokens.specs.Unbuilt.{first_unbuilt}
-use Rattle.front_types.specs.Known.{Is_known}
 use Rattle.front_types.specs.Mistyped.{Some_numbering}
-use Rattle.front_types.specs.declared.typed.Accepted.{Accepted}
 use Rattle.front.specs.declared.refusals.NameErr.TheVariants as names
 use Rattle.front_types.specs.declared.typed.TypeErr.TheVariants as types
 use Rattle.front.specs.declared.refusals.Refused.{Refused}
@@ -112,11 +109,6 @@ pub record IsResolved (tokens : List Token) (answer : Result FlatProgram Refusal
 pub record IsAcceptable (tokens : List Token) (flat : FlatProgram) : Type 0 where
   pub resolved : IsResolved tokens (Ok flat)
   pub typed : Some_numbering (λ N. Typable N (definitions_of flat))
-
--- what is answered of tokens that are accepted
-pub record Is_accepted (tokens : List Token) (accepted : Accepted) : Type 0 where
-  pub acceptable : IsAcceptable tokens (flat_of accepted.flat)
-  pub known : Is_known accepted
 
 -- ---- what is not accepted, and why
 

@@ -8,12 +8,20 @@ use Rattle.fut_typing.specs.Program.{Defined}
 use Rattle.module_scopes.specs.Names.{Refusal}
 use Rattle.module_scopes.specs.Names as refusal
 use Rattle.module_scopes.specs.Programs.{FlatProgram}
+use Rattle.module_elab.specs.Elaborated.{program_of as flat_of}
+use Rattle.front_types.specs.Known.{Is_known}
 use Rattle.front_types.specs.Mistyped.{Mistyped}
+use Rattle.front_types.specs.declared.typed.Accepted.{Accepted}
 use Rattle.front_types.specs.declared.typed.TypeErr.TheVariants as types
-use Rattle.front.specs.Acceptance.{Resolves, Unaccepted, Unspelled}
+use Rattle.front.specs.Acceptance.{IsAcceptable, Resolves, Unaccepted, Unspelled}
 use Rattle.front.specs.declared.refusals.NameErr.TheVariants as names
 use Rattle.front.specs.declared.refusals.Refused.{Refused}
 use Rattle.front.specs.declared.refusals.Refused.TheVariants as why
+
+-- the tokens are accepted, and what is known of their program
+pub record Is_accepted (tokens : List Token) (accepted : Accepted) : Type 0 where
+  pub acceptable : IsAcceptable tokens (flat_of accepted.flat)
+  pub known : Is_known accepted
 
 -- memory ran out, or the tokens spell no program for this reason
 abbrev pub Misspells : List Token → ParseErr → Type 0

@@ -5,9 +5,9 @@ ghost use Rattle.module_scopes.specs.Programs.{FlatProgram};
 ghost use Rattle.fut_tree.specs.Names.{all};
 ghost use Rattle.fut_typing.specs.Program.{program_of as typing_of};
 ghost use Rattle.module_elab.specs.Elaborated.{program_of as flat_of, Tells};
-ghost use Rattle.front.specs.Acceptance.{Is_accepted, IsParsed, IsPreludeText, Resolves};
+ghost use Rattle.front.specs.Acceptance.{IsParsed, IsPreludeText, Resolves};
 ghost use Rattle.front_types.specs.Known.{Knows};
-ghost use Rattle.front.specs.Stages.{Explains, IsMisnamed, Misnames, Misspells, Untyped};
+ghost use Rattle.front.specs.Stages.{Explains, Is_accepted, IsMisnamed, Misnames, Misspells, Untyped};
 
 use crate::reading::{Prelude, prelude_tree};
 use crate::refusals::{NameErr, Refused};

@@ -1,3 +1,4 @@
+pub mod OneEntry
 pub mod Ready
 pub mod Rows
 pub mod RowLaws

@@ -1,5 +1,5 @@
 -- A prepared program is one that the row speaks of: its entry is typed, and what its blocks allow, the source allows.
-use Rattle.std.proofs.Common.{◌≡◌, ◌<◌, inl, inr, ℕ, List, [], ◌∷◌, Bool, true, length, refl, sym, ap, ◌∙◌, subst, arith}
+use Rattle.std.proofs.Common.{◌≡◌, ◌<◌, inl, inr, ℕ, List, [], ◌∷◌, Bool, true, false, length, refl, sym, ap, ◌∙◌, subst, arith}
 use Rattle.std.proofs.lemmas.Option.{get_or_from_slice_get, slice_get_within}
 use Rattle.std.proofs.lemmas.List.{length-map}
 use Rattle.std.specs.Prelude.{Ok, Err, slice_index_or}
@@ -20,14 +20,14 @@ use Rattle.type_infer.specs.Inferring.{Told_by}
 use Rattle.type_scopes.specs.declared.Inference.{Inference}
 use Rattle.typed_programs.specs.Typed.{Typed_by, integer_at}
 use Rattle.fut_types.specs.declared.Kind.TheVariants as kind
-use Rattle.fut_types.specs.Types.{Ty}
 use Rattle.fut_typing.specs.Names.{Names}
 use Rattle.fut_typing.specs.Scopes.{nothing}
-use Rattle.fut_typing.specs.Patterns.{arrows}
 use Rattle.fut_typing.specs.Program.{program_of}
 use Rattle.fut_typing.specs.Exact.{scope_behind}
-use Rattle.typed_programs.specs.Entries.{scalar_tys, Results_are, Is_outside, number_of}
-use Rattle.typed_programs.proofs.Using.{behind_below}
+use Rattle.typed_programs.specs.EntryTypes.{Has_entry_type}
+use Rattle.typed_programs.specs.Entries.{Is_unwritten, Is_outside}
+use Rattle.entry_names.proofs.Searching.{one_place}
+use Rattle.futhark_core.proofs.OneEntry.{entry_type_is_one}
 use Rattle.unfold.specs.Shapes.{All_split, split_none, split_more, split_scalar}
 use Rattle.unfold.proofs.Rising.{names_rise}
 use Rattle.unfold_program.specs.Whole.{scalars}
@@ -71,10 +71,9 @@ module _ {flat : Flat} {inference : Inference} {integers : List IntType} {number
   abbrev known : Typed_by flat inference integers N
   known = told.holds N told.some.1
 
-  abbrev used : (u : Ty) × Results_are tuple results u × (scope_behind N kind.Data (program_of flat) 0 nothing).uses number.0 known.kinds known.types (arrows (scalar_tys params) u)
-  used =
-      let x = usable.usable.uses usable.definition N known.kinds known.types known.typed.typed known.comes in
-      (x.0, x.1, subst (λ z. (scope_behind N kind.Data (program_of flat) 0 nothing).uses z known.kinds known.types (arrows (scalar_tys params) x.0)) usable.is x.2)
+  abbrev used : Has_entry_type ((scope_behind N kind.Data (program_of flat) 0 nothing).uses number.0) known.kinds known.types params tuple results
+  used = subst (λ z. Has_entry_type ((scope_behind N kind.Data (program_of flat) 0 nothing).uses z) known.kinds known.types params tuple results) usable.is
+      (usable.usable.entry usable.definition N told.some.1 known.kinds known.types known.typed.typed known.comes)
 
   pub typed_as : (source : Source) → source.flat ≡ flat → IsTypedAs source entered
   typed_as source e = subst (λ (f : Flat). IsTypedAs (record { files = source.files; flat = f }) entered) (sym e) (record {
@@ -85,9 +84,7 @@ module _ {flat : Flat} {inference : Inference} {integers : List IntType} {number
     typing = known.typing;
     typed = known.typed.typed;
     told = known.typed.told;
-    result = used.0;
-    results_are = used.1;
-    uses = used.2;
+    entry = used;
   })
 
   -- the files allow some outcome for all arguments of its types
@@ -143,38 +140,41 @@ module _ {flat : Flat} {inference : Inference} {integers : List IntType} {number
 
 -- ---- entries
 
-pub into : (flat : Flat) (name : List ℕ) (at : ℕ) → Begins_at flat name at → (source : Source) → source.flat ≡ flat → (e : Entered) (other : Definition) → e.number ≡ (slice_index_or flat.definitions.now at other).bind.0 → IsTypedAs source e → IsEntered source name e
-into flat name at begins source same e other number typed = subst (λ (f : Flat). IsEntered (record { files = source.files; flat = f }) name e) (sym same) (record {
+pub into : (flat : Flat) (name : List ℕ) (at : ℕ) → Begins_at flat name at → Is_unwritten flat at → (source : Source) → source.flat ≡ flat → (e : Entered) (other : Definition) → e.number ≡ (slice_index_or flat.definitions.now at other).bind.0 → IsTypedAs source e → IsEntered source name e
+into flat name at begins plain source same e other number typed = subst (λ (f : Flat). IsEntered (record { files = source.files; flat = f }) name e) (sym same) (record {
   at = at;
   begins = begins;
   number = ap (λ (d : Definition). d.bind.0) (sym (get_or_from_slice_get flat.definitions.now at begins.definition other begins.is)) ∙ sym number;
+  unwritten = subst (λ (d : Definition). has_types (parameters d.heads.now) ≡ false) (get_or_from_slice_get flat.definitions.now at begins.definition other begins.is) (plain other);
   typed = subst (λ (f : Flat). IsTypedAs (record { files = source.files; flat = f }) e) same typed;
 })
 
--- the definition at this place of the row has no type from which a run may begin
-pub outside : (flat : Flat) (inference : Inference) (integers : List IntType) (name : List ℕ) (at : ℕ) → Told_by (Typed_by flat inference integers) inference → Begins_at flat name at → Is_outside flat inference.nodes at → (source : Source) → source.flat ≡ flat → IsOutside source name
-outside flat inference integers name at told begins x source same = subst (λ (f : Flat). IsOutside (record { files = source.files; flat = f }) name) (sym same) (either x)
-  where
-    here : (other : Definition) → slice_index_or flat.definitions.now at other ≡ begins.definition
-    here other = get_or_from_slice_get flat.definitions.now at begins.definition other begins.is
+-- the definition at this place of the row has not one type from which a run may begin
+module _ (flat : Flat) (inference : Inference) (integers : List IntType) (name : List ℕ) (at : ℕ) (told : Told_by (Typed_by flat inference integers) inference) (begins : Begins_at flat name at) where
+  abbrev own : Typed_by flat inference integers told.some.0
+  own = told.holds told.some.0 told.some.1
 
-    either : Is_outside flat inference.nodes at → IsOutside (record { files = source.files; flat = flat }) name
-    either (inl typed) = record { at = at; begins = begins; outside = inl (subst (λ (d : Definition). has_types (parameters d.heads.now) ≡ true) (here begins.definition) (typed begins.definition)) }
-    either (inr none) =
-        let N = told.some.0 in
-        let known = told.holds N told.some.1 in
-        let within : at < length flat.definitions.now = slice_get_within flat.definitions.now at begins.definition begins.is in
-        record {
-          at = at;
-          begins = begins;
-          outside = inr (record {
-            names = N;
-            are_names = told.some.1.names;
-            types = known.types;
-            typing = known.typing;
-            otherwise = λ params results tuple. none (known.types (number_of flat at)) (known.comes (number_of flat at) (let b = behind_below flat.definitions.now at 0 within in omega (arith, b))) params tuple results;
-          });
-        }
+  -- so nothing is entered under its name
+  module _ (files : List SourceProgram) (e : Entered) (is : IsEntered (record { files = files; flat = flat }) name e) where
+    here : (other : Definition) → slice_index_or flat.definitions.now at other ≡ is.begins.definition
+    here other = ap (λ i. slice_index_or flat.definitions.now i other) (sym (one_place flat name is.at at is.begins begins)) ∙ get_or_from_slice_get flat.definitions.now is.at is.begins.definition other is.begins.is
+
+    plain : has_types (parameters (slice_index_or flat.definitions.now at begins.definition).heads.now) ≡ false
+    plain = subst (λ (d : Definition). has_types (parameters d.heads.now) ≡ false) (sym (here begins.definition)) is.unwritten
+
+    -- it would have that type in the typing that the graph shows
+    also_here : Has_entry_type ((scope_behind told.some.0 kind.Data (program_of flat) 0 nothing).uses (slice_index_or flat.definitions.now at begins.definition).bind.0) own.kinds own.types e.params e.tuple e.results
+    also_here = entry_type_is_one flat at begins.definition (slice_get_within flat.definitions.now at begins.definition begins.is) own.typed.once plain
+        is.typed.names told.some.0 is.typed.are_names told.some.1.names is.typed.types own.types is.typed.typing own.typing is.typed.kinds own.kinds is.typed.typed own.typed.typed e.params e.tuple e.results
+        (subst (λ z. Has_entry_type ((scope_behind is.typed.names kind.Data (program_of flat) 0 nothing).uses z) is.typed.kinds is.typed.types e.params e.tuple e.results)
+        (sym is.number ∙ ap (λ (d : Definition). d.bind.0) (sym (here begins.definition))) is.typed.entry)
+
+    none_entered : Is_outside flat inference at → ⊥
+    none_entered (inl written) = let z : true ≡ false = sym (written begins.definition) ∙ plain in cc
+    none_entered (inr other) = other begins.definition told.some.0 told.some.1 own.kinds own.types own.typed.typed own.comes e.params e.tuple e.results also_here
+
+  pub outside : Is_outside flat inference at → (source : Source) → source.flat ≡ flat → IsOutside source name
+  outside x source same = subst (λ (f : Flat). IsOutside (record { files = source.files; flat = f }) name) (sym same) (record { at = at; begins = begins; none = λ e is. none_entered source.files e is x })
 
 pub unentered_row : (asked : Command) (source : Source) (old : Streams) (err : EntryErr) (status : Status) → IsUnentered err asked.entry status → NotEntered source asked.entry err → ProgramRow status asked source old old
 unentered_row asked source old err status (inl is) none = subst (λ (s : Status). ProgramRow s asked source old old) (sym is) (record { name_is = refl; not_entered = none; quiet = refl })

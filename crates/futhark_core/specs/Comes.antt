@@ -1,7 +1,7 @@
 -- What a run comes to, from its words, its files and its input alone: where nothing outside fails and memory is there.
 --
 -- A run goes by stages, one after another. Each gives something to the next, or ends the run with a status. What is said of
--- types holds for some way to number names and records, and so for each; what is said of an entry, of each typing that shows it.
+-- types holds for some way to number names and records, and so for each; an entry has one type, whatever typing shows it.
 use Rattle.std.specs.Prelude.{◌≡◌, ◌≤◌, ◌<◌, ◌⊎◌, ℕ, List, length, Option, Some, None, Result, Ok, Err}
 use Rattle.fut_scalar.specs.declared.place.Place.{Place}
 use Rattle.fut_scalar.specs.declared.scalar.Scalar.{Scalar}
@@ -137,7 +137,7 @@ pub data Ending : Type 0 where
   Came : Outcome → Ending
   Unread : Status → Ending
 
--- this holds of the entry of this name, however it is read off
+-- this holds of the entry of this name, which is one definition, of one type
 abbrev pub Of_entries : FlatProgram → Name → (Entered → Type 0) → Type 0
 Of_entries flat name P = (source : Source) → flat_of source.flat ≡ flat → (e : Entered) → IsEntered source name e → P e
 
@@ -145,7 +145,7 @@ Of_entries flat name P = (source : Source) → flat_of source.flat ≡ flat → 
 abbrev pub Of_sources : FlatProgram → Name → (Source → Entered → Type 0) → Type 0
 Of_sources flat name P = (source : Source) → flat_of source.flat ≡ flat → resolve_program source.files ≡ Ok flat → (e : Entered) → IsEntered source name e → P source e
 
--- a run may begin at a definition of this name, or at none
+-- a run begins at a definition of this name, or at none
 abbrev pub Entering : FlatProgram → Name → Stage FlatProgram
 Entering flat name (Ok same) = ((at : ℕ) × HasEntry flat name at) × ((source : Source) → flat_of source.flat ≡ flat → IsOutside source name → ⊥) × (same ≡ flat)
 Entering flat name (Err status) = (HasNoEntry flat name × (status ≡ Entry NoEntry name))

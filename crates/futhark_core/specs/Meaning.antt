@@ -1,15 +1,16 @@
 -- From which definition of an accepted source a run begins, and what the source means from there.
-use Rattle.std.specs.Prelude.{◌≡◌, ℕ, List, Bool}
+use Rattle.std.specs.Prelude.{◌≡◌, ℕ, List, Bool, false}
 use Rattle.fut_scalar.specs.declared.report.Report.{Report}
 use Rattle.fut_scalar.specs.declared.scalar.IntType.{IntType}
 use Rattle.fut_scalar.specs.declared.scalar.Scalar.{Scalar}
 use Rattle.fut_scalar.specs.declared.scalar.ScalarType.{ScalarType}
 use Rattle.fut_ast.specs.Sorts.{Text}
+use Rattle.fut_flat.specs.Erased.{parameters}
 use Rattle.fut_types.specs.declared.Kind.TheVariants as kind
-use Rattle.fut_types.specs.Types.{Ty, Sub, Kinds}
+use Rattle.fut_types.specs.Types.{Sub, Kinds}
 use Rattle.fut_typing.specs.Names.{Names, AreNames}
 use Rattle.fut_typing.specs.Scopes.{nothing}
-use Rattle.fut_typing.specs.Patterns.{arrows}
+use Rattle.fut_typing.specs.Free.{has_types}
 use Rattle.fut_typing.specs.Program.{program_of, Program_typed}
 use Rattle.fut_typing.specs.Answers.{Typing_is}
 use Rattle.fut_typing.specs.Exact.{scope_behind}
@@ -17,7 +18,7 @@ use Rattle.fut_meaning.specs.Flats.{FlatTop, flat_tops, named_terms}
 use Rattle.fut_blocks.specs.Programs.{AreOf}
 use Rattle.module_elab.specs.Elaborated.{program_of as flat_of}
 use Rattle.typed_meaning.specs.Programs.{Definitions_told}
-use Rattle.typed_programs.specs.Entries.{scalar_tys, Results_are}
+use Rattle.typed_programs.specs.EntryTypes.{Has_entry_type}
 use Rattle.entry_names.specs.Entries.{Begins_at}
 use Rattle.plain_runs.specs.Allowed.{Allows_result, Allows_report}
 use Rattle.futhark_core.specs.Acceptance.{Source}
@@ -31,8 +32,8 @@ pub record Entered : Type 0 where
   pub results : List ScalarType
   pub integer_at : ℕ → IntType
 
--- The principal typing of the source, with its defaults, where names are numbered in some way; it tells the types of the
--- integers, and the definition may be used at its type.
+-- In the principal typing of the source with its defaults, where names are numbered in some way, it is used at the type that
+-- it takes and gives, and at no other: nothing of its type is generalised. The typing tells the types of the integers.
 pub record IsTypedAs (source : Source) (e : Entered) : Type 0 where
   pub names : Names
   pub are_names : AreNames names
@@ -41,15 +42,14 @@ pub record IsTypedAs (source : Source) (e : Entered) : Type 0 where
   pub typing : Typing_is names (program_of source.flat) types
   pub typed : Program_typed names kind.Data (program_of source.flat) kinds types
   pub told : Definitions_told e.integer_at types (program_of source.flat) 0
-  pub result : Ty
-  pub results_are : Results_are e.tuple e.results result
-  pub uses : (scope_behind names kind.Data (program_of source.flat) 0 nothing).uses e.number kinds types (arrows (scalar_tys e.params) result)
+  pub entry : Has_entry_type ((scope_behind names kind.Data (program_of source.flat) 0 nothing).uses e.number) kinds types e.params e.tuple e.results
 
--- a run may begin from it under this name
+-- a run begins from it under this name: it has no written type parameters, and one type
 pub record IsEntered (source : Source) (name : Text) (e : Entered) : Type 0 where
   pub at : ℕ
   pub begins : Begins_at source.flat name at
   pub number : begins.definition.bind.0 ≡ e.number
+  pub unwritten : has_types (parameters begins.definition.heads.now) ≡ false
   pub typed : IsTypedAs source e
 
 -- ---- what it means

@@ -19,7 +19,7 @@ use Rattle.fut_blocks.specs.Meaning.{Component}
 use Rattle.fut_blocks.specs.Programs.{AreOf}
 use Rattle.typed_meaning.specs.Fits.{Fits, All_fit, Is_scalar}
 use Rattle.typed_meaning.specs.Programs.{Arguments_fit}
-use Rattle.typed_programs.specs.Entries.{scalar_tys, Results_are}
+use Rattle.typed_programs.specs.EntryTypes.{scalar_tys, Results_are}
 use Rattle.unfold.specs.Shapes.{Shape, Shapes, Split, split_scalar, split_tuple, All_split, split_none, split_more}
 use Rattle.plain_runs.specs.Results.{scalar_datums, Is_result, one_scalar, a_tuple}
 

@@ -39,7 +39,7 @@ use Rattle.fut_typing.specs.Names.{Names}
 use Rattle.fut_typing.specs.Scopes.{nothing}
 use Rattle.fut_typing.specs.Patterns.{arrows}
 use Rattle.fut_typing.specs.Exact.{scope_behind}
-use Rattle.typed_programs.specs.Entries.{scalar_tys, Results_are}
+use Rattle.typed_programs.specs.EntryTypes.{scalar_tys, Has_entry_type}
 use Rattle.type_infer.specs.Inferring.{Told_by}
 use Rattle.type_scopes.specs.declared.Inference.{Inference}
 use Rattle.typed_programs.specs.Typed.{Typed_by, integer_at}
@@ -95,11 +95,11 @@ module _ {flat : Flat} {inference : Inference} {integers : List IntType} {entry 
   abbrev known : Typed_by flat inference integers N
   known = typed.holds N typed.some.1
 
-  abbrev used : (u : Ty) × Results_are tuple results u × (scope_behind N kind.Data (typing_of flat) 0 nothing).uses (slice_index_or flat.definitions.now usable.at usable.definition).bind.0 known.kinds known.types (arrows (scalar_tys params) u)
-  used = usable.usable.uses usable.definition N known.kinds known.types known.typed.typed known.comes
+  abbrev used : Has_entry_type ((scope_behind N kind.Data (typing_of flat) 0 nothing).uses (slice_index_or flat.definitions.now usable.at usable.definition).bind.0) known.kinds known.types params tuple results
+  used = usable.usable.entry usable.definition N typed.some.1 known.kinds known.types known.typed.typed known.comes
 
-  entry_used : (scope_behind N kind.Data (typing_of flat) 0 nothing).uses entry.0 known.kinds known.types (arrows (scalar_tys params) used.0)
-  entry_used = subst (λ z. (scope_behind N kind.Data (typing_of flat) 0 nothing).uses z known.kinds known.types (arrows (scalar_tys params) used.0)) usable.is used.2
+  entry_used : (scope_behind N kind.Data (typing_of flat) 0 nothing).uses entry.0 known.kinds known.types (arrows (scalar_tys params) used.result)
+  entry_used = subst (λ z. (scope_behind N kind.Data (typing_of flat) 0 nothing).uses z known.kinds known.types (arrows (scalar_tys params) used.result)) usable.is used.used
 
   abbrev values : List FlatValue
   values = listed (as_values (scalar_datums arguments))
@@ -107,11 +107,11 @@ module _ {flat : Flat} {inference : Inference} {integers : List IntType} {entry 
   abbrev Flat_allows : Out FlatValue → ℕ → Type 0
   Flat_allows = Flat_means (integer_at integers) (plain false) budget (named_terms flat) entry values
 
-  safe : Safe (Result_fits N (integer_at integers) (plain false) budget false used.0) Flat_allows
-  safe = never_wrong N typed.some.1.names _ known.kinds known.types (integer_at integers) false budget flat known.typed entry _ used.0 values entry_used (arguments_fit N (integer_at integers) (plain false) budget false params arguments of)
+  safe : Safe (Result_fits N (integer_at integers) (plain false) budget false used.result) Flat_allows
+  safe = never_wrong N typed.some.1.names _ known.kinds known.types (integer_at integers) false budget flat known.typed entry _ used.result values entry_used (arguments_fit N (integer_at integers) (plain false) budget false params arguments of)
 
   some : Some_outcome Flat_allows
-  some = has_outcome N typed.some.1.names _ known.kinds known.types (integer_at integers) false budget flat known.typed entry _ used.0 values entry_used (arguments_fit N (integer_at integers) (plain false) budget true params arguments of)
+  some = has_outcome N typed.some.1.names _ known.kinds known.types (integer_at integers) false budget flat known.typed entry _ used.result values entry_used (arguments_fit N (integer_at integers) (plain false) budget true params arguments of)
 
   no_size : Definitions_sizeless (program_of flat).definitions
   no_size = definitions_sizeless flat.definitions.now known.typed.meant
@@ -142,7 +142,7 @@ module _ {flat : Flat} {inference : Inference} {integers : List IntType} {entry 
     outcome_of : (o : Out FlatValue) (f : ℕ) → Flat_allows o f → Allows_some ps (program_of flat) (integer_at integers) budget entry.0 arguments tuple results
     outcome_of (Val v) f x =
         let fit = safe (Val v) f x in
-        let d = data_of N (integer_at integers) (plain false) budget false fit.0 v tuple results used.0 used.1 fit.1 in
+        let d = data_of N (integer_at integers) (plain false) budget false fit.0 v tuple results used.result used.results_are fit.1 in
         let a = data_allowed d.0 f v x d.1 in
         inl (d.0, a.0, a.1)
     outcome_of (Fail k) f x = inr (k, report_of k f x)
@@ -163,7 +163,7 @@ module _ {flat : Flat} {inference : Inference} {integers : List IntType} {entry 
   wrong_never : (f : ℕ) → Right (Is_value h) Allows Wrong f → ⊥
   wrong_never f (right o x s) = same s (safe r.typed r.usable budget arguments of o f x)
     where
-      same : {o : Out FlatValue} → Same_out (Is_value h) Wrong o → HasOut (Result_fits (N r.typed r.usable budget arguments of) (integer_at integers) (plain false) budget false (used r.typed r.usable budget arguments of).0) o → ⊥
+      same : {o : Out FlatValue} → Same_out (Is_value h) Wrong o → HasOut (Result_fits (N r.typed r.usable budget arguments of) (integer_at integers) (plain false) budget false (used r.typed r.usable budget arguments of).result) o → ⊥
       same same_wrong k = k
 
   module _ (ps : List SourceProgram) (resolved : resolve_program ps ≡ Ok (program_of flat)) where
@@ -174,7 +174,7 @@ module _ {flat : Flat} {inference : Inference} {integers : List IntType} {entry 
         same (same_value {a' = v} s) x =
             let fit = safe r.typed r.usable budget arguments of (Val v) f x in
             let u = used r.typed r.usable budget arguments of in
-            data_allowed r.typed r.usable budget arguments of ps resolved vs f v x (results_are (N r.typed r.usable budget arguments of) (integer_at integers) (plain false) budget false fit.0 tuple results u.0 u.1 s fit.1)
+            data_allowed r.typed r.usable budget arguments of ps resolved vs f v x (results_are (N r.typed r.usable budget arguments of) (integer_at integers) (plain false) budget false fit.0 tuple results u.result u.results_are s fit.1)
 
     fails_so : (k : Report) (f : ℕ) → Right (Is_value h) Allows (Fail k) f → Allows_report ps (program_of flat) (integer_at integers) budget entry.0 arguments k
     fails_so k f (right o x s) = same s x

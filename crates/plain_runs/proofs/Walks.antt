@@ -17,7 +17,7 @@ use Rattle.fut_typing.specs.Scopes.{nothing}
 use Rattle.fut_typing.specs.Patterns.{arrows}
 use Rattle.fut_typing.specs.Program.{program_of as typing_of}
 use Rattle.fut_typing.specs.Exact.{scope_behind}
-use Rattle.typed_programs.specs.Entries.{scalar_tys}
+use Rattle.typed_programs.specs.EntryTypes.{scalar_tys}
 use Rattle.unfold.specs.Stuck.{Program_stuck}
 use Rattle.unfold_program.specs.Whole.{scalars}
 use Rattle.plain_runs.specs.Claims.{Is_usable}
@@ -33,9 +33,9 @@ pub never_lost : (flat : Flat) (inference : Inference) (integers : List IntType)
 never_lost flat inference integers entry params tuple results told usable lost =
     let N = told.some.0 in
     let known = told.holds N told.some.1 in
-    let used = usable.usable.uses usable.definition N known.kinds known.types known.typed.typed known.comes in
-    walks_never_lost N told.some.1.names known.kinds known.types flat known.walkable entry (scalar_tys params) used.0
-    (subst (λ z. (scope_behind N kind.Data (typing_of flat) 0 nothing).uses z known.kinds known.types (arrows (scalar_tys params) used.0)) usable.is used.2) (usable.usable.takes_data known.kinds) (usable.usable.gives_data known.kinds used.0 used.1)
+    let used = usable.usable.entry usable.definition N told.some.1 known.kinds known.types known.typed.typed known.comes in
+    walks_never_lost N told.some.1.names known.kinds known.types flat known.walkable entry (scalar_tys params) used.result
+    (subst (λ z. (scope_behind N kind.Data (typing_of flat) 0 nothing).uses z known.kinds known.types (arrows (scalar_tys params) used.result)) usable.is used.used) (usable.usable.takes_data known.kinds) (usable.usable.gives_data known.kinds used.result used.results_are)
     (subst (λ n. Program_lost entry.0 n (flat_tops 0 (named_terms flat))) (sym (count_is params)) lost)
 
 -- scalars are of the shape of scalars
@@ -49,7 +49,7 @@ pub never_stuck : (flat : Flat) (inference : Inference) (integers : List IntType
 never_stuck flat inference integers entry params tuple results told usable stuck =
     let N = told.some.0 in
     let known = told.holds N told.some.1 in
-    let used = usable.usable.uses usable.definition N known.kinds known.types known.typed.typed known.comes in
-    unfolding_never_stuck N told.some.1.names known.kinds known.types (integer_at integers) flat known.typed entry (scalar_tys params) used.0
-    (subst (λ z. (scope_behind N kind.Data (typing_of flat) 0 nothing).uses z known.kinds known.types (arrows (scalar_tys params) used.0)) usable.is used.2) (usable.usable.gives_data known.kinds used.0 used.1)
+    let used = usable.usable.entry usable.definition N told.some.1 known.kinds known.types known.typed.typed known.comes in
+    unfolding_never_stuck N told.some.1.names known.kinds known.types (integer_at integers) flat known.typed entry (scalar_tys params) used.result
+    (subst (λ z. (scope_behind N kind.Data (typing_of flat) 0 nothing).uses z known.kinds known.types (arrows (scalar_tys params) used.result)) usable.is used.used) (usable.usable.gives_data known.kinds used.result used.results_are)
     (scalars (length params)) (scalars_are params) stuck

@@ -30,7 +30,7 @@ pub record Is_usable (flat : Flat) (inference : Inference) (entry : BindId) (par
   pub at : ℕ
   pub definition : Definition
   pub is : (slice_index_or flat.definitions.now at definition).bind.0 ≡ entry.0
-  pub usable : May_be_used flat inference.nodes at params tuple results
+  pub usable : May_be_used flat inference at params tuple results
 
 -- What is known of a run's program: its typing with the types of its integers, the number of an entry with its type, and the
 -- blocks to which it unfolds from there.

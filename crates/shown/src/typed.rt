@@ -4,8 +4,8 @@ use crate::flat::refs::show_bind;
 use crate::line::Shown;
 use crate::texts::scalar_text;
 use fut_flat::{Definition, Flat};
-use fut_scalar::List;
-use fut_types::Head;
+use fut_scalar::{IntType, List, ScalarType};
+use fut_types::{Head, Kind};
 use std::alloc::Global;
 use type_graph::Form;
 use type_infer::{InferErr, infer, new_inference};
@@ -190,12 +190,20 @@ fn show_part(inference: &Inference<'_>, number: u32, pieces: &mut Pieces, shown:
     }
 }
 
+/// A type that is left undetermined: i32 if it is of integers.
+fn undetermined_text(kind: Kind) -> &'static str {
+    match kind {
+        Kind::Integer => scalar_text(ScalarType::Int(IntType::I32)),
+        Kind::Any | Kind::Data | Kind::Equal | Kind::Scalar => "_",
+    }
+}
+
 fn show_node(inference: &Inference<'_>, number: u32, pieces: &mut Pieces, shown: &mut Shown) {
     let Some(node) = inference.nodes.as_slice().get(number as usize) else {
         return shown.push("?");
     };
     match node.form {
-        Form::Free => shown.push("_"),
+        Form::Free => shown.push(undetermined_text(node.kind)),
         Form::Link(other) => pieces.push(Piece::Node(other)),
         Form::Open(_, _) => shown.push("open"),
         Form::Made(head, first, count) => {

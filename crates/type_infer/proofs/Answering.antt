@@ -1,40 +1,29 @@
 -- From the typings of a program to the answer.
-use Rattle.std.proofs.Common.{◌≡◌, ℕ, ◌≤◌, ◌<◌, List, length, sym, subst, arith}
+use Rattle.std.proofs.Common.{ℕ, ◌<◌, List}
 use Rattle.fut_types.specs.declared.Kind.TheVariants as kind
-use Rattle.fut_types.specs.Types.{applied}
 use Rattle.fut_typing.specs.Names.{Names}
 use Rattle.fut_typing.specs.Program.{Defined, program_numbers}
-use Rattle.fut_typing.specs.Answers.{NoType, FunctionPlace, Ambiguous, default}
-use Rattle.type_graph.specs.declared.Node.{Node}
-use Rattle.type_graph.specs.Graph.{IsGraph}
-use Rattle.type_resolve.specs.Resolving.{resolved, noted}
+use Rattle.fut_typing.specs.Answers.{NoType, FunctionPlace, Ambiguous}
 use Rattle.type_labels.specs.Labels.{IsLabels}
 use Rattle.type_labels.proofs.Named.{numbered}
 use Rattle.type_scopes.specs.declared.Inference.{Inference}
-use Rattle.type_answers.specs.Defaults.{Gives_defaults}
 use Rattle.type_answers.specs.Left.{Decided, IsUndecided, Stands_in_type}
-use Rattle.type_answers.proofs.Programs.{types_it, gives_typing, shows_ambiguous}
+use Rattle.type_answers.proofs.Programs.{types_it, shows_ambiguous}
 use Rattle.type_infer.specs.Inferring.{Numbers, Told_by, Has_typing, Infers}
 use Rattle.type_infer.specs.Graphs.{Graphs, Lacks, Keeps_numbers}
+use Rattle.type_infer.proofs.Schemes.{has_typing}
 
 told_by : (P : Names → Type 0) (i : Inference) → IsLabels i.labels i.table → ((N : Names) → Numbers i N → P N) → Told_by P i
 told_by P i labels holds = let w = numbered i.labels i.table labels in record { labels = labels; some = (w.0, record { names = w.1; labelled = w.2 }); holds = holds }
 
 module _ (ds : List Defined) where
   module _ (i : Inference) (g : Graphs kind.Data ds i) where
-    pub decided : (nodes : List Node) → ((n : ℕ) → n < program_numbers ds → Decided i.nodes n) → IsGraph nodes → length nodes ≡ length i.nodes → Gives_defaults i.nodes nodes → Infers ds (record i { nodes = nodes })
-    decided nodes none graph long gives = record {
-      graph = graph;
-      long = subst (λ m. program_numbers ds ≤ m) (sym long) g.long;
-      typing = told_by (Has_typing ds (record i { nodes = nodes })) (record i { nodes = nodes }) g.labels (λ N n. typing N (record { names = n.names; labelled = n.labelled }));
+    pub decided : ((n : ℕ) → n < program_numbers ds → Decided i.nodes n) → Infers ds i
+    decided none = record {
+      graph = g.graph;
+      long = g.long;
+      typing = told_by (Has_typing ds i) i g.labels (λ N n. let x = g.found N n in has_typing N ds x.tables x.home x.born i x.done x.exactly x.outer x.backed x.homed none);
     }
-      where
-        typing : (N : Names) → Numbers i N → Has_typing ds (record i { nodes = nodes }) N
-        typing N n = let x = g.found N n in let t = gives_typing N ds x.tables x.home i.nodes i.entries x.done x.exactly none in record {
-          types = λ m. applied (default (noted i.nodes)) (resolved i.nodes t.0 m);
-          typing = t.2;
-          comes = λ m lt. gives x.tables x.home (program_numbers ds) x.done.state t.0 t.1 m (let l : program_numbers ds ≤ length i.nodes = g.long in omega arith);
-        }
 
     pub undecided : (n v : ℕ) → n < program_numbers ds → Stands_in_type i.nodes n v → IsUndecided i.nodes v → Told_by (λ N. Ambiguous N ds) i
     undecided n v lt st u = told_by (λ N. Ambiguous N ds) i g.labels (λ N m. let x = g.found N m in shows_ambiguous N ds x.tables x.home i.nodes i.entries x.done x.exactly x.inside n v lt st u)

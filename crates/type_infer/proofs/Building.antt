@@ -13,7 +13,7 @@ use Rattle.type_claims.proofs.Grown.{sound_inside}
 use Rattle.type_homes.specs.Listed.{AreHomes, Program_homed}
 use Rattle.type_labels.specs.Labels.{Labelled}
 use Rattle.type_scopes.specs.declared.Inference.{Inference}
-use Rattle.type_scopes.specs.Scopes.{Puts, Opened, Refused}
+use Rattle.type_scopes.specs.Scopes.{Ready, Puts, Opened, Refused}
 use Rattle.type_answers.proofs.Richness.{rich}
 use Rattle.type_infer.specs.Inferring.{Numbers}
 use Rattle.type_infer.specs.Definitions.{Definitions_claim, Definitions_homes}
@@ -39,6 +39,9 @@ module _ (places : Kind) (ds : List Defined) (homes : List ℕ) (i0 i1 i2 : Infe
       from : (K : Kinds) (a : Sub) → Possible (tables_of i2 N) (length homes) K a i2.nodes → Program_typed N places ds K a
       from K a p = puts.done K a p
 
+      begun : Ready N places (tables_of i2 N) (home_at homes) (born_of i2) (length homes) empty 0 0 i1
+      begun = ready homes i0 i1 b N places (tables_of i2 N) (born_of i2) (plain_tables i2 N)
+
       told : Told i2.table i2.entries (tables_of i2 N)
       told = (reads_tables i2 N n).told
 
@@ -46,6 +49,10 @@ module _ (places : Kind) (ds : List Defined) (homes : List ℕ) (i0 i1 i2 : Infe
       graph_of settled founded = record {
         tables = tables_of i2 N;
         home = home_at homes;
+        born = born_of i2;
+        homed = homed;
+        outer = λ m le. begun.outer m (subst (λ k. k ≤ m) (sym are.long) le);
+        backed = puts.backed (home_at homes) homed begun.backed;
         done = record {
           plain = plain_tables i2 N;
           graph = o.later.safe.sound.graph;

@@ -7,8 +7,10 @@ use Rattle.fut_typing.specs.Program.{Defined, program_numbers}
 use Rattle.fut_typing.specs.Answers.{Untyped}
 use Rattle.type_graph.specs.declared.Form.TheVariants as form
 use Rattle.type_graph.specs.declared.Node.{Node}
-use Rattle.type_graph.specs.Graph.{far, Tables, IsGraph}
+use Rattle.type_graph.specs.Graph.{far, Tables, Meeting, IsGraph}
+use Rattle.type_graph.specs.State.{Backed}
 use Rattle.type_claims.specs.Claims.{Inside}
+use Rattle.type_homes.specs.Listed.{Program_homed}
 use Rattle.type_labels.specs.Labels.{IsLabels}
 use Rattle.type_scopes.specs.declared.Inference.{Inference}
 use Rattle.type_scopes.specs.declared.names.Known.TheVariants as known
@@ -36,10 +38,14 @@ pub record Begun (homes : List ℕ) (i i' : Inference) : Type 0 where
   pub near : (n : ℕ) → n < length homes → home_at homes n ≤ far
   pub seats : (n : ℕ) → IsSeated i'.seats n → ⊥
 
--- the graph allows just the typings of the program, and has been solved and resolved
+-- the graph allows just the typings of the program, and has been solved and resolved; levels have their reasons
 pub record Graph_of (places : Kind) (ds : List Defined) (i : Inference) (N : Names) : Type 0 where
   pub tables : Tables
   pub home : ℕ → ℕ
+  pub born : ℕ → ℕ
+  pub homed : Program_homed home ds 0
+  pub outer : (m : ℕ) → program_numbers ds ≤ m → far ≤ home m
+  pub backed : Backed (Meeting tables i.nodes []) home born i.nodes []
   pub done : Done tables home (program_numbers ds) i.nodes i.entries
   pub inside : Inside tables i.nodes
   pub exactly : Exactly N places ds tables i.nodes

@@ -28,10 +28,10 @@ use fut_flat::Flat;
 use fut_scalar::List;
 use fut_types::Kind;
 use std::alloc::Global;
-use type_answers::{put_defaults, undetermined};
+use type_answers::undetermined;
 use type_homes::homes;
 use type_scopes::Inference;
-pub use types::type_at;
+pub use types::{general_type_at, type_at};
 
 /// Why a program has no typing to go on with, and the number of the program at which it shows.
 #[derive(Clone, Copy)]
@@ -50,20 +50,17 @@ fn decide(
     alloc: Global,
     flat: &Flat<'_>,
     base: u32,
-    inference: &mut Inference<'_>,
+    inference: &Inference<'_>,
 ) -> Result<(), InferErr>
     requires base { base ≡ program_numbers (program_of flat.now) }
-    requires graph { Graphs kind.Data (program_of flat.now) inference.old }
-    ensures ok { OnOk result (Infers (program_of flat.now) inference.new) }
-    ensures err { IfErr result (Says (program_of flat.now) inference.new) }
+    requires graph { Graphs kind.Data (program_of flat.now) inference.now }
+    ensures ok { OnOk result (Infers (program_of flat.now) inference.now) }
+    ensures err { IfErr result (Says (program_of flat.now) inference.now) }
     ensures at { IfErr result (Is_shown (program_of flat.now)) }
 {
     let _flat = flat;
     match undetermined(alloc, &inference.nodes, base) {
-        Ok(None) => {
-            put_defaults(&mut inference.nodes);
-            Ok(())
-        }
+        Ok(None) => Ok(()),
         Ok(Some((at, _))) => Err(InferErr::Ambiguous(at)),
         Err(_) => Err(InferErr::Memory),
     }
@@ -107,7 +104,7 @@ pub fn infer<'a>(
         Err(_) => return Err(InferErr::Memory),
     };
     match build(alloc, Kind::Data, flat, &homes, inference) {
-        Ok(()) => decide(alloc, flat, homes.len() as u32, inference),
+        Ok(()) => decide(alloc, flat, homes.len() as u32, &*inference),
         Err(BuildErr::Untyped(at)) => Err(refusal(alloc, flat, &homes, at, inference)),
         Err(BuildErr::Memory) => Err(InferErr::Memory),
     }

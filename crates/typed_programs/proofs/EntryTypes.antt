@@ -12,15 +12,14 @@ use Rattle.fut_types.proofs.TyLaws.{rank_made, least_none, least_more}
 use Rattle.fut_typing.specs.Patterns.{arrows}
 use Rattle.type_graph.specs.declared.Form.{Form}
 use Rattle.type_graph.specs.declared.Form.TheVariants as form
-use Rattle.type_graph.specs.declared.Node.{Node}
 use Rattle.type_graph.specs.Graph.{Within}
-use Rattle.type_answers.specs.Defaults.{Comes_to}
-use Rattle.type_infer.specs.Reading.{Row_comes, Is_made}
+use Rattle.type_infer.specs.Reading.{Shown, Row_comes, Is_made}
 use Rattle.typed_meaning.specs.Walks.{All_hold_data}
 use Rattle.typed_programs.specs.Forms.{function_form, tuple_form}
 use Rattle.typed_programs.specs.declared.entries.EntryTypeErr.{EntryTypeErr}
 use Rattle.typed_programs.specs.declared.entries.EntryTypeErr.TheVariants as err
-use Rattle.typed_programs.specs.Entries.{Because, scalar_tys, Results_are, No_entry_type, No_scalar, No_function, Pushed, Parameters_are, Row_is, No_scalars, Results_at, No_results, Type_is}
+use Rattle.typed_programs.specs.EntryTypes.{scalar_tys, Results_are}
+use Rattle.typed_programs.specs.Entries.{Because, No_entry_type, No_scalar, No_function, Pushed, Parameters_are, Row_is, No_scalars, Results_at, No_results, Type_is}
 use Rattle.typed_programs.proofs.Reading.{none_some, if_some, if_none, some_same, made_variable, same_head, same_parts, none_more, no_types, some_types, made_head}
 
 first_part : (t u : Ty) (ts us : Tys) → more t ts ≡ more u us → t ≡ u
@@ -30,22 +29,22 @@ other_parts : (t u : Ty) (ts us : Tys) → more t ts ≡ more u us → ts ≡ us
 other_parts t u ts us e = cc
 
 -- ---- functions
-pub function_tells : (nodes : List Node) (f : Form) (first : ℕ) → function_form f ≡ Some first → (t : Ty) → Is_made nodes f t → (x : Ty) × (y : Ty) × Comes_to nodes first x × Comes_to nodes (suc first) y × (t ≡ fun_ty x y)
-function_tells nodes form.Free first e t m = absurd (none_some first e)
-function_tells nodes (form.Link j) first e t m = absurd (none_some first e)
-function_tells nodes (form.Open c n) first e t m = absurd (none_some first e)
-function_tells nodes (form.Made (head.Scalar s) x n) first e t m = absurd (none_some first e)
-function_tells nodes (form.Made head.Array x n) first e t m = absurd (none_some first e)
-function_tells nodes (form.Made head.Tuple x n) first e t m = absurd (none_some first e)
-function_tells nodes (form.Made (head.Record r) x n) first e t m = absurd (none_some first e)
-function_tells nodes (form.Made (head.Rigid b k) x n) first e t m = absurd (none_some first e)
-function_tells nodes (form.Made (head.Abstract b d) x n) first e t m = absurd (none_some first e)
-function_tells nodes (form.Made head.Fun x n) first e t m =
+pub function_tells : (R : Shown) (f : Form) (first : ℕ) → function_form f ≡ Some first → (t : Ty) → Is_made R f t → (x : Ty) × (y : Ty) × R first x × R (suc first) y × (t ≡ fun_ty x y)
+function_tells R form.Free first e t m = absurd (none_some first e)
+function_tells R (form.Link j) first e t m = absurd (none_some first e)
+function_tells R (form.Open c n) first e t m = absurd (none_some first e)
+function_tells R (form.Made (head.Scalar s) x n) first e t m = absurd (none_some first e)
+function_tells R (form.Made head.Array x n) first e t m = absurd (none_some first e)
+function_tells R (form.Made head.Tuple x n) first e t m = absurd (none_some first e)
+function_tells R (form.Made (head.Record r) x n) first e t m = absurd (none_some first e)
+function_tells R (form.Made (head.Rigid b k) x n) first e t m = absurd (none_some first e)
+function_tells R (form.Made (head.Abstract b d) x n) first e t m = absurd (none_some first e)
+function_tells R (form.Made head.Fun x n) first e t m =
     let two = if_some (n == 2) x first e in
-    let row : Row_comes nodes first 2 m.0 = subst (λ k. Row_comes nodes k 2 m.0) two.1 (subst (λ k. Row_comes nodes x k m.0) (eqb-true n 2 two.0) m.2) in
-    let p = some_types nodes first 1 m.0 row in
-    let q = some_types nodes (suc first) 0 p.1 p.4 in
-    let end : q.1 ≡ none = no_types nodes (suc (suc first)) q.1 q.4 in
+    let row : Row_comes R first 2 m.0 = subst (λ k. Row_comes R k 2 m.0) two.1 (subst (λ k. Row_comes R x k m.0) (eqb-true n 2 two.0) m.2) in
+    let p = some_types R first 1 m.0 row in
+    let q = some_types R (suc first) 0 p.1 p.4 in
+    let end : q.1 ≡ none = no_types R (suc (suc first)) q.1 q.4 in
     (p.0, q.0, p.3, q.3, m.1 ∙ ap (Made head.Fun) (p.2 ∙ ap (more p.0) (q.2 ∙ ap (more q.0) end)))
 
 pub function_within : (many n : ℕ) (f : Form) (first : ℕ) → function_form f ≡ Some first → Within many n f → first + 1 < many
@@ -60,46 +59,46 @@ function_within many n (form.Made (head.Rigid b d) x k) first e w = absurd (none
 function_within many n (form.Made (head.Abstract b d) x k) first e w = absurd (none_some first e)
 function_within many n (form.Made head.Fun x k) first e w = let two = if_some (k == 2) x first e in let is : k ≡ 2 = eqb-true k 2 two.0 in let same : x ≡ first = two.1 in let le : x + k ≤ many = w in omega (arith, is, same, le)
 
-no_head : (nodes : List Node) (g : Head) (x n : ℕ) (h : Head) (ts : Tys) (t : Ty) → (g ≡ h → ⊥) → Is_made nodes (form.Made g x n) t → t ≡ Made h ts → ⊥
-no_head nodes g x n h ts t other m e = other (made_head nodes g h x n t ts m e)
+no_head : (R : Shown) (g : Head) (x n : ℕ) (h : Head) (ts : Tys) (t : Ty) → (g ≡ h → ⊥) → Is_made R (form.Made g x n) t → t ≡ Made h ts → ⊥
+no_head R g x n h ts t other m e = other (made_head R g h x n t ts m e)
 
-pair_count : (nodes : List Node) (x n : ℕ) (s t : Ty) → Row_comes nodes x n (more s (more t none)) → n ≡ 2
-pair_count nodes x zero s t r = absurd r
-pair_count nodes x (suc zero) s t r = absurd r.1
-pair_count nodes x (suc (suc zero)) s t r = refl
-pair_count nodes x (suc (suc (suc n))) s t r = absurd r.1.1
+pair_count : (R : Shown) (x n : ℕ) (s t : Ty) → Row_comes R x n (more s (more t none)) → n ≡ 2
+pair_count R x zero s t r = absurd r
+pair_count R x (suc zero) s t r = absurd r.1
+pair_count R x (suc (suc zero)) s t r = refl
+pair_count R x (suc (suc (suc n))) s t r = absurd r.1.1
 
 true_false : true ≡ false → ⊥
 true_false e = cc
 
-pub function_denies : (nodes : List Node) (f : Form) → function_form f ≡ None → (t : Ty) → Is_made nodes f t → (x y : Ty) → t ≡ fun_ty x y → ⊥
-function_denies nodes form.Free e t m x y is = made_variable head.Fun (more x (more y none)) m.0 (sym is ∙ m.1)
-function_denies nodes (form.Link j) e t m x y is = m
-function_denies nodes (form.Open c n) e t m x y is = made_variable head.Fun (more x (more y none)) m.0 (sym is ∙ m.1)
-function_denies nodes (form.Made (head.Scalar s) z n) e t m x y is = no_head nodes (head.Scalar s) z n head.Fun _ t (λ w. cc) m is
-function_denies nodes (form.Made head.Array z n) e t m x y is = no_head nodes head.Array z n head.Fun _ t (λ w. cc) m is
-function_denies nodes (form.Made head.Tuple z n) e t m x y is = no_head nodes head.Tuple z n head.Fun _ t (λ w. cc) m is
-function_denies nodes (form.Made (head.Record r) z n) e t m x y is = no_head nodes (head.Record r) z n head.Fun _ t (λ w. cc) m is
-function_denies nodes (form.Made (head.Rigid b k) z n) e t m x y is = no_head nodes (head.Rigid b k) z n head.Fun _ t (λ w. cc) m is
-function_denies nodes (form.Made (head.Abstract b d) z n) e t m x y is = no_head nodes (head.Abstract b d) z n head.Fun _ t (λ w. cc) m is
-function_denies nodes (form.Made head.Fun z n) e t m x y is =
-    let row : Row_comes nodes z n (more x (more y none)) = subst (Row_comes nodes z n) (same_parts head.Fun head.Fun m.0 (more x (more y none)) (sym m.1 ∙ is)) m.2 in
-    let two : n ≡ 2 = pair_count nodes z n x y row in
+pub function_denies : (R : Shown) (f : Form) → function_form f ≡ None → (t : Ty) → Is_made R f t → (x y : Ty) → t ≡ fun_ty x y → ⊥
+function_denies R form.Free e t m x y is = made_variable head.Fun (more x (more y none)) m.0 (sym is ∙ m.1)
+function_denies R (form.Link j) e t m x y is = m
+function_denies R (form.Open c n) e t m x y is = made_variable head.Fun (more x (more y none)) m.0 (sym is ∙ m.1)
+function_denies R (form.Made (head.Scalar s) z n) e t m x y is = no_head R (head.Scalar s) z n head.Fun _ t (λ w. cc) m is
+function_denies R (form.Made head.Array z n) e t m x y is = no_head R head.Array z n head.Fun _ t (λ w. cc) m is
+function_denies R (form.Made head.Tuple z n) e t m x y is = no_head R head.Tuple z n head.Fun _ t (λ w. cc) m is
+function_denies R (form.Made (head.Record r) z n) e t m x y is = no_head R (head.Record r) z n head.Fun _ t (λ w. cc) m is
+function_denies R (form.Made (head.Rigid b k) z n) e t m x y is = no_head R (head.Rigid b k) z n head.Fun _ t (λ w. cc) m is
+function_denies R (form.Made (head.Abstract b d) z n) e t m x y is = no_head R (head.Abstract b d) z n head.Fun _ t (λ w. cc) m is
+function_denies R (form.Made head.Fun z n) e t m x y is =
+    let row : Row_comes R z n (more x (more y none)) = subst (Row_comes R z n) (same_parts head.Fun head.Fun m.0 (more x (more y none)) (sym m.1 ∙ is)) m.2 in
+    let two : n ≡ 2 = pair_count R z n x y row in
     let deny : (n == 2) ≡ false = if_none (n == 2) z e in
     true_false (sym (ap (λ k. k == 2) two) ∙ deny)
 
 -- ---- tuples
-pub tuple_tells : (nodes : List Node) (f : Form) (first many : ℕ) → tuple_form f ≡ Some (first, many) → (t : Ty) → Is_made nodes f t → (ts : Tys) × (t ≡ Made head.Tuple ts) × Row_comes nodes first many ts
-tuple_tells nodes form.Free first many e t m = absurd (none_some (first, many) e)
-tuple_tells nodes (form.Link j) first many e t m = absurd (none_some (first, many) e)
-tuple_tells nodes (form.Open c n) first many e t m = absurd (none_some (first, many) e)
-tuple_tells nodes (form.Made (head.Scalar s) x n) first many e t m = absurd (none_some (first, many) e)
-tuple_tells nodes (form.Made head.Array x n) first many e t m = absurd (none_some (first, many) e)
-tuple_tells nodes (form.Made head.Fun x n) first many e t m = absurd (none_some (first, many) e)
-tuple_tells nodes (form.Made (head.Record r) x n) first many e t m = absurd (none_some (first, many) e)
-tuple_tells nodes (form.Made (head.Rigid b k) x n) first many e t m = absurd (none_some (first, many) e)
-tuple_tells nodes (form.Made (head.Abstract b d) x n) first many e t m = absurd (none_some (first, many) e)
-tuple_tells nodes (form.Made head.Tuple x n) first many e t m = let p = some_same (x, n) (first, many) e in (m.0, m.1, subst (λ (q : ℕ × ℕ). Row_comes nodes q.0 q.1 m.0) p m.2)
+pub tuple_tells : (R : Shown) (f : Form) (first many : ℕ) → tuple_form f ≡ Some (first, many) → (t : Ty) → Is_made R f t → (ts : Tys) × (t ≡ Made head.Tuple ts) × Row_comes R first many ts
+tuple_tells R form.Free first many e t m = absurd (none_some (first, many) e)
+tuple_tells R (form.Link j) first many e t m = absurd (none_some (first, many) e)
+tuple_tells R (form.Open c n) first many e t m = absurd (none_some (first, many) e)
+tuple_tells R (form.Made (head.Scalar s) x n) first many e t m = absurd (none_some (first, many) e)
+tuple_tells R (form.Made head.Array x n) first many e t m = absurd (none_some (first, many) e)
+tuple_tells R (form.Made head.Fun x n) first many e t m = absurd (none_some (first, many) e)
+tuple_tells R (form.Made (head.Record r) x n) first many e t m = absurd (none_some (first, many) e)
+tuple_tells R (form.Made (head.Rigid b k) x n) first many e t m = absurd (none_some (first, many) e)
+tuple_tells R (form.Made (head.Abstract b d) x n) first many e t m = absurd (none_some (first, many) e)
+tuple_tells R (form.Made head.Tuple x n) first many e t m = let p = some_same (x, n) (first, many) e in (m.0, m.1, subst (λ (q : ℕ × ℕ). Row_comes R q.0 q.1 m.0) p m.2)
 
 pub tuple_within : (many n : ℕ) (f : Form) (first count : ℕ) → tuple_form f ≡ Some (first, count) → Within many n f → first + count ≤ many
 tuple_within many n form.Free first count e w = absurd (none_some (first, count) e)
@@ -113,17 +112,17 @@ tuple_within many n (form.Made (head.Rigid b d) x k) first count e w = absurd (n
 tuple_within many n (form.Made (head.Abstract b d) x k) first count e w = absurd (none_some (first, count) e)
 tuple_within many n (form.Made head.Tuple x k) first count e w = subst (λ (q : ℕ × ℕ). q.0 + q.1 ≤ many) (some_same (x, k) (first, count) e) w
 
-pub tuple_denies : (nodes : List Node) (f : Form) → tuple_form f ≡ None → (t : Ty) → Is_made nodes f t → (ts : Tys) → t ≡ Made head.Tuple ts → ⊥
-tuple_denies nodes form.Free e t m ts is = made_variable head.Tuple ts m.0 (sym is ∙ m.1)
-tuple_denies nodes (form.Link j) e t m ts is = m
-tuple_denies nodes (form.Open c n) e t m ts is = made_variable head.Tuple ts m.0 (sym is ∙ m.1)
-tuple_denies nodes (form.Made (head.Scalar s) z n) e t m ts is = no_head nodes (head.Scalar s) z n head.Tuple ts t (λ w. cc) m is
-tuple_denies nodes (form.Made head.Array z n) e t m ts is = no_head nodes head.Array z n head.Tuple ts t (λ w. cc) m is
-tuple_denies nodes (form.Made head.Fun z n) e t m ts is = no_head nodes head.Fun z n head.Tuple ts t (λ w. cc) m is
-tuple_denies nodes (form.Made (head.Record r) z n) e t m ts is = no_head nodes (head.Record r) z n head.Tuple ts t (λ w. cc) m is
-tuple_denies nodes (form.Made (head.Rigid b k) z n) e t m ts is = no_head nodes (head.Rigid b k) z n head.Tuple ts t (λ w. cc) m is
-tuple_denies nodes (form.Made (head.Abstract b d) z n) e t m ts is = no_head nodes (head.Abstract b d) z n head.Tuple ts t (λ w. cc) m is
-tuple_denies nodes (form.Made head.Tuple z n) e t m ts is = none_some (z, n) (sym e)
+pub tuple_denies : (R : Shown) (f : Form) → tuple_form f ≡ None → (t : Ty) → Is_made R f t → (ts : Tys) → t ≡ Made head.Tuple ts → ⊥
+tuple_denies R form.Free e t m ts is = made_variable head.Tuple ts m.0 (sym is ∙ m.1)
+tuple_denies R (form.Link j) e t m ts is = m
+tuple_denies R (form.Open c n) e t m ts is = made_variable head.Tuple ts m.0 (sym is ∙ m.1)
+tuple_denies R (form.Made (head.Scalar s) z n) e t m ts is = no_head R (head.Scalar s) z n head.Tuple ts t (λ w. cc) m is
+tuple_denies R (form.Made head.Array z n) e t m ts is = no_head R head.Array z n head.Tuple ts t (λ w. cc) m is
+tuple_denies R (form.Made head.Fun z n) e t m ts is = no_head R head.Fun z n head.Tuple ts t (λ w. cc) m is
+tuple_denies R (form.Made (head.Record r) z n) e t m ts is = no_head R (head.Record r) z n head.Tuple ts t (λ w. cc) m is
+tuple_denies R (form.Made (head.Rigid b k) z n) e t m ts is = no_head R (head.Rigid b k) z n head.Tuple ts t (λ w. cc) m is
+tuple_denies R (form.Made (head.Abstract b d) z n) e t m ts is = no_head R (head.Abstract b d) z n head.Tuple ts t (λ w. cc) m is
+tuple_denies R (form.Made head.Tuple z n) e t m ts is = none_some (z, n) (sym e)
 
 -- ---- parameters
 arrows_more : (ps : List ScalarType) (s : ScalarType) (u : Ty) → arrows (scalar_tys (ps ++ s ∷ [])) u ≡ arrows (scalar_tys ps) (fun_ty (scalar_ty s) u)
@@ -131,16 +130,16 @@ unfolding scalar_tys
 arrows_more [] s u = refl
 arrows_more (p ∷ ps) s u = ap (fun_ty (scalar_ty p)) (arrows_more ps s u)
 
-pub parameters_none : (nodes : List Node) (n : ℕ) (ps : List ScalarType) → ps ≡ [] → Parameters_are nodes n ps n
+pub parameters_none : (R : Shown) (n : ℕ) (ps : List ScalarType) → ps ≡ [] → Parameters_are R n ps n
 unfolding scalar_tys
-parameters_none nodes n ps e t c = (t, c, ap (λ l. arrows (scalar_tys l) t) (sym e))
+parameters_none R n ps e t c = (t, c, ap (λ l. arrows (scalar_tys l) t) (sym e))
 
 -- a function of one more parameter
-pub parameters_more : (nodes : List Node) (n node first : ℕ) (ps ps' : List ScalarType) (f : Form) → Parameters_are nodes n ps node → ((t : Ty) → Comes_to nodes node t → Is_made nodes f t) → function_form f ≡ Some first
-    → Pushed nodes first ps ps' → Parameters_are nodes n ps' (suc first)
-parameters_more nodes n node first ps ps' f h made is pushed t c =
+pub parameters_more : (R : Shown) (n node first : ℕ) (ps ps' : List ScalarType) (f : Form) → Parameters_are R n ps node → ((t : Ty) → R node t → Is_made R f t) → function_form f ≡ Some first
+    → Pushed R first ps ps' → Parameters_are R n ps' (suc first)
+parameters_more R n node first ps ps' f h made is pushed t c =
     let r = h t c in
-    let p = function_tells nodes f first is r.0 (made r.0 r.1) in
+    let p = function_tells R f first is r.0 (made r.0 r.1) in
     let s : ScalarType = pushed.scalar in
     let x : p.0 ≡ scalar_ty s = pushed.read p.0 p.2 in
     (p.1, p.3, r.2 ∙ ap (arrows (scalar_tys ps)) (p.4 ∙ ap (λ y. fun_ty y p.1) x) ∙ sym (arrows_more ps s p.1) ∙ ap (λ l. arrows (scalar_tys l) p.1) (sym pushed.is))
@@ -170,11 +169,11 @@ odd_parameter [] (q ∷ qs) x y u tuple rs deny e r = deny q (from_is x y (scala
 odd_parameter (p ∷ ps) [] x y u tuple rs deny e r = result_no_function tuple rs u (scalar_ty p) (arrows (scalar_tys ps) (fun_ty x y)) e r
 odd_parameter (p ∷ ps) (q ∷ qs) x y u tuple rs deny e r = odd_parameter ps qs x y u tuple rs deny (from_is (scalar_ty p) (arrows (scalar_tys ps) (fun_ty x y)) (scalar_ty q) (arrows (scalar_tys qs) u) e).1 r
 
-pub no_parameter : (nodes : List Node) (n node first : ℕ) (ps : List ScalarType) (f : Form) → Parameters_are nodes n ps node → ((t : Ty) → Comes_to nodes node t → Is_made nodes f t) → function_form f ≡ Some first
-    → No_scalar nodes first → No_entry_type nodes n
-no_parameter nodes n node first ps f h made is deny t c qs tuple rs entry =
+pub no_parameter : (R : Shown) (n node first : ℕ) (ps : List ScalarType) (f : Form) → Parameters_are R n ps node → ((t : Ty) → R node t → Is_made R f t) → function_form f ≡ Some first
+    → No_scalar R first → No_entry_type R n
+no_parameter R n node first ps f h made is deny t c qs tuple rs entry =
     let r = h t c in
-    let p = function_tells nodes f first is r.0 (made r.0 r.1) in
+    let p = function_tells R f first is r.0 (made r.0 r.1) in
     odd_parameter ps qs p.0 p.1 entry.0 tuple rs (λ s e. deny p.0 p.2 s e) (sym (r.2 ∙ ap (arrows (scalar_tys ps)) p.4) ∙ entry.2) entry.1
 
 -- a result that is none
@@ -185,8 +184,8 @@ odd_result [] (q ∷ qs) v u tuple rs fun deny e r = fun (scalar_ty q) (arrows (
 odd_result (p ∷ ps) [] v u tuple rs fun deny e r = result_no_function tuple rs u (scalar_ty p) (arrows (scalar_tys ps) v) e r
 odd_result (p ∷ ps) (q ∷ qs) v u tuple rs fun deny e r = odd_result ps qs v u tuple rs fun deny (from_is (scalar_ty p) (arrows (scalar_tys ps) v) (scalar_ty q) (arrows (scalar_tys qs) u) e).1 r
 
-pub no_result : (nodes : List Node) (n node : ℕ) (ps : List ScalarType) → Parameters_are nodes n ps node → No_function nodes node → No_results nodes node → No_entry_type nodes n
-no_result nodes n node ps h fun deny t c qs tuple rs entry = let r = h t c in odd_result ps qs r.0 entry.0 tuple rs (fun r.0 r.1) (deny r.0 r.1 tuple rs) (sym r.2 ∙ entry.2) entry.1
+pub no_result : (R : Shown) (n node : ℕ) (ps : List ScalarType) → Parameters_are R n ps node → No_function R node → No_results R node → No_entry_type R n
+no_result R n node ps h fun deny t c qs tuple rs entry = let r = h t c in odd_result ps qs r.0 entry.0 tuple rs (fun r.0 r.1) (deny r.0 r.1 tuple rs) (sym r.2 ∙ entry.2) entry.1
 
 -- ---- rows of scalars
 abbrev pub after : List ScalarType → Tys → Tys
@@ -203,33 +202,33 @@ after_more [] s ts = refl
 after_more (r ∷ ss) s ts = ap (more (scalar_ty r)) (after_more ss s ts)
 
 -- the first of the nodes in a row have these types
-pub record Row_begins (nodes : List Node) (x n at : ℕ) (ss : List ScalarType) : Type 0 where
+pub record Row_begins (R : Shown) (x n at : ℕ) (ss : List ScalarType) : Type 0 where
   pub long : length ss ≡ at
-  pub read : (ts : Tys) → Row_comes nodes x n ts → (us : Tys) × (ts ≡ after ss us) × Row_comes nodes (x + at) (n - at) us
+  pub read : (ts : Tys) → Row_comes R x n ts → (us : Tys) × (ts ≡ after ss us) × Row_comes R (x + at) (n - at) us
 
-pub row_begins : (nodes : List Node) (x n : ℕ) → Row_begins nodes x n 0 []
-row_begins nodes x n = record { long = refl; read = λ ts r. (ts, refl, (let e : x ≡ x + 0 = omega arith in let f : n ≡ n - 0 = omega arith in subst (λ k. Row_comes nodes k (n - 0) ts) e (subst (λ k. Row_comes nodes x k ts) f r))) }
+pub row_begins : (R : Shown) (x n : ℕ) → Row_begins R x n 0 []
+row_begins R x n = record { long = refl; read = λ ts r. (ts, refl, (let e : x ≡ x + 0 = omega arith in let f : n ≡ n - 0 = omega arith in subst (λ k. Row_comes R k (n - 0) ts) e (subst (λ k. Row_comes R x k ts) f r))) }
 
-next_types : (nodes : List Node) (x n at : ℕ) (us : Tys) → at < n → Row_comes nodes (x + at) (n - at) us → (t : Ty) × (vs : Tys) × (us ≡ more t vs) × Comes_to nodes (x + at) t × Row_comes nodes (x + suc at) (n - suc at) vs
-next_types nodes x n at us lt r =
+next_types : (R : Shown) (x n at : ℕ) (us : Tys) → at < n → Row_comes R (x + at) (n - at) us → (t : Ty) × (vs : Tys) × (us ≡ more t vs) × R (x + at) t × Row_comes R (x + suc at) (n - suc at) vs
+next_types R x n at us lt r =
     let one : n - at ≡ suc (n - suc at) = omega (arith, lt) in
-    let p = some_types nodes (x + at) (n - suc at) us (subst (λ k. Row_comes nodes (x + at) k us) one r) in
+    let p = some_types R (x + at) (n - suc at) us (subst (λ k. Row_comes R (x + at) k us) one r) in
     let e : suc (x + at) ≡ x + suc at = omega arith in
-    (p.0, p.1, p.2, p.3, subst (λ k. Row_comes nodes k (n - suc at) p.1) e p.4)
+    (p.0, p.1, p.2, p.3, subst (λ k. Row_comes R k (n - suc at) p.1) e p.4)
 
-pub row_more : (nodes : List Node) (x n at : ℕ) (ss ss' : List ScalarType) → at < n → Row_begins nodes x n at ss → Pushed nodes (x + at) ss ss' → Row_begins nodes x n (suc at) ss'
-row_more nodes x n at ss ss' lt b pushed = record {
+pub row_more : (R : Shown) (x n at : ℕ) (ss ss' : List ScalarType) → at < n → Row_begins R x n at ss → Pushed R (x + at) ss ss' → Row_begins R x n (suc at) ss'
+row_more R x n at ss ss' lt b pushed = record {
   long = let e : length ss' ≡ length ss + 1 = ap length pushed.is ∙ length-append ss (pushed.scalar ∷ []) in let l : length ss ≡ at = b.long in omega (arith, e, l);
-  read = λ ts r. let g = b.read ts r in let p = next_types nodes x n at g.0 lt g.2 in
+  read = λ ts r. let g = b.read ts r in let p = next_types R x n at g.0 lt g.2 in
       let s : p.0 ≡ scalar_ty pushed.scalar = pushed.read p.0 p.3 in
       (p.1, g.1 ∙ ap (after ss) (p.2 ∙ ap (λ t. more t p.1) s) ∙ after_more ss pushed.scalar p.1 ∙ ap (λ l. after l p.1) (sym pushed.is), p.4);
 }
 
-pub row_ends : (nodes : List Node) (x n at : ℕ) (ss : List ScalarType) → n ≡ at → Row_begins nodes x n at ss → Row_is nodes x n ss
-row_ends nodes x n at ss e b = (
+pub row_ends : (R : Shown) (x n at : ℕ) (ss : List ScalarType) → n ≡ at → Row_begins R x n at ss → Row_is R x n ss
+row_ends R x n at ss e b = (
   b.long ∙ sym e,
   λ ts r. let g = b.read ts r in
-      let z : n - at ≡ 0 = omega (arith, e) in g.1 ∙ ap (after ss) (no_types nodes (x + at) g.0 (subst (λ k. Row_comes nodes (x + at) k g.0) z g.2)) ∙ after_none ss,
+      let z : n - at ≡ 0 = omega (arith, e) in g.1 ∙ ap (after ss) (no_types R (x + at) g.0 (subst (λ k. Row_comes R (x + at) k g.0) z g.2)) ∙ after_none ss,
 )
 
 odd_row : (ss rs : List ScalarType) (t : Ty) (ts : Tys) → ((s : ScalarType) → t ≡ scalar_ty s → ⊥) → after ss (more t ts) ≡ scalar_tys rs → ⊥
@@ -239,24 +238,24 @@ odd_row [] (r ∷ rs) t ts deny e = deny r (first_part t (scalar_ty r) ts (scala
 odd_row (s ∷ ss) [] t ts deny e = none_more (scalar_ty s) (after ss (more t ts)) (sym e)
 odd_row (s ∷ ss) (r ∷ rs) t ts deny e = odd_row ss rs t ts deny (other_parts (scalar_ty s) (scalar_ty r) (after ss (more t ts)) (scalar_tys rs) e)
 
-pub no_row : (nodes : List Node) (x n at : ℕ) (ss : List ScalarType) → at < n → Row_begins nodes x n at ss → No_scalar nodes (x + at) → No_scalars nodes x n
-no_row nodes x n at ss lt b deny ts r rs e = let g = b.read ts r in let p = next_types nodes x n at g.0 lt g.2 in
+pub no_row : (R : Shown) (x n at : ℕ) (ss : List ScalarType) → at < n → Row_begins R x n at ss → No_scalar R (x + at) → No_scalars R x n
+no_row R x n at ss lt b deny ts r rs e = let g = b.read ts r in let p = next_types R x n at g.0 lt g.2 in
     odd_row ss rs p.0 p.1 (λ s. deny p.0 p.3 s) (sym (g.1 ∙ ap (after ss) p.2) ∙ e)
 
 -- ---- results
-pub tuple_results : (nodes : List Node) (n : ℕ) (f : Form) (first count : ℕ) (ss : List ScalarType) → ((t : Ty) → Comes_to nodes n t → Is_made nodes f t) → tuple_form f ≡ Some (first, count) → 2 ≤ count → Row_is nodes first count ss → Results_at nodes n true ss
-tuple_results nodes n f first count ss made is two row u c = let p = tuple_tells nodes f first count is u (made u c) in
+pub tuple_results : (R : Shown) (n : ℕ) (f : Form) (first count : ℕ) (ss : List ScalarType) → ((t : Ty) → R n t → Is_made R f t) → tuple_form f ≡ Some (first, count) → 2 ≤ count → Row_is R first count ss → Results_at R n true ss
+tuple_results R n f first count ss made is two row u c = let p = tuple_tells R f first count is u (made u c) in
     let l : length ss ≡ count = row.0 in (omega (arith, l, two), p.1 ∙ ap (Made head.Tuple) (row.1 p.0 p.2))
 
-pub one_result : (nodes : List Node) (n : ℕ) (ss : List ScalarType) → Pushed nodes n [] ss → Results_at nodes n false ss
-one_result nodes n ss pushed u c = subst (λ l. Results_are false l u) (sym pushed.is) (pushed.read u c)
+pub one_result : (R : Shown) (n : ℕ) (ss : List ScalarType) → Pushed R n [] ss → Results_at R n false ss
+one_result R n ss pushed u c = subst (λ l. Results_are false l u) (sym pushed.is) (pushed.read u c)
 
-scalar_row : (nodes : List Node) (x n : ℕ) (ss : List ScalarType) → Row_comes nodes x n (scalar_tys ss) → n ≡ length ss
+scalar_row : (R : Shown) (x n : ℕ) (ss : List ScalarType) → Row_comes R x n (scalar_tys ss) → n ≡ length ss
 unfolding scalar_tys
-scalar_row nodes x zero [] r = refl
-scalar_row nodes x zero (s ∷ ss) r = absurd r
-scalar_row nodes x (suc n) [] r = absurd r
-scalar_row nodes x (suc n) (s ∷ ss) r = ap suc (scalar_row nodes (suc x) n ss r.1)
+scalar_row R x zero [] r = refl
+scalar_row R x zero (s ∷ ss) r = absurd r
+scalar_row R x (suc n) [] r = absurd r
+scalar_row R x (suc n) (s ∷ ss) r = ap suc (scalar_row R (suc x) n ss r.1)
 
 tuple_scalar : (ts : Tys) (s : ScalarType) → Made head.Tuple ts ≡ scalar_ty s → ⊥
 tuple_scalar ts s e = cc
@@ -267,27 +266,27 @@ tuple_result u ts false (s ∷ []) e r = absurd (tuple_scalar ts s (sym e ∙ r)
 tuple_result u ts false (s ∷ t ∷ rs) e r = absurd r
 tuple_result u ts true rs e r = (r.0, same_parts head.Tuple head.Tuple ts (scalar_tys rs) (sym e ∙ r.1))
 
-pub narrow_tuple : (nodes : List Node) (n : ℕ) (f : Form) (first count : ℕ) → ((t : Ty) → Comes_to nodes n t → Is_made nodes f t) → tuple_form f ≡ Some (first, count) → count < 2 → No_results nodes n
-narrow_tuple nodes n f first count made is lt u c tuple rs r = let p = tuple_tells nodes f first count is u (made u c) in
+pub narrow_tuple : (R : Shown) (n : ℕ) (f : Form) (first count : ℕ) → ((t : Ty) → R n t → Is_made R f t) → tuple_form f ≡ Some (first, count) → count < 2 → No_results R n
+narrow_tuple R n f first count made is lt u c tuple rs r = let p = tuple_tells R f first count is u (made u c) in
     let q = tuple_result u p.0 tuple rs p.1 r in
-    let long : count ≡ length rs = scalar_row nodes first count rs (subst (Row_comes nodes first count) q.1 p.2) in
+    let long : count ≡ length rs = scalar_row R first count rs (subst (Row_comes R first count) q.1 p.2) in
     let two : 2 ≤ length rs = q.0 in omega (arith, long, two, lt)
 
-pub odd_tuple : (nodes : List Node) (n : ℕ) (f : Form) (first count : ℕ) → ((t : Ty) → Comes_to nodes n t → Is_made nodes f t) → tuple_form f ≡ Some (first, count) → No_scalars nodes first count → No_results nodes n
-odd_tuple nodes n f first count made is deny u c tuple rs r = let p = tuple_tells nodes f first count is u (made u c) in
+pub odd_tuple : (R : Shown) (n : ℕ) (f : Form) (first count : ℕ) → ((t : Ty) → R n t → Is_made R f t) → tuple_form f ≡ Some (first, count) → No_scalars R first count → No_results R n
+odd_tuple R n f first count made is deny u c tuple rs r = let p = tuple_tells R f first count is u (made u c) in
     deny p.0 p.2 rs (tuple_result u p.0 tuple rs p.1 r).1
 
-neither : (nodes : List Node) (n : ℕ) (u : Ty) → Comes_to nodes n u → ((ts : Tys) → u ≡ Made head.Tuple ts → ⊥) → No_scalar nodes n → (tuple : Bool) (rs : List ScalarType) → Results_are tuple rs u → ⊥
-neither nodes n u c tuples deny false [] r = r
-neither nodes n u c tuples deny false (s ∷ []) r = deny u c s r
-neither nodes n u c tuples deny false (s ∷ t ∷ rs) r = r
-neither nodes n u c tuples deny true rs r = tuples (scalar_tys rs) r.1
+neither : (R : Shown) (n : ℕ) (u : Ty) → R n u → ((ts : Tys) → u ≡ Made head.Tuple ts → ⊥) → No_scalar R n → (tuple : Bool) (rs : List ScalarType) → Results_are tuple rs u → ⊥
+neither R n u c tuples deny false [] r = r
+neither R n u c tuples deny false (s ∷ []) r = deny u c s r
+neither R n u c tuples deny false (s ∷ t ∷ rs) r = r
+neither R n u c tuples deny true rs r = tuples (scalar_tys rs) r.1
 
-pub no_data : (nodes : List Node) (n : ℕ) (f : Form) → ((t : Ty) → Comes_to nodes n t → Is_made nodes f t) → tuple_form f ≡ None → No_scalar nodes n → No_results nodes n
-no_data nodes n f made is deny u c tuple rs r = neither nodes n u c (tuple_denies nodes f is u (made u c)) deny tuple rs r
+pub no_data : (R : Shown) (n : ℕ) (f : Form) → ((t : Ty) → R n t → Is_made R f t) → tuple_form f ≡ None → No_scalar R n → No_results R n
+no_data R n f made is deny u c tuple rs r = neither R n u c (tuple_denies R f is u (made u c)) deny tuple rs r
 
-pub entry_type_is : (nodes : List Node) (n node : ℕ) (ps : List ScalarType) (tuple : Bool) (rs : List ScalarType) → Parameters_are nodes n ps node → Results_at nodes node tuple rs → Type_is nodes n ps tuple rs
-entry_type_is nodes n node ps tuple rs h r t c = let p = h t c in (p.0, r p.0 p.1, p.2)
+pub entry_type_is : (R : Shown) (n node : ℕ) (ps : List ScalarType) (tuple : Bool) (rs : List ScalarType) → Parameters_are R n ps node → Results_at R node tuple rs → Type_is R n ps tuple rs
+entry_type_is R n node ps tuple rs h r t c = let p = h t c in (p.0, r p.0 p.1, p.2)
 
 -- ---- such types are data
 scalar_data : (K : Kinds) (s : ScalarType) → 1 ≤ rank K (scalar_ty s)

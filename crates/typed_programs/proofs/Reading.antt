@@ -12,9 +12,7 @@ use Rattle.fut_types.specs.Types.{Ty, Var, Made, Tys, none, more, Kinds, HasKind
 use Rattle.fut_types.proofs.TyLaws.{rank_made}
 use Rattle.type_graph.specs.declared.Form.{Form}
 use Rattle.type_graph.specs.declared.Form.TheVariants as form
-use Rattle.type_graph.specs.declared.Node.{Node}
-use Rattle.type_answers.specs.Defaults.{Comes_to}
-use Rattle.type_infer.specs.Reading.{Row_comes, Is_made}
+use Rattle.type_infer.specs.Reading.{Shown, Row_comes, Is_made}
 use Rattle.typed_programs.specs.Forms.{integer_form, scalar_form}
 use Rattle.typed_programs.specs.Typed.{Is_integer}
 
@@ -53,16 +51,16 @@ pub none_more : (t : Ty) (ts : Tys) → none ≡ more t ts → ⊥
 none_more t ts e = cc
 
 -- a row of no nodes, and of one more
-pub no_types : (nodes : List Node) (x : ℕ) (ts : Tys) → Row_comes nodes x 0 ts → ts ≡ none
-no_types nodes x none r = refl
-no_types nodes x (more t ts) r = absurd r
+pub no_types : (R : Shown) (x : ℕ) (ts : Tys) → Row_comes R x 0 ts → ts ≡ none
+no_types R x none r = refl
+no_types R x (more t ts) r = absurd r
 
-pub some_types : (nodes : List Node) (x n : ℕ) (ts : Tys) → Row_comes nodes x (suc n) ts → (t : Ty) × (us : Tys) × (ts ≡ more t us) × Comes_to nodes x t × Row_comes nodes (suc x) n us
-some_types nodes x n none r = absurd r
-some_types nodes x n (more t ts) r = (t, ts, refl, r.0, r.1)
+pub some_types : (R : Shown) (x n : ℕ) (ts : Tys) → Row_comes R x (suc n) ts → (t : Ty) × (us : Tys) × (ts ≡ more t us) × R x t × Row_comes R (suc x) n us
+some_types R x n none r = absurd r
+some_types R x n (more t ts) r = (t, ts, refl, r.0, r.1)
 
-no_parts : (nodes : List Node) (h : Head) (x n : ℕ) (t : Ty) → n ≡ 0 → Is_made nodes (form.Made h x n) t → t ≡ Made h none
-no_parts nodes h x n t z m = m.1 ∙ ap (Made h) (no_types nodes x m.0 (subst (λ k. Row_comes nodes x k m.0) z m.2))
+no_parts : (R : Shown) (h : Head) (x n : ℕ) (t : Ty) → n ≡ 0 → Is_made R (form.Made h x n) t → t ≡ Made h none
+no_parts R h x n t z m = m.1 ∙ ap (Made h) (no_types R x m.0 (subst (λ k. Row_comes R x k m.0) z m.2))
 
 -- ---- integers
 low : (K : Kinds) (h : Head) (ts : Tys) (t : Ty) → cap h < 4 → t ≡ Made h ts → HasKind K kind.Integer t → ⊥
@@ -71,60 +69,60 @@ low K h ts t lt e k =
     let l : min (cap h) (least K ts) ≤ cap h = min-le_left (cap h) (least K ts) in
     omega (arith, r, l, lt)
 
-pub integer_tells : (f : Form) (i : IntType) → integer_form f ≡ Some i → (nodes : List Node) (t : Ty) → Is_made nodes f t → Is_integer i t
-integer_tells form.Free i e nodes t m K k v = absurd (v m.0 m.1)
-integer_tells (form.Link j) i e nodes t m K k v = absurd m
-integer_tells (form.Open c n) i e nodes t m K k v = absurd (v m.0 m.1)
-integer_tells (form.Made (head.Scalar (scalar.Int u)) x n) i e nodes t m K k v =
+pub integer_tells : (f : Form) (i : IntType) → integer_form f ≡ Some i → (R : Shown) (t : Ty) → Is_made R f t → Is_integer i t
+integer_tells form.Free i e R t m K k v = absurd (v m.0 m.1)
+integer_tells (form.Link j) i e R t m K k v = absurd m
+integer_tells (form.Open c n) i e R t m K k v = absurd (v m.0 m.1)
+integer_tells (form.Made (head.Scalar (scalar.Int u)) x n) i e R t m K k v =
     let s = if_some (n == 0) u i e in
-    no_parts nodes (head.Scalar (scalar.Int u)) x n t (eqb-true n 0 s.0) m ∙ ap (λ w. scalar_ty (scalar.Int w)) s.1
-integer_tells (form.Made (head.Scalar scalar.Bool) x n) i e nodes t m K k v = absurd (low K (head.Scalar scalar.Bool) m.0 t (omega arith) m.1 k)
-integer_tells (form.Made head.Array x n) i e nodes t m K k v = absurd (low K head.Array m.0 t (omega arith) m.1 k)
-integer_tells (form.Made head.Tuple x n) i e nodes t m K k v = absurd (low K head.Tuple m.0 t (omega arith) m.1 k)
-integer_tells (form.Made (head.Record r) x n) i e nodes t m K k v = absurd (low K (head.Record r) m.0 t (omega arith) m.1 k)
-integer_tells (form.Made head.Fun x n) i e nodes t m K k v = absurd (low K head.Fun m.0 t (omega arith) m.1 k)
-integer_tells (form.Made (head.Rigid b kind.Any) x n) i e nodes t m K k v = absurd (low K (head.Rigid b kind.Any) m.0 t (omega arith) m.1 k)
-integer_tells (form.Made (head.Rigid b kind.Data) x n) i e nodes t m K k v = absurd (low K (head.Rigid b kind.Data) m.0 t (omega arith) m.1 k)
-integer_tells (form.Made (head.Rigid b kind.Equal) x n) i e nodes t m K k v = absurd (low K (head.Rigid b kind.Equal) m.0 t (omega arith) m.1 k)
-integer_tells (form.Made (head.Rigid b kind.Scalar) x n) i e nodes t m K k v = absurd (low K (head.Rigid b kind.Scalar) m.0 t (omega arith) m.1 k)
-integer_tells (form.Made (head.Rigid b kind.Integer) x n) i e nodes t m K k v = absurd (none_some i e)
-integer_tells (form.Made (head.Abstract b true) x n) i e nodes t m K k v = absurd (low K (head.Abstract b true) m.0 t (omega arith) m.1 k)
-integer_tells (form.Made (head.Abstract b false) x n) i e nodes t m K k v = absurd (low K (head.Abstract b false) m.0 t (omega arith) m.1 k)
+    no_parts R (head.Scalar (scalar.Int u)) x n t (eqb-true n 0 s.0) m ∙ ap (λ w. scalar_ty (scalar.Int w)) s.1
+integer_tells (form.Made (head.Scalar scalar.Bool) x n) i e R t m K k v = absurd (low K (head.Scalar scalar.Bool) m.0 t (omega arith) m.1 k)
+integer_tells (form.Made head.Array x n) i e R t m K k v = absurd (low K head.Array m.0 t (omega arith) m.1 k)
+integer_tells (form.Made head.Tuple x n) i e R t m K k v = absurd (low K head.Tuple m.0 t (omega arith) m.1 k)
+integer_tells (form.Made (head.Record r) x n) i e R t m K k v = absurd (low K (head.Record r) m.0 t (omega arith) m.1 k)
+integer_tells (form.Made head.Fun x n) i e R t m K k v = absurd (low K head.Fun m.0 t (omega arith) m.1 k)
+integer_tells (form.Made (head.Rigid b kind.Any) x n) i e R t m K k v = absurd (low K (head.Rigid b kind.Any) m.0 t (omega arith) m.1 k)
+integer_tells (form.Made (head.Rigid b kind.Data) x n) i e R t m K k v = absurd (low K (head.Rigid b kind.Data) m.0 t (omega arith) m.1 k)
+integer_tells (form.Made (head.Rigid b kind.Equal) x n) i e R t m K k v = absurd (low K (head.Rigid b kind.Equal) m.0 t (omega arith) m.1 k)
+integer_tells (form.Made (head.Rigid b kind.Scalar) x n) i e R t m K k v = absurd (low K (head.Rigid b kind.Scalar) m.0 t (omega arith) m.1 k)
+integer_tells (form.Made (head.Rigid b kind.Integer) x n) i e R t m K k v = absurd (none_some i e)
+integer_tells (form.Made (head.Abstract b true) x n) i e R t m K k v = absurd (low K (head.Abstract b true) m.0 t (omega arith) m.1 k)
+integer_tells (form.Made (head.Abstract b false) x n) i e R t m K k v = absurd (low K (head.Abstract b false) m.0 t (omega arith) m.1 k)
 
 -- ---- scalars
-pub scalar_tells : (f : Form) (s : ScalarType) → scalar_form f ≡ Some s → (nodes : List Node) (t : Ty) → Is_made nodes f t → t ≡ scalar_ty s
-scalar_tells form.Free s e nodes t m = absurd (none_some s e)
-scalar_tells (form.Link j) s e nodes t m = absurd (none_some s e)
-scalar_tells (form.Open c n) s e nodes t m = absurd (none_some s e)
-scalar_tells (form.Made (head.Scalar u) x n) s e nodes t m = let r = if_some (n == 0) u s e in no_parts nodes (head.Scalar u) x n t (eqb-true n 0 r.0) m ∙ ap scalar_ty r.1
-scalar_tells (form.Made head.Array x n) s e nodes t m = absurd (none_some s e)
-scalar_tells (form.Made head.Tuple x n) s e nodes t m = absurd (none_some s e)
-scalar_tells (form.Made (head.Record r) x n) s e nodes t m = absurd (none_some s e)
-scalar_tells (form.Made head.Fun x n) s e nodes t m = absurd (none_some s e)
-scalar_tells (form.Made (head.Rigid b k) x n) s e nodes t m = absurd (none_some s e)
-scalar_tells (form.Made (head.Abstract b d) x n) s e nodes t m = absurd (none_some s e)
+pub scalar_tells : (f : Form) (s : ScalarType) → scalar_form f ≡ Some s → (R : Shown) (t : Ty) → Is_made R f t → t ≡ scalar_ty s
+scalar_tells form.Free s e R t m = absurd (none_some s e)
+scalar_tells (form.Link j) s e R t m = absurd (none_some s e)
+scalar_tells (form.Open c n) s e R t m = absurd (none_some s e)
+scalar_tells (form.Made (head.Scalar u) x n) s e R t m = let r = if_some (n == 0) u s e in no_parts R (head.Scalar u) x n t (eqb-true n 0 r.0) m ∙ ap scalar_ty r.1
+scalar_tells (form.Made head.Array x n) s e R t m = absurd (none_some s e)
+scalar_tells (form.Made head.Tuple x n) s e R t m = absurd (none_some s e)
+scalar_tells (form.Made (head.Record r) x n) s e R t m = absurd (none_some s e)
+scalar_tells (form.Made head.Fun x n) s e R t m = absurd (none_some s e)
+scalar_tells (form.Made (head.Rigid b k) x n) s e R t m = absurd (none_some s e)
+scalar_tells (form.Made (head.Abstract b d) x n) s e R t m = absurd (none_some s e)
 
 -- the heads of what is made and of a type that it is
-pub made_head : (nodes : List Node) (g h : Head) (x n : ℕ) (t : Ty) (ts : Tys) → Is_made nodes (form.Made g x n) t → t ≡ Made h ts → g ≡ h
-made_head nodes g h x n t ts m e = same_head g h m.0 ts (sym m.1 ∙ e)
+pub made_head : (R : Shown) (g h : Head) (x n : ℕ) (t : Ty) (ts : Tys) → Is_made R (form.Made g x n) t → t ≡ Made h ts → g ≡ h
+made_head R g h x n t ts m e = same_head g h m.0 ts (sym m.1 ∙ e)
 
-made_none : (nodes : List Node) (h : Head) (x n : ℕ) (t : Ty) → Is_made nodes (form.Made h x n) t → t ≡ Made h none → n ≡ 0
-made_none nodes h x zero t m e = refl
-made_none nodes h x (suc n) t m e = let r = some_types nodes x n m.0 m.2 in absurd (none_more r.0 r.1 (sym (same_parts h h m.0 none (sym m.1 ∙ e)) ∙ r.2))
+made_none : (R : Shown) (h : Head) (x n : ℕ) (t : Ty) → Is_made R (form.Made h x n) t → t ≡ Made h none → n ≡ 0
+made_none R h x zero t m e = refl
+made_none R h x (suc n) t m e = let r = some_types R x n m.0 m.2 in absurd (none_more r.0 r.1 (sym (same_parts h h m.0 none (sym m.1 ∙ e)) ∙ r.2))
 
-no_scalar : (nodes : List Node) (g : Head) (x n : ℕ) (s : ScalarType) (t : Ty) → (g ≡ head.Scalar s → ⊥) → Is_made nodes (form.Made g x n) t → t ≡ scalar_ty s → ⊥
-no_scalar nodes g x n s t other m e = other (made_head nodes g (head.Scalar s) x n t none m e)
+no_scalar : (R : Shown) (g : Head) (x n : ℕ) (s : ScalarType) (t : Ty) → (g ≡ head.Scalar s → ⊥) → Is_made R (form.Made g x n) t → t ≡ scalar_ty s → ⊥
+no_scalar R g x n s t other m e = other (made_head R g (head.Scalar s) x n t none m e)
 
-pub scalar_denies : (f : Form) → scalar_form f ≡ None → (nodes : List Node) (t : Ty) → Is_made nodes f t → (s : ScalarType) → t ≡ scalar_ty s → ⊥
-scalar_denies form.Free e nodes t m s is = made_variable (head.Scalar s) none m.0 (sym is ∙ m.1)
-scalar_denies (form.Link j) e nodes t m s is = m
-scalar_denies (form.Open c n) e nodes t m s is = made_variable (head.Scalar s) none m.0 (sym is ∙ m.1)
-scalar_denies (form.Made (head.Scalar u) x n) e nodes t m s is =
-    let h : head.Scalar u ≡ head.Scalar s = made_head nodes (head.Scalar u) (head.Scalar s) x n t none m is in
-    eqb-false n 0 (if_none (n == 0) u e) (made_none nodes (head.Scalar u) x n t m (is ∙ ap (λ g. Made g none) (sym h)))
-scalar_denies (form.Made head.Array x n) e nodes t m s is = no_scalar nodes head.Array x n s t (λ z. cc) m is
-scalar_denies (form.Made head.Tuple x n) e nodes t m s is = no_scalar nodes head.Tuple x n s t (λ z. cc) m is
-scalar_denies (form.Made (head.Record r) x n) e nodes t m s is = no_scalar nodes (head.Record r) x n s t (λ z. cc) m is
-scalar_denies (form.Made head.Fun x n) e nodes t m s is = no_scalar nodes head.Fun x n s t (λ z. cc) m is
-scalar_denies (form.Made (head.Rigid b k) x n) e nodes t m s is = no_scalar nodes (head.Rigid b k) x n s t (λ z. cc) m is
-scalar_denies (form.Made (head.Abstract b d) x n) e nodes t m s is = no_scalar nodes (head.Abstract b d) x n s t (λ z. cc) m is
+pub scalar_denies : (f : Form) → scalar_form f ≡ None → (R : Shown) (t : Ty) → Is_made R f t → (s : ScalarType) → t ≡ scalar_ty s → ⊥
+scalar_denies form.Free e R t m s is = made_variable (head.Scalar s) none m.0 (sym is ∙ m.1)
+scalar_denies (form.Link j) e R t m s is = m
+scalar_denies (form.Open c n) e R t m s is = made_variable (head.Scalar s) none m.0 (sym is ∙ m.1)
+scalar_denies (form.Made (head.Scalar u) x n) e R t m s is =
+    let h : head.Scalar u ≡ head.Scalar s = made_head R (head.Scalar u) (head.Scalar s) x n t none m is in
+    eqb-false n 0 (if_none (n == 0) u e) (made_none R (head.Scalar u) x n t m (is ∙ ap (λ g. Made g none) (sym h)))
+scalar_denies (form.Made head.Array x n) e R t m s is = no_scalar R head.Array x n s t (λ z. cc) m is
+scalar_denies (form.Made head.Tuple x n) e R t m s is = no_scalar R head.Tuple x n s t (λ z. cc) m is
+scalar_denies (form.Made (head.Record r) x n) e R t m s is = no_scalar R (head.Record r) x n s t (λ z. cc) m is
+scalar_denies (form.Made head.Fun x n) e R t m s is = no_scalar R head.Fun x n s t (λ z. cc) m is
+scalar_denies (form.Made (head.Rigid b k) x n) e R t m s is = no_scalar R (head.Rigid b k) x n s t (λ z. cc) m is
+scalar_denies (form.Made (head.Abstract b d) x n) e R t m s is = no_scalar R (head.Abstract b d) x n s t (λ z. cc) m is

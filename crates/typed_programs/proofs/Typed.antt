@@ -21,8 +21,8 @@ use Rattle.fut_typing.specs.Answers.{Met, default_at, default, Typing_is}
 use Rattle.fut_typing.proofs.Programs.{default_suits, program_same}
 use Rattle.type_graph.specs.declared.Node.{Node}
 use Rattle.type_scopes.specs.declared.Inference.{Inference}
-use Rattle.type_answers.specs.Defaults.{Comes_to}
 use Rattle.type_infer.specs.Inferring.{Told_by, Has_typing, Infers}
+use Rattle.type_infer.specs.Reading.{Comes_to}
 use Rattle.typed_meaning.specs.Fits.{widest}
 use Rattle.typed_meaning.specs.Programs.{Definitions_told}
 use Rattle.typed_meaning.proofs.Literals.{literal_kept}
@@ -76,7 +76,7 @@ nodes_more nodes xs ys x k long is told at n lt t c = subst (λ (l : List IntTyp
 ])
 
 -- the answer is a typing in which variables have the kinds of the principal one
-typing_holds : (N : Names) (ds : List Defined) (types : Sub) (t : Typing_is N ds types) → Program_typed N kind.Data ds t.principal.kinds types
+pub typing_holds : (N : Names) (ds : List Defined) (types : Sub) (t : Typing_is N ds types) → Program_typed N kind.Data ds t.principal.kinds types
 typing_holds N ds types t = let K : Kinds = t.principal.kinds in
     program_same N kind.Data ds K (λ n. applied (default K) (t.principal.types n)) types (λ n lt. sym (t.is n lt))
     (t.principal.typing K (default K) (λ v. default_suits K v) (subst (All (Met N.shapes (default K))) (sym t.closed) (λ k d h. absurd (omega arith))))

@@ -1,8 +1,12 @@
--- A definition without written type parameters may be used at the type that its name has.
-use Rattle.std.proofs.Common.{◌≡◌, Bool, true, false, ℕ, zero, suc, ◌+◌, ◌≤◌, ◌<◌, List, [], ◌∷◌, length, map, take, slice_index_or, refl, sym, ◌∙◌, ap, subst, arith}
+-- A definition without written type parameters is used at the instances of the type that its name has before any default for
+-- what is generalised: at this type alone, or at no type of an entry alone.
+use Rattle.std.proofs.Common.{◌≡◌, Bool, true, false, ℕ, zero, suc, ◌+◌, ◌≤◌, ◌<◌, List, [], ◌∷◌, ◌++◌, length, map, take, drop, slice_index_or, min, max, refl, sym, ◌∙◌, ap, subst, arith}
 use mathlib.Core.Logic.{inl, inr}
 use Rattle.fut_scalar.specs.declared.place.BindId.{BindId}
+use Rattle.fut_scalar.specs.declared.scalar.IntType.{IntType}
+use Rattle.fut_scalar.specs.declared.scalar.IntType.TheVariants as int
 use Rattle.fut_scalar.specs.declared.scalar.ScalarType.{ScalarType}
+use Rattle.fut_scalar.specs.declared.scalar.ScalarType.TheVariants as scalar
 use Rattle.fut_flat.specs.declared.pat.Head.{Head}
 use Rattle.fut_flat.specs.declared.program.Definition.{Definition}
 use Rattle.fut_flat.specs.declared.program.Flat.{Flat}
@@ -11,22 +15,29 @@ use Rattle.fut_flat.specs.Numbers.{numbers}
 use Rattle.fut_flat.specs.Erased.{parameters, term_of}
 use Rattle.fut_types.specs.declared.Kind.{Kind}
 use Rattle.fut_types.specs.declared.Kind.TheVariants as kind
-use Rattle.fut_types.specs.Types.{Sub, Kinds}
+use Rattle.fut_types.specs.declared.Head.TheVariants as head
+use Rattle.fut_types.specs.Types.{Ty, Var, Made, Tys, none, more, Sub, Kinds, HasKind, level, applied, all_applied, scalar_ty, fun_ty}
+use Rattle.fut_types.proofs.TyLaws.{level_most, rank_made, least_none, same_parts, same_first, same_rest}
 use Rattle.fut_typing.specs.Names.{Names}
 use Rattle.fut_typing.specs.Free.{has_types}
 use Rattle.fut_typing.specs.Scopes.{Uses, Scope, nothing, with_uses}
 use Rattle.fut_typing.specs.Generalised.{Suits, own_types, Scheme, Reused, Generalised}
-use Rattle.fut_typing.specs.Program.{defined, program_of, program_numbers, definition_scheme, Definitions_typed}
-use Rattle.fut_typing.specs.Exact.{behind, scope_behind}
+use Rattle.fut_typing.specs.Patterns.{arrows}
+use Rattle.fut_typing.specs.Program.{Defined, defined, program_of, program_numbers, definition_scheme, Definitions_typed, Program_typed}
+use Rattle.fut_typing.specs.Exact.{behind, scope_behind, scheme_behind}
 use Rattle.fut_typing.proofs.Local.{uses_here, uses_other}
 use Rattle.type_graph.specs.declared.Node.{Node}
 use Rattle.type_scopes.specs.declared.Inference.{Inference}
-use Rattle.type_infer.specs.Inferring.{Infers}
+use Rattle.type_graph.specs.Graph.{node_at}
+use Rattle.type_infer.specs.Inferring.{Numbers, TypeScheme, Instantiates, Has_scheme, Has_typing, Infers}
+use Rattle.type_infer.specs.Reading.{Reads, Comes_to, Generally, node_default}
 use Rattle.type_homes.specs.Listed.{AreHomes}
 use Rattle.typed_meaning.specs.Meant.{No_sizes}
 use Rattle.typed_meaning.specs.Programs.{Definitions_meant, None_has, One_each}
-use Rattle.typed_programs.specs.Entries.{Type_is, May_be_used, Is_outside, number_of}
+use Rattle.typed_programs.specs.EntryTypes.{scalar_tys, Results_are, Has_entry_type, number_of}
+use Rattle.typed_programs.specs.Entries.{Type_is, No_entry_type, May_be_used, Is_unwritten, Is_outside}
 use Rattle.typed_programs.proofs.EntryTypes.{parameters_data, results_data}
+use Rattle.typed_programs.proofs.Typed.{typing_holds}
 
 suits_none : (places : Kind) (K : Kinds) (c : Sub) (ps : List (Parameter BindId)) → has_types ps ≡ false → Suits places K c ps
 suits_none places K c [] h = tt
@@ -55,6 +66,13 @@ module _ (N : Names) (places : Kind) (K : Kinds) (a : Sub) where
     (record { other = a; outside = λ n o. refl; kept = λ n p q f. refl; typed = g.0 }, refl),
   )
 
+  -- the uses of a definition's name, behind all definitions
+  pub uses_at : (ds : List Definition) (i : ℕ) (some : Definition) (lo : ℕ) (scope : Scope) → i < length ds → One_each ds
+      → (scope_behind N places (map defined ds) lo scope).uses (slice_index_or ds i some).bind.0 ≡ Reused places (scheme (slice_index_or ds i some) (behind (map defined (take i ds)) lo) (scope_behind N places (map defined (take i ds)) lo scope)) (behind (map defined (take i ds)) lo)
+  uses_at [] i some lo scope lt once = absurd (let z : i < 0 = lt in omega arith)
+  uses_at (d ∷ ds) zero some lo scope lt once = stays d.bind.0 ds (next d lo) (entered d lo scope) once.0 ∙ uses_here d.bind.0 (Reused places (scheme d lo scope) lo) scope
+  uses_at (d ∷ ds) (suc i) some lo scope lt once = uses_at ds i some (next d lo) (entered d lo scope) (let z : suc i < suc (length ds) = lt in omega arith) once.1
+
   pub used_at : (ds : List Definition) (i : ℕ) (some : Definition) (lo : ℕ) (scope : Scope) → i < length ds → One_each ds → Definitions_typed N places (map defined ds) lo scope K a
       → has_types (parameters (slice_index_or ds i some).heads.now) ≡ false
       → (scope_behind N places (map defined ds) lo scope).uses (slice_index_or ds i some).bind.0 K a (a (behind (map defined (take i ds)) lo))
@@ -74,26 +92,142 @@ pub behind_counted : (ds : List Definition) (lo : ℕ) → behind (map defined d
 behind_counted [] lo = omega arith
 behind_counted (d ∷ ds) lo = let r = behind_counted ds (lo + (1 + numbers (term_of d.value.now))) in omega (arith, r)
 
+-- ---- instances of types
+
+-- a row of scalars, and a function of scalars, have no other instance
+scalars_stay : (by : Sub) (ss : List ScalarType) → all_applied by (scalar_tys ss) ≡ scalar_tys ss
+unfolding applied scalar_tys
+scalars_stay by [] = refl
+scalars_stay by (s ∷ ss) = ap (more (scalar_ty s)) (scalars_stay by ss)
+
+result_stays : (by : Sub) (tuple : Bool) (rs : List ScalarType) (u : Ty) → Results_are tuple rs u → applied by u ≡ u
+unfolding applied
+result_stays by false [] u r = absurd r
+result_stays by false (s ∷ []) u r = ap (applied by) r ∙ sym r
+result_stays by false (s ∷ t ∷ rs) u r = absurd r
+result_stays by true rs u r = ap (applied by) r.1 ∙ ap (Made head.Tuple) (scalars_stay by rs) ∙ sym r.1
+
+entry_stays : (by : Sub) (ps : List ScalarType) (u : Ty) → applied by u ≡ u → applied by (arrows (scalar_tys ps) u) ≡ arrows (scalar_tys ps) u
+unfolding applied scalar_tys
+entry_stays by [] u e = e
+entry_stays by (p ∷ ps) u e = ap (fun_ty (scalar_ty p)) (entry_stays by ps u e)
+
+-- a type of which two instances are the same is that, if what both put is the same only where nothing is put
+mutual
+  unfolding applied
+
+  unmoved : (f g : Sub) → ((v : ℕ) → f v ≡ g v → f v ≡ Var v) → (t : Ty) → applied f t ≡ applied g t → applied f t ≡ t
+  unmoved f g same (Var v) e = same v e
+  unmoved f g same (Made h ts) e = ap (Made h) (all_unmoved f g same ts (same_parts h h (all_applied f ts) (all_applied g ts) e))
+
+  all_unmoved : (f g : Sub) → ((v : ℕ) → f v ≡ g v → f v ≡ Var v) → (ts : Tys) → all_applied f ts ≡ all_applied g ts → all_applied f ts ≡ ts
+  all_unmoved f g same none e = refl
+  all_unmoved f g same (more t ts) e = λ i. more (unmoved f g same t (same_first (applied f t) (applied g t) (all_applied f ts) (all_applied g ts) e) i) (all_unmoved f g same ts (same_rest (applied f t) (applied g t) (all_applied f ts) (all_applied g ts) e) i)
+
+-- one integer type for all that is generalised
+abbrev all_put : IntType → Bool → ℕ → Ty
+all_put t true v = scalar_ty (scalar.Int t)
+all_put t false v = Var v
+
+integer_suits : (K : Kinds) (k : Kind) (t : IntType) → HasKind K k (scalar_ty (scalar.Int t))
+integer_suits K k t = let most : level k ≤ 4 = level_most k in subst (λ n. level k ≤ n) (sym (rank_made K (head.Scalar (scalar.Int t)) none ∙ ap (λ n. min 4 n) (least_none K))) (omega (arith, most))
+
+puts_integers : (q : TypeScheme) (K : Kinds) (t : IntType) → Instantiates q K (λ v. all_put t (q.general v) v)
+puts_integers q K t = record {
+  chosen = λ v e. subst (λ b. HasKind K (q.kinds v) (all_put t b v)) (sym e) (integer_suits K (q.kinds v) t);
+  left = λ v e. ap (λ b. all_put t b v) e;
+}
+
+two_integers : scalar_ty (scalar.Int int.I32) ≡ scalar_ty (scalar.Int int.U8) → ⊥
+two_integers e = cc
+
+put_apart : (b : Bool) (v : ℕ) → all_put int.I32 b v ≡ all_put int.U8 b v → all_put int.I32 b v ≡ Var v
+put_apart true v e = absurd (two_integers e)
+put_apart false v e = refl
+
 -- ---- entries
-module _ (flat : Flat) (nodes : List Node) (at : ℕ) (lt : at < length flat.definitions.now) where
-  pub may_be_used : One_each flat.definitions.now → ((other : Definition) → has_types (parameters (slice_index_or flat.definitions.now at other).heads.now) ≡ false)
-      → (params : List ScalarType) (tuple : Bool) (results : List ScalarType) → Type_is nodes (number_of flat at) params tuple results → May_be_used flat nodes at params tuple results
-  may_be_used once plain params tuple results is = record {
-    uses = λ other N K a typed shown.
-        let n : ℕ = number_of flat at in
-        let below : n < 0 + program_numbers (program_of flat) = behind_below flat.definitions.now at 0 lt in
-        let r = is (a n) (shown n (omega (arith, below))) in (
-          r.0,
-          r.1,
-          subst (λ t. (scope_behind N kind.Data (program_of flat) 0 nothing).uses (slice_index_or flat.definitions.now at other).bind.0 K a t) r.2
-              (used_at N kind.Data K a flat.definitions.now at other 0 nothing lt once typed (plain other)),
-        );
+
+-- a node has one type
+reads_once : (s : Sub) (nodes : List Node) (i : ℕ) (t u : Ty) → Reads s nodes i t → Reads s nodes i u → t ≡ u
+reads_once s nodes i t u a b = let D : ℕ = a.0 in let E : ℕ = b.0 in sym (a.1 (max D E) (omega arith)) ∙ b.1 (max D E) (omega arith)
+
+some_definition : (ds : List Definition) (at : ℕ) → at < length ds → Definition
+some_definition [] at lt = absurd (let z : at < 0 = lt in omega arith)
+some_definition (d ∷ ds) at lt = d
+
+-- a row, split at one of its definitions
+pub split_at : (ds : List Definition) (i : ℕ) (some : Definition) → i < length ds → map defined ds ≡ map defined (take i ds) ++ defined (slice_index_or ds i some) ∷ map defined (drop (suc i) ds)
+split_at [] i some lt = absurd (let z : i < 0 = lt in omega arith)
+split_at (d ∷ ds) zero some lt = refl
+split_at (d ∷ ds) (suc i) some lt = ap (λ l. defined d ∷ l) (split_at ds i some (let z : suc i < suc (length ds) = lt in omega arith))
+
+module _ (flat : Flat) (inference : Inference) (at : ℕ) (lt : at < length flat.definitions.now) (infers : Infers (program_of flat) inference) (once : One_each flat.definitions.now) (plain : Is_unwritten flat at) where
+  module _ (other : Definition) (N : Names) (numbered : Numbers inference N) (K : Kinds) (a : Sub) (typed : Program_typed N kind.Data (program_of flat) K a) (shown : (n : ℕ) → n < program_numbers (program_of flat) → Comes_to inference.nodes n (a n)) where
+    abbrev before : List Defined
+    before = map defined (take at flat.definitions.now)
+
+    abbrev here : Definition
+    here = slice_index_or flat.definitions.now at other
+
+    abbrev uses : Uses
+    uses = (scope_behind N kind.Data (program_of flat) 0 nothing).uses here.bind.0
+
+    has : Has_typing (program_of flat) inference N
+    has = infers.typing.holds N numbered
+
+    scheme_of : Has_scheme inference.nodes (scheme_behind N kind.Data before (defined here)) K a
+    scheme_of = has.schemes before (map defined (drop (suc at) flat.definitions.now)) (defined here) (split_at flat.definitions.now at other lt) (plain other) K a typed
+        (λ n below. reads_once (λ v. node_default v (node_at inference.nodes v)) inference.nodes n (a n) (has.types n) (shown n below) (has.comes n below))
+
+    -- its uses are the instances
+    to : (t : Ty) → uses K a t → (by : Sub) × Instantiates scheme_of.scheme K by × (t ≡ applied by scheme_of.scheme.type)
+    to t u = (scheme_of.uses t).0 (subst (λ (w : Uses). w K a t) (uses_at N kind.Data K a flat.definitions.now at other 0 nothing lt once) u)
+
+    from : (t : Ty) → (by : Sub) × Instantiates scheme_of.scheme K by × (t ≡ applied by scheme_of.scheme.type) → uses K a t
+    from t i = subst (λ (w : Uses). w K a t) (sym (uses_at N kind.Data K a flat.definitions.now at other 0 nothing lt once)) ((scheme_of.uses t).1 i)
+
+    -- its type has no other instance
+    one_type : (params : List ScalarType) (tuple : Bool) (results : List ScalarType) → Type_is (Generally inference.nodes) (number_of flat at) params tuple results → Has_entry_type uses K a params tuple results
+    one_type params tuple results is =
+        let r = is scheme_of.scheme.type scheme_of.shown in
+        let stays : (by : Sub) → applied by scheme_of.scheme.type ≡ arrows (scalar_tys params) r.0 = λ by. ap (applied by) r.2 ∙ entry_stays by params r.0 (result_stays by tuple results r.0 r.1) in record {
+          result = r.0;
+          results_are = r.1;
+          used = from (arrows (scalar_tys params) r.0) ((λ v. all_put int.I32 (scheme_of.scheme.general v) v), puts_integers scheme_of.scheme K int.I32, sym (stays (λ v. all_put int.I32 (scheme_of.scheme.general v) v)));
+          only = λ t u. let i = to t u in i.2 ∙ stays i.0;
+        }
+
+    -- a type of which each instance is one of an entry is that
+    not_one : No_entry_type (Generally inference.nodes) (number_of flat at) → (params : List ScalarType) (tuple : Bool) (results : List ScalarType) → Has_entry_type uses K a params tuple results → ⊥
+    not_one deny params tuple results h =
+        let put : IntType → Sub = λ t v. all_put t (scheme_of.scheme.general v) v in
+        let is : (t : IntType) → applied (put t) scheme_of.scheme.type ≡ arrows (scalar_tys params) h.result = λ t. h.only (applied (put t) scheme_of.scheme.type) (from (applied (put t) scheme_of.scheme.type) (put t, puts_integers scheme_of.scheme K t, refl)) in
+        deny scheme_of.scheme.type scheme_of.shown params tuple results
+        (h.result, h.results_are, sym (unmoved (put int.I32) (put int.U8) (λ v e. put_apart (scheme_of.scheme.general v) v e) scheme_of.scheme.type (is int.I32 ∙ sym (is int.U8))) ∙ is int.I32)
+
+  pub may_be_used : (params : List ScalarType) (tuple : Bool) (results : List ScalarType) → Type_is (Generally inference.nodes) (number_of flat at) params tuple results → May_be_used flat inference at params tuple results
+  may_be_used params tuple results is = record {
+    entry = λ other N numbered K a typed shown. one_type other N numbered K a typed shown params tuple results is;
     takes_data = λ K. parameters_data K params;
     gives_data = λ K u r. results_data K tuple results u r;
   }
 
-  pub number_within : program_numbers (program_of flat) ≤ length nodes → number_of flat at < length nodes
-  number_within le = let below : number_of flat at < 0 + program_numbers (program_of flat) = behind_below flat.definitions.now at 0 lt in omega (arith, below, le)
+  pub none_outside : No_entry_type (Generally inference.nodes) (number_of flat at) → Is_outside flat inference at
+  none_outside deny = inr (λ other N numbered K a typed shown. not_one other N numbered K a typed shown deny)
+
+  -- an entry's definition is not outside
+  pub not_outside : (params : List ScalarType) (tuple : Bool) (results : List ScalarType) → Type_is (Generally inference.nodes) (number_of flat at) params tuple results → Is_outside flat inference at → ⊥
+  not_outside params tuple results is (inl types) = let some : Definition = some_definition flat.definitions.now at lt in let e : true ≡ false = sym (types some) ∙ plain some in cc
+  not_outside params tuple results is (inr deny) =
+      let some : Definition = some_definition flat.definitions.now at lt in
+      let N : Names = infers.typing.some.0 in
+      let numbered = infers.typing.some.1 in
+      let has = infers.typing.holds N numbered in
+      let typed = typing_holds N (program_of flat) has.types has.typing in
+      deny some N numbered has.typing.principal.kinds has.types typed has.comes params tuple results (one_type some N numbered has.typing.principal.kinds has.types typed has.comes params tuple results is)
+
+pub number_within : (flat : Flat) (nodes : List Node) (at : ℕ) → at < length flat.definitions.now → program_numbers (program_of flat) ≤ length nodes → number_of flat at < length nodes
+number_within flat nodes at lt le = let below : number_of flat at < 0 + program_numbers (program_of flat) = behind_below flat.definitions.now at 0 lt in omega (arith, below, le)
 
 -- the parameters of a definition of a built program are type parameters
 some_types : (ps : List (Parameter BindId)) → No_sizes [] ps → 0 < length ps → has_types ps ≡ true
@@ -124,26 +258,11 @@ same_at [] at x y lt = absurd (let z : at < 0 = lt in omega arith)
 same_at (d ∷ ds) zero x y lt = refl
 same_at (d ∷ ds) (suc at) x y lt = same_at ds at x y (let z : suc at < suc (length ds) = lt in omega arith)
 
-pub outside_heads : (flat : Flat) (nodes : List Node) (at : ℕ) (some : Definition) → at < length flat.definitions.now → Definitions_meant (program_of flat) → 0 < length (slice_index_or flat.definitions.now at some).heads.now → Is_outside flat nodes at
-outside_heads flat nodes at some lt h long = inl (λ other. heads_are_types flat.definitions.now at other lt h (subst (λ (d : Definition). 0 < length d.heads.now) (same_at flat.definitions.now at some other lt) long))
+pub outside_heads : (flat : Flat) (inference : Inference) (at : ℕ) (some : Definition) → at < length flat.definitions.now → Definitions_meant (program_of flat) → 0 < length (slice_index_or flat.definitions.now at some).heads.now → Is_outside flat inference at
+outside_heads flat inference at some lt h long = inl (λ other. heads_are_types flat.definitions.now at other lt h (subst (λ (d : Definition). 0 < length d.heads.now) (same_at flat.definitions.now at some other lt) long))
 
 pub plain_heads : (ds : List Definition) (at : ℕ) (some : Definition) → at < length ds → length (slice_index_or ds at some).heads.now ≤ 0 → (other : Definition) → has_types (parameters (slice_index_or ds at other).heads.now) ≡ false
-plain_heads ds at some lt none other = heads_are_none (slice_index_or ds at other).heads.now (subst (λ (d : Definition). length d.heads.now ≤ 0) (same_at ds at some other lt) none)
-
-some_definition : (ds : List Definition) (at : ℕ) → at < length ds → Definition
-some_definition [] at lt = absurd (let z : at < 0 = lt in omega arith)
-some_definition (d ∷ ds) at lt = d
-
--- an entry's definition is not outside
-pub not_outside : (flat : Flat) (inference : Inference) (at : ℕ) → at < length flat.definitions.now → Infers (program_of flat) inference → ((other : Definition) → has_types (parameters (slice_index_or flat.definitions.now at other).heads.now) ≡ false)
-    → (params : List ScalarType) (tuple : Bool) (results : List ScalarType) → Type_is inference.nodes (number_of flat at) params tuple results → Is_outside flat inference.nodes at → ⊥
-not_outside flat inference at lt infers plain params tuple results is (inl types) = let some : Definition = some_definition flat.definitions.now at lt in let e : true ≡ false = sym (types some) ∙ plain some in cc
-not_outside flat inference at lt infers plain params tuple results is (inr none) =
-    let n : ℕ = number_of flat at in
-    let below : n < 0 + program_numbers (program_of flat) = behind_below flat.definitions.now at 0 lt in
-    let has = infers.typing.holds infers.typing.some.0 infers.typing.some.1 in
-    let comes = has.comes n (omega (arith, below)) in
-    none (has.types n) comes params tuple results (is (has.types n) comes)
+plain_heads ds at some lt empty other = heads_are_none (slice_index_or ds at other).heads.now (subst (λ (d : Definition). length d.heads.now ≤ 0) (same_at ds at some other lt) empty)
 
 pub counted : (flat : Flat) (at : ℕ) (homes : List ℕ) → AreHomes homes (map defined (take at flat.definitions.now)) → length homes ≡ number_of flat at
 counted flat at homes are = let b : behind (map defined (take at flat.definitions.now)) 0 ≡ 0 + program_numbers (map defined (take at flat.definitions.now)) = behind_counted (take at flat.definitions.now) 0 in

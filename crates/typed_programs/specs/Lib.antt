@@ -1,3 +1,4 @@
 pub mod Forms
 pub mod Typed
+pub mod EntryTypes
 pub mod Entries

@@ -12,9 +12,8 @@ use Rattle.fut_typing.specs.Answers.{Typing_is}
 use Rattle.type_graph.specs.declared.Form.{Form}
 use Rattle.type_graph.specs.declared.Node.{Node}
 use Rattle.type_scopes.specs.declared.Inference.{Inference}
-use Rattle.type_answers.specs.Defaults.{Comes_to}
 use Rattle.typed_meaning.specs.Programs.{Is_typed}
-use Rattle.type_infer.specs.Reading.{Is_made}
+use Rattle.type_infer.specs.Reading.{Comes_to, Is_made}
 use Rattle.typed_meaning.specs.Walks.{Is_walkable}
 use Rattle.typed_programs.specs.declared.integers.IntegersErr.{IntegersErr}
 use Rattle.typed_programs.specs.declared.integers.IntegersErr.TheVariants as err
@@ -46,7 +45,7 @@ pub record Is_odd (nodes : List Node) : Type 0 where
   pub node : ℕ
   pub form : Form
   pub within : node < length nodes
-  pub made : (t : Ty) → Comes_to nodes node t → Is_made nodes form t
+  pub made : (t : Ty) → Comes_to nodes node t → Is_made (Comes_to nodes) form t
   pub none : integer_form form ≡ None
 
 -- want of memory aside

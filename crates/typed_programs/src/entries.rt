@@ -1,17 +1,19 @@
-// The types of definitions from which a run may begin, read off the graph.
+// The types of definitions from which a run may begin, read off the graph before any default for what is generalised.
 ghost use Rattle.std.specs.Prelude.{◌≡◌, ◌<◌, ◌≤◌, ◌+◌, [], IfOk, IfErr, OnOk, length};
 ghost use Rattle.fut_typing.specs.Program.{program_of};
 ghost use Rattle.type_graph.specs.Graph.{IsGraph};
 ghost use Rattle.type_infer.specs.Inferring.{Infers};
+ghost use Rattle.type_infer.specs.Reading.{Generally};
 ghost use Rattle.built_forms.specs.Built.{Is_built};
-ghost use Rattle.typed_programs.specs.Entries.{Because, Is_outside, May_be_used, No_entry_type, No_function, No_results, No_scalar, No_scalars, Parameters_are, Pushed, Results_at, Row_is, Type_is, number_of};
+ghost use Rattle.typed_programs.specs.Entries.{Because, Is_outside, Is_unwritten, May_be_used, No_entry_type, No_function, No_results, No_scalar, No_scalars, Parameters_are, Pushed, Results_at, Row_is, Type_is};
+ghost use Rattle.typed_programs.specs.EntryTypes.{number_of};
 
 use crate::forms::{function_of, scalar_of, tuple_of};
 use fut_flat::Flat;
 use fut_scalar::{List, ScalarType};
 use std::alloc::Global;
 use type_homes::homes;
-use type_infer::type_at;
+use type_infer::general_type_at;
 use type_scopes::Inference;
 
 /// A type from which a run may begin: parameters are scalars, and so is the result, or it is a tuple of two or more.
@@ -31,7 +33,8 @@ pub enum EntryTypeErr {
     Memory,
 }
 
-/// Puts the scalar type of a node behind others.
+/// Puts the scalar type of a node behind others. What is generalised has none, though i32 stands for it where its type is
+/// asked for.
 fn push_scalar(
     inference: &Inference<'_>,
     node: u32,
@@ -39,10 +42,10 @@ fn push_scalar(
 ) -> Result<(), EntryTypeErr>
     requires graph { IsGraph inference.now.nodes }
     requires node { node < length inference.now.nodes }
-    ensures ok { OnOk result (Pushed inference.now.nodes node scalars.old scalars.new) }
-    ensures err { IfErr result (Because (No_scalar inference.now.nodes node)) }
+    ensures ok { OnOk result (Pushed (Generally inference.now.nodes) node scalars.old scalars.new) }
+    ensures err { IfErr result (Because (No_scalar (Generally inference.now.nodes) node)) }
 {
-    match scalar_of(type_at(inference, node)) {
+    match scalar_of(general_type_at(inference, node)) {
         Some(scalar) => match scalars.push(scalar) {
             Ok(()) => Ok(()),
             Err(_) => Err(EntryTypeErr::Memory),
@@ -61,13 +64,13 @@ fn params_of(
     requires number { number < length inference.now.nodes }
     requires none { params.old ≡ [] }
     ensures within { IfOk result (λ node. node < length inference.now.nodes) }
-    ensures ok { IfOk result (λ node. Parameters_are inference.now.nodes number params.new node) }
-    ensures result { IfOk result (No_function inference.now.nodes) }
-    ensures err { IfErr result (Because (No_entry_type inference.now.nodes number)) }
+    ensures ok { IfOk result (λ node. Parameters_are (Generally inference.now.nodes) number params.new node) }
+    ensures result { IfOk result (No_function (Generally inference.now.nodes)) }
+    ensures err { IfErr result (Because (No_entry_type (Generally inference.now.nodes) number)) }
 {
     let mut node = number;
     for _ in 0..inference.nodes.len() {
-        match function_of(type_at(inference, node)) {
+        match function_of(general_type_at(inference, node)) {
             Some(first) => match push_scalar(inference, first, params) {
                 Ok(()) => node = first + 1,
                 Err(error) => return Err(error),
@@ -88,8 +91,8 @@ fn scalars_of(
     requires graph { IsGraph inference.now.nodes }
     requires within { first + count ≤ length inference.now.nodes }
     requires none { scalars.old ≡ [] }
-    ensures ok { OnOk result (Row_is inference.now.nodes first count scalars.new) }
-    ensures err { IfErr result (Because (No_scalars inference.now.nodes first count)) }
+    ensures ok { OnOk result (Row_is (Generally inference.now.nodes) first count scalars.new) }
+    ensures err { IfErr result (Because (No_scalars (Generally inference.now.nodes) first count)) }
 {
     for at in 0..count {
         match push_scalar(inference, first + at, scalars) {
@@ -109,10 +112,10 @@ fn results_of(
     requires graph { IsGraph inference.now.nodes }
     requires node { node < length inference.now.nodes }
     requires none { results.old ≡ [] }
-    ensures ok { IfOk result (λ tuple. Results_at inference.now.nodes node tuple results.new) }
-    ensures err { IfErr result (Because (No_results inference.now.nodes node)) }
+    ensures ok { IfOk result (λ tuple. Results_at (Generally inference.now.nodes) node tuple results.new) }
+    ensures err { IfErr result (Because (No_results (Generally inference.now.nodes) node)) }
 {
-    match tuple_of(type_at(inference, node)) {
+    match tuple_of(general_type_at(inference, node)) {
         Some((first, count)) => {
             if count < 2 {
                 return Err(EntryTypeErr::Outside);
@@ -137,8 +140,8 @@ fn entry_type_of(
 ) -> Result<EntryType, EntryTypeErr>
     requires graph { IsGraph inference.now.nodes }
     requires number { number < length inference.now.nodes }
-    ensures ok { IfOk result (λ entry. Type_is inference.now.nodes number entry.params entry.tuple entry.results) }
-    ensures err { IfErr result (Because (No_entry_type inference.now.nodes number)) }
+    ensures ok { IfOk result (λ entry. Type_is (Generally inference.now.nodes) number entry.params entry.tuple entry.results) }
+    ensures err { IfErr result (Because (No_entry_type (Generally inference.now.nodes) number)) }
 {
     let mut params = List::new(alloc);
     let mut results = List::new(alloc);
@@ -176,8 +179,8 @@ fn number_of_name(alloc: Global, flat: &Flat<'_>, at: usize) -> Result<u32, Entr
     }
 }
 
-/// The type of a definition, `at` in the row of definitions, as one from which a run may begin: in each typing that the graph
-/// shows it may be used at this type. The cost is linear.
+/// The type of a definition, `at` in the row of definitions, as one from which a run may begin: it has no written type
+/// parameters, and in each typing that the graph shows it is used at this type and at no other. The cost is linear.
 pub fn entry_type(
     alloc: Global,
     flat: &Flat<'_>,
@@ -187,9 +190,10 @@ pub fn entry_type(
     requires infers { Infers (program_of flat.now) inference.now }
     requires built { Is_built flat.now }
     requires at { at < length flat.now.definitions.now }
-    ensures ok { IfOk result (λ entry. May_be_used flat.now inference.now.nodes at entry.params entry.tuple entry.results) }
-    ensures within { IfOk result (λ entry. Is_outside flat.now inference.now.nodes at → ⊥) }
-    ensures outside { IfErr result (Because (Is_outside flat.now inference.now.nodes at)) }
+    ensures ok { IfOk result (λ entry. May_be_used flat.now inference.now at entry.params entry.tuple entry.results) }
+    ensures unwritten { IfOk result (λ entry. Is_unwritten flat.now at) }
+    ensures within { IfOk result (λ entry. Is_outside flat.now inference.now at → ⊥) }
+    ensures outside { IfErr result (Because (Is_outside flat.now inference.now at)) }
 {
     // Of a built program these are type parameters alone.
     if flat.definitions[at].heads.len() > 0 {

@@ -10,3 +10,4 @@ pub mod Back
 pub mod Principal
 pub mod Programs
 pub mod Settled
+pub mod OneType

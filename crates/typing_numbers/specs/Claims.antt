@@ -1,12 +1,16 @@
 -- Whether a program has a typing, and which answer there is to the question for its types, does not hang on how names and
 -- records are numbered: what holds under one numbering holds under each. Two numberings may also differ in the order of a
 -- record's parts.
-use Rattle.std.specs.Prelude.{◌≡◌, ℕ, ◌<◌, List}
+use Rattle.std.specs.Prelude.{◌≡◌, ℕ, ◌<◌, false, List, ◌∷◌, ◌++◌}
 use Rattle.fut_types.specs.declared.Kind.{Kind}
-use Rattle.fut_types.specs.Types.{Sub}
+use Rattle.fut_types.specs.declared.Kind.TheVariants as kind
+use Rattle.fut_types.specs.Types.{Ty, Sub, Kinds}
 use Rattle.fut_typing.specs.Names.{Names, AreNames}
+use Rattle.fut_typing.specs.Free.{has_types}
+use Rattle.fut_typing.specs.Generalised.{Reused}
 use Rattle.fut_typing.specs.Program.{Defined, program_numbers, Program_typed}
 use Rattle.fut_typing.specs.Answers.{Principal, Typing_is, Typable, NoType, FunctionPlace, Ambiguous}
+use Rattle.fut_typing.specs.Exact.{behind, scheme_behind}
 use Rattle.typing_numbers.specs.Alike.{Alike, Settled}
 
 -- what holds of a program under one numbering holds of it under each
@@ -30,6 +34,18 @@ TypingIsOne = (M N : Names) → AreNames M → AreNames N → (ds : List Defined
 -- two typings to go on with, under whatever numberings, have the same types where neither a variable nor a record stands in one
 abbrev pub SettledIsOne : Type 0
 SettledIsOne = (M N : Names) → AreNames M → AreNames N → (ds : List Defined) (types others : Sub) → Typing_is M ds types → Typing_is N ds others → (n : ℕ) → n < program_numbers ds → Settled (types n) → others n ≡ types n
+
+-- the definition behind these is used at this type alone
+abbrev pub Used_alone : Names → List Defined → Defined → Kinds → Sub → Ty → Type 0
+Used_alone N before d K a t = Reused kind.Data (scheme_behind N kind.Data before d) (behind before 0) K a t × ((u : Ty) → Reused kind.Data (scheme_behind N kind.Data before d) (behind before 0) K a u → u ≡ t)
+
+-- a definition without written type parameters that is used at one settled type alone in a typing to go on with is used at it
+-- alone in each, under whatever numbering
+abbrev pub OneTypeIsOne : Type 0
+OneTypeIsOne = (M N : Names) → AreNames M → AreNames N → (before after : List Defined) (d : Defined) → has_types d.parameters ≡ false
+    → (types others : Sub) → Typing_is M (before ++ d ∷ after) types → Typing_is N (before ++ d ∷ after) others
+    → (K L : Kinds) → Program_typed M kind.Data (before ++ d ∷ after) K types → Program_typed N kind.Data (before ++ d ∷ after) L others
+    → (t : Ty) → Settled t → Used_alone M before d K types t → Used_alone N before d L others t
 
 -- it has no typing, even if functions may stand everywhere
 abbrev pub NoTypeIsOne : Type 0

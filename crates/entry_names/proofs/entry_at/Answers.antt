@@ -3,7 +3,7 @@ use Rattle.entry_names.proofs.Searching.{ended, found, passed}
 use Rattle.entry_names.proofs.entry_at.Goals as goal
 
 pub returns-then-begins-clause-found : goal.returns-then-begins-clause-found
-returns-then-begins-clause-found c = found c.args.flat.now c.args.name.now c.loop-at.at _ c.begins.result c.loop-at-test.true c.begins.ensures c.if-begins.true
+returns-then-begins-clause-found c = found c.args.flat.now c.args.name.now c.loop-at.at _ c.begins.result c.loop-at-test.true c.begins.ensures c.if-begins.true c.loop-at.invariant
 
 pub loop-at-preserved : goal.loop-at-preserved
 loop-at-preserved c = passed c.args.flat.now c.args.name.now c.loop-at.at _ c.begins.result c.begins.ensures c.if-begins.false c.loop-at.invariant

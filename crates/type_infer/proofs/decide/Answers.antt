@@ -5,8 +5,8 @@ use Rattle.type_infer.proofs.Answering.{decided, undecided}
 use Rattle.type_infer.proofs.decide.Goals as goal
 
 pub returns-in-Ok-None-clause-ok : goal.returns-in-Ok-None-clause-ok
-returns-in-Ok-None-clause-ok c = decided (program_of c.args.flat.now) c.args.inference.now c.requires.graph c.put_defaults.new.nodes
-    (subst (λ m. (n : ℕ) → n < m → Decided c.args.inference.now.nodes n) c.requires.base (subst (λ (o : Option (ℕ × ℕ)). IfNone o ((n : ℕ) → n < c.args.base → Decided c.args.inference.now.nodes n)) c.in-Ok-None.field-0-is c.in-Ok-None.ensures.none)) c.put_defaults.ensures.graph c.put_defaults.ensures.long c.put_defaults.ensures.types
+returns-in-Ok-None-clause-ok c = decided (program_of c.args.flat.now) c.args.inference.now c.requires.graph
+    (subst (λ m. (n : ℕ) → n < m → Decided c.args.inference.now.nodes n) c.requires.base (subst (λ (o : Option (ℕ × ℕ)). IfNone o ((n : ℕ) → n < c.args.base → Decided c.args.inference.now.nodes n)) c.in-Ok-None.field-0-is c.in-Ok-None.ensures.none))
 
 pub returns-in-Ok-Some-clause-err : goal.returns-in-Ok-Some-clause-err
 returns-in-Ok-Some-clause-err c = let p : ℕ × ℕ = (c.in-Ok-Some.at, c.in-Ok-Some.field-0-0-1) in undecided (program_of c.args.flat.now) c.args.inference.now c.requires.graph p.0 p.1

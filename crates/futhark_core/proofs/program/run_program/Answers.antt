@@ -4,7 +4,7 @@ use Rattle.futhark_core.proofs.program.run_program.Goals as goal
 
 pub returns-in-Ok : goal.returns-in-Ok
 returns-in-Ok g c = λ source same resolved.
-    c.run_entered.ensures source same resolved (λ e number typed. into c.args.accepted.now.flat _ c.in-Some.at c.in-Some.ensures.found source same e _ number typed)
+    c.run_entered.ensures source same resolved (λ e number typed. into c.args.accepted.now.flat _ c.in-Some.at c.in-Some.ensures.found c.in-Ok.ensures.unwritten source same e _ number typed)
 
 pub returns-in-Err-Outside : goal.returns-in-Err-Outside
 returns-in-Err-Outside g c = λ source same resolved.

@@ -1,5 +1,6 @@
 use Rattle.typing_numbers.proofs.Programs.{typable_is_one, principal_is_one, typing_is_one}
 use Rattle.typing_numbers.proofs.Settled.{settled_is_one}
+use Rattle.typing_numbers.proofs.OneType.{one_type_is_one}
 use Rattle.typing_numbers.proofs.laws.typings_hang_on_no_numbering.Goals as goal
 
 pub returns-clause-typable : goal.returns-clause-typable
@@ -13,3 +14,6 @@ returns-clause-typing c = typing_is_one
 
 pub returns-clause-settled : goal.returns-clause-settled
 returns-clause-settled c = settled_is_one
+
+pub returns-clause-one : goal.returns-clause-one
+returns-clause-one c = one_type_is_one
