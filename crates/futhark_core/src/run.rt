@@ -18,6 +18,10 @@ use fut_token::Token;
 use futhark_status::{Status, report};
 use std::alloc::Global;
 
+/// How many bytes the trees and blocks of a run may take. What unfolds may have as many parts as a program likes, so that it
+/// is this limit that ends a run before the machine has no memory left.
+const MOST_BYTES: usize = 2_147_483_648;
+
 /// What is done with the source that tokens spell. Its trees stand in memory until then.
 fn run_tokens<S: Source, K: Sink>(
     alloc: Global,
@@ -36,6 +40,7 @@ fn run_tokens<S: Source, K: Sink>(
         return Status::Memory;
     };
     let bump = Bump::new(alloc);
+    bump.set_allocation_limit(Some(MOST_BYTES));
     match accept(alloc, &bump, &prelude, tokens) {
         Ok(accepted) => act(alloc, &bump, command, &accepted, path, input, out),
         Err(refused) => status_of(why_of(refused), path),

@@ -23,7 +23,11 @@ pub fn field<'a>(
     on_part(bump, at, at, Act::Project(name), part)
 }
 
-/// A name, and the fields that follow it in a path.
+/// The most fields that may follow a name. A field is a node around what it is taken of, and a program of more nodes in one
+/// another than this is too deep to be run, so that no later stage goes deeper for a path than for what may be run.
+const MOST_FIELDS: usize = 1_000;
+
+/// A name, and the fields that follow it in a path. More than 1,000 of them are want of memory.
 #[tactic(auto, using(crate::proofs::Parts::paths))]
 pub fn path<'a>(
     bump: &'a Bump,
@@ -34,6 +38,9 @@ pub fn path<'a>(
 ) -> Result<&'a Exp<'a>, Stop<'a>>
     ensures { Built0 (λ x. term_of x.now ≡ projected at (Use of at modules) (texts fields.now)) result }
 {
+    if fields.len() > MOST_FIELDS {
+        return Err(Stop::Memory);
+    }
     let mut made = node(bump, at, Form::Use(of, modules));
     for name in fields {
         made = field(bump, at, made, *name);

@@ -5,7 +5,7 @@ use Rattle.fut_types.specs.declared.Kind.{Kind}
 use Rattle.fut_types.specs.declared.Head.{Head}
 use Rattle.fut_types.specs.declared.shapes.ShapeTable.{ShapeTable}
 use Rattle.fut_types.specs.Types.{level}
-use Rattle.fut_types.specs.Shapes.{place}
+use Rattle.fut_types.specs.Shapes.{place, Tells_position}
 use Rattle.type_graph.specs.declared.Form.{Form}
 use Rattle.type_graph.specs.declared.Form.TheVariants as form
 use Rattle.type_graph.specs.declared.Node.{Node}
@@ -205,7 +205,7 @@ module _ (table : ShapeTable) (nodes : List Node) (r label c : ℕ) (nd : Node) 
           (made_part T nodes r label hd x n g h (form_is _ f) p is lt);
     }
 
-    pub end_lacks : (T : Tables) → place T.shapes label hd ≡ None → Refuses T nodes (task.Part r label c)
+    pub end_lacks : (T : Tables) → Tells_position None (place T.shapes label hd) → Refuses T nodes (task.Part r label c)
     end_lacks T is = lacks_name T nodes r label hd x n g h (form_is _ f) c is
 
     pub end_past : (T : Tables) (p : ℕ) → place T.shapes label hd ≡ Some p → n ≤ p → Refuses T nodes (task.Part r label c)

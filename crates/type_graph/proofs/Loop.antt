@@ -4,6 +4,7 @@ use Rattle.fut_types.specs.declared.shapes.ShapeTable.{ShapeTable}
 use Rattle.fut_types.specs.declared.Head.TheVariants as head
 use Rattle.fut_types.specs.Types.{Made, none, Sub, Kinds}
 use Rattle.fut_types.specs.Shapes.{Shapes, fields_of, position_at}
+use Rattle.fut_types.proofs.ShapeLaws.{tells_same}
 use Rattle.type_graph.specs.declared.Node.{Node}
 use Rattle.type_graph.specs.declared.Entry.{Entry}
 use Rattle.type_graph.specs.declared.Task.{Task}
@@ -24,7 +25,7 @@ self_tables table entries = record { shapes = table_shapes table; entry = entry_
 
 pub told_self : (table : ShapeTable) (entries : List Entry) → Told table entries (self_tables table entries)
 unfolding self_tables table_shapes
-told_self table entries = record { shapes = record { fields = λ n lt. refl; position = λ l lt. refl }; listed = λ e lt. refl }
+told_self table entries = record { shapes = record { fields = λ n lt. refl; position = λ l lt. tells_same (position_at table l) _ refl }; listed = λ e lt. refl }
 
 pub bound_more : (table : ShapeTable) (m m' : ℕ) (nodes : List Node) → m ≤ m' → IsBound table m nodes → IsBound table m' nodes
 bound_more table m m' nodes h b = record { forms = λ i lt. go (node_at nodes i).form (b.forms i lt) }

@@ -7,9 +7,9 @@ use Rattle.fut_types.specs.declared.Head.{Head}
 use Rattle.fut_types.specs.declared.Head.TheVariants as head
 use Rattle.fut_types.specs.declared.shapes.ShapeTable.{ShapeTable}
 use Rattle.fut_types.specs.Types.{Ty, Made, Tys, Sub, Kinds, level, rank, row}
-use Rattle.fut_types.specs.Shapes.{Shapes, HasPart, place}
+use Rattle.fut_types.specs.Shapes.{Shapes, HasPart, place, Tells_position, most_parts}
 use Rattle.fut_types.proofs.TyLaws.{level_most, same_head, same_parts, row_long, long}
-use Rattle.fut_types.proofs.ShapeLaws.{one_part, named_rank, named_cap, named_row, past_row, no_place}
+use Rattle.fut_types.proofs.ShapeLaws.{one_part, named_rank, named_cap, named_row, past_row, told_lacks}
 use Rattle.type_graph.specs.declared.Form.{Form}
 use Rattle.type_graph.specs.declared.Form.TheVariants as form
 use Rattle.type_graph.specs.declared.Node.{Node}
@@ -252,9 +252,10 @@ module _ (T : Tables) (nodes : List Node) (r label : ℕ) (h : Head) (x n : ℕ)
   pub made_part : (p : ℕ) → place T.shapes label h ≡ Some p → p < n → (v : Reading) (K : Kinds) (a : Sub) → Solves (read T v) K a nodes → HasPart T.shapes label (a r) (a (x + p))
   made_part p is lt v K a s = subst (λ t. HasPart T.shapes label t (a (x + p))) (sym (subst (Shows (read T v) a (a r)) e (s.fits r hr).shows ∙ place_plain T.shapes label p v h (row a x n) is)) (named_row T.shapes label h a x n p is lt)
 
-  pub lacks_name : (c : ℕ) → place T.shapes label h ≡ None → Refuses T nodes (task.Part r label c)
+  pub lacks_name : (c : ℕ) → Tells_position None (place T.shapes label h) → Refuses T nodes (task.Part r label c)
   unfolding Holds
-  lacks_name c is pl K a s q = no_place T.shapes label h (row a x n) (a c) is (subst (λ t. HasPart T.shapes label t (a c)) (plain_is T nodes r h x n g hr e pl K a s) q)
+  lacks_name c absent pl K a s q = told_lacks T.shapes label h a x n (a c) absent
+      (let b : x + n ≤ length nodes = subst (Within (length nodes) r) e (g.within r hr) in let short : length nodes < most_parts = g.short in omega arith) (subst (λ t. HasPart T.shapes label t (a c)) (plain_is T nodes r h x n g hr e pl K a s) q)
 
   pub lacks_place : (c p : ℕ) → place T.shapes label h ≡ Some p → n ≤ p → Refuses T nodes (task.Part r label c)
   unfolding Holds

@@ -2,12 +2,12 @@
 use Rattle.std.proofs.Common.{◌≡◌, ◌↔◌, ℕ, zero, suc, ◌+◌, ◌-◌, ◌≤◌, ◌<◌, List, [], ◌∷◌, length, map, Option, Some, None, refl, sym, ◌∙◌, ap, subst, arith}
 use Rattle.fut_ast.specs.Sorts.{Text}
 use Rattle.fut_types.specs.declared.shapes.ShapeTable.{ShapeTable}
-use Rattle.fut_types.specs.Shapes.{Rising, Tells, position_at, fields_of}
+use Rattle.fut_types.specs.Shapes.{Rising, Tells, Tells_position, position_at, fields_of}
 use Rattle.fut_typing.specs.Names.{Names, AreNames, Spells}
 use Rattle.fut_typing.proofs.Members.{In, in_list, list_in}
 use Rattle.fut_typing.proofs.Model.{listed, code, code_listed, listed_code, members, members_once, one_set, gaps, in_gaps, gaps_in, spelled, to_spells, from_spells}
 use Rattle.type_labels.specs.declared.labels.Labels.{Labels}
-use Rattle.type_labels.specs.Labels.{number_of, record_of, IsLabels, Labelled}
+use Rattle.type_labels.specs.Labels.{number_of, record_of, IsLabels, Labelled, Tells_number}
 use Rattle.type_labels.proofs.Permutations.{Permutation, one_to, one_fro, Apart_below, permutation}
 
 -- a rising list by its gaps
@@ -51,10 +51,9 @@ module _ (p q : Permutation) where
     );
   }
 
-same_option : (x y : Option ℕ) → ((m : ℕ) → x ≡ Some m → y ≡ Some m) → ((m : ℕ) → y ≡ Some m → x ≡ Some m) → x ≡ y
-same_option (Some m) y f g = sym (f m refl)
-same_option None (Some m) f g = g m refl
-same_option None None f g = refl
+told_position : (s : Text) (o : Option ℕ) → Tells_number (Spells s) o → Tells_position o (spelled s)
+told_position s (Some m) h = from_spells s m h
+told_position s None h = λ m e. h m (to_spells s m e)
 
 some_is : (n m : ℕ) → Some n ≡ Some m → n ≡ m
 some_is n m e = cc
@@ -93,9 +92,7 @@ module _ (labels : Labels) (table : ShapeTable) (is : IsLabels labels table) whe
           label = λ s n h. let lt = is.within s n h in ap (λ t. p.0.fro (code t)) (is.one s (is.name n) n h (is.named n lt)) ∙ name_is n lt;
           shapes = record {
             fields = λ n lt. ap (λ m. members 0 (listed m)) (q.1 n lt) ∙ ap (members 0) (listed_code (row_gaps n)) ∙ row_is n lt;
-            position = λ l lt. ap spelled (text_at l lt) ∙ same_option (spelled (is.name l)) (position_at table l)
-                (λ m e. (is.spelled (is.name l) l m (is.named l lt)).1 (to_spells (is.name l) m e))
-                (λ m e. from_spells (is.name l) m ((is.spelled (is.name l) l m (is.named l lt)).0 e));
+            position = λ l lt. subst (λ t. Tells_position (position_at table l) (spelled t)) (sym (text_at l lt)) (told_position (is.name l) (position_at table l) (is.spelled (is.name l) l (is.named l lt)));
           };
         },
       )

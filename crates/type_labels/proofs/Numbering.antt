@@ -1,5 +1,5 @@
 -- One name more.
-use Rattle.std.proofs.Common.{◌≡◌, ◌↔◌, ℕ, zero, suc, ◌+◌, ◌≤◌, ◌<◌, Bool, true, false, cond, List, [], ◌∷◌, ◌++◌, length, slice_index_or, Option, Some, None, refl, sym, ◌∙◌, ap, subst, arith}
+use Rattle.std.proofs.Common.{◌≡◌, ℕ, zero, suc, ◌+◌, ◌≤◌, ◌<◌, Bool, true, false, cond, List, [], ◌∷◌, ◌++◌, length, slice_index_or, Option, Some, None, refl, sym, ◌∙◌, ap, subst, arith}
 use Rattle.std.specs.Str.{bytes_eq}
 use Rattle.std.specs.HashMap.{get_by}
 use Rattle.std.proofs.lemmas.Slice.Eq.{bytes_eq-Decides}
@@ -11,7 +11,7 @@ use Rattle.fut_types.specs.declared.shapes.ShapeTable.{ShapeTable}
 use Rattle.fut_types.specs.Shapes.{IsTable, Rising, position_at, fields_of, row_of, some_fields, label_at, labels_from}
 use Rattle.fut_typing.specs.Names.{Spells}
 use Rattle.type_labels.specs.declared.labels.Labels.{Labels}
-use Rattle.type_labels.specs.Labels.{number_of, record_of, row_in, IsLabels, Goes_on, One_more}
+use Rattle.type_labels.specs.Labels.{number_of, record_of, row_in, IsLabels, Goes_on, One_more, Tells_number}
 
 some_is : (n m : ℕ) → Some n ≡ Some m → n ≡ m
 some_is n m e = cc
@@ -50,7 +50,7 @@ rows_same table table' n r l h = subst (λ rs. (slice_index_or rs n some_fields)
 
 -- a new name
 module _ (labels labels' : Labels) (table table' : ShapeTable) (text : Text) (place : Option ℕ) (fresh : number_of labels text ≡ None)
-    (spells : (m : ℕ) → (place ≡ Some m) ↔ Spells text m) (known : (s : Text) → number_of labels' s ≡ cond (bytes_eq text s) (Some (length table.positions)) (number_of labels s))
+    (spells : Tells_number (Spells text) place) (known : (s : Text) → number_of labels' s ≡ cond (bytes_eq text s) (Some (length table.positions)) (number_of labels s))
     (same_records : table'.records ≡ table.records) (same_labels : table'.labels ≡ table.labels) (places : table'.positions ≡ table.positions ++ place ∷ []) (same_rows : (ls : List ℕ) → record_of labels' ls ≡ record_of labels ls) (is : IsLabels labels table) where
   cases : (s : Text) (n : ℕ) → number_of labels' s ≡ Some n → ((text ≡ s) × (n ≡ length table.positions)) ⊎ (number_of labels s ≡ Some n)
   cases s n h = go (bytes_eq text s) refl
@@ -83,10 +83,10 @@ module _ (labels labels' : Labels) (table table' : ShapeTable) (text : Text) (pl
   pub named_on : Goes_on labels table labels' table'
   named_on = record { numbers = old_number; fields = []; records = same_records ∙ append_none table.records; row = []; labels_are = same_labels ∙ append_none table.labels; places = place ∷ []; positions = places }
 
-  spelled' : (s : Text) (n m : ℕ) → number_of labels' s ≡ Some n → (position_at table' n ≡ Some m) ↔ Spells s m
-  spelled' s n m h = elim (cases s n h) as (λ d. (position_at table' n ≡ Some m) ↔ Spells s m) [
-    | inl e ↦ subst (λ j. (position_at table' j ≡ Some m) ↔ Spells s m) (sym e.1) (subst (λ t. (position_at table' (length table.positions) ≡ Some m) ↔ Spells t m) e.0 (subst (λ p. (p ≡ Some m) ↔ Spells text m) (sym at_new) (spells m)))
-    | inr o ↦ subst (λ p. (p ≡ Some m) ↔ Spells s m) (sym (at_old n (is.within s n o))) (is.spelled s n m o)
+  spelled' : (s : Text) (n : ℕ) → number_of labels' s ≡ Some n → Tells_number (Spells s) (position_at table' n)
+  spelled' s n h = elim (cases s n h) as (λ d. Tells_number (Spells s) (position_at table' n)) [
+    | inl e ↦ subst (λ j. Tells_number (Spells s) (position_at table' j)) (sym e.1) (subst (λ t. Tells_number (Spells t) (position_at table' (length table.positions))) e.0 (subst (Tells_number (Spells text)) (sym at_new) spells))
+    | inr o ↦ subst (Tells_number (Spells s)) (sym (at_old n (is.within s n o))) (is.spelled s n o)
   ]
 
   one' : (s t : Text) (n : ℕ) → number_of labels' s ≡ Some n → number_of labels' t ≡ Some n → s ≡ t
@@ -268,7 +268,7 @@ module _ (labels labels' : Labels) (table table' : ShapeTable) (row : List ℕ) 
     name = is.name;
     named = λ n lt. same_numbers (is.name n) ∙ is.named n (subst (λ ps. n < length ps) more.positions lt);
     one = λ s t n h k. is.one s t n (sym (same_numbers s) ∙ h) (sym (same_numbers t) ∙ k);
-    spelled = λ s n m h. subst (λ p. (p ≡ Some m) ↔ Spells s m) (sym (same_positions n)) (is.spelled s n m (sym (same_numbers s) ∙ h));
+    spelled = λ s n h. subst (Tells_number (Spells s)) (sym (same_positions n)) (is.spelled s n (sym (same_numbers s) ∙ h));
     rows = λ n lt. elim (lower n lt) as (λ d. record_of labels' (fields_of table' n) ≡ Some n) [
       | inl o ↦ ap (record_of labels') (fields_old n o) ∙ record_old (fields_of table n) n (is.rows n o)
       | inr e ↦ subst (λ m. record_of labels' (fields_of table' m) ≡ Some m) (sym e) (ap (record_of labels') fields_new ∙ new_record)
@@ -291,7 +291,7 @@ no_table labels table rs ps none nothing = record {
   name = λ n. [];
   named = λ n lt. absurd (let l : length table.positions ≡ 0 = ap length ps in omega arith);
   one = λ s t n h k. absurd (none_not n (number_of labels s) (none s) h);
-  spelled = λ s n m h. absurd (none_not n (number_of labels s) (none s) h);
+  spelled = λ s n h. absurd (none_not n (number_of labels s) (none s) h);
   rows = λ n lt. absurd (no_record n lt);
   found = λ ls n h. absurd (none_not n (record_of labels ls) (nothing ls) h);
 }

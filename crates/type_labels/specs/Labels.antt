@@ -1,5 +1,5 @@
 -- A numbering of names and records, of which a part is known.
-use Rattle.std.specs.Prelude.{◌≡◌, ◌↔◌, ℕ, ◌<◌, List, [], ◌∷◌, ◌++◌, length, Option, Some}
+use Rattle.std.specs.Prelude.{◌≡◌, ℕ, ◌<◌, ◌≤◌, List, [], ◌∷◌, ◌++◌, length, Option, Some, None}
 use Rattle.std.specs.Str.{bytes_eq}
 use Rattle.std.specs.Cmp.Lexicographic.{pointwise}
 use Rattle.std.specs.Bool.{nat_eq}
@@ -8,7 +8,7 @@ use Rattle.std.specs.declared.vec.Vec.{Vec}
 use Rattle.fut_ast.specs.Sorts.{Text}
 use Rattle.fut_types.specs.declared.shapes.Fields.{Fields}
 use Rattle.fut_types.specs.declared.shapes.ShapeTable.{ShapeTable}
-use Rattle.fut_types.specs.Shapes.{IsTable, Tells, position_at, fields_of}
+use Rattle.fut_types.specs.Shapes.{IsTable, Tells, position_at, fields_of, most_parts}
 use Rattle.fut_typing.specs.Names.{Names, AreNames, Spells}
 use Rattle.type_labels.specs.declared.labels.Labels.{Labels}
 
@@ -23,6 +23,11 @@ row_in rows ls = get_by (λ k. pointwise nat_eq ls k.items) rows
 abbrev pub record_of : Labels → List ℕ → Option ℕ
 record_of labels ls = row_in labels.rows ls
 
+-- what is told of the number that a name spells: the number, or that it is none or past all parts
+abbrev pub Tells_number : (ℕ → Type 0) → Option ℕ → Type 0
+Tells_number Is (Some m) = Is m
+Tells_number Is None = (m : ℕ) → Is m → most_parts ≤ m
+
 -- the table in hand is well-formed: each name and each record has one number, each number is that of one, and a name that is a
 -- position names that part
 pub record IsLabels (labels : Labels) (table : ShapeTable) : Type 0 where
@@ -31,7 +36,7 @@ pub record IsLabels (labels : Labels) (table : ShapeTable) : Type 0 where
   pub name : ℕ → Text
   pub named : (n : ℕ) → n < length table.positions → number_of labels (name n) ≡ Some n
   pub one : (s t : Text) (n : ℕ) → number_of labels s ≡ Some n → number_of labels t ≡ Some n → s ≡ t
-  pub spelled : (s : Text) (n m : ℕ) → number_of labels s ≡ Some n → (position_at table n ≡ Some m) ↔ Spells s m
+  pub spelled : (s : Text) (n : ℕ) → number_of labels s ≡ Some n → Tells_number (Spells s) (position_at table n)
   pub rows : (n : ℕ) → n < length table.records → record_of labels (fields_of table n) ≡ Some n
   pub found : (ls : List ℕ) (n : ℕ) → record_of labels ls ≡ Some n → (n < length table.records) × (fields_of table n ≡ ls)
 

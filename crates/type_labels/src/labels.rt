@@ -54,15 +54,11 @@ pub fn label<'a>(
         Some(number) => return Ok(number),
         None => {}
     }
-    let place = match position(text) {
-        Ok(place) => place,
-        Err(_) => return Err(NoMemory),
-    };
     let number = table.positions.len();
     if number >= 4294967295 {
         return Err(NoMemory);
     }
-    match table.positions.push(place) {
+    match table.positions.push(position(text)) {
         Ok(()) => {}
         Err(_) => return Err(NoMemory),
     }

@@ -6,7 +6,7 @@ use Rattle.fut_types.specs.declared.Head.{Head}
 use Rattle.fut_types.specs.declared.Head.TheVariants as head
 use Rattle.fut_types.specs.declared.shapes.Fields.{Fields}
 use Rattle.fut_types.specs.declared.shapes.ShapeTable.{ShapeTable}
-use Rattle.fut_types.specs.Shapes.{Shapes, IsTable, IsKnown, Tells, fields_of, row_of, labels_from, position_at, some_fields}
+use Rattle.fut_types.specs.Shapes.{Shapes, IsTable, IsKnown, Tells, Tells_position, fields_of, row_of, labels_from, position_at, some_fields}
 use Rattle.fut_typing.specs.Names.{Names, Once}
 use Rattle.type_graph.specs.declared.Form.{Form}
 use Rattle.type_graph.specs.declared.Form.TheVariants as form
@@ -50,7 +50,7 @@ module _ (l0 l1 : Labels) (t0 t1 : ShapeTable) (is : IsTable t0) (on : Goes_on l
   pub tells_less : (S : Shapes) → Tells t1 S → Tells t0 S
   tells_less S t = record {
     fields = λ n lt. t.fields n (let m : length t0.records ≤ length t1.records = more_records in omega arith) ∙ fields_same n lt;
-    position = λ n lt. t.position n (let m : length t0.positions ≤ length t1.positions = more_positions in omega arith) ∙ position_same n lt;
+    position = λ n lt. subst (λ o. Tells_position o (S.position n)) (position_same n lt) (t.position n (let m : length t0.positions ≤ length t1.positions = more_positions in omega arith));
   }
 
   pub labelled_less : (N : Names) → Labelled l1 t1 N → Labelled l0 t0 N
