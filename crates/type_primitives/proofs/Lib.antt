@@ -1,3 +1,3 @@
-pub mod Reading
 pub mod Listing
+pub mod Asking
 pub mod Using

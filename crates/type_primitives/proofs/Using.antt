@@ -1,25 +1,42 @@
 -- What the demands of a use say together.
-use Rattle.std.proofs.Common.{◌≡◌, ℕ, zero, suc, ◌+◌, ◌≤◌, ◌<◌, IsTrue, ◌&&◌, nat_lt, List, [], ◌∷◌, ◌++◌, length, refl, sym, ◌∙◌, ap, subst, arith}
+use Rattle.std.proofs.Common.{◌≡◌, ℕ, zero, suc, ◌+◌, ◌≤◌, ◌<◌, true, nat_lt, List, [], ◌∷◌, refl, sym, ◌∙◌, ap, subst, arith}
+use Rattle.std.proofs.lemmas.Bool.{ltb-true}
 use mathlib.Core.Logic.{inl, inr}
-use Rattle.fut_scalar.specs.declared.scalar.ScalarType.{ScalarType}
 use Rattle.fut_flat.specs.declared.prim.Primitive.{Primitive}
+use Rattle.fut_flat.specs.declared.prim.Primitive.TheVariants as prim
+use Rattle.fut_primitives.specs.declared.written.Letter.{Letter}
+use Rattle.fut_primitives.specs.declared.written.Letter.TheVariants as letter
+use Rattle.fut_primitives.specs.Written.{number}
+use Rattle.fut_primitives.specs.Table.{written, own_of, from_of}
 use Rattle.fut_types.specs.declared.Kind.{Kind}
 use Rattle.fut_types.specs.declared.shapes.ShapeTable.{ShapeTable}
-use Rattle.fut_types.specs.Types.{Ty, Sub, Kinds, HasKind, level, rank, least, applied}
+use Rattle.fut_types.specs.Types.{Ty, Var, Sub, Kinds, HasKind, level, rank, least, applied}
 use Rattle.fut_types.specs.Shapes.{Shapes}
 use Rattle.fut_types.proofs.TyLaws.{level_most}
 use Rattle.fut_typing.specs.Primitives.{i64_ty, prim_type}
-use Rattle.type_claims.proofs.Grown.{joined}
+use Rattle.type_claims.proofs.Grown.{joined, joined_low, joined_high}
+use Rattle.type_rules.specs.declared.demand.Demand.{Demand}
 use Rattle.type_rules.specs.declared.demand.Demand.TheVariants as demand
 use Rattle.type_rules.specs.Demands.{Met, All_met, Allows, All_allow}
 use Rattle.type_rows.specs.Own.{Has_number, Own, All_own, Met_beside}
 use Rattle.type_rows.proofs.Said.{met_append, met_left, met_right}
 use Rattle.type_rows.proofs.Rules.{beside_low, beside_high, all_allow_append, own_append}
-use Rattle.type_primitives.specs.declared.pieces.Piece.{Piece}
-use Rattle.type_primitives.specs.declared.pieces.Piece.TheVariants as piece
-use Rattle.type_primitives.specs.Pieces.{nth, variables, grow, read, is_within, are_within}
-use Rattle.type_primitives.specs.Uses.{Of_primitive, one_demand, piece_demands, variable_demands, use_demands}
-use Rattle.type_primitives.proofs.Reading.{and_left, and_right, is_less, Stand, pieces_to, pieces_from, stand_last, long_grow, grow_old}
+use Rattle.type_primitives.specs.Plain.{plain_type}
+use Rattle.type_primitives.specs.Uses.{Of_primitive, nodes, node, asked, variable_demands, use_demands}
+use Rattle.type_primitives.proofs.Asking.{number_small, types, Stand, asked_to, asked_from, node_has, asked_own, asked_allow}
+
+-- the type that typing has for a primitive is the written one without sizes and stars
+prim_plain : (p : Primitive) → prim_type p ≡ plain_type (own_of p) (from_of p) (written p)
+prim_plain prim.Map = refl
+prim_plain p = refl
+
+-- no type of a primitive is large
+few_here : (p : Primitive) → nat_lt (nodes (written p)) 64 ≡ true
+few_here prim.Map = refl
+few_here p = refl
+
+pub few_nodes : (p : Primitive) → nodes (written p) < 64
+few_nodes p = ltb-true (nodes (written p)) 64 (few_here p)
 
 -- the types of the six variables
 pub pick : (ℕ → Ty) → ℕ → Ty
@@ -60,25 +77,14 @@ pick_kind places K f h (suc (suc (suc (suc zero)))) = h 4 (omega arith)
 pick_kind places K f h (suc (suc (suc (suc (suc zero))))) = h 5 (omega arith)
 pick_kind places K f h (suc (suc (suc (suc (suc (suc n)))))) = any_place places K
 
-pick_stand : (f : ℕ → Ty) (k : ℕ) → k < 6 → f k ≡ applied (pick f) (nth variables k)
+pick_letter : (f : ℕ → Ty) (x : Letter) → f (number x) ≡ applied (pick f) (Var (number x))
 unfolding pick applied
-pick_stand f zero lt = refl
-pick_stand f (suc zero) lt = refl
-pick_stand f (suc (suc zero)) lt = refl
-pick_stand f (suc (suc (suc zero))) lt = refl
-pick_stand f (suc (suc (suc (suc zero)))) lt = refl
-pick_stand f (suc (suc (suc (suc (suc zero))))) lt = refl
-pick_stand f (suc (suc (suc (suc (suc (suc n)))))) lt = absurd (omega arith)
-
-given_stand : (g : Sub) (k : ℕ) → k < 6 → applied g (nth variables k) ≡ g k
-unfolding applied
-given_stand g zero lt = refl
-given_stand g (suc zero) lt = refl
-given_stand g (suc (suc zero)) lt = refl
-given_stand g (suc (suc (suc zero))) lt = refl
-given_stand g (suc (suc (suc (suc zero)))) lt = refl
-given_stand g (suc (suc (suc (suc (suc zero))))) lt = refl
-given_stand g (suc (suc (suc (suc (suc (suc n)))))) lt = absurd (omega arith)
+pick_letter f letter.A = refl
+pick_letter f letter.B = refl
+pick_letter f letter.C = refl
+pick_letter f letter.D = refl
+pick_letter f letter.E = refl
+pick_letter f letter.F = refl
 
 -- numbers and homes
 module _ (table : ShapeTable) (base first many : ℕ) where
@@ -87,92 +93,61 @@ module _ (table : ShapeTable) (base first many : ℕ) where
   variables_own places at zero f l = tt
   variables_own places at (suc count) f l = (inr (f, omega arith), variables_own places (at + 1) count (omega arith) (omega arith))
 
-  one_own : (own from : ScalarType) (at : ℕ) (p : Piece) → IsTrue (is_within at p) → at < many → Own table base first many (one_demand own from first at p)
-  unfolding Own
-  one_own own from at piece.Bool w l = inr (omega arith, omega arith)
-  one_own own from at (piece.Integer t) w l = inr (omega arith, omega arith)
-  one_own own from at piece.Own w l = inr (omega arith, omega arith)
-  one_own own from at piece.From w l = inr (omega arith, omega arith)
-  one_own own from at (piece.Array i) w l = let p : i < at = is_less i at w in (inr (omega arith, omega arith), inr (omega arith, omega arith))
-  one_own own from at (piece.Pair i j) w l =
-      let p : i < at = is_less i at (and_left (nat_lt i at) (nat_lt j at) w) in let q : j < at = is_less j at (and_right (nat_lt i at) (nat_lt j at) w) in
-      (inr (omega arith, omega arith), inr (omega arith, omega arith), inr (omega arith, omega arith))
-  one_own own from at (piece.Triple i j k) w l =
-      let p : i < at = is_less i at (and_left (nat_lt i at) (nat_lt j at) (and_left (nat_lt i at && nat_lt j at) (nat_lt k at) w)) in let q : j < at = is_less j at (and_right (nat_lt i at) (nat_lt j at) (and_left (nat_lt i at && nat_lt j at) (nat_lt k at) w)) in let r : k < at = is_less k at (and_right (nat_lt i at && nat_lt j at) (nat_lt k at) w) in
-      (inr (omega arith, omega arith), inr (omega arith, omega arith), inr (omega arith, omega arith), inr (omega arith, omega arith))
-  one_own own from at (piece.Fun i j) w l =
-      let p : i < at = is_less i at (and_left (nat_lt i at) (nat_lt j at) w) in let q : j < at = is_less j at (and_right (nat_lt i at) (nat_lt j at) w) in
-      (inr (omega arith, omega arith), inr (omega arith, omega arith), inr (omega arith, omega arith))
-
-  pieces_own : (own from : ScalarType) (ps : List Piece) (at : ℕ) → IsTrue (are_within at ps) → at + length ps ≤ many → All_own table base first many (piece_demands own from first at ps)
-  unfolding All_own piece_demands
-  pieces_own own from [] at w l = tt
-  pieces_own own from (p ∷ ps) at w l = (one_own own from at p (and_left (is_within at p) (are_within (at + 1) ps) w) (omega arith), pieces_own own from ps (at + 1) (and_right (is_within at p) (are_within (at + 1) ps) w) (omega arith))
-
 variables_allow : (home : ℕ → ℕ) (places : Kind) (at count : ℕ) → All_allow home (variable_demands places at count)
 unfolding All_allow Allows variable_demands
 variables_allow home places at zero = tt
 variables_allow home places at (suc count) = (tt, variables_allow home places (at + 1) count)
 
-one_allow : (home : ℕ → ℕ) (own from : ScalarType) (first at : ℕ) (p : Piece) → Allows home (one_demand own from first at p)
-unfolding Allows
-one_allow home own from first at piece.Bool = tt
-one_allow home own from first at (piece.Integer t) = tt
-one_allow home own from first at piece.Own = tt
-one_allow home own from first at piece.From = tt
-one_allow home own from first at (piece.Array i) = tt
-one_allow home own from first at (piece.Pair i j) = tt
-one_allow home own from first at (piece.Triple i j k) = tt
-one_allow home own from first at (piece.Fun i j) = tt
-
-pieces_allow : (home : ℕ → ℕ) (own from : ScalarType) (first : ℕ) (ps : List Piece) (at : ℕ) → All_allow home (piece_demands own from first at ps)
-unfolding All_allow piece_demands
-pieces_allow home own from first [] at = tt
-pieces_allow home own from first (p ∷ ps) at = (one_allow home own from first at p, pieces_allow home own from first ps (at + 1))
-
 same_numbers : (table : ShapeTable) (base first many i j : ℕ) → Has_number base first many i → Has_number base first many j → All_own table base first many (demand.Same i j ∷ [])
 unfolding All_own Own
 same_numbers table base first many i j h k = ((h, k), tt)
 
-module _ (own from : ScalarType) (places : Kind) (base first id : ℕ) (ps : List Piece) (w : IsTrue (are_within 6 ps)) (le : base ≤ first) (lt : id < base) where
-  pub use_own : (table : ShapeTable) → All_own table base first (6 + length ps) (use_demands own from places first id ps)
-  use_own table = own_append table base first (6 + length ps) (variable_demands places first 6) _ (variables_own table base first (6 + length ps) places first 6 (omega arith) (omega arith))
-      (own_append table base first (6 + length ps) (piece_demands own from first 6 ps) _ (pieces_own table base first (6 + length ps) own from ps 6 w (omega arith)) (same_own table))
-    where
-      same_own : (table : ShapeTable) → All_own table base first (6 + length ps) (demand.Same id (first + (5 + length ps)) ∷ [])
-      same_own table = same_numbers table base first (6 + length ps) id (first + (5 + length ps)) (inl lt) (inr (omega arith, omega arith))
+module _ (places : Kind) (base first id : ℕ) (p : Primitive) (le : base ≤ first) (lt : id < base) where
+  abbrev before : List Demand
+  before = variable_demands places first 6
 
-  pub use_allow : (home : ℕ → ℕ) → All_allow home (use_demands own from places first id ps)
+  abbrev whole : List Demand
+  whole = asked (own_of p) (from_of p) first (variable_demands places first 6) (first + 6) (written p)
+
+  abbrev top : ℕ
+  top = node first (first + 6) (written p)
+
+  pub use_own : (table : ShapeTable) → All_own table base first (6 + nodes (written p)) (use_demands places first id p)
+  use_own table = own_append table base first (6 + nodes (written p)) whole (demand.Same id top ∷ [])
+      (asked_own (own_of p) (from_of p) table base first (6 + nodes (written p)) (written p) before (first + 6) (omega arith) (omega arith)
+      (variables_own table base first (6 + nodes (written p)) places first 6 (omega arith) (omega arith)))
+      (same_numbers table base first (6 + nodes (written p)) id top (inl lt) (node_has (own_of p) (from_of p) table base first (6 + nodes (written p)) (written p) (first + 6) (omega arith) (omega arith)))
+
+  pub use_allow : (home : ℕ → ℕ) → All_allow home (use_demands places first id p)
   unfolding All_allow Allows
-  use_allow home = all_allow_append home (variable_demands places first 6) _ (variables_allow home places first 6) (all_allow_append home (piece_demands own from first 6 ps) _ (pieces_allow home own from first ps 6) (tt, tt))
+  use_allow home = all_allow_append home whole (demand.Same id top ∷ []) (asked_allow (own_of p) (from_of p) home first (written p) before (first + 6) (variables_allow home places first 6)) (tt, tt)
 
-  module _ (S : Shapes) (K : Kinds) (a : Sub) (p : Primitive) (is : read own from ps ≡ prim_type p) where
-    pub use_to : Met_beside base (use_demands own from places first id ps) S K a → Of_primitive places p K (a id)
+  module _ (S : Shapes) (K : Kinds) (a : Sub) where
+    pub use_to : Met_beside base (use_demands places first id p) S K a → Of_primitive places p K (a id)
     unfolding All_met Met
     use_to m =
         let b = m.types in
-        let vs = met_left S K b (variable_demands places first 6) (piece_demands own from first 6 ps ++ demand.Same id (first + (5 + length ps)) ∷ []) m.met in
-        let rest = met_right S K b (variable_demands places first 6) (piece_demands own from first 6 ps ++ demand.Same id (first + (5 + length ps)) ∷ []) m.met in
-        let pieces = met_left S K b (piece_demands own from first 6 ps) (demand.Same id (first + (5 + length ps)) ∷ []) rest in
-        let last = met_right S K b (piece_demands own from first 6 ps) (demand.Same id (first + (5 + length ps)) ∷ []) rest in
-        let g : Sub = pick (λ k. b (first + k)) in (
+        let last = met_right S K b whole (demand.Same id top ∷ []) m.met in
+        let g : Sub = pick (λ k. b (first + k)) in
+        let h = asked_to (own_of p) (from_of p) S K b first g (pick_letter (λ k. b (first + k))) (written p) before (first + 6) (met_left S K b whole (demand.Same id top ∷ []) m.met) in (
           g,
-          pick_kind places K (λ k. b (first + k)) (variables_to S K b places first 6 vs),
-          sym (m.agrees id lt) ∙ last.0 ∙ stand_last own from S K b first g ps (pieces_to own from S K b first g ps variables 6 refl w (pick_stand (λ k. b (first + k))) pieces) ∙ ap (applied g) is,
+          pick_kind places K (λ k. b (first + k)) (variables_to S K b places first 6 h.0),
+          sym (m.agrees id lt) ∙ last.0 ∙ h.1 ∙ ap (applied g) (sym (prim_plain p)),
         )
 
-    pub use_from : Of_primitive places p K (a id) → Met_beside base (use_demands own from places first id ps) S K a
-    unfolding All_met Met
+    pub use_from : Of_primitive places p K (a id) → Met_beside base (use_demands places first id p) S K a
+    unfolding All_met Met applied
     use_from u =
         let g : Sub = u.0 in
-        let f : Sub = λ k. applied g (nth (grow own from variables ps) k) in
+        let f : Sub = joined 6 g (λ k. applied g (types (own_of p) (from_of p) (written p) k)) in
         let b : Sub = joined first a f in
-        let st : Stand own from S K b first g (grow own from variables ps) = λ k h. beside_high base first le a f k in
-        let agrees : (i : ℕ) → i < base → b i ≡ a i = beside_low base first le a f in record {
+        let low : (k : ℕ) → k < 6 → b (first + k) ≡ g k = λ k h. beside_high base first le a f k ∙ joined_low 6 g (λ k. applied g (types (own_of p) (from_of p) (written p) k)) k h in
+        let vars : (x : Letter) → b (first + number x) ≡ applied g (Var (number x)) = λ x. low (number x) (number_small x) in
+        let st : Stand (own_of p) (from_of p) S K b first g (first + 6) (nodes (written p)) (types (own_of p) (from_of p) (written p)) = λ k h.
+        ap b (let e : first + 6 + k ≡ first + (6 + k) = omega arith in e) ∙ beside_high base first le a f (6 + k) ∙ joined_high 6 g (λ k. applied g (types (own_of p) (from_of p) (written p) k)) k in
+        let agrees : (i : ℕ) → i < base → b i ≡ a i = beside_low base first le a f in
+        let h = asked_from (own_of p) (from_of p) S K b first g vars (written p) before (first + 6) st (variables_from S K b places first 6 (λ k lt. subst (HasKind K places) (sym (low k lt)) (u.1 k))) in record {
           types = b;
           agrees = agrees;
-          met = met_append S K b (variable_demands places first 6) (piece_demands own from first 6 ps ++ demand.Same id (first + (5 + length ps)) ∷ [])
-              (variables_from S K b places first 6 (λ k h. subst (HasKind K places) (sym (st k (omega (arith, long_grow own from variables ps)) ∙ ap (applied g) (grow_old own from variables ps k h) ∙ given_stand g k h)) (u.1 k)))
-              (met_append S K b (piece_demands own from first 6 ps) (demand.Same id (first + (5 + length ps)) ∷ []) (pieces_from own from S K b first g ps variables 6 refl w st)
-              (agrees id lt ∙ u.2 ∙ ap (applied g) (sym is) ∙ sym (stand_last own from S K b first g ps st), tt));
+          met = met_append S K b whole (demand.Same id top ∷ []) h.0 (agrees id lt ∙ u.2 ∙ ap (applied g) (prim_plain p) ∙ sym h.1, tt);
         }

@@ -1,11 +1,10 @@
 //! The types of primitives, put into a graph of types where a primitive is used.
 //!
-//! They are data: each is a list of pieces that name those before them (`src/pieces.rt`), and what the list says is the
-//! type that the definition of typing has.
+//! The table of primitives writes them (`fut_primitives`). Each part of a written type that is no variable has a node of
+//! its own, whose type is demanded of it; the node of the whole is that of the use.
 #![tactic(auto)]
 
-mod pieces;
+mod asked;
 mod uses;
 
-pub use pieces::{Piece, Signature, signature_of};
 pub use uses::primitive;

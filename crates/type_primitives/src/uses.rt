@@ -3,12 +3,13 @@ ghost use Rattle.std.specs.Prelude.{◌≡◌, ◌+◌, ◌<◌, ◌≤◌, ◌+
 ghost use Rattle.fut_types.specs.Shapes.{IsTable};
 ghost use Rattle.type_graph.specs.Graph.{Tables, Told, Tells};
 ghost use Rattle.type_claims.specs.Claims.{Sound, Extends, Adds, Nowhere};
-ghost use Rattle.type_primitives.specs.Pieces.{are_within, is_within};
-ghost use Rattle.type_primitives.specs.Uses.{Of_primitive, one_demand, piece_demands, use_demands, variable_demands};
+ghost use Rattle.fut_primitives.specs.Table.{written};
+ghost use Rattle.type_primitives.specs.Uses.{Of_primitive, nodes, use_demands, variable_demands};
 
-use crate::pieces::{Piece, Signature, signature_of};
+use crate::asked::push_written;
 use fut_flat::Primitive;
-use fut_scalar::{List, ScalarType};
+use fut_primitives::{line_of, scalars_of};
+use fut_scalar::List;
 use fut_types::{Kind, ShapeTable};
 use std::alloc::Global;
 use type_graph::{Entry, Node, UnifyErr};
@@ -37,55 +38,23 @@ fn push_variables(
     Ok(())
 }
 
-fn piece_demand(piece: Piece, own: ScalarType, from: ScalarType, first: u32, at: u32) -> Demand
-    requires within { IsTrue (is_within at piece) }
-    requires room { first + at < 4294967295 }
-    ensures { result ≡ one_demand own from first at piece }
-{
-    match piece {
-        Piece::Bool => Demand::Is(first + at, ScalarType::Bool),
-        Piece::Integer(ty) => Demand::Is(first + at, ScalarType::Int(ty)),
-        Piece::Own => Demand::Is(first + at, own),
-        Piece::From => Demand::Is(first + at, from),
-        Piece::Array(i) => Demand::Array(first + at, first + i),
-        Piece::Pair(i, j) => Demand::Pair(first + at, first + i, first + j),
-        Piece::Triple(i, j, k) => Demand::Triple(first + at, first + i, first + j, first + k),
-        Piece::Fun(i, j) => Demand::Fun(first + at, first + i, first + j),
-    }
-}
-
-// Each piece has a node, the first behind those of the variables.
-fn push_pieces(demands: &mut List<Demand>, signature: Signature, first: u32) -> Result<(), UnifyErr>
-    requires within { IsTrue (are_within 6 signature.pieces.now) }
-    requires few { length signature.pieces.now < 64 }
-    requires room { first < 4294967000 }
-    ensures ok { OnOk result (demands.new ≡ demands.old ++ piece_demands signature.own signature.from first 6 signature.pieces.now) }
-    ensures err { IfErr result (Tells ⊥) }
-{
-    let mut at = 0;
-    while at < signature.pieces.len() {
-        let piece = signature.pieces[at];
-        let one = piece_demand(piece, signature.own, signature.from, first, at as u32 + 6);
-        match push_demand(demands, one) {
-            Ok(()) => {}
-            Err(error) => return Err(error),
-        }
-        at += 1;
-    }
-    Ok(())
+// The demands of a use, and how many nodes of their own they speak of.
+#[derive(Drop)]
+struct Listed {
+    demands: List<Demand>,
+    count: u32,
 }
 
 fn list(
     alloc: Global,
-    signature: Signature,
+    name: Primitive,
     first: u32,
     id: u32,
     places: Kind,
-) -> Result<List<Demand>, UnifyErr>
-    requires within { IsTrue (are_within 6 signature.pieces.now) }
-    requires few { length signature.pieces.now < 64 }
-    requires room { first < 4294967000 }
-    ensures ok { IfOk result (λ ds. ds ≡ use_demands signature.own signature.from places first id signature.pieces.now) }
+) -> Result<Listed, UnifyErr>
+    requires { first < 4294967000 }
+    ensures ok { IfOk result (λ listed. listed.demands ≡ use_demands places first id name) }
+    ensures count { IfOk result (λ listed. listed.count ≡ 6 + nodes (written name)) }
     ensures err { IfErr result (Tells ⊥) }
 {
     let mut demands = List::new(alloc);
@@ -93,13 +62,22 @@ fn list(
         Ok(()) => {}
         Err(error) => return Err(error),
     }
-    match push_pieces(&mut demands, signature, first) {
-        Ok(()) => {}
+    let scalars = scalars_of(name);
+    let whole = match push_written(
+        line_of(name).written,
+        &mut demands,
+        scalars,
+        first,
+        first + 6,
+    ) {
+        Ok(whole) => whole,
         Err(error) => return Err(error),
-    }
-    let last = first + (5 + signature.pieces.len() as u32);
-    match push_demand(&mut demands, Demand::Same(id, last)) {
-        Ok(()) => Ok(demands),
+    };
+    match push_demand(&mut demands, Demand::Same(id, whole.node)) {
+        Ok(()) => Ok(Listed {
+            demands,
+            count: whole.next - first,
+        }),
         Err(error) => Err(error),
     }
 }
@@ -130,10 +108,8 @@ pub fn primitive(
         return Err(UnifyErr::Memory);
     }
     let first = nodes.len() as u32;
-    let signature = signature_of(name);
-    let count = 6 + signature.pieces.len() as u32;
-    let demands = match list(alloc, signature, first, id, places) {
-        Ok(demands) => demands,
+    let listed = match list(alloc, name, first, id, places) {
+        Ok(listed) => listed,
         Err(_) => return Err(UnifyErr::Memory),
     };
     put_own(
@@ -142,7 +118,7 @@ pub fn primitive(
         base,
         nodes,
         entries,
-        count,
-        demands.as_slice(),
+        listed.count,
+        listed.demands.as_slice(),
     )
 }

@@ -3,11 +3,15 @@ use Rattle.std.specs.Prelude.{ℕ, ◌+◌, ◌-◌, ◌==◌, Bool, true, false
 use Rattle.std.specs.List.{list_any}
 use Rattle.std.specs.Str.{bytes_eq}
 use Rattle.fut_scalar.specs.declared.place.Place.{Place}
+use Rattle.fut_scalar.specs.declared.scalar.ScalarType.{ScalarType}
+use Rattle.fut_scalar.specs.declared.scalar.ScalarType.TheVariants as scalar
+use Rattle.fut_flat.specs.declared.prim.Primitive.{Primitive}
+use Rattle.fut_primitives.specs.Names.{primitive_of, scalar_of}
 use Rattle.fut_token.specs.declared.token.Token.{Token}
 use Rattle.fut_token.specs.declared.token.TokenKind.{TokenKind}
 use Rattle.fut_token.specs.declared.token.TokenKind.TheVariants as token
 use Rattle.fut_token.specs.declared.token.Fixed.TheVariants as fixed
-use Rattle.unbuilt_tokens.specs.declared.words.TheConstants.{ARRAY_NAMES, ARRAY_MEMBERS, INTEGER_TYPES}
+use Rattle.unbuilt_tokens.specs.declared.words.TheConstants.{ARRAY_DEFINITIONS, ARRAY_MEMBERS}
 use Rattle.unbuilt_tokens.specs.declared.steps.Before.{Before}
 use Rattle.unbuilt_tokens.specs.declared.steps.Before.TheVariants.{IntegerType, Point, Other}
 use Rattle.unbuilt_tokens.specs.declared.steps.Reading.{Reading}
@@ -18,14 +22,24 @@ use Rattle.unbuilt_tokens.specs.declared.steps.Within.TheVariants.{Term, Head, T
 
 -- ---- names
 
+abbrev pub is_primitive : Option Primitive → Bool
+is_primitive (Some p) = true
+is_primitive None = false
+
+-- a primitive that works on arrays, or a definition of the prelude that does
 unfoldable pub is_unbuilt_name : List ℕ → Bool
-is_unbuilt_name name = list_any (λ word. bytes_eq word.now name) ARRAY_NAMES
+is_unbuilt_name name = is_primitive (primitive_of name) || list_any (λ word. bytes_eq word.now name) ARRAY_DEFINITIONS
 
 unfoldable pub is_unbuilt_member : List ℕ → Bool
 is_unbuilt_member name = list_any (λ word. bytes_eq word.now name) ARRAY_MEMBERS
 
+abbrev pub is_integer : Option ScalarType → Bool
+is_integer (Some (scalar.Int t)) = true
+is_integer (Some scalar.Bool) = false
+is_integer None = false
+
 unfoldable pub is_integer_type : List ℕ → Bool
-is_integer_type name = list_any (λ word. bytes_eq word.now name) INTEGER_TYPES
+is_integer_type name = is_integer (scalar_of name)
 
 -- ---- what a token is to what it stands in
 
