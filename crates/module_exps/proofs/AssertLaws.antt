@@ -1,5 +1,5 @@
 -- Assertions: the condition is resolved, and then what it guards.
-use Rattle.std.proofs.Common.{◌≡◌, List, Result, Ok, Err, refl, sym, ◌∙◌, ap, subst}
+use Rattle.std.proofs.Common.{◌≡◌, List, Result, Ok, Err, refl, ◌∙◌, ap, subst}
 use Rattle.std.specs.Borrow.{Bor}
 use Rattle.fut_scalar.specs.declared.place.Place.{Place}
 use Rattle.fut_ast.specs.Sorts.{Text}
