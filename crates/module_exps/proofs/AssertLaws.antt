@@ -1,5 +1,5 @@
 -- Assertions: the condition is resolved, and then what it guards.
-use Rattle.std.proofs.Common.{◌≡◌, List, Result, Ok, Err, sym, ◌∙◌, ap, subst}
+use Rattle.std.proofs.Common.{◌≡◌, List, Result, Ok, Err, refl, ◌∙◌, ap, subst}
 use Rattle.std.specs.Borrow.{Bor}
 use Rattle.fut_scalar.specs.declared.place.Place.{Place}
 use Rattle.fut_ast.specs.Sorts.{Text}
@@ -8,7 +8,7 @@ use Rattle.fut_flat.specs.Erased.{FlatTerm}
 use Rattle.fut_flat.specs.Sources.{SourceTerm, one}
 use Rattle.fut_flat.specs.Terms.{nameless, Assert, Strict, Let, no_term, term_and}
 use Rattle.module_scopes.specs.Answers.{Went, went, refused, no_memory, viewed}
-use Rattle.module_scopes.specs.Resolve.{Numbered, after, led_by, number_heads, number_sizes, resolve, resolve_pattern, section_name}
+use Rattle.module_scopes.specs.Resolve.{Numbered, after, led_by, name_pattern, number_heads, number_sizes, resolve, resolve_pattern, section_name}
 use Rattle.module_scopes.specs.Scopes.{Scope, enter}
 use Rattle.module_scopes.specs.Table.{scope_of, made_of}
 use Rattle.module_scopes.specs.declared.refusal.Refusal.{Refusal as HeldRefusal}
@@ -21,7 +21,7 @@ use Rattle.module_exps.specs.Sections.{led, looked}
 use Rattle.module_exps.proofs.SectionLaws.{led_bound, led_refused}
 
 asserts : (c e : SourceTerm) (mark : Place) (sc : Scope) (m : List Text) → resolve (Let nameless (Strict Assert mark (one c)) e) sc m ≡ led_by (section_name e) sc (after (resolve c sc m) (λ c m. after (resolve e sc m) (λ e m. Ok (Let nameless (Strict Assert mark (term_and c no_term)) e, m))))
-unfolding resolve after enter number_sizes number_heads resolve_pattern
+unfolding resolve after enter number_sizes number_heads resolve_pattern name_pattern
 asserts c e mark sc m = ap (led_by (section_name e) sc) (behind (resolve c sc m))
   where
     behind : (q : Numbered FlatTerm)

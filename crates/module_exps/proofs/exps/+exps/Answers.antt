@@ -35,7 +35,7 @@ pub walked_choosing-returns-in-If : goal.walked_choosing-returns-in-If
 walked_choosing-returns-in-If t c = exp_went c.exp.inside _ _ c.exp.view_is c.in-If.is (choice_went _ _ _ _ _ _ _ _ _ _ _ c.walked.ensures c.walked-in-If.ensures c.walked-in-If-2.ensures c.choice.ensures)
 
 pub walked_choosing-returns-in-Assert : goal.walked_choosing-returns-in-Assert
-walked_choosing-returns-in-Assert t c = exp_went c.exp.inside _ _ c.exp.view_is c.in-Assert.is (assert_went _ _ _ _ _ _ _ _ _ _ _ c.looked_before-looked.ensures c.walked-test.ensures c.led-test.ensures c.walked-value.ensures c.asserted.ensures)
+walked_choosing-returns-in-Assert t c = exp_went c.exp.inside _ _ c.exp.view_is c.in-Assert.is (assert_went _ _ _ _ _ _ _ _ _ _ _ c.looked_before-looked.ensures c.walked-in-Assert.ensures c.led-test.ensures c.walked-value.ensures c.asserted.ensures)
 
 pub walked_binding-walked_rows-went-requires : goal.walked_binding-walked_rows-went-requires
 walked_binding-walked_rows-went-requires t c = (omega (arith, lets_parts c.exp.inside _ c.exp.view_is c.in-Lets.binds c.in-Lets.body c.in-Lets.is), c.new-made.ensures.items)
