@@ -106,12 +106,12 @@ number letter.F = 5
 
 -- how many arguments a function takes; data takes none
 abbrev pub arguments : Written → ℕ
-arguments (Function from to) = suc (arguments to)
+arguments (Function _ to) = suc (arguments to)
 arguments w = 0
 
 -- the parameters of a function: 0 for data, and for a function how many arguments it takes
 abbrev pub parameters : Written → List ℕ
-parameters (Function from to) = arguments from ∷ parameters to
+parameters (Function taken to) = arguments taken ∷ parameters to
 parameters w = []
 
 -- the type that code holds
