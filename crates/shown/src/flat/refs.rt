@@ -18,8 +18,14 @@ pub fn show_bind(bind: BindId, names: &[&str], shown: &mut Shown) {
 
 fn show_primitive(prim: Primitive, shown: &mut Shown) {
     match prim {
-        Primitive::Convert { to: ScalarType::Bool, .. } => shown.push("bool."),
-        Primitive::Convert { to: ScalarType::Int(ty), .. }
+        Primitive::Convert {
+            to: ScalarType::Bool,
+            ..
+        } => shown.push("bool."),
+        Primitive::Convert {
+            to: ScalarType::Int(ty),
+            ..
+        }
         | Primitive::Min(ty)
         | Primitive::Max(ty)
         | Primitive::Abs(ty)
