@@ -12,7 +12,8 @@ use Rattle.fut_flat.specs.Erased.{FlatTerm}
 use Rattle.fut_flat.specs.Numbers.{numbers}
 use Rattle.fut_flat.specs.Sources.{names_before}
 use Rattle.fut_flat.specs.Terms.{Project, Use, Strict, no_term, term_and}
-use Rattle.module_scopes.specs.Names.{Refusal, primitive_of, scalar_of, member_of}
+use Rattle.fut_primitives.specs.Names.{primitive_of, scalar_of, member_of}
+use Rattle.module_scopes.specs.Names.{Refusal}
 use Rattle.module_scopes.specs.Scopes.{Entry, a_value, a_type, Scope, value_in, enter, Found, found, member_or, by_module, by_primitive, by_value, value_at}
 use Rattle.module_scopes.specs.Resolve.{use_found}
 use Rattle.module_scopes.specs.Resolve as resolve

@@ -10,7 +10,8 @@ use Rattle.fut_flat.specs.declared.prim.Primitive.{Primitive}
 use Rattle.fut_flat.specs.declared.prim.Ref.{Ref}
 use Rattle.fut_flat.specs.declared.prim.Ref.TheVariants as ref
 use Rattle.fut_flat.specs.Sources.{Spelled}
-use Rattle.module_scopes.specs.Names.{Refusal, Unbound, NoMember, primitive_of, scalar_of, member_of}
+use Rattle.fut_primitives.specs.Names.{primitive_of, scalar_of, member_of}
+use Rattle.module_scopes.specs.Names.{Refusal, Unbound, NoMember}
 
 -- a name of the space of values or of that of types, and its number
 pub data Entry : Type 0 where

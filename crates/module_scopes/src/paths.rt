@@ -3,14 +3,15 @@ ghost use Rattle.std.specs.Prelude.{◌≡◌};
 ghost use Rattle.fut_flat.specs.Sources.{spelled};
 ghost use Rattle.fut_tree.specs.Names.{names};
 ghost use Rattle.module_scopes.specs.Answers.{found_of, viewed};
-ghost use Rattle.module_scopes.specs.Names.{combinators, integer_members, makers, member_of, named, other_member, primitive_of, scalar_of, views};
+ghost use Rattle.fut_primitives.specs.Names.{member_of, primitive_of, scalar_of};
 ghost use Rattle.module_scopes.specs.Scopes.{by_module, by_primitive, size_of, type_of, value_of};
 ghost use Rattle.module_scopes.specs.Table.{scope_of};
 
 use crate::refusal::Refusal;
 use crate::table::Names;
-use fut_flat::{Primitive, Ref};
-use fut_scalar::{IntType, Place, ScalarType};
+use fut_flat::Ref;
+use fut_primitives::{member_of, primitive_of, scalar_of};
+use fut_scalar::Place;
 
 /// What a path names, how many of its names are modules, and the fields that are left.
 #[derive(Clone, Copy)]
@@ -18,138 +19,6 @@ pub struct Found<'a> {
     pub names: Ref,
     pub modules: u32,
     pub fields: &'a [&'a str],
-}
-
-/// The scalar type of a name, which is a module too.
-#[tactic(auto, unfolding(crate::specs::Names::scalar_of))]
-fn scalar_of(name: &str) -> Option<ScalarType>
-    ensures { result ≡ scalar_of name.now }
-{
-    match name {
-        "i8" => Some(ScalarType::Int(IntType::I8)),
-        "i16" => Some(ScalarType::Int(IntType::I16)),
-        "i32" => Some(ScalarType::Int(IntType::I32)),
-        "i64" => Some(ScalarType::Int(IntType::I64)),
-        "u8" => Some(ScalarType::Int(IntType::U8)),
-        "u16" => Some(ScalarType::Int(IntType::U16)),
-        "u32" => Some(ScalarType::Int(IntType::U32)),
-        "u64" => Some(ScalarType::Int(IntType::U64)),
-        "bool" => Some(ScalarType::Bool),
-        _ => None,
-    }
-}
-
-/// A function that is given a function, or that works on a whole array.
-fn combinator(name: &str) -> Option<Primitive>
-    ensures { result ≡ named combinators name.now }
-{
-    match name {
-        "map" => Some(Primitive::Map),
-        "map2" => Some(Primitive::Map2),
-        "map3" => Some(Primitive::Map3),
-        "map4" => Some(Primitive::Map4),
-        "map5" => Some(Primitive::Map5),
-        "reduce" => Some(Primitive::Reduce),
-        "reduce_comm" => Some(Primitive::ReduceComm),
-        "scan" => Some(Primitive::Scan),
-        "filter" => Some(Primitive::Filter),
-        "partition" => Some(Primitive::Partition),
-        "scatter" => Some(Primitive::Scatter),
-        "reduce_by_index" => Some(Primitive::ReduceByIndex),
-        _ => None,
-    }
-}
-
-/// A function that makes arrays or measures them.
-fn maker(name: &str) -> Option<Primitive>
-    ensures { result ≡ named makers name.now }
-{
-    match name {
-        "zip" => Some(Primitive::Zip),
-        "zip3" => Some(Primitive::Zip3),
-        "unzip" => Some(Primitive::Unzip),
-        "unzip3" => Some(Primitive::Unzip3),
-        "iota" => Some(Primitive::Iota),
-        "replicate" => Some(Primitive::Replicate),
-        "tabulate" => Some(Primitive::Tabulate),
-        "indices" => Some(Primitive::Indices),
-        "length" => Some(Primitive::Length),
-        "null" => Some(Primitive::Null),
-        _ => None,
-    }
-}
-
-/// A function that gives parts of arrays or arrays in another order.
-fn view(name: &str) -> Option<Primitive>
-    ensures { result ≡ named views name.now }
-{
-    match name {
-        "head" => Some(Primitive::Head),
-        "last" => Some(Primitive::Last),
-        "init" => Some(Primitive::Init),
-        "tail" => Some(Primitive::Tail),
-        "take" => Some(Primitive::Take),
-        "drop" => Some(Primitive::Drop),
-        "reverse" => Some(Primitive::Reverse),
-        "rotate" => Some(Primitive::Rotate),
-        "concat" => Some(Primitive::Concat),
-        "flatten" => Some(Primitive::Flatten),
-        "unflatten" => Some(Primitive::Unflatten),
-        "transpose" => Some(Primitive::Transpose),
-        "copy" => Some(Primitive::Copy),
-        _ => None,
-    }
-}
-
-/// The primitive of a name.
-#[tactic(auto, unfolding(crate::specs::Names::primitive_of))]
-fn primitive_of(name: &str) -> Option<Primitive>
-    ensures { result ≡ primitive_of name.now }
-{
-    if let Some(prim) = combinator(name) {
-        return Some(prim);
-    }
-    if let Some(prim) = maker(name) {
-        return Some(prim);
-    }
-    view(name)
-}
-
-/// A member of an integer type that is no conversion.
-fn integer_member(ty: IntType, name: &str) -> Option<Primitive>
-    ensures { result ≡ named (integer_members ty) name.now }
-{
-    match name {
-        "min" => Some(Primitive::Min(ty)),
-        "max" => Some(Primitive::Max(ty)),
-        "abs" => Some(Primitive::Abs(ty)),
-        "popc" => Some(Primitive::Popc(ty)),
-        "lowest" => Some(Primitive::Lowest(ty)),
-        "highest" => Some(Primitive::Highest(ty)),
-        "num_bits" => Some(Primitive::NumBits(ty)),
-        _ => None,
-    }
-}
-
-/// A member of a scalar type that is no conversion.
-fn other_member(of: ScalarType, name: &str) -> Option<Primitive>
-    ensures { result ≡ other_member of name.now }
-{
-    match of {
-        ScalarType::Bool => None,
-        ScalarType::Int(ty) => integer_member(ty, name),
-    }
-}
-
-/// A member of the module of a scalar type.
-#[tactic(auto, unfolding(crate::specs::Names::member_of))]
-fn member_of(of: ScalarType, name: &str) -> Option<Primitive>
-    ensures { result ≡ member_of of name.now }
-{
-    match scalar_of(name) {
-        Some(from) => Some(Primitive::Convert { to: of, from }),
-        None => other_member(of, name),
-    }
 }
 
 /// A path whose first name is no value: it may be a module, whose member is named next.

@@ -20,6 +20,7 @@ use bumpalo::Bump;
 use bumpalo::collections::into_bump_slice;
 use fut_blocks::{Atom, Operation};
 use fut_flat::Primitive;
+use fut_primitives::line_of;
 use fut_scalar::{BinOp, IntType, Place, Scalar, ScalarType, UnOp};
 use std::slice;
 use unfold::{Known, KnownForm};
@@ -90,50 +91,7 @@ pub fn use_of_primitive<'a>(primitive: Primitive, place: Place) -> Known<'a>
 pub fn arity(primitive: Primitive) -> usize
     ensures { result ≡ arity primitive }
 {
-    match primitive {
-        Primitive::Unzip
-        | Primitive::Unzip3
-        | Primitive::Iota
-        | Primitive::Indices
-        | Primitive::Length
-        | Primitive::Null
-        | Primitive::Head
-        | Primitive::Last
-        | Primitive::Init
-        | Primitive::Tail
-        | Primitive::Reverse
-        | Primitive::Flatten
-        | Primitive::Transpose
-        | Primitive::Copy
-        | Primitive::Convert { .. }
-        | Primitive::Abs(_)
-        | Primitive::Popc(_)
-        | Primitive::Lowest(_)
-        | Primitive::Highest(_)
-        | Primitive::NumBits(_) => 1,
-        Primitive::Map
-        | Primitive::Filter
-        | Primitive::Partition
-        | Primitive::Zip
-        | Primitive::Replicate
-        | Primitive::Tabulate
-        | Primitive::Take
-        | Primitive::Drop
-        | Primitive::Rotate
-        | Primitive::Concat
-        | Primitive::Min(_)
-        | Primitive::Max(_) => 2,
-        Primitive::Map2
-        | Primitive::Reduce
-        | Primitive::ReduceComm
-        | Primitive::Scan
-        | Primitive::Scatter
-        | Primitive::Zip3
-        | Primitive::Unflatten => 3,
-        Primitive::Map3 => 4,
-        Primitive::Map4 | Primitive::ReduceByIndex => 5,
-        Primitive::Map5 => 6,
-    }
+    line_of(primitive).parameters.len()
 }
 
 // The arguments with one more behind them.
