@@ -1,7 +1,6 @@
 pub mod Opens
 pub mod Settled
 pub mod LeftLaws
-pub mod DefaultLaws
 pub mod Typings
 pub mod Programs
 pub mod Richness

@@ -2,8 +2,8 @@
 //!
 //! The types of the program's nodes are principal (`specs/Settled.antt`): a variable is a node of which nothing is known, with
 //! the kind that is noted there, and with the named parts that are asked of it. The program is ambiguous where a variable is
-//! left that `==` or `!` wants to know, or one with named parts (`specs/Left.antt`). An undetermined type of integers is i32
-//! (`specs/Defaults.antt`).
+//! left that `==` or `!` wants to know, or one with named parts (`specs/Left.antt`). An undetermined type of integers is i32,
+//! which is read where a type is asked for.
 #![tactic(auto)]
 
 ghost use Rattle.type_answers.specs.Richness.{Names_are_apart, Names_are_rich};
@@ -11,10 +11,8 @@ ghost use Rattle.type_answers.specs.Settled.{Law};
 ghost use Rattle.type_answers.specs.Programs.{Gives_typing, Shows_ambiguous, Types_it};
 ghost use Rattle.type_answers.specs.Typings.{Allows_some, Closes};
 
-mod defaults;
 mod left;
 
-pub use defaults::put_defaults;
 pub use left::undetermined;
 
 /// The resolved types of a settled graph are the principal ones of the types that it allows.
