@@ -6,3 +6,5 @@ pub mod Integers
 pub mod RoundTrip
 pub mod Texts
 pub mod Sound
+pub mod Weights
+pub mod Rows

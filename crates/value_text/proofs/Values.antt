@@ -28,6 +28,8 @@ explains types bytes text.Memory h = tt
 explains types bytes (text.BadText position) h = h
 explains types bytes (text.WrongType position) h = h
 explains types bytes (text.OutOfRange position) h = h
+explains types bytes (text.Irregular position) h = h
+explains types bytes (text.TooLarge position) h = h
 explains types bytes (text.Missing param) h = h
 explains types bytes (text.Extra position) h = h
 

@@ -4,6 +4,8 @@ pub mod Numbers
 pub mod Empties
 pub mod Spelled
 pub mod Reading
+pub mod Arrays
+pub mod Gives
 pub mod Grammar
 pub mod Printing
 pub mod Claims

@@ -7,6 +7,7 @@
 //! `specs/Grammar.antt`, and [`printed_values_read_back`] that printing and reading belong together.
 #![tactic(auto)]
 
+mod arrays;
 mod empties;
 mod gaps;
 mod laws;
@@ -17,6 +18,7 @@ mod spelled;
 mod wanted;
 mod words;
 
+pub use arrays::read_at;
 pub use laws::{integers_are_kept, names_go_on, printed_values_read_back, texts_are_read};
 pub use printing::{print_value, print_values};
 pub use reading::{TextErr, read_args};

@@ -20,6 +20,10 @@ pub enum TextErr {
     WrongType { at: u64 },
     /// The integer that begins here is no value of its type.
     OutOfRange { at: u64 },
+    /// The row that begins here has other sizes than the first row of its array.
+    Irregular { at: u64 },
+    /// With the row or element that begins here, the array around it has a weight above 33,554,432.
+    TooLarge { at: u64 },
     /// The text ends before this parameter.
     Missing { param: u64 },
     /// Something stands behind the last value.
