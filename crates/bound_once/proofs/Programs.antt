@@ -40,7 +40,7 @@ unrefused : {C A : Type 0} (t : Bool) (w : Refusal) (r : Result A Refusal) (z : 
 unrefused true w r z e k = not_refused w z e
 unrefused false w r z e k = k e
 
-define_filled : (file : ℕ) (is_entry : Bool) (x : Text) (heads : List (Head Text)) (value : SourceTerm) (sc : Scope) (made made' : List Text) (d : FlatDefinition) → define file is_entry x heads value sc made ≡ Ok (d, made') → Filled (length made) (length made') (flat_binders d)
+define_filled : (file : ℕ) (is_entry : Bool) (x : Text) (heads : List Head) (value : SourceTerm) (sc : Scope) (made made' : List Text) (d : FlatDefinition) → define file is_entry x heads value sc made ≡ Ok (d, made') → Filled (length made) (length made') (flat_binders d)
 unfolding define
 define_filled file is_entry x heads value sc made made' d e =
     went _ _ _ e (λ h m i g. went _ _ _ g (λ v n j q.

@@ -38,21 +38,21 @@ unfoldable pub behind_let : List Token → Result (Bool × List Token) Fault
 behind_let ts = if starts fixed.KeyLet ts then Ok (false, tail ts) else (expect fixed.KeyIn ts >>= λ us. if starts fixed.KeyLet us then Ok (false, tail us) else Ok (true, us))
 
 -- one let of a row
-unfoldable pub let_of_row : ((n : Sort) → List Token → Read (Tree n)) → List Token → Read (Bind Path Text × Bool)
+unfoldable pub let_of_row : ((n : Sort) → List Token → Read (Tree n)) → List Token → Read (Bind × Bool)
 let_of_row read ts = read Let_item ts >>= λ b. behind_let b.2 >>= λ s. Ok ((b.0, s.0), b.1, s.1)
 
 -- parts of an index
-abbrev pub index_found : Found Ix → PlainIx Path Text × ℕ × List Token
+abbrev pub index_found : Found Ix → PlainIx × ℕ × List Token
 index_found = found_as ix_of
 
-abbrev pub indices_found : Found (Bor (List Ix)) → List (PlainIx Path Text) × ℕ × List Token
+abbrev pub indices_found : Found (Bor (List Ix)) → List PlainIx × ℕ × List Token
 indices_found = found_as (λ is. ixs_of is.now)
 
 -- the same in a section, with the names of their expressions
-abbrev pub named_found : Found NamedPart → (List (Bind Path Text) × PlainIx Path Text) × ℕ × List Token
+abbrev pub named_found : Found NamedPart → (List Bind × PlainIx) × ℕ × List Token
 named_found = found_as named_of
 
-abbrev pub nameds_found : Found (Bor (List NamedPart)) → List (List (Bind Path Text) × PlainIx Path Text) × ℕ × List Token
+abbrev pub nameds_found : Found (Bor (List NamedPart)) → List (List Bind × PlainIx) × ℕ × List Token
 nameds_found = found_as (λ ps. named_all ps.now)
 
 -- a part of an index as it is written, and what stands behind its first expression

@@ -77,7 +77,7 @@ pub fn loop_made<'a>(
     height: u32,
     rest: &'a [Token],
 ) -> Result<Found<'a, &'a LoopForm<'a>>, Stop>
-    ensures exact { (l : PlainLoop Path Text) → IfOk node.entry (λ x. loop_of x.now ≡ l) → Gives (found_as (λ t. loop_of t.now)) result (Ok (l, height, rest.now)) }
+    ensures exact { (l : PlainLoop) → IfOk node.entry (λ x. loop_of x.now ≡ l) → Gives (found_as (λ t. loop_of t.now)) result (Ok (l, height, rest.now)) }
     ensures low { IfOk result (λ x. x.height ≡ height) }
 {
     match node {
@@ -92,7 +92,7 @@ pub fn bind_made<'a>(
     height: u32,
     rest: &'a [Token],
 ) -> Result<Found<'a, Bind<'a>>, Stop>
-    ensures exact { (b : PlainBind Path Text) → IfOk node.entry (λ x. bind_of x ≡ b) → Gives (found_as bind_of) result (Ok (b, height, rest.now)) }
+    ensures exact { (b : PlainBind) → IfOk node.entry (λ x. bind_of x ≡ b) → Gives (found_as bind_of) result (Ok (b, height, rest.now)) }
     ensures low { IfOk result (λ x. x.height ≡ height) }
 {
     match node {

@@ -25,15 +25,15 @@ abbrev pub written_of : WrittenPart → Written
 written_of p = (p.at, maybe p.first, upto_of p.upto)
 
 -- the part that is written so
-abbrev pub plain_end_of : Option (Spot × Option SourceExp) → Ix Path Text
+abbrev pub plain_end_of : Option (Spot × Option SourceExp) → Ix
 plain_end_of None = ix.Backwards
 plain_end_of (Some upto) = ix.Slice None upto.1
 
-abbrev pub plain_from : Option SourceExp → Option (Spot × Option SourceExp) → Ix Path Text
+abbrev pub plain_from : Option SourceExp → Option (Spot × Option SourceExp) → Ix
 plain_from None upto = plain_end_of upto
 plain_from (Some e) upto = index_of e upto
 
-abbrev pub plain_part : Written → Ix Path Text
+abbrev pub plain_part : Written → Ix
 plain_part w = plain_from w.1 w.2
 
 -- the use of an expression's name and its binding, where there is an expression
@@ -41,25 +41,25 @@ abbrev pub uses_named : Spot → Option SourceExp → Option SourceExp
 uses_named at None = None
 uses_named at (Some e) = Some (use_named at e)
 
-abbrev pub lets_named : Spot → Option SourceExp → List (Bind Path Text)
+abbrev pub lets_named : Spot → Option SourceExp → List Bind
 lets_named at None = []
 lets_named at (Some e) = let_named at e ∷ []
 
 -- a part in a section, with the names of its expressions
-abbrev pub section_end_of : Option (Spot × Option SourceExp) → List (Bind Path Text) × Ix Path Text
+abbrev pub section_end_of : Option (Spot × Option SourceExp) → List Bind × Ix
 section_end_of None = ([], ix.Backwards)
 section_end_of (Some upto) = named_slice_of upto.0 upto.1
 
-abbrev pub section_from : Spot → Option SourceExp → Option (Spot × Option SourceExp) → List (Bind Path Text) × Ix Path Text
+abbrev pub section_from : Spot → Option SourceExp → Option (Spot × Option SourceExp) → List Bind × Ix
 section_from at None upto = section_end_of upto
 section_from at (Some e) upto = named_index_of at e upto
 
-abbrev pub section_part : Written → List (Bind Path Text) × Ix Path Text
+abbrev pub section_part : Written → List Bind × Ix
 section_part w = section_from w.0 w.1 w.2
 
 -- the names of a part's expressions, and the part
-abbrev pub named_of : NamedPart → List (Bind Path Text) × Ix Path Text
+abbrev pub named_of : NamedPart → List Bind × Ix
 named_of p = (binds_of p.binds.now, ix_of p.part)
 
-abbrev pub named_all : List NamedPart → List (List (Bind Path Text) × Ix Path Text)
+abbrev pub named_all : List NamedPart → List (List Bind × Ix)
 named_all = map named_of

@@ -25,7 +25,7 @@ pub fn function_bound<'a>(
     ty: Option<&'a TypeExp<'a>>,
     body: &'a Exp<'a>,
 ) -> Result<Bind<'a>, NoMemory>
-    ensures { IfOk result (λ b. bind_of b ≡ roll-Bind Path Text (record { sizes = []; pat = bound place name.now; is_function = true; heads = heads_of heads.now; value = exp_at place (form.Lambda (all params.now) (maybe ty.entry) body.now) })) }
+    ensures { IfOk result (λ b. bind_of b ≡ roll-Bind (record { sizes = []; pat = bound place name.now; is_function = true; heads = heads_of heads.now; value = exp_at place (form.Lambda (all params.now) (maybe ty.entry) body.now) })) }
 {
     let value = match function(bump, place, params, ty, body) {
         Ok(value) => value,

@@ -43,10 +43,10 @@ module _ (x : Text) where
   abbrev pub Not_free : SourceExp → Type 0
   Not_free e = free x e ≡ false
 
-  abbrev pub binds_any : List (Bind Path Text) → Bool
+  abbrev pub binds_any : List Bind → Bool
   binds_any bs = any (map (λ b. (let_free x b).1) bs)
 
-  abbrev pub values_free : List (Bind Path Text) → Bool
+  abbrev pub values_free : List Bind → Bool
   values_free bs = any (map (λ b. (let_free x b).0) bs)
 
   -- the name is not free in the tree; in a named part of an index it is not where the part's lets do not bind it
@@ -113,7 +113,7 @@ module _ (x : Text) where
   any_field [] g = refl
   any_field (f ∷ fs) g = let i = g.0 in rw i (any_field fs g.1)
 
-  any_index : (is : List (Ix Path Text)) → All (λ i. index_free x i ≡ false) is → any (map (index_free x) is) ≡ false
+  any_index : (is : List Ix) → All (λ i. index_free x i ≡ false) is → any (map (index_free x) is) ≡ false
   any_index [] g = refl
   any_index (i ∷ is) g = let j = g.0 in rw j (any_index is g.1)
 
@@ -126,7 +126,7 @@ module _ (x : Text) where
   any_pat_field (f ∷ fs) g = let i = g.0 in rw i (any_pat_field fs g.1)
 
   -- behind lets whose values are good, where what stands behind is good unless a let binds the name
-  lets_closed : (bs : List (Bind Path Text)) (e : Bool) → values_free bs ≡ false → (binds_any bs ≡ false → e ≡ false) → free_in_lets (map (let_free x) bs) e ≡ false
+  lets_closed : (bs : List Bind) (e : Bool) → values_free bs ≡ false → (binds_any bs ≡ false → e ≡ false) → free_in_lets (map (let_free x) bs) e ≡ false
   lets_closed [] e v k = k refl
   lets_closed (b ∷ bs) e v k = let i = or_false_left (let_free x b).0 _ v in rw i (go (let_free x b).1 k (λ l. lets_closed bs e (or_false_right (let_free x b).0 _ v) l))
     where
@@ -134,7 +134,7 @@ module _ (x : Text) where
       go true l again = refl
       go false l again = again l
 
-  all_values : (bs : List (Bind Path Text)) → All (λ b. (let_free x b).0 ≡ false) bs → values_free bs ≡ false
+  all_values : (bs : List Bind) → All (λ b. (let_free x b).0 ≡ false) bs → values_free bs ≡ false
   all_values [] g = refl
   all_values (b ∷ bs) g = let i = g.0 in rw i (all_values bs g.1)
 
@@ -144,7 +144,7 @@ module _ (x : Text) where
 
   -- ---- expressions, form by form
 
-  free_lets : (place : Place) (bs : List (Bind Path Text)) (e : SourceExp) → free x (exp_at place (form.Lets bs e)) ≡ free_in_lets (map (let_free x) bs) (free x e)
+  free_lets : (place : Place) (bs : List Bind) (e : SourceExp) → free x (exp_at place (form.Lets bs e)) ≡ free_in_lets (map (let_free x) bs) (free x e)
   free_lets place bs e = free_node x place place (form.Lets bs e) (Form-F.Lets bs e) (form.outs-Lets bs e)
 
   unit_closed : (place : Place) → Not_free (exp_at place form.Unit)
@@ -219,13 +219,13 @@ module _ (x : Text) where
   named_index_closed at e (Some u) g h = named_upto_closed at e u.0 u.1 g h
 
   abbrev pub Item : Type 0
-  Item = List (Bind Path Text) × Ix Path Text
+  Item = List Bind × Ix
 
-  values_append : (cs bs : List (Bind Path Text)) → values_free cs ≡ false → values_free bs ≡ false → values_free (cs ++ bs) ≡ false
+  values_append : (cs bs : List Bind) → values_free cs ≡ false → values_free bs ≡ false → values_free (cs ++ bs) ≡ false
   values_append [] bs a b = b
   values_append (c ∷ cs) bs a b = let i = or_false_left (let_free x c).0 _ a in rw i (values_append cs bs (or_false_right (let_free x c).0 _ a) b)
 
-  binds_left : (cs bs : List (Bind Path Text)) → binds_any (cs ++ bs) ≡ false → (binds_any cs ≡ false) × (binds_any bs ≡ false)
+  binds_left : (cs bs : List Bind) → binds_any (cs ++ bs) ≡ false → (binds_any cs ≡ false) × (binds_any bs ≡ false)
   binds_left [] bs b = (refl, b)
   binds_left (c ∷ cs) bs b = let i = or_false_left (let_free x c).1 _ b in let rest = binds_left cs bs (or_false_right (let_free x c).1 _ b) in ((let j = rest.0 in rw (i, j) refl), rest.1)
 
@@ -240,14 +240,14 @@ module _ (x : Text) where
       let k = g.0.1 both.0 in
       rw k (items_free items g.1 both.1)
 
-  behind_closed : (place : Place) (bs : List (Bind Path Text)) (e : SourceExp) → values_free bs ≡ false → (binds_any bs ≡ false → Not_free e) → Not_free (behind_lets place bs e)
+  behind_closed : (place : Place) (bs : List Bind) (e : SourceExp) → values_free bs ≡ false → (binds_any bs ≡ false → Not_free e) → Not_free (behind_lets place bs e)
   behind_closed place [] e v k = k refl
   behind_closed place (b ∷ bs) e v k = free_lets place (b ∷ bs) e ∙ lets_closed (b ∷ bs) (free x e) v k
 
   index_section_closed : (paren bracket : Place) (items : List Item) → All (Good Named_item) items → Not_free (index_section paren bracket items)
   index_section_closed paren bracket items g = behind_closed paren _ _ (items_values items g) (λ b. inner (items_free items g b))
     where
-      uses : List (Ix Path Text)
+      uses : List Ix
       uses = map (λ (i : Item). i.1) items
 
       outside : (c d : Bool) → d ≡ false → (not (c || false) && (c || d)) ≡ false
@@ -264,7 +264,7 @@ module _ (x : Text) where
 
   -- ---- patterns, as expressions
 
-  abbrev pat_layer : PatForm-F Path Text (PatForm Path Text) SourcePat → PatExp
+  abbrev pat_layer : PatForm-F PatForm SourcePat → PatExp
   pat_layer (PatForm-F.Var y) place = use_of place y
   pat_layer PatForm-F.Wild place = exp_at place form.Unit
   pat_layer PatForm-F.Unit place = exp_at place form.Unit
@@ -272,7 +272,7 @@ module _ (x : Text) where
   pat_layer (PatForm-F.Record fs) place = exp_at place (form.Record (map (λ (f : Text × SourcePat). (f.0, exp_of_pat f.1)) fs))
   pat_layer (PatForm-F.Ascribe p t) place = exp_of_pat p
 
-  pat_levels : (l : PatForm-F Path Text (PatForm Path Text) SourcePat) (place : Place) → pat_form_exp (map-PatForm Path Text (PatForm Path Text) SourcePat PatExp SourceExp (fold-PatForm Path Text PatExp SourceExp pat_form_exp (λ p. p.form p.place)) exp_of_pat l) place ≡ pat_layer l place
+  pat_levels : (l : PatForm-F PatForm SourcePat) (place : Place) → pat_form_exp (map-PatForm PatForm SourcePat PatExp SourceExp (fold-PatForm PatExp SourceExp pat_form_exp (λ p. p.form p.place)) exp_of_pat l) place ≡ pat_layer l place
   pat_levels (PatForm-F.Var y) place = refl
   pat_levels PatForm-F.Wild place = refl
   pat_levels PatForm-F.Unit place = refl
@@ -280,14 +280,14 @@ module _ (x : Text) where
   pat_levels (PatForm-F.Record fs) place = refl
   pat_levels (PatForm-F.Ascribe p t) place = refl
 
-  pat_exp : (place : Place) (f : PatForm Path Text) (l : PatForm-F Path Text (PatForm Path Text) SourcePat) → out-PatForm Path Text f ≡ l → exp_of_pat (pat_at place f) ≡ pat_layer l place
+  pat_exp : (place : Place) (f : PatForm) (l : PatForm-F PatForm SourcePat) → out-PatForm f ≡ l → exp_of_pat (pat_at place f) ≡ pat_layer l place
   pat_exp place f l o =
-      fold-roll-Pat Path Text PatExp SourceExp pat_form_exp (λ p. p.form p.place) (record { place = place; form = f })
-      ∙ ap (λ (k : PatExp). k place) (fold_out-PatForm Path Text PatExp SourceExp pat_form_exp (λ p. p.form p.place) f)
-      ∙ pat_levels (out-PatForm Path Text f) place
+      fold-roll-Pat PatExp SourceExp pat_form_exp (λ p. p.form p.place) (record { place = place; form = f })
+      ∙ ap (λ (k : PatExp). k place) (fold_out-PatForm PatExp SourceExp pat_form_exp (λ p. p.form p.place) f)
+      ∙ pat_levels (out-PatForm f) place
       ∙ ap (λ m. pat_layer m place) o
 
-  pat_closed : (place : Place) (f : PatForm Path Text) (l : PatForm-F Path Text (PatForm Path Text) SourcePat) → out-PatForm Path Text f ≡ l → Not_free (pat_layer l place) → Not_free (exp_of_pat (pat_at place f))
+  pat_closed : (place : Place) (f : PatForm) (l : PatForm-F PatForm SourcePat) → out-PatForm f ≡ l → Not_free (pat_layer l place) → Not_free (exp_of_pat (pat_at place f))
   pat_closed place f l o g = ap (free x) (pat_exp place f l o) ∙ g
 
   bound_closed : (place : Place) (y : Text) → is_name x y ≡ false → Not_free (exp_of_pat (bound place y))
@@ -324,7 +324,7 @@ module _ (x : Text) where
   pat_closes variable_head at = λ head g. tt
   pat_closes size_name at = λ a g name h b i. tt
 
-  let_closed : (sizes : List Text) (p : SourcePat) (is_function : Bool) (heads : List (Tree Head_item)) (e : SourceExp) → Not_free e → Good Let_item (roll-Bind Path Text (record { sizes = sizes; pat = p; is_function = is_function; heads = heads; value = e }))
+  let_closed : (sizes : List Text) (p : SourcePat) (is_function : Bool) (heads : List (Tree Head_item)) (e : SourceExp) → Not_free e → Good Let_item (roll-Bind (record { sizes = sizes; pat = p; is_function = is_function; heads = heads; value = e }))
   let_closed sizes p is_function heads e g = ap (λ (b : Bool × Bool). b.0) (free_any_let x sizes p is_function heads e) ∙ rw g (and_false_right _ false refl)
 
   exp_closes : {n : Sort} (r : ExpRow n) (at : Spot) → Closes n (exp_parts r) (exp_tree r at)
@@ -462,7 +462,7 @@ module _ (x : Text) where
     phrase_closed : {n : Sort} {p : Tree n} {h : ℕ} {ts rest : List Token} → Phrase n p h ts rest → Unspelled ts → Good n p × Unspelled rest
     phrase_closed (phrase b y q) w = spells_closed y w
 
-    row_closed : {bs : List (Bind Path Text)} {g h : ℕ} {ts rest : List Token} → Lets bs g h ts rest → Unspelled ts → All (Good Let_item) bs × Unspelled rest
+    row_closed : {bs : List Bind} {g h : ℕ} {ts rest : List Token} → Lets bs g h ts rest → Unspelled ts → All (Good Let_item) bs × Unspelled rest
     row_closed (last_let y e n) w = let z = phrase_closed y w in ((z.0, tt), down _ _ z.1)
     row_closed (next_let y e bs) w = let z = phrase_closed y w in let v = row_closed bs (down _ _ z.1) in ((z.0, v.0), v.1)
     row_closed (in_let y e f bs) w = let z = phrase_closed y w in let v = row_closed bs (down _ _ (down _ _ z.1)) in ((z.0, v.0), v.1)

@@ -75,7 +75,7 @@ first_no_bracket : {xs : Path} {ts rest : List Token} → Spells_names xs ts res
 first_no_bracket (last_name e n) = rw e refl
 first_no_bracket (more_names e f d) = rw e refl
 
-size_gets : {high : Type 0} {v : Option (SizeExp Path)} {g h : ℕ} {ts rest : List Token} → Has Size v g h ts rest → Gets high (flat_part g (size_at ts)) (v, h, rest)
+size_gets : {high : Type 0} {v : Option SizeExp} {g h : ℕ} {ts rest : List Token} → Has Size v g h ts rest → Gets high (flat_part g (size_at ts)) (v, h, rest)
 unfolding size_at
 size_gets (no_size e) = rw e gets
 size_gets (path_size d e) = let i = first_no_bracket d in let j = first_is_word d in rw (i, j) (then_gets _ (then_gets _ (path_gets d) (rw e gets)) gets)

@@ -110,12 +110,12 @@ module _ (W : List Token → Type 0) (down : (ts : List Token) → W ts → W (t
       go (kind.Field x) = good (down (t ∷ us) w)
       go k = bad (refuse_at (t ∷ us) w)
 
-  a_variable : (ts : List Token) → W ts → Post (At W) (λ (y : Head Text × List Token). W y.1) (variable_at ts)
+  a_variable : (ts : List Token) → W ts → Post (At W) (λ (y : Head × List Token). W y.1) (variable_at ts)
   unfolding variable_at
   a_variable [] w = bad (refuse_at [] w)
   a_variable (t ∷ us) w = go t.kind
     where
-      go : (k : TokenKind) → Post (At W) (λ (y : Head Text × List Token). W y.1) (variable_from k (t ∷ us) us)
+      go : (k : TokenKind) → Post (At W) (λ (y : Head × List Token). W y.1) (variable_from k (t ∷ us) us)
       go (kind.TypeVar l x) = good (down (t ∷ us) w)
       go k = bad (refuse_at (t ∷ us) w)
 
@@ -148,10 +148,10 @@ module _ (W : List Token → Type 0) (down : (ts : List Token) → W ts → W (t
       (λ f. sign_is_no_size fixed.Star ts w refl (starting fixed.Star ts f)))
       (λ e. refuse_at ts w)
 
-  closed : (size : SizeExp Path) (us : List Token) → W us → Post (At W) (λ (y : Option (SizeExp Path) × List Token). W y.1) (closed_size size us)
+  closed : (size : SizeExp) (us : List Token) → W us → Post (At W) (λ (y : Option SizeExp × List Token). W y.1) (closed_size size us)
   closed size us w = post_if (starts fixed.CloseBracket us) (λ e. good w) (λ e. bad (behind_size us w))
 
-  a_size : (ts : List Token) → W ts → Post (At W) (λ (y : Option (SizeExp Path) × List Token). W y.1) (size_at ts)
+  a_size : (ts : List Token) → W ts → Post (At W) (λ (y : Option SizeExp × List Token). W y.1) (size_at ts)
   unfolding size_at
   a_size ts w =
       post_if (starts fixed.CloseBracket ts) (λ e. good w)

@@ -79,12 +79,12 @@ digits_post {D} g (t ∷ us) = go t.kind refl
     go (kind.Field x) e = good (digits e)
     go k e = bad (refused (t ∷ us))
 
-pub variable_post : {D : List Token → Type 0} (g : ℕ) (ts : List Token) → Post (Stands D) (λ (y : Head Text × List Token). Has Variable y.0 g g ts y.1) (variable_at ts)
+pub variable_post : {D : List Token → Type 0} (g : ℕ) (ts : List Token) → Post (Stands D) (λ (y : Head × List Token). Has Variable y.0 g g ts y.1) (variable_at ts)
 unfolding variable_at
 variable_post g [] = bad (refused [])
 variable_post {D} g (t ∷ us) = go t.kind refl
   where
-    go : (k : TokenKind) → t.kind ≡ k → Post (Stands D) (λ (y : Head Text × List Token). Has Variable y.0 g g (t ∷ us) y.1) (variable_from k (t ∷ us) us)
+    go : (k : TokenKind) → t.kind ≡ k → Post (Stands D) (λ (y : Head × List Token). Has Variable y.0 g g (t ∷ us) y.1) (variable_from k (t ∷ us) us)
     go (kind.TypeVar l x) e = good (variable e)
     go k e = bad (refused (t ∷ us))
 
@@ -126,16 +126,16 @@ behind_size ts =
     (λ f. sign_is_no_size fixed.Star ts refl (starting fixed.Star ts f)))
     (λ e. refused ts)
 
-closed_post : {D : List Token → Type 0} (size : SizeExp Path) (us : List Token) → Post (Stands D) (λ (y : Option (SizeExp Path) × List Token). (y.0 ≡ Some size) × (y.1 ≡ us) × (starts fixed.CloseBracket us ≡ true)) (closed_size size us)
+closed_post : {D : List Token → Type 0} (size : SizeExp) (us : List Token) → Post (Stands D) (λ (y : Option SizeExp × List Token). (y.0 ≡ Some size) × (y.1 ≡ us) × (starts fixed.CloseBracket us ≡ true)) (closed_size size us)
 closed_post size us = post_if (starts fixed.CloseBracket us) (λ e. good (refl, refl, e)) (λ e. bad (behind_size us))
 
-size_is : {g : ℕ} {s : SizeExp Path} {r : Option (SizeExp Path)} {ts us rest : List Token} → Has Size (Some s) g g ts us → r ≡ Some s → rest ≡ us → Has Size r g g ts rest
-size_is {g} {s} {ts = ts} {rest = rest} h e f = subst (λ (v : Option (SizeExp Path)). Has Size v g g ts rest) (sym e) (let P : List Token → Type 0 = λ vs. Has Size (Some s) g g ts vs in subst P (sym f) h)
+size_is : {g : ℕ} {s : SizeExp} {r : Option SizeExp} {ts us rest : List Token} → Has Size (Some s) g g ts us → r ≡ Some s → rest ≡ us → Has Size r g g ts rest
+size_is {g} {s} {ts = ts} {rest = rest} h e f = subst (λ (v : Option SizeExp). Has Size v g g ts rest) (sym e) (let P : List Token → Type 0 = λ vs. Has Size (Some s) g g ts vs in subst P (sym f) h)
 
 a_constant : {g : ℕ} {v : ℕ × Option IntType} {ts us : List Token} → Takes_number v ts us → starts fixed.CloseBracket us ≡ true → Has Size (Some (record { place = (spot_of ts).place; form = size_form.Const v.0 })) g g ts us
 a_constant (takes_number e) c = constant_size e c
 
-pub size_post : {D : List Token → Type 0} (g : ℕ) (ts : List Token) → Post (Stands D) (λ (y : Option (SizeExp Path) × List Token). Has Size y.0 g g ts y.1) (size_at ts)
+pub size_post : {D : List Token → Type 0} (g : ℕ) (ts : List Token) → Post (Stands D) (λ (y : Option SizeExp × List Token). Has Size y.0 g g ts y.1) (size_at ts)
 unfolding size_at
 size_post g ts =
     post_if (starts fixed.CloseBracket ts) (λ e. good (no_size e))

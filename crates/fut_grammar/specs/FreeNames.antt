@@ -30,7 +30,7 @@ abbrev pub path_uses : Text → Path → Bool
 path_uses x [] = false
 path_uses x (y ∷ ys) = is_name x y
 
-abbrev pub pat_form_binds : Text → PatForm-F Path Text Bool Bool → Bool
+abbrev pub pat_form_binds : Text → PatForm-F Bool Bool → Bool
 pat_form_binds x (PatForm-F.Var y) = is_name x y
 pat_form_binds x PatForm-F.Wild = false
 pat_form_binds x PatForm-F.Unit = false
@@ -39,13 +39,13 @@ pat_form_binds x (PatForm-F.Record fs) = any (map (λ (f : Text × Bool). f.1) f
 pat_form_binds x (PatForm-F.Ascribe b t) = b
 
 abbrev pub binds : Text → SourcePat → Bool
-binds x = fold-Pat Path Text Bool Bool (pat_form_binds x) (λ p. p.form)
+binds x = fold-Pat Bool Bool (pat_form_binds x) (λ p. p.form)
 
-abbrev pub head_form_binds : Text → HeadForm Text → Bool
+abbrev pub head_form_binds : Text → HeadForm → Bool
 head_form_binds x (head_form.Size y) = is_name x y
 head_form_binds x (head_form.Var y lifted) = is_name x y
 
-abbrev pub head_binds : Text → Head Text → Bool
+abbrev pub head_binds : Text → Head → Bool
 head_binds x h = head_form_binds x h.form
 
 -- Behind lets a name is free where no earlier let binds it. Of each let: its value has the name free; it binds the name.
@@ -53,7 +53,7 @@ abbrev pub free_in_lets : List (Bool × Bool) → Bool → Bool
 free_in_lets [] body = body
 free_in_lets (b ∷ bs) body = b.0 || (not b.1 && free_in_lets bs body)
 
-abbrev pub free_in_form : Text → Form-F Path Text Bool Bool (Bool × Bool) (Bool × Bool) Bool → Bool
+abbrev pub free_in_form : Text → Form-F Bool Bool (Bool × Bool) (Bool × Bool) Bool → Bool
 free_in_form x (Form-F.Path p) = path_uses x p
 free_in_form x (Form-F.Int n t) = false
 free_in_form x (Form-F.Bool b) = false
@@ -78,7 +78,7 @@ free_in_form x (Form-F.Assert c e) = c || e
 free_in_form x (Form-F.Range e None end g) = e || g
 free_in_form x (Form-F.Range e (Some f) end g) = e || (f || g)
 
-abbrev pub free_in_index : Ix-F Path Text Bool Bool (Bool × Bool) (Bool × Bool) Bool → Bool
+abbrev pub free_in_index : Ix-F Bool Bool (Bool × Bool) (Bool × Bool) Bool → Bool
 free_in_index (Ix-F.At e) = e
 free_in_index (Ix-F.Slice None None) = false
 free_in_index (Ix-F.Slice (Some e) None) = e
@@ -87,26 +87,26 @@ free_in_index (Ix-F.Slice (Some e) (Some f)) = e || f
 free_in_index Ix-F.Backwards = false
 
 -- of what a loop goes over: it has the name free; it binds the name
-abbrev pub free_in_loop : Text → LoopForm-F Path Text Bool Bool (Bool × Bool) (Bool × Bool) Bool → Bool × Bool
+abbrev pub free_in_loop : Text → LoopForm-F Bool Bool (Bool × Bool) (Bool × Bool) Bool → Bool × Bool
 free_in_loop x (LoopForm-F.For y e) = (e, is_name x y)
 free_in_loop x (LoopForm-F.ForIn p e) = (e, binds x p)
 free_in_loop x (LoopForm-F.While e) = (e, false)
 
 -- of one let: its value has the name free, where no parameter of its head binds it; it binds the name
-abbrev pub free_in_let : Text → Bind-F Path Text Bool Bool (Bool × Bool) (Bool × Bool) Bool → Bool × Bool
+abbrev pub free_in_let : Text → Bind-F Bool Bool (Bool × Bool) (Bool × Bool) Bool → Bool × Bool
 free_in_let x b = (not (any (map (head_binds x) b.heads)) && b.value, any (map (is_name x) b.sizes) || binds x b.pat)
 
 unfoldable pub free : Text → SourceExp → Bool
-free x = fold-Exp Path Text Bool Bool (Bool × Bool) (Bool × Bool) Bool (free_in_form x) free_in_index (free_in_loop x) (free_in_let x) (λ e. e.form)
+free x = fold-Exp Bool Bool (Bool × Bool) (Bool × Bool) Bool (free_in_form x) free_in_index (free_in_loop x) (free_in_let x) (λ e. e.form)
 
-unfoldable pub index_free : Text → Ix Path Text → Bool
-index_free x = fold-Ix Path Text Bool Bool (Bool × Bool) (Bool × Bool) Bool (free_in_form x) free_in_index (free_in_loop x) (free_in_let x) (λ e. e.form)
+unfoldable pub index_free : Text → Ix → Bool
+index_free x = fold-Ix Bool Bool (Bool × Bool) (Bool × Bool) Bool (free_in_form x) free_in_index (free_in_loop x) (free_in_let x) (λ e. e.form)
 
-unfoldable pub loop_free : Text → LoopForm Path Text → Bool × Bool
-loop_free x = fold-LoopForm Path Text Bool Bool (Bool × Bool) (Bool × Bool) Bool (free_in_form x) free_in_index (free_in_loop x) (free_in_let x) (λ e. e.form)
+unfoldable pub loop_free : Text → LoopForm → Bool × Bool
+loop_free x = fold-LoopForm Bool Bool (Bool × Bool) (Bool × Bool) Bool (free_in_form x) free_in_index (free_in_loop x) (free_in_let x) (λ e. e.form)
 
-unfoldable pub let_free : Text → Bind Path Text → Bool × Bool
-let_free x = fold-Bind Path Text Bool Bool (Bool × Bool) (Bool × Bool) Bool (free_in_form x) free_in_index (free_in_loop x) (free_in_let x) (λ e. e.form)
+unfoldable pub let_free : Text → Bind → Bool × Bool
+let_free x = fold-Bind Bool Bool (Bool × Bool) (Bool × Bool) Bool (free_in_form x) free_in_index (free_in_loop x) (free_in_let x) (λ e. e.form)
 
 -- both names are free in it
 abbrev pub Uses_both : Text → Text → SourceExp → Type 0

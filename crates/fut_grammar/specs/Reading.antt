@@ -120,11 +120,11 @@ unfoldable pub digits_at : List Token → Result (Text × List Token) Fault
 digits_at [] = Err (refuse [])
 digits_at (t ∷ us) = digits_from t.kind (t ∷ us) us
 
-abbrev pub variable_from : TokenKind → List Token → List Token → Result (Head Text × List Token) Fault
+abbrev pub variable_from : TokenKind → List Token → List Token → Result (Head × List Token) Fault
 variable_from (kind.TypeVar l x) ts us = Ok (record { place = (spot_of ts).place; form = head_form.Var x (is_lifted l) }, us)
 variable_from k ts us = Err (refuse ts)
 
-unfoldable pub variable_at : List Token → Result (Head Text × List Token) Fault
+unfoldable pub variable_at : List Token → Result (Head × List Token) Fault
 variable_at [] = Err (refuse [])
 variable_at (t ∷ us) = variable_from t.kind (t ∷ us) us
 
@@ -146,10 +146,10 @@ size_left_out (t ∷ ts) = refuse_as (LeftOut (length (t ∷ ts)) what.SizeExpre
 abbrev pub refuse_behind_size : List Token → Fault
 refuse_behind_size ts = if starts fixed.Plus ts || starts fixed.Minus ts || starts fixed.Star ts then LeftOut (length ts) what.SizeExpression else refuse ts
 
-abbrev pub closed_size : SizeExp Path → List Token → Result (Option (SizeExp Path) × List Token) Fault
+abbrev pub closed_size : SizeExp → List Token → Result (Option SizeExp × List Token) Fault
 closed_size size ts = if starts fixed.CloseBracket ts then Ok (Some size, ts) else Err (refuse_behind_size ts)
 
-unfoldable pub size_at : List Token → Result (Option (SizeExp Path) × List Token) Fault
+unfoldable pub size_at : List Token → Result (Option SizeExp × List Token) Fault
 size_at ts =
     if starts fixed.CloseBracket ts then Ok (None, ts)
     else (if is_word ts then (path_at ts >>= λ xs. closed_size (record { place = (spot_of ts).place; form = size_form.Path xs.0 }) xs.1)

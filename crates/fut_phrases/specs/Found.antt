@@ -27,5 +27,5 @@ abbrev pub names_found : Found (Bor (List (Bor Text))) → Path × ℕ × List T
 names_found = found_as (λ t. names t.now)
 
 -- size and type parameters
-abbrev pub heads_found : Found (Bor (List Head)) → List (PlainHead Text) × ℕ × List Token
+abbrev pub heads_found : Found (Bor (List Head)) → List PlainHead × ℕ × List Token
 heads_found = found_as (λ t. heads_of t.now)

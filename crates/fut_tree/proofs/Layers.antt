@@ -12,7 +12,7 @@ use Rattle.fut_tree.specs.Names.{names, all, maybe}
 use Rattle.fut_tree.specs.Exps.{form_of, exp_fields, binds_of, loop_of, ixs_of}
 
 abbrev pub Layer : Type 0
-Layer = Form-F Path Text (PlainForm Path Text) (PlainIx Path Text) (PlainLoop Path Text) (PlainBind Path Text) SourceExp
+Layer = Form-F PlainForm PlainIx PlainLoop PlainBind SourceExp
 
 abbrev pub layer_of : Form → Layer
 layer_of (held_form.Path p) = Form-F.Path (names p.now)
@@ -38,7 +38,7 @@ layer_of (held_form.Coerce e t) = Form-F.Coerce e.now t.now
 layer_of (held_form.Assert c e) = Form-F.Assert c.now e.now
 layer_of (held_form.Range e f end g) = Form-F.Range e.now (maybe f) end g.now
 
-pub out_form : (f : Form) → out-Form Path Text (form_of f) ≡ layer_of f
+pub out_form : (f : Form) → out-Form (form_of f) ≡ layer_of f
 out_form (held_form.Path p) = form.outs-Path _
 out_form (held_form.Int n t) = form.outs-Int _ _
 out_form (held_form.Bool b) = form.outs-Bool _

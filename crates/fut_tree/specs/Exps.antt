@@ -24,26 +24,26 @@ use Rattle.fut_tree.specs.Pats.{heads_of}
 abbrev pub exp_fields : List ExpField → List (Text × SourceExp)
 exp_fields = map (λ (f : ExpField). (f.name.now, f.exp.now))
 
-abbrev pub bind_of : Bind → PlainBind Path Text
-bind_of b = roll-Bind Path Text (record { sizes = names b.sizes.now; pat = b.pat.now; is_function = b.is_function; heads = heads_of b.heads.now; value = b.value.now })
+abbrev pub bind_of : Bind → PlainBind
+bind_of b = roll-Bind (record { sizes = names b.sizes.now; pat = b.pat.now; is_function = b.is_function; heads = heads_of b.heads.now; value = b.value.now })
 
-abbrev pub binds_of : List Bind → List (PlainBind Path Text)
+abbrev pub binds_of : List Bind → List PlainBind
 binds_of = map bind_of
 
-abbrev pub loop_of : LoopForm → PlainLoop Path Text
+abbrev pub loop_of : LoopForm → PlainLoop
 loop_of (held_loop.For x e) = loop_form.For x.now e.now
 loop_of (held_loop.ForIn p e) = loop_form.ForIn p.now e.now
 loop_of (held_loop.While e) = loop_form.While e.now
 
-abbrev pub ix_of : Ix → PlainIx Path Text
+abbrev pub ix_of : Ix → PlainIx
 ix_of (held_ix.At e) = ix.At e.now
 ix_of (held_ix.Slice e f) = ix.Slice (maybe e) (maybe f)
 ix_of held_ix.Backwards = ix.Backwards
 
-abbrev pub ixs_of : List Ix → List (PlainIx Path Text)
+abbrev pub ixs_of : List Ix → List PlainIx
 ixs_of = map ix_of
 
-abbrev pub form_of : Form → PlainForm Path Text
+abbrev pub form_of : Form → PlainForm
 form_of (held_form.Path p) = form.Path (names p.now)
 form_of (held_form.Int n t) = form.Int n t
 form_of (held_form.Bool b) = form.Bool b
@@ -68,7 +68,7 @@ form_of (held_form.Assert c e) = form.Assert c.now e.now
 form_of (held_form.Range e f end g) = form.Range e.now (maybe f) end g.now
 
 abbrev pub exp_of : Inside → SourceExp
-exp_of e = roll-Exp Path Text (record { place = e.place; mark = e.mark; form = form_of e.form })
+exp_of e = roll-Exp (record { place = e.place; mark = e.mark; form = form_of e.form })
 
 abbrev pub exp_size : SourceExp → ℕ
-exp_size = size-Exp Path Text
+exp_size = size-Exp

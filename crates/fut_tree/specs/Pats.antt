@@ -16,20 +16,20 @@ use Rattle.fut_tree.specs.declared.pat.PatForm.TheVariants as held_form
 use Rattle.fut_tree.specs.declared.pat.PatField.{PatField}
 use Rattle.fut_tree.specs.Names.{all}
 
-abbrev pub head_form_of : HeadForm → PlainHeadForm Text
+abbrev pub head_form_of : HeadForm → PlainHeadForm
 head_form_of (held_head.Size x) = head.Size x.now
 head_form_of (held_head.Var x lifted) = head.Var x.now lifted
 
-abbrev pub head_of : Head → PlainHead Text
+abbrev pub head_of : Head → PlainHead
 head_of h = record { place = h.place; form = head_form_of h.form }
 
-abbrev pub heads_of : List Head → List (PlainHead Text)
+abbrev pub heads_of : List Head → List PlainHead
 heads_of = map head_of
 
 abbrev pub pat_fields : List PatField → List (Text × SourcePat)
 pat_fields = map (λ (f : PatField). (f.name.now, f.pat.now))
 
-abbrev pub pat_form_of : PatForm → PlainForm Path Text
+abbrev pub pat_form_of : PatForm → PlainForm
 pat_form_of (held_form.Var x) = form.Var x.now
 pat_form_of held_form.Wild = form.Wild
 pat_form_of held_form.Unit = form.Unit
@@ -38,7 +38,7 @@ pat_form_of (held_form.Record fs) = form.Record (pat_fields fs.now)
 pat_form_of (held_form.Ascribe p t) = form.Ascribe p.now t.now
 
 abbrev pub pat_of : Inside → SourcePat
-pat_of p = roll-Pat Path Text (record { place = p.place; form = pat_form_of p.form })
+pat_of p = roll-Pat (record { place = p.place; form = pat_form_of p.form })
 
 abbrev pub pat_size : SourcePat → ℕ
-pat_size = size-Pat Path Text
+pat_size = size-Pat

@@ -101,11 +101,9 @@ impl<'a> Model for Exp<'a> {
     ghost Value = { SourceExp };
 
     ghost use Rattle.fut_ast.specs.contracts.exp.Exp as exp;
-    ghost use Rattle.fut_scalar.specs.contracts.list.List as list;
-    ghost use Rattle.fut_scalar.specs.contracts.name.Name as name;
     ghost use Rattle.std.specs.Coded.{codes};
 
-    ghost coded = { Prim.hlevel (codes, (exp.the_row (list.the_row name.the_row) name.the_row).coded) };
+    ghost coded = { Prim.hlevel (codes, exp.the_row.coded) };
 
     ghost use Rattle.fut_tree.specs.Exps.{exp_of, exp_size};
 

@@ -53,11 +53,9 @@ impl<'a> Model for Pat<'a> {
     ghost Value = { SourcePat };
 
     ghost use Rattle.fut_ast.specs.contracts.pat.Pat as pat;
-    ghost use Rattle.fut_scalar.specs.contracts.list.List as list;
-    ghost use Rattle.fut_scalar.specs.contracts.name.Name as name;
     ghost use Rattle.std.specs.Coded.{codes};
 
-    ghost coded = { Prim.hlevel (codes, (pat.the_row (list.the_row name.the_row) name.the_row).coded) };
+    ghost coded = { Prim.hlevel (codes, pat.the_row.coded) };
 
     ghost use Rattle.fut_tree.specs.Pats.{pat_of, pat_size};
 

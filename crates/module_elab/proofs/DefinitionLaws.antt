@@ -50,7 +50,7 @@ module _ (file : ℕ) (w : Written) where
   abbrev value : SourceTerm
   value = definition_term (all w.params.now) (maybe w.ty) w.value.now
 
-  abbrev heads : List (Rattle.fut_ast.specs.declared.pat.Head.Head Text)
+  abbrev heads : List (Rattle.fut_ast.specs.declared.pat.Head.Head)
   heads = heads_of w.heads.now
 
   abbrev finished : BindId → List (Parameter BindId) × FlatTerm → FlatDefinition

@@ -34,7 +34,7 @@ use Rattle.module_meaning.proofs.Terms.{term_so, heads_more, heads_read}
 -- definitions resolved one after the other
 data Run : Scope → List Text → List Written → List FlatDefinition → Scope → List Text → Type 0 where
   run_none : {sc : Scope} {made : List Text} → Run sc made [] [] sc made
-  run_more : {sc sc' : Scope} {made m made' : List Text} {ws : List Written} {d : FlatDefinition} {fs : List FlatDefinition} (file : ℕ) (is_entry : Bool) (x : Text) (heads : List (Head Text)) (value : SourceTerm) → Told value → define file is_entry x heads value sc made ≡ Ok (d, m) → Run (a_value x d.bind ∷ sc) m ws fs sc' made' → Run sc made (record { name = x; parameters = source_parameters heads; value = value } ∷ ws) (d ∷ fs) sc' made'
+  run_more : {sc sc' : Scope} {made m made' : List Text} {ws : List Written} {d : FlatDefinition} {fs : List FlatDefinition} (file : ℕ) (is_entry : Bool) (x : Text) (heads : List Head) (value : SourceTerm) → Told value → define file is_entry x heads value sc made ≡ Ok (d, m) → Run (a_value x d.bind ∷ sc) m ws fs sc' made' → Run sc made (record { name = x; parameters = source_parameters heads; value = value } ∷ ws) (d ∷ fs) sc' made'
 
 run-append : {sc sc1 sc2 : Scope} {m m1 m2 : List Text} {ws us : List Written} {fs gs : List FlatDefinition} → Run sc m ws fs sc1 m1 → Run sc1 m1 us gs sc2 m2 → Run sc m (ws ++ us) (fs ++ gs) sc2 m2
 run-append run_none s = s
@@ -55,7 +55,7 @@ chosen : {C A : Type 0} (t : Bool) (w : Refusal) (r : Result A Refusal) (z : A) 
 chosen true w r z e k = not_refused w z e
 chosen false w r z e k = k e
 
-def_goes : (file : ℕ) (is_entry : Bool) (x : Label) (heads : List (Head Text)) (value : SourceTerm) (s s' : Seen) (d : FlatDefinition) → Told value → behind x.name s (define file is_entry x.name heads value s.scope s.made) ≡ Ok (d, s') → Goes s (record { name = x.name; parameters = source_parameters heads; value = value } ∷ []) (d ∷ []) s'
+def_goes : (file : ℕ) (is_entry : Bool) (x : Label) (heads : List Head) (value : SourceTerm) (s s' : Seen) (d : FlatDefinition) → Told value → behind x.name s (define file is_entry x.name heads value s.scope s.made) ≡ Ok (d, s') → Goes s (record { name = x.name; parameters = source_parameters heads; value = value } ∷ []) (d ∷ []) s'
 def_goes file is_entry x heads value s s' d t e =
     behind_is x.name s s' d _ e (λ m h i j. run_more file is_entry x.name heads value t h (subst (λ z. Run (a_value x.name d.bind ∷ s.scope) m [] [] z s'.made) (sym i) (subst (λ z. Run (a_value x.name d.bind ∷ s.scope) m [] [] (a_value x.name d.bind ∷ s.scope) z) (sym j) run_none)))
 
@@ -86,7 +86,7 @@ record Defined_so (sc : Scope) (made m : List Text) (d : FlatDefinition) (value 
   more : suc (length made) ≤ length m
   resolved : Resolved (suc (length made)) [] (outside_of sc) value d.value
 
-define_so : (file : ℕ) (is_entry : Bool) (x : Text) (heads : List (Head Text)) (value : SourceTerm) (sc : Scope) (made m : List Text) (d : FlatDefinition) → No_sizes (source_parameters heads) → Plain value → define file is_entry x heads value sc made ≡ Ok (d, m) → Defined_so sc made m d value
+define_so : (file : ℕ) (is_entry : Bool) (x : Text) (heads : List Head) (value : SourceTerm) (sc : Scope) (made m : List Text) (d : FlatDefinition) → No_sizes (source_parameters heads) → Plain value → define file is_entry x heads value sc made ≡ Ok (d, m) → Defined_so sc made m d value
 unfolding define
 define_so file is_entry x heads value sc made m d n p e =
     went _ _ _ e (λ h k i g. went _ _ _ g (λ v l j q.
@@ -134,7 +134,7 @@ nothing_below : {n : ℕ} → Below n []
 unfolding value_in
 nothing_below = record { below = λ x b e. absurd (let z : None ≡ Some b = e in cc) }
 
-definition_plain : (file : ℕ) (is_entry : Bool) (x : Text) (heads : List (Head Text)) (value : SourceTerm) (sc : Scope) (made m : List Text) (d : FlatDefinition) → Told value → No_sizes d.parameters → Sizeless d.value → define file is_entry x heads value sc made ≡ Ok (d, m) → No_sizes (source_parameters heads) × Plain value
+definition_plain : (file : ℕ) (is_entry : Bool) (x : Text) (heads : List Head) (value : SourceTerm) (sc : Scope) (made m : List Text) (d : FlatDefinition) → Told value → No_sizes d.parameters → Sizeless d.value → define file is_entry x heads value sc made ≡ Ok (d, m) → No_sizes (source_parameters heads) × Plain value
 unfolding define
 definition_plain file is_entry x heads value sc made m d t n z e =
     went _ _ _ e (λ h k i g. went _ _ _ g (λ v l j q. (

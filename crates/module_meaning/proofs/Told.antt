@@ -90,7 +90,7 @@ abbrev Exp_told : SourceExp → Type 0
 Exp_told e = Told (source_term e)
 
 abbrev Form_told : PlainForm → Type 0
-Form_told f = (at mark : Place) → Told (layer (out-Form Path Text f) at mark)
+Form_told f = (at mark : Place) → Told (layer (out-Form f) at mark)
 
 abbrev Index_told : PlainIx → Type 0
 Index_told i = All_placed (asked_of i).1
@@ -133,11 +133,11 @@ rows_told : (bs : List SuchBind) → All_rows (map row_of (map (λ (b : SuchBind
 rows_told [] = tt
 rows_told (b ∷ bs) = (b.1, rows_told bs)
 
-abbrev Layer_told : Form-F Path Text PlainForm PlainIx PlainLoop PlainBind SourceExp → Type 0
+abbrev Layer_told : Form-F PlainForm PlainIx PlainLoop PlainBind SourceExp → Type 0
 Layer_told l = (at mark : Place) → Told (layer l at mark)
 
-layer_told : (y : Form-F Path Text SuchForm SuchIx SuchLoop SuchBind SuchExp) →
-    Layer_told (map-Form Path Text _ _ _ _ _ _ _ _ _ _ (λ (f : SuchForm). f.0) (λ (i : SuchIx). i.0) (λ (o : SuchLoop). o.0) (λ (b : SuchBind). b.0) (λ (e : SuchExp). e.0) y)
+layer_told : (y : Form-F SuchForm SuchIx SuchLoop SuchBind SuchExp) →
+    Layer_told (map-Form _ _ _ _ _ _ _ _ _ _ (λ (f : SuchForm). f.0) (λ (i : SuchIx). i.0) (λ (o : SuchLoop). o.0) (λ (b : SuchBind). b.0) (λ (e : SuchExp). e.0) y)
 layer_told (Form-F.Path p) at mark = refl
 layer_told (Form-F.Int n t) at mark = tt
 layer_told (Form-F.Bool b) at mark = tt
@@ -165,8 +165,8 @@ layer_told (Form-F.Range e (Some f) end g) at mark = (e.1, (f.1, (g.1, tt)))
 of_form : (e : SourceExp) → Form_told e.form → Exp_told e
 of_form e h = subst (λ (p : Placed). Told p.term) (sym (placed_is e)) (h e.place e.mark)
 
-index_layer_told : (y : Ix-F Path Text SuchForm SuchIx SuchLoop SuchBind SuchExp) →
-    All_placed (index_layer (map-Ix Path Text _ _ _ _ _ _ _ _ _ _ (λ (f : SuchForm). f.0) (λ (i : SuchIx). i.0) (λ (o : SuchLoop). o.0) (λ (b : SuchBind). b.0) (λ (e : SuchExp). e.0) y)).1
+index_layer_told : (y : Ix-F SuchForm SuchIx SuchLoop SuchBind SuchExp) →
+    All_placed (index_layer (map-Ix _ _ _ _ _ _ _ _ _ _ (λ (f : SuchForm). f.0) (λ (i : SuchIx). i.0) (λ (o : SuchLoop). o.0) (λ (b : SuchBind). b.0) (λ (e : SuchExp). e.0) y)).1
 index_layer_told (Ix-F.At e) = (e.1, tt)
 index_layer_told (Ix-F.Slice None None) = tt
 index_layer_told (Ix-F.Slice None (Some f)) = (f.1, tt)
@@ -174,34 +174,34 @@ index_layer_told (Ix-F.Slice (Some e) None) = (e.1, tt)
 index_layer_told (Ix-F.Slice (Some e) (Some f)) = (e.1, (f.1, tt))
 index_layer_told Ix-F.Backwards = tt
 
-turns_layer_told : (y : LoopForm-F Path Text SuchForm SuchIx SuchLoop SuchBind SuchExp) (at : Place) →
-    Turns_told (turns_layer (map-LoopForm Path Text _ _ _ _ _ _ _ _ _ _ (λ (f : SuchForm). f.0) (λ (i : SuchIx). i.0) (λ (o : SuchLoop). o.0) (λ (b : SuchBind). b.0) (λ (e : SuchExp). e.0) y) at)
+turns_layer_told : (y : LoopForm-F SuchForm SuchIx SuchLoop SuchBind SuchExp) (at : Place) →
+    Turns_told (turns_layer (map-LoopForm _ _ _ _ _ _ _ _ _ _ (λ (f : SuchForm). f.0) (λ (i : SuchIx). i.0) (λ (o : SuchLoop). o.0) (λ (b : SuchBind). b.0) (λ (e : SuchExp). e.0) y) at)
 turns_layer_told (LoopForm-F.For i n) at = n.1
 turns_layer_told (LoopForm-F.ForIn p e) at = e.1
 turns_layer_told (LoopForm-F.While c) at = c.1
 
-of_index : (i : PlainIx) → All_placed (index_layer (out-Ix Path Text i)).1 → Index_told i
+of_index : (i : PlainIx) → All_placed (index_layer (out-Ix i)).1 → Index_told i
 of_index i h = subst (λ (a : Asked). All_placed a.1) (sym (index_is i)) h
 
-of_loop : (o : PlainLoop) → ((at : Place) → Turns_told (turns_layer (out-LoopForm Path Text o) at)) → Loop_told o
+of_loop : (o : PlainLoop) → ((at : Place) → Turns_told (turns_layer (out-LoopForm o) at)) → Loop_told o
 of_loop o h at = subst Turns_told (sym (turns_are o at)) (h at)
 
 of_bind : (b : PlainBind) → Exp_told b.value → Bind_told b
 of_bind b h = subst (λ (r : Row). Told r.1) (sym (row_is b)) h
 
 abbrev BindLayer : Type 0
-BindLayer = Bind-F Path Text PlainForm PlainIx PlainLoop PlainBind SourceExp
+BindLayer = Bind-F PlainForm PlainIx PlainLoop PlainBind SourceExp
 
 abbrev ExpLayer : Type 0
-ExpLayer = Exp-F Path Text PlainForm PlainIx PlainLoop PlainBind SourceExp
+ExpLayer = Exp-F PlainForm PlainIx PlainLoop PlainBind SourceExp
 
 pub exp_told : (e : SourceExp) → Told (source_term e)
-exp_told = ind-Exp Path Text Form_told Index_told Loop_told Bind_told Exp_told
-    (λ x y is. subst Layer_told (is ∙ sym (out-roll-Form Path Text x)) (layer_told y))
-    (λ x y is. of_index (roll-Ix Path Text x) (subst (λ z. All_placed (index_layer z).1) (is ∙ sym (out-roll-Ix Path Text x)) (index_layer_told y)))
-    (λ x y is. of_loop (roll-LoopForm Path Text x) (subst (λ z. (at : Place) → Turns_told (turns_layer z at)) (is ∙ sym (out-roll-LoopForm Path Text x)) (turns_layer_told y)))
-    (λ x y is. of_bind (roll-Bind Path Text x) (subst Exp_told (ap (λ (z : BindLayer). z.value) is) y.value.1))
-    (λ x y is. of_form (roll-Exp Path Text x) (subst Form_told (ap (λ (z : ExpLayer). z.form) is) y.form.1))
+exp_told = ind-Exp Form_told Index_told Loop_told Bind_told Exp_told
+    (λ x y is. subst Layer_told (is ∙ sym (out-roll-Form x)) (layer_told y))
+    (λ x y is. of_index (roll-Ix x) (subst (λ z. All_placed (index_layer z).1) (is ∙ sym (out-roll-Ix x)) (index_layer_told y)))
+    (λ x y is. of_loop (roll-LoopForm x) (subst (λ z. (at : Place) → Turns_told (turns_layer z at)) (is ∙ sym (out-roll-LoopForm x)) (turns_layer_told y)))
+    (λ x y is. of_bind (roll-Bind x) (subst Exp_told (ap (λ (z : BindLayer). z.value) is) y.value.1))
+    (λ x y is. of_form (roll-Exp x) (subst Form_told (ap (λ (z : ExpLayer). z.form) is) y.form.1))
 
 -- and in those of definitions
 pub definition_told : (ps : List SourcePat) (t : Option SourceType) (e : SourceExp) → Told (definition_term ps t e)

@@ -34,7 +34,7 @@ definition_term (p ∷ ps) t e = Lambda (patterns (map source_pattern (p ∷ ps)
 abbrev pub is_entry_named : Bool → Text → Bool
 is_entry_named is_entry x = is_entry || bytes_eq x (codes "main")
 
-unfoldable pub define : ℕ → Bool → Text → List (Head Text) → SourceTerm → Scope → List Text → Numbered FlatDefinition
+unfoldable pub define : ℕ → Bool → Text → List Head → SourceTerm → Scope → List Text → Numbered FlatDefinition
 define file is_entry x heads value sc made =
     after (Ok (number_heads (source_parameters heads) (with_text made x))) (λ h more.
     after (resolve value (enter h.1 sc) more) (λ v more.

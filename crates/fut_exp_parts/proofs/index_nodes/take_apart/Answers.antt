@@ -17,7 +17,7 @@ parts-preserved c =
     let part = c.part-item.result in
     let more = so_many parts c.parts.part-index part c.parts-test.true c.part-item.is in (
       rw c.in-Ok.ensures.items (row_more c.parts.row.items (take c.parts.part-index parts) part c.parts.invariant.0 ∙ ap (λ ps. flat (map (λ i. i.0) (named_all ps))) more),
-      one_more (λ (i : List (PlainBind Path Text) × PlainIx Path Text). i.1) named_of parts c.parts.part-index (ixs_of c.parts.indices.items) _ part c.parts-test.true c.parts.invariant.1 c.part-item.is (ap ixs_of c.in-Ok-push.ensures.items ∙ map-append ix_of c.parts.indices.items (part.part ∷ [])),
+      one_more (λ (i : List PlainBind × PlainIx). i.1) named_of parts c.parts.part-index (ixs_of c.parts.indices.items) _ part c.parts-test.true c.parts.invariant.1 c.part-item.is (ap ixs_of c.in-Ok-push.ensures.items ∙ map-append ix_of c.parts.indices.items (part.part ∷ [])),
     )
 
 pub returns-clause-row : goal.returns-clause-row
