@@ -12,13 +12,13 @@ use Rattle.fut_types.specs.Types.{Sub}
 use Rattle.fut_typing.specs.Names.{Names, AreNames}
 use Rattle.fut_typing.specs.Program.{Defined}
 use Rattle.fut_typing.specs.Answers.{Typing_is, NoType, FunctionPlace, Ambiguous}
-use Rattle.typing_numbers.proofs.Programs.{typing_is_one}
-use Rattle.module_scopes.specs.Names.{Refusal}
-use Rattle.module_scopes.specs.Programs.{FlatProgram, resolve_program}
+use Rattle.typing_laws.proofs.NumberingPrograms.{typing_is_one}
+use Rattle.elab_scopes.specs.Names.{Refusal}
+use Rattle.elab_scopes.specs.Programs.{FlatProgram, resolve_program}
 use Rattle.module_elab.specs.declared.prelude.TheConstants.{PRELUDE}
 use Rattle.front.specs.Acceptance.{IsAcceptable, IsParsed, IsPrelude, IsResolved, IsUntyped, Resolves, Unaccepted, Unspelled, definitions_of, prelude_file}
 use Rattle.front.specs.declared.refusals.NameErr.TheVariants as names
-use Rattle.front_types.specs.declared.typed.TypeErr.TheVariants as types
+use Rattle.typed_programs.specs.declared.typed.TypeErr.TheVariants as types
 use Rattle.front.specs.declared.refusals.Refused.{Refused}
 use Rattle.front.specs.declared.refusals.Refused.TheVariants as why
 

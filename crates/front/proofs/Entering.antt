@@ -6,9 +6,9 @@ use Rattle.std.specs.Prelude.{Option, Some, None, option_map, slice_get}
 use Rattle.fut_ast.specs.Sorts.{Text}
 use Rattle.fut_flat.specs.declared.program.Definition.{Definition}
 use Rattle.fut_flat.specs.declared.program.Flat.{Flat}
-use Rattle.module_scopes.specs.Programs.{FlatDefinition}
+use Rattle.elab_scopes.specs.Programs.{FlatDefinition}
 use Rattle.module_elab.specs.Elaborated.{definition_of, program_of as flat_of}
-use Rattle.entry_names.specs.Entries.{Begins_at, Begins_nowhere, begins, is_text as is_text_of}
+use Rattle.front.specs.EntryNameEntries.{Begins_at, Begins_nowhere, begins, is_text as is_text_of}
 use Rattle.front.specs.Acceptance.{named_file}
 use Rattle.front.specs.Entries.{HasEntry, HasNoEntry, is_entry, is_text}
 

@@ -9,16 +9,16 @@ use Rattle.fut_flat.specs.declared.program.Flat.{Flat}
 use Rattle.fut_typing.specs.Names.{Names}
 use Rattle.fut_typing.specs.Program.{Defined, defined, program_of as typing_of}
 use Rattle.fut_typing.specs.Answers.{NoType, FunctionPlace, Ambiguous}
-use Rattle.module_scopes.specs.Names.{Refusal}
-use Rattle.module_scopes.specs.Programs.{FlatProgram, resolve_program}
+use Rattle.elab_scopes.specs.Names.{Refusal}
+use Rattle.elab_scopes.specs.Programs.{FlatProgram, resolve_program}
 use Rattle.module_elab.specs.Elaborated.{definition_of, program_of as flat_of}
 use Rattle.type_infer.specs.Inferring.{Has_typing, Infers}
 use Rattle.type_scopes.specs.declared.Inference.{Inference}
-use Rattle.front_types.specs.Known.{Knows}
-use Rattle.front_types.specs.Mistyped.{Some_numbering}
-use Rattle.front_types.specs.declared.typed.Accepted.{Accepted}
-use Rattle.front_types.specs.declared.typed.TypeErr.TheVariants as types
-use Rattle.front_types.proofs.Numbered.{numbered}
+use Rattle.typed_programs.specs.Known.{Knows}
+use Rattle.typed_programs.specs.Mistyped.{Some_numbering}
+use Rattle.typed_programs.specs.declared.typed.Accepted.{Accepted}
+use Rattle.typed_programs.specs.declared.typed.TypeErr.TheVariants as types
+use Rattle.typed_programs.proofs.Numbered.{numbered}
 use Rattle.front.specs.Acceptance.{IsBuiltProgram, IsParsed, IsPrelude, IsResolved, IsUntyped, Resolves, Typable, definitions_of, defined_of}
 use Rattle.front.specs.Stages.{Is_accepted, Explains, IsMisnamed, Misnames, Untyped}
 use Rattle.front.specs.declared.refusals.NameErr.TheVariants as names

@@ -15,14 +15,14 @@ use Rattle.fut_types.specs.Types.{Sub}
 use Rattle.fut_typing.specs.Names.{Names}
 use Rattle.fut_typing.specs.Program.{Defined}
 use Rattle.fut_typing.specs.Answers.{Typing_is, NoType, FunctionPlace, Ambiguous}
-use Rattle.module_scopes.specs.Names.{Refusal}
-use Rattle.module_scopes.specs.Names as refusal
-use Rattle.module_scopes.specs.Programs.{FlatDefinition, FlatProgram, resolve_program}
+use Rattle.elab_scopes.specs.Names.{Refusal}
+use Rattle.elab_scopes.specs.Names as refusal
+use Rattle.elab_scopes.specs.Programs.{FlatDefinition, FlatProgram, resolve_program}
 use Rattle.module_elab.specs.declared.prelude.TheConstants.{PRELUDE}
 use Rattle.unbuilt_tokens.specs.Unbuilt.{first_unbuilt}
-use Rattle.front_types.specs.Mistyped.{Some_numbering}
+use Rattle.typed_programs.specs.Mistyped.{Some_numbering}
 use Rattle.front.specs.declared.refusals.NameErr.TheVariants as names
-use Rattle.front_types.specs.declared.typed.TypeErr.TheVariants as types
+use Rattle.typed_programs.specs.declared.typed.TypeErr.TheVariants as types
 use Rattle.front.specs.declared.refusals.Refused.{Refused}
 use Rattle.front.specs.declared.refusals.Refused.TheVariants as why
 

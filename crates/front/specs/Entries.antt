@@ -2,7 +2,7 @@
 use Rattle.std.specs.Prelude.{◌≡◌, ℕ, ◌==◌, ◌&&◌, Bool, true, false, Option, Some, None, slice_get}
 use Rattle.std.specs.Str.{bytes_eq}
 use Rattle.fut_ast.specs.Sorts.{Text}
-use Rattle.module_scopes.specs.Programs.{FlatDefinition, FlatProgram}
+use Rattle.elab_scopes.specs.Programs.{FlatDefinition, FlatProgram}
 use Rattle.front.specs.Acceptance.{named_file}
 
 abbrev pub is_text : Option Text → Text → Bool

@@ -1,3 +1,4 @@
 pub mod Acceptance
 pub mod Entries
 pub mod Stages
+pub mod EntryNameEntries

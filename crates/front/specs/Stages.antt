@@ -5,14 +5,14 @@ use Rattle.fut_ast.specs.declared.module.Program.{Program}
 use Rattle.fut_parser.specs.declared.programs.ParseErr.{ParseErr}
 use Rattle.fut_parser.specs.declared.programs.ParseErr.TheVariants as parse
 use Rattle.fut_typing.specs.Program.{Defined}
-use Rattle.module_scopes.specs.Names.{Refusal}
-use Rattle.module_scopes.specs.Names as refusal
-use Rattle.module_scopes.specs.Programs.{FlatProgram}
+use Rattle.elab_scopes.specs.Names.{Refusal}
+use Rattle.elab_scopes.specs.Names as refusal
+use Rattle.elab_scopes.specs.Programs.{FlatProgram}
 use Rattle.module_elab.specs.Elaborated.{program_of as flat_of}
-use Rattle.front_types.specs.Known.{Is_known}
-use Rattle.front_types.specs.Mistyped.{Mistyped}
-use Rattle.front_types.specs.declared.typed.Accepted.{Accepted}
-use Rattle.front_types.specs.declared.typed.TypeErr.TheVariants as types
+use Rattle.typed_programs.specs.Known.{Is_known}
+use Rattle.typed_programs.specs.Mistyped.{Mistyped}
+use Rattle.typed_programs.specs.declared.typed.Accepted.{Accepted}
+use Rattle.typed_programs.specs.declared.typed.TypeErr.TheVariants as types
 use Rattle.front.specs.Acceptance.{IsAcceptable, Resolves, Unaccepted, Unspelled}
 use Rattle.front.specs.declared.refusals.NameErr.TheVariants as names
 use Rattle.front.specs.declared.refusals.Refused.{Refused}

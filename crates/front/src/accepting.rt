@@ -1,18 +1,18 @@
 // From tokens to an accepted program.
 ghost use Rattle.std.specs.Prelude.{◌≡◌, [], ◌∷◌, IfOk, IfErr, Ok, Result};
-ghost use Rattle.module_scopes.specs.Names.{Refusal};
-ghost use Rattle.module_scopes.specs.Programs.{FlatProgram};
+ghost use Rattle.elab_scopes.specs.Names.{Refusal};
+ghost use Rattle.elab_scopes.specs.Programs.{FlatProgram};
 ghost use Rattle.fut_tree.specs.Names.{all};
 ghost use Rattle.fut_typing.specs.Program.{program_of as typing_of};
 ghost use Rattle.module_elab.specs.Elaborated.{program_of as flat_of, Tells};
 ghost use Rattle.front.specs.Acceptance.{IsParsed, IsPreludeText, Resolves};
-ghost use Rattle.front_types.specs.Known.{Knows};
+ghost use Rattle.typed_programs.specs.Known.{Knows};
 ghost use Rattle.front.specs.Stages.{Explains, Is_accepted, IsMisnamed, Misnames, Misspells, Untyped};
 
 use crate::reading::{Prelude, prelude_tree};
 use crate::refusals::{NameErr, Refused};
 use bumpalo::Bump;
-use front_types::{Accepted, TypeErr, typed_program};
+use typed_programs::{Accepted, TypeErr, typed_program};
 use fut_flat::Flat;
 use fut_parser::{ParseErr, parse};
 use fut_scalar::{Name, NoMemory};

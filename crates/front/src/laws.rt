@@ -1,13 +1,13 @@
 // Laws of acceptance.
 ghost use Rattle.std.specs.Prelude.{◌≡◌, ℕ, List, Result};
-ghost use Rattle.entry_names.specs.Entries.{Begins_at, Begins_nowhere};
+ghost use Rattle.front.specs.EntryNameEntries.{Begins_at, Begins_nowhere};
 ghost use Rattle.fut_ast.specs.Sorts.{Text};
 ghost use Rattle.fut_ast.specs.declared.module.Program.{Program};
 ghost use Rattle.fut_flat.specs.declared.program.Flat.{Flat};
 ghost use Rattle.fut_token.specs.declared.token.Token.{Token};
 ghost use Rattle.module_elab.specs.Elaborated.{program_of as flat_of};
-ghost use Rattle.module_scopes.specs.Names.{Refusal};
-ghost use Rattle.module_scopes.specs.Programs.{FlatProgram};
+ghost use Rattle.elab_scopes.specs.Names.{Refusal};
+ghost use Rattle.elab_scopes.specs.Programs.{FlatProgram};
 ghost use Rattle.front.specs.Acceptance.{IsAcceptable, IsParsed, IsResolved, Resolves, Unaccepted};
 ghost use Rattle.front.specs.Entries.{HasEntry, HasNoEntry};
 ghost use Rattle.front.specs.declared.refusals.Refused.{Refused};

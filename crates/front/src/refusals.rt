@@ -1,5 +1,5 @@
 // Why a program is not accepted.
-use front_types::TypeErr;
+use typed_programs::TypeErr;
 use fut_parser::ParseErr;
 use fut_scalar::{Name, Place};
 

@@ -11,13 +11,13 @@ ghost use Rattle.fut_parser.specs.Private.ModFound.{dec_form_found};
 
 use bumpalo::Bump;
 use fut_ast::What;
-use fut_expressions::whole_expression;
+use parse_exps::whole_expression;
 use fut_grammar::Stop;
-use fut_module_types::module_type;
-use fut_phrases::found::Found;
-use fut_phrases::params::{heads_inside, maybe_type_inside, patterns_inside};
-use fut_phrases::tokens::{greater, next_spot, rest_of, take, take_text, take_word, without_form};
-use fut_phrases::types::whole_type;
+use parse_module_types::module_type;
+use parse_types::found::Found;
+use parse_types::params::{heads_inside, maybe_type_inside, patterns_inside};
+use parse_types::tokens::{greater, next_spot, rest_of, take, take_text, take_word, without_form};
+use parse_types::types::whole_type;
 use fut_token::{Fixed, Token};
 use fut_tree::{DecForm, Label};
 

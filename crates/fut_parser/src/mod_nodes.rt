@@ -2,12 +2,12 @@
 ghost use Rattle.std.specs.Prelude.{◌≡◌, IfOk, Ok};
 ghost use Rattle.fut_grammar.specs.Reading.{Gives};
 ghost use Rattle.fut_parser.specs.Private.ModFound.{ending_found};
-ghost use Rattle.fut_phrases.specs.Found.{tree_found};
+ghost use Rattle.parse_types.specs.Found.{tree_found};
 
 use crate::module_tie::{ModAnswer, ModEnding};
 use bumpalo::Bump;
 use fut_grammar::Stop;
-use fut_phrases::found::Found;
+use parse_types::found::Found;
 use fut_token::Token;
 use fut_tree::ModExp;
 

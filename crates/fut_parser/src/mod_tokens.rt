@@ -3,7 +3,7 @@ ghost use Rattle.std.specs.Prelude.{◌≡◌};
 ghost use Rattle.fut_ast.specs.Behind.{begins, begins_dec, begins_dec_rest, begins_mod_argument, behind_mod};
 ghost use Rattle.fut_ast.specs.Sorts.{Whole_mod};
 
-use fut_phrases::tokens::{starts_with, starts_with_word};
+use parse_types::tokens::{starts_with, starts_with_word};
 use fut_token::{Fixed, Token};
 
 /// Whether an argument of a parametric module begins here.

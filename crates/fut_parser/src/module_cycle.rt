@@ -5,7 +5,7 @@ ghost use Rattle.fut_grammar.specs.Phrases.{read_at};
 ghost use Rattle.fut_grammar.specs.Reading.{Gives};
 ghost use Rattle.fut_grammar.specs.declared.fault.Stop.{Stop as AnyStop};
 ghost use Rattle.fut_parser.specs.Private.ModFound.{dec_found, ending_found, module_found};
-ghost use Rattle.fut_module_types.specs.MtypeTie.{Law};
+ghost use Rattle.parse_module_types.specs.MtypeTie.{Law};
 ghost use Rattle.fut_parser.specs.Private.ModTie.{Mod_law, Reads_mod};
 
 use crate::declarations::declaration_below;
@@ -16,8 +16,8 @@ use crate::module_tie::{DecAnswer, ModAnswer, ModEnding, ModSort, ReadDeclaratio
 use crate::modules::{argument_below, last_below};
 use bumpalo::Bump;
 use fut_grammar::{Fault, Stop};
-use fut_phrases::found::Found;
-use fut_phrases::tokens::refused;
+use parse_types::found::Found;
+use parse_types::tokens::refused;
 use fut_token::Token;
 use fut_tree::Dec;
 

@@ -4,11 +4,11 @@ ghost use Rattle.fut_ast.specs.Sorts.{Dec_item};
 ghost use Rattle.fut_grammar.specs.Phrases.{read_at};
 ghost use Rattle.fut_grammar.specs.Reading.{Gives};
 ghost use Rattle.fut_parser.specs.Private.ModFound.{dec_found};
-ghost use Rattle.fut_module_types.specs.MtypeTie.{Law};
+ghost use Rattle.parse_module_types.specs.MtypeTie.{Law};
 ghost use Rattle.fut_parser.specs.Private.ModTie.{Mod_law, Reads_mod};
 
 use fut_grammar::Stop;
-use fut_phrases::found::Found;
+use parse_types::found::Found;
 use fut_token::Token;
 use fut_tree::{Dec, ModExp};
 

@@ -10,7 +10,7 @@ ghost use Rattle.fut_ast.specs.Tokens.{starts};
 ghost use Rattle.fut_grammar.specs.Phrases.{atomic_mod_at, far_at, first_mod_at, last_mod_at, once_at, phrases, read_at};
 ghost use Rattle.fut_grammar.specs.Reading.{Gives, parts_at, row_at};
 ghost use Rattle.fut_parser.specs.Private.ModFound.{ending_found};
-ghost use Rattle.fut_phrases.specs.Found.{tree_found};
+ghost use Rattle.parse_types.specs.Found.{tree_found};
 ghost use Rattle.fut_tree.specs.ModTypes.{label_of};
 
 use crate::items::Items;
@@ -20,10 +20,10 @@ use crate::module_tie::{ModAnswer, ModEnding, ModSort, ReadDeclaration, ReadModu
 use bumpalo::Bump;
 use fut_ast::Spot;
 use fut_grammar::{Fault, Stop};
-use fut_module_types::{maybe_module_type, module_parameter, module_type};
-use fut_phrases::found::Found;
-use fut_phrases::lists::{BeginItem, ReadItem, many, several};
-use fut_phrases::tokens::{
+use parse_module_types::{maybe_module_type, module_parameter, module_type};
+use parse_types::found::Found;
+use parse_types::lists::{BeginItem, ReadItem, many, several};
+use parse_types::tokens::{
     greater, next_spot, refused, rest_of, starts_with, starts_with_word, take, take_path, take_text,
 };
 use fut_scalar::Place;

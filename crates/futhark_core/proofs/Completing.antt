@@ -10,11 +10,11 @@ use Rattle.fut_ast.specs.Grammar.{Derives}
 use Rattle.fut_ast.specs.declared.module.Program.{Program}
 use Rattle.fut_parser.specs.declared.programs.ParseErr.{ParseErr}
 use Rattle.fut_parser.specs.declared.programs.ParseErr.TheVariants as parse
-use Rattle.module_scopes.specs.Names.{Refusal}
-use Rattle.module_scopes.specs.Programs.{FlatProgram, resolve_program}
+use Rattle.elab_scopes.specs.Names.{Refusal}
+use Rattle.elab_scopes.specs.Programs.{FlatProgram, resolve_program}
 use Rattle.module_elab.specs.Elaborated.{program_of as flat_of}
-use Rattle.front_types.specs.declared.typed.TypeErr.{TypeErr}
-use Rattle.front_types.specs.declared.typed.TypeErr.TheVariants as types
+use Rattle.typed_programs.specs.declared.typed.TypeErr.{TypeErr}
+use Rattle.typed_programs.specs.declared.typed.TypeErr.TheVariants as types
 use Rattle.front.specs.Acceptance.{IsResolved, IsUntyped, Unaccepted, Unspelled}
 use Rattle.front.specs.Entries.{HasEntry, HasNoEntry}
 use Rattle.front.specs.declared.refusals.NameErr.{NameErr}

@@ -13,12 +13,12 @@ use Rattle.fut_typing.specs.Patterns.{arrows}
 use Rattle.fut_typing.specs.Program.{Defined, defined, program_of, Program_typed}
 use Rattle.fut_typing.specs.Answers.{Typing_is}
 use Rattle.fut_typing.specs.Exact.{scope_behind}
-use Rattle.typed_meaning.specs.Programs.{One_each}
+use Rattle.type_soundness.specs.Programs.{One_each}
 use Rattle.typed_programs.specs.EntryTypes.{scalar_tys, Results_are, Has_entry_type}
 use Rattle.typed_programs.proofs.Using.{split_at, uses_at}
-use Rattle.typing_numbers.specs.Alike.{Settled, All_settled}
-use Rattle.typing_numbers.specs.Claims.{Used_alone}
-use Rattle.typing_numbers.proofs.OneType.{one_type_is_one}
+use Rattle.typing_laws.specs.Alike.{Settled, All_settled}
+use Rattle.typing_laws.specs.NumberingClaims.{Used_alone}
+use Rattle.typing_laws.proofs.OneType.{one_type_is_one}
 
 -- ---- neither a variable nor a record stands in the type of an entry
 scalars_settled : (ss : List ScalarType) → All_settled (scalar_tys ss)

@@ -13,7 +13,7 @@ use Rattle.fut_meaning.specs.Datums.{as_values}
 use Rattle.fut_ast.specs.declared.module.Program.{Program as SourceProgram}
 use Rattle.fut_blocks.specs.declared.block.Program.{Program}
 use Rattle.fut_blocks.specs.Programs.{Program_means, Rising, AreOf}
-use Rattle.module_scopes.specs.Programs.{resolve_program}
+use Rattle.elab_scopes.specs.Programs.{resolve_program}
 use Rattle.module_elab.specs.Elaborated.{program_of as flat_of}
 use Rattle.fut_scalar.specs.declared.scalar.IntType.{IntType}
 use Rattle.type_infer.specs.Inferring.{Told_by}
@@ -26,17 +26,17 @@ use Rattle.fut_typing.specs.Program.{program_of}
 use Rattle.fut_typing.specs.Exact.{scope_behind}
 use Rattle.typed_programs.specs.EntryTypes.{Has_entry_type}
 use Rattle.typed_programs.specs.Entries.{Is_unwritten, Is_outside}
-use Rattle.entry_names.proofs.Searching.{one_place}
+use Rattle.front.proofs.Searching.{one_place}
 use Rattle.futhark_core.proofs.OneEntry.{entry_type_is_one}
 use Rattle.unfold.specs.Shapes.{All_split, split_none, split_more, split_scalar}
 use Rattle.unfold.proofs.Rising.{names_rise}
 use Rattle.unfold_program.specs.Whole.{scalars}
-use Rattle.plain_runs.specs.Claims.{Is_run, Is_usable, Runs_as}
-use Rattle.plain_runs.specs.Prepared.{Is_prepared, Is_past}
-use Rattle.plain_runs.specs.declared.preparing.PrepareErr.{PrepareErr}
-use Rattle.plain_runs.specs.declared.preparing.PrepareErr.TheVariants as prepare
+use Rattle.unfolded_runs.specs.Claims.{Is_run, Is_usable, Runs_as}
+use Rattle.unfolded_runs.specs.Prepared.{Is_prepared, Is_past}
+use Rattle.unfolded_runs.specs.declared.preparing.PrepareErr.{PrepareErr}
+use Rattle.unfolded_runs.specs.declared.preparing.PrepareErr.TheVariants as prepare
 use Rattle.command_words.specs.CommandLine.{Command}
-use Rattle.entry_names.specs.Entries.{Begins_at}
+use Rattle.front.specs.EntryNameEntries.{Begins_at}
 use Rattle.futhark_status.specs.declared.status.EntryErr.{EntryErr}
 use Rattle.futhark_status.specs.declared.status.Status.{Status}
 use Rattle.fut_meaning.specs.declared.measured.MeasureErr.TheVariants as measure
@@ -45,9 +45,9 @@ use Rattle.fut_meaning.specs.Measures.{Measures}
 use Rattle.fut_flat.specs.Erased.{parameters}
 use Rattle.fut_flat.specs.declared.program.Definition.{Definition}
 use Rattle.fut_typing.specs.Free.{has_types}
-use Rattle.plain_runs.specs.Results.{scalar_datums}
-use Rattle.plain_runs.specs.Allowed.{Allows_some}
-use Rattle.plain_runs.proofs.Runs.{run_is, some_allowed}
+use Rattle.unfolded_runs.specs.Results.{scalar_datums}
+use Rattle.unfolded_runs.specs.Allowed.{Allows_some}
+use Rattle.unfolded_runs.proofs.Runs.{run_is, some_allowed}
 use Rattle.futhark_core.specs.Acceptance.{Source}
 use Rattle.futhark_core.specs.Entering.{IsOutside, NotEntered}
 use Rattle.futhark_core.specs.Meaning.{Entered, IsTypedAs, IsEntered, Outcome, Gives, Fails, Allows, Answers}

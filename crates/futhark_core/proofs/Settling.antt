@@ -13,15 +13,15 @@ use Rattle.fut_typing.specs.Names.{Names as Numbering, AreNames}
 use Rattle.fut_typing.specs.Program.{Defined}
 use Rattle.fut_typing.proofs.Programs.{no_type_or_typing, no_type_or_place, no_type_or_ambiguous, place_or_typing, place_or_ambiguous}
 use Rattle.fut_typing.proofs.Exclude.{typing_or_ambiguous}
-use Rattle.typing_numbers.specs.Claims.{Hangs_on_no_numbering}
-use Rattle.typing_numbers.proofs.Programs.{typing_is_one, no_type_is_one, function_place_is_one, ambiguous_is_one}
-use Rattle.module_scopes.specs.Names.{Refusal}
-use Rattle.module_scopes.specs.Names as refusal
-use Rattle.module_scopes.specs.Programs.{FlatProgram}
+use Rattle.typing_laws.specs.NumberingClaims.{Hangs_on_no_numbering}
+use Rattle.typing_laws.proofs.NumberingPrograms.{typing_is_one, no_type_is_one, function_place_is_one, ambiguous_is_one}
+use Rattle.elab_scopes.specs.Names.{Refusal}
+use Rattle.elab_scopes.specs.Names as refusal
+use Rattle.elab_scopes.specs.Programs.{FlatProgram}
 use Rattle.unbuilt_tokens.specs.Unbuilt.{first_unbuilt}
-use Rattle.front_types.specs.Mistyped.{Some_numbering}
-use Rattle.front_types.specs.declared.typed.TypeErr.{TypeErr}
-use Rattle.front_types.specs.declared.typed.TypeErr.TheVariants as types
+use Rattle.typed_programs.specs.Mistyped.{Some_numbering}
+use Rattle.typed_programs.specs.declared.typed.TypeErr.{TypeErr}
+use Rattle.typed_programs.specs.declared.typed.TypeErr.TheVariants as types
 use Rattle.front.specs.Acceptance.{IsParsed, Resolves, Typable, definitions_of, named_file}
 use Rattle.front.specs.declared.refusals.NameErr.{NameErr}
 use Rattle.front.specs.declared.refusals.NameErr.TheVariants as names

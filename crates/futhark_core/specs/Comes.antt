@@ -17,17 +17,17 @@ use Rattle.fut_parser.specs.declared.programs.ParseErr.{ParseErr}
 use Rattle.fut_typing.specs.Names.{Names as Numbering}
 use Rattle.fut_typing.specs.Program.{Defined}
 use Rattle.fut_typing.specs.Answers.{NoType, FunctionPlace, Ambiguous}
-use Rattle.module_scopes.specs.Names as refusal
-use Rattle.module_scopes.specs.Programs.{FlatProgram, resolve_program}
+use Rattle.elab_scopes.specs.Names as refusal
+use Rattle.elab_scopes.specs.Programs.{FlatProgram, resolve_program}
 use Rattle.module_elab.specs.Elaborated.{program_of as flat_of}
 use Rattle.unbuilt_tokens.specs.Unbuilt.{first_unbuilt}
 use Rattle.front.specs.Acceptance.{Resolves, Typable, definitions_of, named_file}
 use Rattle.front.specs.Entries.{HasEntry, HasNoEntry}
 use Rattle.front.specs.declared.refusals.NameErr.{NameErr}
 use Rattle.front.specs.declared.refusals.NameErr.TheVariants as names
-use Rattle.front_types.specs.Mistyped.{Some_numbering}
-use Rattle.front_types.specs.declared.typed.TypeErr.{TypeErr}
-use Rattle.front_types.specs.declared.typed.TypeErr.TheVariants as types
+use Rattle.typed_programs.specs.Mistyped.{Some_numbering}
+use Rattle.typed_programs.specs.declared.typed.TypeErr.{TypeErr}
+use Rattle.typed_programs.specs.declared.typed.TypeErr.TheVariants as types
 use Rattle.command_words.specs.CommandLine.{Command, command_of}
 use Rattle.command_words.specs.declared.words.Action.{Action}
 use Rattle.command_words.specs.declared.words.Action.TheVariants.{Run, Check}

@@ -1,7 +1,7 @@
 -- Why a run has no entry.
 use Rattle.std.specs.Prelude.{ℕ}
 use Rattle.fut_ast.specs.Sorts.{Text}
-use Rattle.entry_names.specs.Entries.{Begins_at, Begins_nowhere}
+use Rattle.front.specs.EntryNameEntries.{Begins_at, Begins_nowhere}
 use Rattle.futhark_status.specs.declared.status.EntryErr.{EntryErr}
 use Rattle.futhark_status.specs.declared.status.EntryErr.TheVariants.{NoEntry, OutsideProfile}
 use Rattle.futhark_core.specs.Acceptance.{Source}

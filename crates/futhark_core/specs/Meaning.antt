@@ -17,10 +17,10 @@ use Rattle.fut_typing.specs.Exact.{scope_behind}
 use Rattle.fut_meaning.specs.Flats.{FlatTop, flat_tops, named_terms}
 use Rattle.fut_blocks.specs.Programs.{AreOf}
 use Rattle.module_elab.specs.Elaborated.{program_of as flat_of}
-use Rattle.typed_meaning.specs.Programs.{Definitions_told}
+use Rattle.type_soundness.specs.Programs.{Definitions_told}
 use Rattle.typed_programs.specs.EntryTypes.{Has_entry_type}
-use Rattle.entry_names.specs.Entries.{Begins_at}
-use Rattle.plain_runs.specs.Allowed.{Allows_result, Allows_report}
+use Rattle.front.specs.EntryNameEntries.{Begins_at}
+use Rattle.unfolded_runs.specs.Allowed.{Allows_result, Allows_report}
 use Rattle.futhark_core.specs.Acceptance.{Source}
 
 -- the definition that a run begins from: its number, the scalar types that it takes and gives, and the types of all integers

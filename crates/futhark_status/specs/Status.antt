@@ -10,8 +10,8 @@ use Rattle.fut_scalar.specs.declared.report.FailKind.{FailKind}
 use Rattle.fut_scalar.specs.declared.report.FailKind.TheVariants as kind
 use Rattle.front.specs.declared.refusals.NameErr.{NameErr}
 use Rattle.front.specs.declared.refusals.NameErr.TheVariants as names
-use Rattle.front_types.specs.declared.typed.TypeErr.{TypeErr}
-use Rattle.front_types.specs.declared.typed.TypeErr.TheVariants as types
+use Rattle.typed_programs.specs.declared.typed.TypeErr.{TypeErr}
+use Rattle.typed_programs.specs.declared.typed.TypeErr.TheVariants as types
 use Rattle.futhark_status.specs.declared.status.EntryErr.{EntryErr}
 use Rattle.futhark_status.specs.declared.status.EntryErr.TheVariants as entry
 use Rattle.value_text.specs.declared.reading.TextErr.{TextErr}

@@ -22,24 +22,24 @@ use Rattle.fut_flat.specs.declared.program.Definition.{Definition}
 use Rattle.fut_flat.specs.Terms.{Parameter}
 use Rattle.fut_flat.specs.Erased.{FlatTerm}
 use Rattle.fut_flat.specs.Sources.{SourceTerm}
-use Rattle.module_scopes.specs.declared.refusal.Refusal.TheVariants as held
-use Rattle.module_scopes.specs.declared.refusal.Stop.{Stop}
-use Rattle.module_scopes.specs.declared.refusal.Stop.TheVariants as stop
-use Rattle.module_scopes.specs.declared.table.Names.{Names}
-use Rattle.module_scopes.specs.Names.{NotYet}
-use Rattle.module_scopes.specs.Scopes.{Scope, a_value, enter}
-use Rattle.module_scopes.specs.Resolve.{Bound, Numbered, after, next, resolve, with_text}
-use Rattle.module_scopes.specs.Programs.{FlatDefinition, Seen, behind, define, definition_term, has_text, is_entry_named, resolve_dec, resolve_dec_form}
-use Rattle.module_scopes.specs.Table.{made_of, outside, scope_of}
-use Rattle.module_scopes.specs.Answers.{Went, no_memory, refused, went}
-use Rattle.module_scopes.proofs.Walking.{after_assoc}
-use Rattle.module_nodes.specs.Built.{Built3, built3, first_of_three, no_memory3, second_of_three, third_of_three}
-use Rattle.module_nodes.specs.Held.{held_term}
-use Rattle.module_types.specs.Bindings.{heads_numbered}
-use Rattle.module_types.specs.Numbering.{Comes, Numbers, comes, comes_not, comes_stopped, no_number, numbers}
-use Rattle.module_exps.specs.Heads.{Brought_heads, brought_heads, not_brought_heads, valued_of}
-use Rattle.module_exps.specs.Parts.{headed_value}
-use Rattle.module_exps.proofs.RowLaws.{value_made, value_second}
+use Rattle.elab_scopes.specs.declared.refusal.Refusal.TheVariants as held
+use Rattle.elab_scopes.specs.declared.refusal.Stop.{Stop}
+use Rattle.elab_scopes.specs.declared.refusal.Stop.TheVariants as stop
+use Rattle.elab_scopes.specs.declared.table.Names.{Names}
+use Rattle.elab_scopes.specs.Names.{NotYet}
+use Rattle.elab_scopes.specs.Scopes.{Scope, a_value, enter}
+use Rattle.elab_scopes.specs.Resolve.{Bound, Numbered, after, next, resolve, with_text}
+use Rattle.elab_scopes.specs.Programs.{FlatDefinition, Seen, behind, define, definition_term, has_text, is_entry_named, resolve_dec, resolve_dec_form}
+use Rattle.elab_scopes.specs.Table.{made_of, outside, scope_of}
+use Rattle.elab_scopes.specs.Answers.{Went, no_memory, refused, went}
+use Rattle.elab_scopes.proofs.Walking.{after_assoc}
+use Rattle.elab_nodes.specs.Built.{Built3, built3, first_of_three, no_memory3, second_of_three, third_of_three}
+use Rattle.elab_nodes.specs.Held.{held_term}
+use Rattle.elab_types.specs.Bindings.{heads_numbered}
+use Rattle.elab_types.specs.Numbering.{Comes, Numbers, comes, comes_not, comes_stopped, no_number, numbers}
+use Rattle.elab_exps.specs.Heads.{Brought_heads, brought_heads, not_brought_heads, valued_of}
+use Rattle.elab_exps.specs.Parts.{headed_value}
+use Rattle.elab_exps.proofs.RowLaws.{value_made, value_second}
 use Rattle.module_elab.specs.declared.definitions.Written.{Written}
 use Rattle.module_elab.specs.Elaborated.{definition_of}
 use Rattle.module_elab.specs.Walks.{Defines, Gives, Known, define_once, define_written, defines, defines_nothing, defines_refusal, definition_with, gives, gives_nothing, gives_refusal, known, no_name, not_known, one, seen_of}

@@ -9,11 +9,11 @@ use Rattle.fut_tree.specs.declared.module.Dec.{Dec}
 use Rattle.fut_tree.specs.Mods.{dec_of, decs_of}
 use Rattle.fut_tree.specs.Names.{all}
 use Rattle.fut_flat.specs.declared.program.Definition.{Definition}
-use Rattle.module_scopes.specs.declared.refusal.Stop.{Stop}
-use Rattle.module_scopes.specs.declared.table.Names.{Names}
-use Rattle.module_scopes.specs.Resolve.{after}
-use Rattle.module_scopes.specs.Programs.{Defined, FlatDefinition, Seen, resolve_dec, resolve_decs, resolve_files}
-use Rattle.module_scopes.proofs.Walking.{from_here}
+use Rattle.elab_scopes.specs.declared.refusal.Stop.{Stop}
+use Rattle.elab_scopes.specs.declared.table.Names.{Names}
+use Rattle.elab_scopes.specs.Resolve.{after}
+use Rattle.elab_scopes.specs.Programs.{Defined, FlatDefinition, Seen, resolve_dec, resolve_decs, resolve_files}
+use Rattle.elab_scopes.proofs.Walking.{from_here}
 use Rattle.module_elab.specs.Elaborated.{definition_of}
 use Rattle.module_elab.specs.Walks.{Gives, Gives_files, So_far, gives, gives_files, gives_nothing, gives_refusal, no_files, one, refuses_files, seen_of, so_far, these}
 

@@ -9,16 +9,16 @@ use Rattle.fut_flat.specs.declared.pat.Pat.{Pat as FlatPat}
 use Rattle.fut_flat.specs.Terms.{Lambda}
 use Rattle.fut_flat.specs.Erased.{pattern_of, patterns as flat_patterns}
 use Rattle.fut_flat.specs.Sources.{declared, patterns, placed, source_pattern}
-use Rattle.module_scopes.specs.declared.refusal.Stop.{Stop}
-use Rattle.module_scopes.specs.declared.table.Names.{Names}
-use Rattle.module_scopes.specs.Resolve.{resolve, resolve_parameters}
-use Rattle.module_scopes.specs.Programs.{definition_term}
-use Rattle.module_scopes.specs.Table.{made_of, outside, scope_of}
-use Rattle.module_scopes.specs.Answers.{Entered, Went}
-use Rattle.module_nodes.specs.Built.{Built2}
-use Rattle.module_nodes.specs.Held.{held_term}
-use Rattle.module_types.specs.Bindings.{parameters_of}
-use Rattle.module_exps.proofs.ExpLaws.{lambda_went}
+use Rattle.elab_scopes.specs.declared.refusal.Stop.{Stop}
+use Rattle.elab_scopes.specs.declared.table.Names.{Names}
+use Rattle.elab_scopes.specs.Resolve.{resolve, resolve_parameters}
+use Rattle.elab_scopes.specs.Programs.{definition_term}
+use Rattle.elab_scopes.specs.Table.{made_of, outside, scope_of}
+use Rattle.elab_scopes.specs.Answers.{Entered, Went}
+use Rattle.elab_nodes.specs.Built.{Built2}
+use Rattle.elab_nodes.specs.Held.{held_term}
+use Rattle.elab_types.specs.Bindings.{parameters_of}
+use Rattle.elab_exps.proofs.ExpLaws.{lambda_went}
 
 pub value_none : (hs : List (Held SourcePat)) (t : Option (Bor SourceType)) (e : SourceExp) (s u : Names) (r : Result (Bor FlatExp) Stop) → hs ≡ []
     → Went held_term (resolve (declared (maybe t) (placed e))) s u r → Went held_term (resolve (definition_term (all hs) (maybe t) e)) s u r

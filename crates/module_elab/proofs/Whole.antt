@@ -6,12 +6,12 @@ use Rattle.fut_ast.specs.Sorts.{Text}
 use Rattle.fut_ast.specs.declared.module.Program.{Program}
 use Rattle.fut_flat.specs.declared.program.Definition.{Definition}
 use Rattle.fut_flat.specs.declared.program.Flat.{Flat}
-use Rattle.module_scopes.specs.declared.refusal.Refusal.TheVariants as held
-use Rattle.module_scopes.specs.declared.refusal.Stop.{Stop}
-use Rattle.module_scopes.specs.declared.table.Names.{Names}
-use Rattle.module_scopes.specs.Names.{Refusal}
-use Rattle.module_scopes.specs.Programs.{FlatProgram, program_of as answer_of, resolve_files, resolve_program}
-use Rattle.module_scopes.specs.Table.{made_of, scope_of}
+use Rattle.elab_scopes.specs.declared.refusal.Refusal.TheVariants as held
+use Rattle.elab_scopes.specs.declared.refusal.Stop.{Stop}
+use Rattle.elab_scopes.specs.declared.table.Names.{Names}
+use Rattle.elab_scopes.specs.Names.{Refusal}
+use Rattle.elab_scopes.specs.Programs.{FlatProgram, program_of as answer_of, resolve_files, resolve_program}
+use Rattle.elab_scopes.specs.Table.{made_of, scope_of}
 use Rattle.module_elab.specs.Elaborated.{Tells, definition_of, error_of, program_of}
 use Rattle.module_elab.specs.Walks.{Closes, Gives_files, Gives_program, closes, gives_files, gives_program, no_files, no_program, no_texts, refuses_files, refuses_program, seen_of, stops}
 

@@ -3,11 +3,11 @@ use Rattle.std.specs.Prelude.{◌≡◌, map, Result, Err}
 use Rattle.fut_flat.specs.declared.program.Definition.{Definition}
 use Rattle.fut_flat.specs.declared.program.Flat.{Flat}
 use Rattle.fut_flat.specs.Erased.{parameters, term_of, texts}
-use Rattle.module_scopes.specs.Names.{Refusal, Unbound, Twice, NoMember, NotYet}
-use Rattle.module_scopes.specs.Programs.{FlatDefinition, FlatProgram}
-use Rattle.module_scopes.specs.declared.refusal.Refusal.TheVariants as held
-use Rattle.module_scopes.specs.declared.refusal.Stop.{Stop}
-use Rattle.module_scopes.specs.declared.refusal.Stop.TheVariants as stop
+use Rattle.elab_scopes.specs.Names.{Refusal, Unbound, Twice, NoMember, NotYet}
+use Rattle.elab_scopes.specs.Programs.{FlatDefinition, FlatProgram}
+use Rattle.elab_scopes.specs.declared.refusal.Refusal.TheVariants as held
+use Rattle.elab_scopes.specs.declared.refusal.Stop.{Stop}
+use Rattle.elab_scopes.specs.declared.refusal.Stop.TheVariants as stop
 use Rattle.module_elab.specs.declared.refused.ModErr.{ModErr}
 use Rattle.module_elab.specs.declared.refused.ModErr.TheVariants as err
 

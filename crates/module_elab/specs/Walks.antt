@@ -10,16 +10,16 @@ use Rattle.fut_flat.specs.declared.exp.Exp.{Exp as FlatExp}
 use Rattle.fut_flat.specs.declared.pat.Head.{Head as FlatHead}
 use Rattle.fut_flat.specs.declared.program.Definition.{Definition}
 use Rattle.fut_flat.specs.declared.program.Flat.{Flat}
-use Rattle.module_scopes.specs.declared.refusal.Refusal.{Refusal as HeldRefusal}
-use Rattle.module_scopes.specs.declared.refusal.Stop.{Stop}
-use Rattle.module_scopes.specs.declared.refusal.Stop.TheVariants as stop
-use Rattle.module_scopes.specs.declared.table.Names.{Names}
-use Rattle.module_scopes.specs.Answers.{refusal_of}
-use Rattle.module_scopes.specs.Names.{Refusal, Twice}
-use Rattle.module_scopes.specs.Scopes.{Scope, a_value}
-use Rattle.module_scopes.specs.Resolve.{Numbered, after}
-use Rattle.module_scopes.specs.Programs.{Defined, FlatDefinition, FlatProgram, Seen, behind, define, definition_term, has_text, is_entry_named}
-use Rattle.module_scopes.specs.Table.{made_of, scope_of}
+use Rattle.elab_scopes.specs.declared.refusal.Refusal.{Refusal as HeldRefusal}
+use Rattle.elab_scopes.specs.declared.refusal.Stop.{Stop}
+use Rattle.elab_scopes.specs.declared.refusal.Stop.TheVariants as stop
+use Rattle.elab_scopes.specs.declared.table.Names.{Names}
+use Rattle.elab_scopes.specs.Answers.{refusal_of}
+use Rattle.elab_scopes.specs.Names.{Refusal, Twice}
+use Rattle.elab_scopes.specs.Scopes.{Scope, a_value}
+use Rattle.elab_scopes.specs.Resolve.{Numbered, after}
+use Rattle.elab_scopes.specs.Programs.{Defined, FlatDefinition, FlatProgram, Seen, behind, define, definition_term, has_text, is_entry_named}
+use Rattle.elab_scopes.specs.Table.{made_of, scope_of}
 use Rattle.module_elab.specs.declared.definitions.Written.{Written}
 use Rattle.module_elab.specs.Elaborated.{definition_of, program_of}
 

@@ -2,7 +2,7 @@
 ghost use Rattle.std.specs.Prelude.{◌≡◌, IfErr, IfOk, Ok};
 ghost use Rattle.fut_tree.specs.Names.{all};
 ghost use Rattle.module_elab.specs.Elaborated.{Tells, program_of};
-ghost use Rattle.module_scopes.specs.Programs.{resolve_program};
+ghost use Rattle.elab_scopes.specs.Programs.{resolve_program};
 
 use crate::files::whole_program;
 use crate::refused::ModErr;

@@ -2,18 +2,18 @@
 ghost use Rattle.std.specs.Prelude.{◌≡◌, ◌++◌, [], ◌∷◌};
 ghost use Rattle.fut_tree.specs.Mods.{dec_of};
 ghost use Rattle.module_elab.specs.Walks.{Defines, Gives, Known, define_once, define_written, definition_with, one, seen_of};
-ghost use Rattle.module_nodes.specs.Built.{Built3};
-ghost use Rattle.module_scopes.specs.Programs.{is_entry_named, resolve_dec};
+ghost use Rattle.elab_nodes.specs.Built.{Built3};
+ghost use Rattle.elab_scopes.specs.Programs.{is_entry_named, resolve_dec};
 
 use crate::values::definition_value;
 use bumpalo::Bump;
 use fut_flat as flat;
 use fut_scalar::BindId;
 use fut_tree::{Dec, DecForm, Exp, Head, Held, Label, Pat, TypeExp};
-use module_exps::brought_heads;
-use module_nodes::both::both;
-use module_scopes::{Names, Refusal, Stop, Texts};
-use module_types::{in_scope, numbered};
+use elab_exps::brought_heads;
+use elab_nodes::both::both;
+use elab_scopes::{Names, Refusal, Stop, Texts};
+use elab_types::{in_scope, numbered};
 
 /// A definition as it is written.
 #[derive(Clone, Copy)]

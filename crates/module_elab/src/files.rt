@@ -3,7 +3,7 @@ ghost use Rattle.std.specs.Prelude.{[]};
 ghost use Rattle.fut_tree.specs.Mods.{decs_of};
 ghost use Rattle.fut_tree.specs.Names.{all};
 ghost use Rattle.module_elab.specs.Walks.{Closes, Gives, Gives_files, Gives_program, seen_of, these};
-ghost use Rattle.module_scopes.specs.Programs.{resolve_decs, resolve_files, resolve_program};
+ghost use Rattle.elab_scopes.specs.Programs.{resolve_decs, resolve_files, resolve_program};
 
 use crate::definitions::resolved_dec;
 use bumpalo::Bump;
@@ -11,7 +11,7 @@ use bumpalo::collections::into_bump_slice;
 use fut_flat::{Definition, Flat};
 use fut_scalar::NoMemory;
 use fut_tree::{Dec, Held, Program};
-use module_scopes::{Names, Stop, Texts};
+use elab_scopes::{Names, Stop, Texts};
 use std::alloc::Global;
 
 /// Puts the definitions of a file behind those that there are.

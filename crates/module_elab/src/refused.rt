@@ -3,7 +3,7 @@ ghost use Rattle.std.specs.Prelude.{◌≡◌};
 ghost use Rattle.module_elab.specs.Elaborated.{error_of};
 
 use fut_scalar::Place;
-use module_scopes::{Refusal, Stop};
+use elab_scopes::{Refusal, Stop};
 
 /// Why elaboration refuses a set of files, and where.
 #[derive(Clone, Copy)]

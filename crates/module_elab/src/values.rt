@@ -1,17 +1,17 @@
 // The values of definitions.
 ghost use Rattle.fut_tree.specs.Names.{all, maybe};
-ghost use Rattle.module_nodes.specs.Held.{held_term};
-ghost use Rattle.module_scopes.specs.Answers.{Went};
-ghost use Rattle.module_scopes.specs.Programs.{definition_term};
-ghost use Rattle.module_scopes.specs.Resolve.{resolve};
+ghost use Rattle.elab_nodes.specs.Held.{held_term};
+ghost use Rattle.elab_scopes.specs.Answers.{Went};
+ghost use Rattle.elab_scopes.specs.Programs.{definition_term};
+ghost use Rattle.elab_scopes.specs.Resolve.{resolve};
 
 use bumpalo::Bump;
 use fut_flat as flat;
 use fut_tree::{Exp, Held, Pat, TypeExp};
-use module_exps::resolved_body;
-use module_nodes::exps;
-use module_scopes::{Names, Stop};
-use module_types::resolved_parameters;
+use elab_exps::resolved_body;
+use elab_nodes::exps;
+use elab_scopes::{Names, Stop};
+use elab_types::resolved_parameters;
 
 /// The value of a definition. With parameters it is a function.
 #[tactic(auto, using(crate::proofs::ValueLaws::value_none))]

@@ -15,8 +15,8 @@ use Rattle.type_graph.specs.Graph.{node_at, numbers, Each, Tables, Within, IsGra
 use Rattle.type_graph.specs.State.{Tops, State}
 use Rattle.type_graph.proofs.Cases.{each_append, each_left, each_right}
 use Rattle.type_graph.proofs.StateLaws.{each_map}
-use Rattle.type_resolve.specs.Resolving.{resolved, Stable, Loose}
-use Rattle.type_resolve.proofs.Resolving.{loose_stable, made_stable, top_stable}
+use Rattle.type_graph.specs.Resolving.{resolved, Stable, Loose}
+use Rattle.type_graph.proofs.Resolving.{loose_stable, made_stable, top_stable}
 use Rattle.type_answers.specs.Left.{Undecided, IsUndecided, Stands_in_type, made_parts, seen_at, with_seen, On, Seen}
 
 -- rows of numbers, one by one

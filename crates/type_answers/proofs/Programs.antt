@@ -13,8 +13,8 @@ use Rattle.type_graph.specs.declared.Form.TheVariants as form
 use Rattle.type_graph.specs.declared.Node.{Node}
 use Rattle.type_graph.specs.declared.Entry.{Entry}
 use Rattle.type_graph.specs.Graph.{free_node, node_at, Tables, Within, IsGraph}
-use Rattle.type_resolve.specs.Resolving.{resolved, noted}
-use Rattle.type_claims.specs.Claims.{Possible}
+use Rattle.type_graph.specs.Resolving.{resolved, noted}
+use Rattle.type_graph.specs.Claims.{Possible}
 use Rattle.type_answers.specs.Settled.{chain_opens, form_opens, opens_below}
 use Rattle.type_answers.specs.Left.{Undecided, IsUndecided}
 use Rattle.type_answers.specs.Programs.{Types_it, Gives_typing, Shows_ambiguous}

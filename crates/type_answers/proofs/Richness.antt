@@ -15,7 +15,7 @@ use Rattle.fut_types.proofs.ShapeLaws.{place_step, part_made}
 use Rattle.fut_typing.specs.Names.{Names, AreNames, Once}
 use Rattle.type_graph.specs.declared.Entry.{Entry}
 use Rattle.type_graph.specs.Graph.{Each, Tables, chained, All_named, Lacks, Distinct}
-use Rattle.type_resolve.specs.Filling.{Rich}
+use Rattle.type_graph.specs.Filling.{Rich}
 use Rattle.type_answers.specs.Richness.{Named_labels, Names_are_rich}
 use Rattle.type_answers.proofs.Opens.{all_each}
 

@@ -9,11 +9,11 @@ use Rattle.type_graph.specs.declared.Form.TheVariants as form
 use Rattle.type_graph.specs.declared.Node.{Node}
 use Rattle.type_graph.specs.declared.Entry.{Entry}
 use Rattle.type_graph.specs.Graph.{node_at, Tables, Solves}
-use Rattle.type_resolve.specs.Resolving.{resolved, noted, Settled, Loose}
-use Rattle.type_resolve.specs.Filling.{Filled}
-use Rattle.type_resolve.proofs.Resolving.{stable, factors, plain_types, vars_home, respects_noted}
-use Rattle.type_resolve.proofs.Filling.{filled}
-use Rattle.type_claims.specs.Claims.{Possible}
+use Rattle.type_graph.specs.Resolving.{resolved, noted, Settled, Loose}
+use Rattle.type_graph.specs.Filling.{Filled}
+use Rattle.type_graph.proofs.Resolving.{stable, factors, plain_types, vars_home, respects_noted}
+use Rattle.type_graph.proofs.Filling.{filled}
+use Rattle.type_graph.specs.Claims.{Possible}
 use Rattle.type_answers.specs.Left.{Undecided, IsUndecided, Decided}
 use Rattle.type_answers.specs.Typings.{Done, Closed, Allows_some, Closes}
 use Rattle.type_answers.proofs.Settled.{plain_readable}

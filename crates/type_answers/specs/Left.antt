@@ -8,7 +8,7 @@ use Rattle.type_graph.specs.declared.Form.TheVariants as form
 use Rattle.type_graph.specs.declared.Node.{Node}
 use Rattle.type_graph.specs.Graph.{node_at, numbers, Tables}
 use Rattle.type_graph.specs.State.{State}
-use Rattle.type_resolve.specs.Resolving.{resolved, Stable}
+use Rattle.type_graph.specs.Resolving.{resolved, Stable}
 
 abbrev pub Undecided : Kind → Form → Type 0
 Undecided k form.Free = IsWanted k

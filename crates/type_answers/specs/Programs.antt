@@ -9,8 +9,8 @@ use Rattle.fut_typing.specs.Answers.{Typing_is, Typable, Ambiguous, default}
 use Rattle.type_graph.specs.declared.Node.{Node}
 use Rattle.type_graph.specs.declared.Entry.{Entry}
 use Rattle.type_graph.specs.Graph.{Tables}
-use Rattle.type_resolve.specs.Resolving.{resolved, noted, Stable}
-use Rattle.type_claims.specs.Claims.{Possible, Inside}
+use Rattle.type_graph.specs.Resolving.{resolved, noted, Stable}
+use Rattle.type_graph.specs.Claims.{Possible, Inside}
 use Rattle.type_answers.specs.Left.{Decided, IsUndecided, Stands_in_type}
 use Rattle.type_answers.specs.Typings.{Done}
 

@@ -3,8 +3,8 @@ use Rattle.std.specs.Prelude.{ℕ, ◌≡◌, ◌<◌}
 use Rattle.fut_ast.specs.Sorts.{Text}
 use Rattle.fut_typing.specs.Names.{Names, AreNames}
 use Rattle.type_graph.specs.Graph.{Tables}
-use Rattle.type_resolve.specs.Filling.{Rich}
-use Rattle.type_resolve.specs.Rereading.{Apart}
+use Rattle.type_graph.specs.Filling.{Rich}
+use Rattle.type_graph.specs.Rereading.{Apart}
 
 -- the labels of the first entries are names, and chains stay within them
 abbrev pub Named_labels : Names → Tables → ℕ → Type 0

@@ -8,8 +8,8 @@ use Rattle.type_graph.specs.declared.Node.{Node}
 use Rattle.type_graph.specs.declared.Entry.{Entry}
 use Rattle.type_graph.specs.Graph.{node_at, Tables, Plain, IsGraph}
 use Rattle.type_graph.specs.State.{State}
-use Rattle.type_resolve.specs.Resolving.{resolved, noted, Stable, SettledIn}
-use Rattle.type_claims.specs.Claims.{Inside, Possible}
+use Rattle.type_graph.specs.Resolving.{resolved, noted, Stable, SettledIn}
+use Rattle.type_graph.specs.Claims.{Inside, Possible}
 
 -- the named parts of a variable v, in a chain, before others; s has the types of all nodes
 unfoldable pub chain_opens : (ℕ → Entry) → Sub → ℕ → ℕ → ℕ → List Open → List Open

@@ -7,9 +7,9 @@ use Rattle.type_graph.specs.declared.Node.{Node}
 use Rattle.type_graph.specs.declared.Entry.{Entry}
 use Rattle.type_graph.specs.Graph.{Tables, Plain, Told, IsGraph, IsBound, AreEntries}
 use Rattle.type_graph.specs.State.{State}
-use Rattle.type_resolve.specs.Resolving.{resolved, noted, Stable, SettledIn, FoundedIn}
-use Rattle.type_resolve.specs.Filling.{Rich}
-use Rattle.type_claims.specs.Claims.{Possible}
+use Rattle.type_graph.specs.Resolving.{resolved, noted, Stable, SettledIn, FoundedIn}
+use Rattle.type_graph.specs.Filling.{Rich}
+use Rattle.type_graph.specs.Claims.{Possible}
 use Rattle.type_answers.specs.Left.{Decided}
 
 -- a graph that has been solved and has resolved

@@ -15,7 +15,7 @@ use Rattle.fut_typing.specs.Typing.{Function_name}
 use Rattle.type_graph.specs.Graph.{far, Each}
 use Rattle.type_rules.specs.declared.demand.Demand.TheVariants as demand
 use Rattle.type_rules.specs.Demands.{All_met, All_allow}
-use Rattle.type_claims.specs.Claims.{Sound}
+use Rattle.type_graph.specs.Claims.{Sound}
 use Rattle.type_scopes.specs.declared.Inference.{Inference}
 use Rattle.type_scopes.specs.declared.names.Past.{Past}
 use Rattle.type_scopes.specs.Table.{seat_at, undone}
@@ -23,12 +23,12 @@ use Rattle.type_scopes.specs.Scopes.{Claim, Claimed, Homes, Later, Opened, Refus
 use Rattle.type_scopes.proofs.Going.{ready_on}
 use Rattle.type_scopes.proofs.Claiming.{claimed_then, refused_as, refused_low, refused_then}
 use Rattle.type_scopes.proofs.Opening.{more_same, opened_as, taken_back}
-use Rattle.type_definitions.specs.Definitions.{Definition_claim, Definition_homes, Escapes, Generalises, env_definition, named}
-use Rattle.type_definitions.specs.Parameters.{Meets_all}
-use Rattle.type_definitions.proofs.Gone.{Value_claim, Value_homes, behind_later, definition_opened, escape_refused, own_nodes, value_refused}
-use Rattle.type_definitions.proofs.Gone.{behind as put_back}
-use Rattle.type_definitions.proofs.Meeting.{all_later, all_more}
-use Rattle.type_uses.specs.Uses.{type_numbers}
+use Rattle.type_scopes.specs.Definitions.{Definition_claim, Definition_homes, Escapes, Generalises, env_definition, named}
+use Rattle.type_scopes.specs.Parameters.{Meets_all}
+use Rattle.type_scopes.proofs.Gone.{Value_claim, Value_homes, behind_later, definition_opened, escape_refused, own_nodes, value_refused}
+use Rattle.type_scopes.proofs.Gone.{behind as put_back}
+use Rattle.type_scopes.proofs.Meeting.{all_later, all_more}
+use Rattle.type_schemes.specs.Uses.{type_numbers}
 use Rattle.type_constraints.specs.Parts.{Term_claim, Term_homes, Constrained, Unconstrained, Unruled, Row_claim, Row_homes, env_row}
 use Rattle.type_constraints.proofs.Depending.{depends_term}
 use Rattle.type_constraints.proofs.Forms.{anywhere, ruled, unruled}

@@ -18,7 +18,7 @@ use Rattle.fut_typing.proofs.Local.{all_local_more, local_all_ones, parameters_s
 use Rattle.fut_typing.proofs.Envs.{scope_patterns}
 use Rattle.fut_typing.proofs.Cong.{cong, scope_local}
 use Rattle.type_graph.specs.Graph.{Each}
-use Rattle.type_claims.specs.Claims.{types_of}
+use Rattle.type_graph.specs.Claims.{types_of}
 use Rattle.type_scopes.specs.declared.Inference.{Inference}
 use Rattle.type_scopes.specs.declared.names.Past.{Past}
 use Rattle.type_scopes.specs.Table.{undone}

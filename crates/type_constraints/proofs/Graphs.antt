@@ -6,7 +6,7 @@ use Rattle.fut_typing.specs.Homes.{Env, scope_of}
 use Rattle.type_graph.specs.declared.Node.{Node}
 use Rattle.type_graph.specs.declared.Entry.{Entry}
 use Rattle.type_graph.specs.Graph.{Tables, Told}
-use Rattle.type_claims.specs.Claims.{Nowhere}
+use Rattle.type_graph.specs.Claims.{Nowhere}
 use Rattle.type_scopes.specs.declared.Inference.{Inference}
 use Rattle.type_scopes.specs.Scopes.{Safe, Claim, Homes, Refused}
 

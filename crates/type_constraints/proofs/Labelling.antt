@@ -12,9 +12,9 @@ use Rattle.fut_typing.specs.Homes.{Env, scope_of}
 use Rattle.fut_typing.specs.Rules.{Rule}
 use Rattle.fut_typing.specs.Typing.{operand}
 use Rattle.type_graph.specs.Graph.{Tables}
-use Rattle.type_claims.specs.Claims.{types_of}
-use Rattle.type_labels.specs.declared.labels.Labels.{Labels}
-use Rattle.type_labels.specs.Labels.{IsLabels, Goes_on, number_of}
+use Rattle.type_graph.specs.Claims.{types_of}
+use Rattle.type_rules.specs.declared.labels.Labels.{Labels}
+use Rattle.type_rules.specs.Labels.{IsLabels, Goes_on, number_of}
 use Rattle.type_rules.specs.declared.demand.Demand.{Demand}
 use Rattle.type_rules.specs.Demands.{All_met, All_allow, Always_allowed}
 use Rattle.type_scopes.specs.declared.Inference.{Inference}

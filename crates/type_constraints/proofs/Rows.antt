@@ -17,7 +17,7 @@ use Rattle.fut_typing.specs.Homes.{Env, Homed, All_homed, scope_of}
 use Rattle.fut_typing.specs.Typing.{operand, term_types, Typed, All_typed}
 use Rattle.fut_typing.proofs.Ranges.{numbers_some}
 use Rattle.type_graph.specs.Graph.{Each}
-use Rattle.type_claims.specs.Claims.{types_of}
+use Rattle.type_graph.specs.Claims.{types_of}
 use Rattle.type_scopes.specs.declared.Inference.{Inference}
 use Rattle.type_scopes.specs.Scopes.{Safe, Claimed, Refused, Depends}
 use Rattle.type_scopes.proofs.Claiming.{depends_wider, claimed_low, refused_low, claimed_none, claimed_then, refused_as, refused_then}

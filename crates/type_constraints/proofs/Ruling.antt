@@ -23,7 +23,7 @@ use Rattle.fut_typing.specs.Typing.{operand}
 use Rattle.fut_typing.proofs.Ranges.{own_some}
 use Rattle.fut_flat.specs.Numbers.{own_numbers}
 use Rattle.type_graph.specs.Graph.{Each}
-use Rattle.type_claims.specs.Claims.{types_of}
+use Rattle.type_graph.specs.Claims.{types_of}
 use Rattle.type_rules.specs.declared.demand.Demand.{Demand}
 use Rattle.type_rules.specs.Demands.{All_met, All_allow, Always_allowed, Stay_within}
 use Rattle.type_scopes.specs.declared.Inference.{Inference}

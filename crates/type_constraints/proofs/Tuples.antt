@@ -19,7 +19,7 @@ use Rattle.fut_typing.specs.Patterns.{pattern_types, Pattern_typed, Patterns_typ
 use Rattle.fut_typing.specs.Homes.{Env, Needs, At_home, scope_of}
 use Rattle.fut_typing.proofs.Local.{all_local_more, patterns_same}
 use Rattle.fut_typing.proofs.Cong.{scope_local}
-use Rattle.type_claims.specs.Claims.{types_of}
+use Rattle.type_graph.specs.Claims.{types_of}
 use Rattle.type_scopes.specs.declared.Inference.{Inference}
 use Rattle.type_patterns.specs.Asking.{Type_claim}
 use Rattle.type_patterns.proofs.Forms.{Making, texts_next}

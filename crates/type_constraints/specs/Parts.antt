@@ -17,7 +17,7 @@ use Rattle.fut_typing.specs.Scopes.{with_sizes, the_one}
 use Rattle.fut_typing.specs.Rows.{behind, row_scheme, with_row, Row_homed, Rows_homed}
 use Rattle.fut_typing.specs.Patterns.{with_pattern, Pattern_typed, Patterns_typed, Parameters_typed}
 use Rattle.fut_typing.specs.Typing.{operand, Function_name, Let_typed, Typed, All_typed, Turns_typed}
-use Rattle.type_claims.specs.Claims.{types_of}
+use Rattle.type_graph.specs.Claims.{types_of}
 use Rattle.type_rules.specs.declared.demand.Demand.{Demand}
 use Rattle.type_rules.specs.Demands.{All_allow, All_met}
 use Rattle.type_scopes.specs.declared.Inference.{Inference}

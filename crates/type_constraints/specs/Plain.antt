@@ -8,7 +8,7 @@ use Rattle.fut_types.specs.Types.{Sub, Kinds}
 use Rattle.fut_typing.specs.Names.{Names}
 use Rattle.fut_typing.specs.Rules.{Rule}
 use Rattle.fut_typing.specs.Typing.{operand}
-use Rattle.type_claims.specs.Claims.{types_of}
+use Rattle.type_graph.specs.Claims.{types_of}
 use Rattle.type_rules.specs.declared.demand.Demand.{Demand}
 use Rattle.fut_types.specs.declared.shapes.ShapeTable.{ShapeTable}
 use Rattle.fut_flat.specs.Numbers.{own_numbers}

@@ -5,7 +5,7 @@ ghost use Rattle.fut_flat.specs.Numbers.{all_numbers, numbers};
 ghost use Rattle.fut_flat.specs.Erased.{lets as lets_term, operation_of, parameters, pattern_of, patterns, term_of, terms};
 ghost use Rattle.fut_flat.proofs.ErasedForms.{loop_of, row_of, turns_of};
 ghost use Rattle.fut_typing.specs.Rows.{behind, behind_all, env_rows};
-ghost use Rattle.type_definitions.specs.Definitions.{Definition_claim, Definition_homes, env_definition, named};
+ghost use Rattle.type_scopes.specs.Definitions.{Definition_claim, Definition_homes, env_definition, named};
 ghost use Rattle.fut_types.specs.declared.shapes.ShapeTable.{ShapeTable};
 ghost use Rattle.type_graph.specs.Graph.{Tells};
 ghost use Rattle.type_rules.specs.Demands.{Are_demands};
@@ -18,7 +18,7 @@ use crate::setting::Setting;
 use crate::uses::use_name;
 use fut_flat::{Act, Exp, Form, Head, Let, Loop, LoopForm, Pat, PatForm, Ref};
 use fut_scalar::{BindId, List, Place, ScalarType};
-use type_definitions::{enter_parameters, generalise};
+use type_scopes::{enter_parameters, generalise};
 use type_graph::UnifyErr;
 use type_rules::{Demand, application, carried, choice, counted, gone_over};
 use type_scopes::{

@@ -7,7 +7,7 @@
 ghost use Rattle.std.specs.Prelude.{◌≡◌, ◌≤◌, ◌+◌, OnOk, IfOk, IfErr};
 ghost use Rattle.fut_flat.specs.Numbers.{numbers};
 ghost use Rattle.fut_flat.specs.Erased.{parameters, term_of};
-ghost use Rattle.type_definitions.specs.Definitions.{Definition_claim, Definition_homes, env_definition, named};
+ghost use Rattle.type_scopes.specs.Definitions.{Definition_claim, Definition_homes, env_definition, named};
 ghost use Rattle.type_graph.specs.Graph.{Tells};
 ghost use Rattle.type_scopes.specs.Scopes.{Opened, Refused, Safe};
 

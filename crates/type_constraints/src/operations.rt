@@ -14,9 +14,9 @@ use crate::setting::Setting;
 use fut_flat::Act;
 use std::alloc::Global;
 use type_graph::UnifyErr;
-use type_labels::label;
+use type_rules::label;
 use type_patterns::{constrain_ascription, constrain_fields};
-use type_rows::{array, index, tuple, update_at};
+use type_rules::{array, index, tuple, update_at};
 use type_rules::{projection, replacement};
 use type_scopes::{Inference, demand};
 

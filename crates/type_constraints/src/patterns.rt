@@ -9,7 +9,7 @@ ghost use Rattle.fut_types.specs.declared.Kind.{Kind as AnyKind};
 ghost use Rattle.fut_typing.specs.Homes.{At_home, env_pattern, env_patterns, env_sizes};
 ghost use Rattle.fut_typing.specs.Patterns.{arrows};
 ghost use Rattle.type_graph.specs.Graph.{Each, Tells};
-ghost use Rattle.type_claims.specs.Claims.{types_of};
+ghost use Rattle.type_graph.specs.Claims.{types_of};
 ghost use Rattle.type_scopes.specs.Scopes.{Binds, Claimed, Opened, Refused, Safe, field_pattern};
 ghost use Rattle.type_constraints.specs.Parts.{Parameters_claim, Pattern_claim, Patterns_claim, pattern_name, pattern_starts};
 
@@ -19,7 +19,7 @@ use fut_scalar::{BindId, List};
 use std::alloc::Global;
 use type_graph::UnifyErr;
 use type_patterns::{constrain_fields, constrain_type};
-use type_rows::{function, tuple};
+use type_rules::{function, tuple};
 use type_scopes::{Inference, enter_pattern, enter_sizes};
 
 /// Asks that the numbers of a pattern, which begin at `lo`, have types of its form.

@@ -7,3 +7,12 @@ pub mod Cases
 pub mod Reducing
 pub mod Ends
 pub mod Loop
+pub mod Resolving
+pub mod Marks
+pub mod Walking
+pub mod Replacing
+pub mod Rereading
+pub mod Filling
+pub mod Grown
+pub mod Adding
+pub mod Lowering

@@ -11,6 +11,17 @@
 //! Roots are found by links that are halved on the way. A kind rises at most four times and a level falls at most once a
 //! depth. A part that is asked of an open node costs the number of its distinct labels, of a record the logarithm of that
 //! of its fields.
+//!
+//! The types that a solved graph gives its nodes.
+//!
+//! A node's type is read from its form, down to the free nodes, which are the variables of the types (`specs/Resolving.antt`).
+//! Each node has a type unless one is a part of itself, and then the types are principal: each solution is an instance of them.
+//! A node that is open stands for itself, as a variable with named parts.
+//!
+//! What a program's nodes are asked for, put into a graph.
+//!
+//! The program's nodes stand first, up to a base; a claim may add nodes of its own behind them. Contracts speak of the types
+//! of the program's nodes alone: which of them can be carried on to all nodes (`specs/Claims.antt`).
 #![tactic(auto)]
 
 ghost use Rattle.std.specs.Prelude.{◌≡◌, ◌<◌, OnOk, IfErr, length};
@@ -18,15 +29,21 @@ ghost use Rattle.type_graph.specs.Graph.{IsGraph, IsBound, AreEntries, IsTask, E
 ghost use Rattle.type_graph.specs.Refusals.{Same_reason};
 ghost use Rattle.fut_types.specs.Shapes.{IsTable};
 
+mod claims;
+mod levels;
 mod parts;
+mod resolving;
 mod roots;
 mod steps;
 mod tasks;
 
 use fut_scalar::{List, NoMemory};
 use fut_types::{Head, Kind, ShapeTable};
-pub use roots::{find, node_of, put};
 use steps::step;
+
+pub use claims::{MOST_NODES, assert_made, assert_parameter, assert_task, push_node, push_parameter};
+pub use resolving::{Mark, Step, is_fixed, parameters_may_be_read_otherwise, resolve, settled_graphs_have_solutions, settled_types_are_principal};
+pub use roots::{find, node_of, put};
 pub use tasks::entry_of;
 
 /// The level of a node that nothing outside a definition has touched.

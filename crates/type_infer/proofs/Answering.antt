@@ -4,8 +4,8 @@ use Rattle.fut_types.specs.declared.Kind.TheVariants as kind
 use Rattle.fut_typing.specs.Names.{Names}
 use Rattle.fut_typing.specs.Program.{Defined, program_numbers}
 use Rattle.fut_typing.specs.Answers.{NoType, FunctionPlace, Ambiguous}
-use Rattle.type_labels.specs.Labels.{IsLabels}
-use Rattle.type_labels.proofs.Named.{numbered}
+use Rattle.type_rules.specs.Labels.{IsLabels}
+use Rattle.type_rules.proofs.Named.{numbered}
 use Rattle.type_scopes.specs.declared.Inference.{Inference}
 use Rattle.type_answers.specs.Left.{Decided, IsUndecided, Stands_in_type}
 use Rattle.type_answers.proofs.Programs.{types_it, shows_ambiguous}

@@ -11,8 +11,8 @@ use Rattle.type_graph.specs.declared.Form.TheVariants as form
 use Rattle.type_graph.specs.declared.Node.{Node}
 use Rattle.type_graph.specs.Graph.{far, node_at, entry_at, Tables, Plain, Each, Bound, Within, Fitting, IsRoot, Once, parts_of, Fits, Solves, Meeting, IsGraph}
 use Rattle.type_graph.specs.State.{Sure, State, form_cap, Backed}
-use Rattle.type_claims.specs.Claims.{Possible}
-use Rattle.type_labels.specs.Labels.{IsLabels}
+use Rattle.type_graph.specs.Claims.{Possible}
+use Rattle.type_rules.specs.Labels.{IsLabels}
 use Rattle.type_scopes.specs.declared.Inference.{Inference}
 use Rattle.type_scopes.specs.declared.names.Known.{Known}
 use Rattle.type_scopes.specs.Table.{seat_at}

@@ -7,11 +7,11 @@ use Rattle.fut_typing.specs.Homes.{Env, empty}
 use Rattle.fut_typing.specs.Program.{Defined, Program_typed}
 use Rattle.type_graph.specs.Graph.{Told, entry_at}
 use Rattle.type_graph.specs.State.{State}
-use Rattle.type_resolve.specs.Resolving.{SettledIn, FoundedIn, Unsolvable}
-use Rattle.type_claims.specs.Claims.{Possible}
-use Rattle.type_claims.proofs.Grown.{sound_inside}
-use Rattle.type_homes.specs.Listed.{AreHomes, Program_homed}
-use Rattle.type_labels.specs.Labels.{Labelled}
+use Rattle.type_graph.specs.Resolving.{SettledIn, FoundedIn, Unsolvable}
+use Rattle.type_graph.specs.Claims.{Possible}
+use Rattle.type_graph.proofs.Grown.{sound_inside}
+use Rattle.flat_numbers.specs.Listed.{AreHomes, Program_homed}
+use Rattle.type_rules.specs.Labels.{Labelled}
 use Rattle.type_scopes.specs.declared.Inference.{Inference}
 use Rattle.type_scopes.specs.Scopes.{Ready, Puts, Opened, Refused}
 use Rattle.type_answers.proofs.Richness.{rich}

@@ -10,7 +10,7 @@ use Rattle.type_graph.specs.declared.Form.{Form}
 use Rattle.type_graph.specs.declared.Form.TheVariants as form
 use Rattle.type_graph.specs.declared.Node.{Node}
 use Rattle.type_graph.specs.Graph.{node_at, Within, IsRoot}
-use Rattle.type_resolve.specs.Resolving.{resolved, type_of}
+use Rattle.type_graph.specs.Resolving.{resolved, type_of}
 use Rattle.type_infer.specs.Reading.{Shown, Reads, Comes_to, Generally, Row_comes, Is_made, Is_root_of, default_of, node_default, fixed_at, fixed_default, free_default, default_form}
 
 one_more : (nodes : List Node) (d i : ℕ) (f : Form) → (node_at nodes i).form ≡ f → resolved nodes (suc d) i ≡ type_of (resolved nodes d) i f

@@ -8,13 +8,13 @@ use Rattle.fut_typing.specs.Names.{Names}
 use Rattle.fut_typing.specs.Homes.{Env, scope_of}
 use Rattle.fut_typing.specs.Program.{defined, program_numbers, definition_scheme, Definitions_typed}
 use Rattle.fut_typing.specs.Generalised.{Generalised}
-use Rattle.type_homes.specs.Listed.{Program_homed}
+use Rattle.flat_numbers.specs.Listed.{Program_homed}
 use Rattle.type_scopes.specs.declared.Inference.{Inference}
 use Rattle.type_scopes.specs.Scopes.{Safe, Opened, Refused}
 use Rattle.type_scopes.proofs.Going.{later_none}
 use Rattle.type_scopes.proofs.Opening.{more_none, opened_both, opened_refused}
 use Rattle.type_scopes.proofs.Putting.{puts_none}
-use Rattle.type_definitions.specs.Definitions.{Definition_claim, Definition_homes, env_definition}
+use Rattle.type_scopes.specs.Definitions.{Definition_claim, Definition_homes, env_definition}
 use Rattle.type_infer.specs.Definitions.{definition_numbers, Definitions_claim, Definitions_homes, env_definitions}
 
 abbrev numbers_of : List Definition → ℕ

@@ -29,10 +29,10 @@ use Rattle.type_graph.specs.declared.Node.{Node}
 use Rattle.type_graph.specs.declared.Entry.{Entry}
 use Rattle.type_graph.specs.Graph.{far, node_at, Tables, Meeting}
 use Rattle.type_graph.specs.State.{Backed}
-use Rattle.type_resolve.specs.Resolving.{resolved, noted, Stable, Loose}
-use Rattle.type_resolve.proofs.Resolving.{factors, plain_types, vars_home}
-use Rattle.type_claims.specs.Claims.{Possible}
-use Rattle.type_homes.specs.Listed.{Program_homed}
+use Rattle.type_graph.specs.Resolving.{resolved, noted, Stable, Loose}
+use Rattle.type_graph.proofs.Resolving.{factors, plain_types, vars_home}
+use Rattle.type_graph.specs.Claims.{Possible}
+use Rattle.flat_numbers.specs.Listed.{Program_homed}
 use Rattle.type_scopes.specs.declared.Inference.{Inference}
 use Rattle.type_answers.specs.Left.{Decided, Undecided}
 use Rattle.type_answers.specs.Typings.{Done, Closed}

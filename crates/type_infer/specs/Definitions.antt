@@ -5,8 +5,8 @@ use Rattle.fut_flat.specs.Numbers.{pattern_numbers, numbers}
 use Rattle.fut_types.specs.declared.Kind.{Kind}
 use Rattle.fut_typing.specs.Homes.{Env}
 use Rattle.fut_typing.specs.Program.{Defined, defined, Definitions_typed}
-use Rattle.type_definitions.specs.Definitions.{env_definition}
-use Rattle.type_homes.specs.Listed.{Program_homed}
+use Rattle.type_scopes.specs.Definitions.{env_definition}
+use Rattle.flat_numbers.specs.Listed.{Program_homed}
 use Rattle.type_scopes.specs.Scopes.{Claim, Homes}
 
 -- how many numbers a definition has: that of its name first

@@ -9,9 +9,9 @@ use Rattle.type_graph.specs.declared.Form.TheVariants as form
 use Rattle.type_graph.specs.declared.Node.{Node}
 use Rattle.type_graph.specs.Graph.{far, Tables, Meeting, IsGraph}
 use Rattle.type_graph.specs.State.{Backed}
-use Rattle.type_claims.specs.Claims.{Inside}
-use Rattle.type_homes.specs.Listed.{Program_homed}
-use Rattle.type_labels.specs.Labels.{IsLabels}
+use Rattle.type_graph.specs.Claims.{Inside}
+use Rattle.flat_numbers.specs.Listed.{Program_homed}
+use Rattle.type_rules.specs.Labels.{IsLabels}
 use Rattle.type_scopes.specs.declared.Inference.{Inference}
 use Rattle.type_scopes.specs.declared.names.Known.TheVariants as known
 use Rattle.type_scopes.specs.Table.{IsSeated, known_at}

@@ -12,7 +12,7 @@ use Rattle.fut_typing.specs.Answers.{Typing_is, NoType, FunctionPlace, Ambiguous
 use Rattle.fut_typing.specs.Exact.{scheme_behind}
 use Rattle.type_graph.specs.declared.Node.{Node}
 use Rattle.type_graph.specs.Graph.{IsGraph}
-use Rattle.type_labels.specs.Labels.{IsLabels, Labelled}
+use Rattle.type_rules.specs.Labels.{IsLabels, Labelled}
 use Rattle.type_scopes.specs.declared.Inference.{Inference}
 use Rattle.type_infer.specs.Reading.{Comes_to, Generally}
 use Rattle.type_infer.specs.declared.InferErr.{InferErr}

@@ -12,7 +12,7 @@ use Rattle.type_graph.specs.declared.Form.{Form}
 use Rattle.type_graph.specs.declared.Form.TheVariants as form
 use Rattle.type_graph.specs.declared.Node.{Node}
 use Rattle.type_graph.specs.Graph.{node_at, IsRoot}
-use Rattle.type_resolve.specs.Resolving.{resolved}
+use Rattle.type_graph.specs.Resolving.{resolved}
 
 -- which types nodes have
 abbrev pub Shown : Type 1

@@ -1,7 +1,7 @@
 // What inference begins with.
 ghost use Rattle.std.specs.Prelude.{◌≡◌, ◌<◌, ◌≤◌, ℕ, length, map, OnOk, IfOk, IfErr};
 ghost use Rattle.type_graph.specs.Graph.{Tells, far};
-ghost use Rattle.type_labels.specs.Labels.{IsLabels};
+ghost use Rattle.type_rules.specs.Labels.{IsLabels};
 ghost use Rattle.type_scopes.specs.Table.{IsSeated, known_at};
 ghost use Rattle.type_scopes.specs.declared.names.Known.TheVariants as known;
 ghost use Rattle.type_infer.specs.Graphs.{Begun, base_node, home_at};
@@ -10,7 +10,7 @@ use fut_scalar::List;
 use fut_types::Kind;
 use std::alloc::Global;
 use type_graph::{FAR, Form, Node, UnifyErr};
-use type_labels::{no_labels, no_shapes};
+use type_rules::{no_labels, no_shapes};
 use type_scopes::{Inference, Known, Seat};
 
 /// An inference of nothing: no name or record has a number.

@@ -1,8 +1,8 @@
 // The graph of a program's types.
 ghost use Rattle.std.specs.Prelude.{OnOk, IfErr};
 ghost use Rattle.fut_typing.specs.Program.{program_numbers, program_of};
-ghost use Rattle.type_homes.specs.Listed.{AreHomes};
-ghost use Rattle.type_labels.specs.Labels.{IsLabels};
+ghost use Rattle.flat_numbers.specs.Listed.{AreHomes};
+ghost use Rattle.type_rules.specs.Labels.{IsLabels};
 ghost use Rattle.type_infer.specs.Graphs.{Graphs, Keeps_numbers, Lacks};
 ghost use Rattle.type_infer.specs.Refusals.{At_number, Shows};
 
@@ -13,7 +13,7 @@ use fut_flat::Flat;
 use fut_scalar::List;
 use fut_types::Kind;
 use std::alloc::Global;
-use type_resolve::resolve;
+use type_graph::resolve;
 use type_scopes::Inference;
 
 /// The graph of the typings of a program, solved and resolved, where places that may hold data only are of this kind. What was

@@ -8,8 +8,8 @@
 ghost use Rattle.std.specs.Prelude.{◌≡◌, OnOk, IfErr};
 ghost use Rattle.fut_types.specs.declared.Kind.TheVariants as kind;
 ghost use Rattle.fut_typing.specs.Program.{program_numbers, program_of};
-ghost use Rattle.type_homes.specs.Listed.{AreHomes};
-ghost use Rattle.type_labels.specs.Labels.{IsLabels};
+ghost use Rattle.flat_numbers.specs.Listed.{AreHomes};
+ghost use Rattle.type_rules.specs.Labels.{IsLabels};
 ghost use Rattle.type_infer.specs.Graphs.{Graphs, Lacks};
 ghost use Rattle.type_infer.specs.Inferring.{Infers, Is_shown, Says};
 ghost use Rattle.type_infer.specs.Refusals.{At_number};
@@ -29,7 +29,7 @@ use fut_scalar::List;
 use fut_types::Kind;
 use std::alloc::Global;
 use type_answers::undetermined;
-use type_homes::homes;
+use flat_numbers::homes;
 use type_scopes::Inference;
 pub use types::{general_type_at, type_at};
 

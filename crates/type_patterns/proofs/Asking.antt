@@ -1,7 +1,7 @@
 -- One claim after another.
 use Rattle.std.proofs.Common.{◌≡◌, ℕ, ◌≤◌, ◌<◌, List, [], ◌∷◌, refl, subst, arith, Result, Ok, Err, OnOk, IfErr}
 use mathlib.Core.Logic.{inl, inr}
-use Rattle.type_claims.proofs.Grown.{lt_or}
+use Rattle.type_graph.proofs.Grown.{lt_or}
 use Rattle.fut_types.specs.declared.Kind.{Kind}
 use Rattle.fut_types.specs.Types.{Sub, Kinds}
 use Rattle.fut_typing.specs.Names.{Names}
@@ -15,7 +15,7 @@ use Rattle.type_rules.specs.Demands.{All_met, Allows, All_allow}
 use Rattle.type_rules.proofs.Adding.{adds_as, tells_both}
 use Rattle.type_graph.specs.declared.Node.{Node}
 use Rattle.type_graph.specs.declared.Entry.{Entry}
-use Rattle.type_claims.specs.Claims.{Adds, Nowhere, Extends as MoreNodes}
+use Rattle.type_graph.specs.Claims.{Adds, Nowhere, Extends as MoreNodes}
 use Rattle.type_schemes.specs.Schemes.{Extends}
 use Rattle.type_scopes.specs.declared.Inference.{Inference}
 use Rattle.type_scopes.specs.Scopes.{Safe, Reads, Ready, Claim, Homes, Puts, Claimed, Refused}

@@ -22,8 +22,8 @@ use Rattle.fut_typing.specs.Scopes.{Uses, Scope, with_uses, with_argument, the_o
 use Rattle.fut_typing.specs.Homes.{Env, one, scope_of}
 use Rattle.fut_typing.proofs.Cong.{scope_local}
 use Rattle.type_graph.specs.Graph.{Tables, Solves, numbers}
-use Rattle.type_claims.specs.Claims.{types_of}
-use Rattle.type_claims.proofs.Grown.{joined, joined_low, joined_high}
+use Rattle.type_graph.specs.Claims.{types_of}
+use Rattle.type_graph.proofs.Grown.{joined, joined_low, joined_high}
 use Rattle.type_rules.specs.declared.demand.Demand.TheVariants as demand
 use Rattle.type_rules.specs.Demands.{Met, All_met}
 use Rattle.type_scopes.specs.declared.names.Known.TheVariants as known

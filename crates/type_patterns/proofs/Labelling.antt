@@ -10,10 +10,10 @@ use Rattle.fut_typing.specs.Homes.{Env, empty, scope_of}
 use Rattle.type_graph.specs.declared.Node.{Node}
 use Rattle.type_graph.specs.declared.Entry.{Entry}
 use Rattle.type_graph.specs.Graph.{Tables, Told}
-use Rattle.type_claims.specs.Claims.{Adds, Nowhere, Extends as MoreNodes}
-use Rattle.type_labels.specs.declared.labels.Labels.{Labels}
-use Rattle.type_labels.specs.Labels.{IsLabels, Goes_on, Labelled}
-use Rattle.type_records.proofs.Widening.{more_records, more_positions, labelled_less, told_less, sound_more}
+use Rattle.type_graph.specs.Claims.{Adds, Nowhere, Extends as MoreNodes}
+use Rattle.type_rules.specs.declared.labels.Labels.{Labels}
+use Rattle.type_rules.specs.Labels.{IsLabels, Goes_on, Labelled}
+use Rattle.type_rules.proofs.Widening.{more_records, more_positions, labelled_less, told_less, sound_more}
 use Rattle.type_scopes.specs.declared.Inference.{Inference}
 use Rattle.type_scopes.specs.Table.{IsSeated, known_at, seat_at}
 use Rattle.type_scopes.specs.Scopes.{Safe, Reads, Wider, Later, Claim}

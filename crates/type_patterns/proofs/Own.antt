@@ -7,11 +7,11 @@ use Rattle.fut_typing.specs.Names.{Names}
 use Rattle.fut_typing.specs.Homes.{Env, scope_of}
 use Rattle.type_graph.specs.declared.Node.{Node}
 use Rattle.type_graph.specs.Graph.{Tables, Solves, IsGraph}
-use Rattle.type_claims.specs.Claims.{Inside, Possible}
-use Rattle.type_claims.proofs.Grown.{solves_old, solves_agree, sound_inside}
+use Rattle.type_graph.specs.Claims.{Inside, Possible}
+use Rattle.type_graph.proofs.Grown.{solves_old, solves_agree, sound_inside}
 use Rattle.type_schemes.specs.declared.Part.{Part}
-use Rattle.type_rows.specs.Own.{Freed}
-use Rattle.type_rows.proofs.Beside.{near_home, state_near, state_back, freed_sound}
+use Rattle.type_rules.specs.Own.{Freed}
+use Rattle.type_rules.proofs.Beside.{near_home, state_near, state_back, freed_sound}
 use Rattle.type_scopes.specs.declared.names.Known.{Known}
 use Rattle.type_scopes.specs.declared.names.Known.TheVariants as known
 use Rattle.type_scopes.specs.declared.Inference.{Inference}

@@ -8,7 +8,7 @@ use Rattle.fut_typing.specs.Names.{Names}
 use Rattle.fut_typing.specs.Scopes.{Scope, Denotes, All_denote}
 use Rattle.fut_typing.specs.Homes.{scope_of}
 use Rattle.type_graph.specs.Graph.{Each, numbers}
-use Rattle.type_claims.specs.Claims.{types_of}
+use Rattle.type_graph.specs.Claims.{types_of}
 use Rattle.type_scopes.specs.declared.Inference.{Inference}
 use Rattle.type_scopes.specs.Scopes.{Safe}
 use Rattle.type_patterns.specs.Asking.{Asked, Unasked, Type_claim, Types_claim}

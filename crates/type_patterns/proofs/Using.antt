@@ -16,13 +16,13 @@ use Rattle.fut_typing.proofs.Cong.{scope_local}
 use Rattle.type_graph.specs.declared.Node.{Node}
 use Rattle.type_graph.specs.declared.Entry.{Entry}
 use Rattle.type_graph.specs.Graph.{Tables, Told, Solves}
-use Rattle.type_claims.specs.Claims.{Possible, Adds, Nowhere, Extends as MoreNodes}
-use Rattle.type_claims.proofs.Grown.{joined, joined_low, joined_high}
+use Rattle.type_graph.specs.Claims.{Possible, Adds, Nowhere, Extends as MoreNodes}
+use Rattle.type_graph.proofs.Grown.{joined, joined_low, joined_high}
 use Rattle.type_scopes.proofs.Going.{later_graph}
 use Rattle.type_rules.specs.declared.demand.Demand.TheVariants as demand
 use Rattle.type_rules.specs.Demands.{Met, All_met, IsDemand, Are_demands}
-use Rattle.type_instances.specs.Instances.{Instanced}
-use Rattle.type_rows.proofs.Freeing.{freed_none}
+use Rattle.type_schemes.specs.Instances.{Instanced}
+use Rattle.type_rules.proofs.Freeing.{freed_none}
 use Rattle.type_scopes.specs.declared.names.Known.{Known}
 use Rattle.type_scopes.specs.declared.names.Known.TheVariants as known
 use Rattle.type_scopes.specs.declared.Inference.{Inference}

@@ -13,8 +13,8 @@ use Rattle.fut_typing.specs.Names.{Names}
 use Rattle.fut_typing.specs.Scopes.{Named_type, IsSize, with_argument, Denotes, All_denote}
 use Rattle.fut_typing.specs.Homes.{Env, Needs, scope_of}
 use Rattle.type_graph.specs.Graph.{Tables, Solves}
-use Rattle.type_labels.specs.Labels.{IsLabels}
-use Rattle.type_rows.specs.Own.{Freed}
+use Rattle.type_rules.specs.Labels.{IsLabels}
+use Rattle.type_rules.specs.Own.{Freed}
 use Rattle.type_scopes.specs.declared.Inference.{Inference}
 use Rattle.type_scopes.specs.Scopes.{Reads, Knows, Later, Same, Claim, Puts, NotPossible}
 

@@ -4,7 +4,7 @@ ghost use Rattle.fut_flat.specs.Erased.{texts};
 ghost use Rattle.fut_types.specs.declared.Kind.{Kind};
 ghost use Rattle.fut_typing.specs.Names.{IsRecord};
 ghost use Rattle.type_graph.specs.Graph.{Each, Tells};
-ghost use Rattle.type_claims.specs.Claims.{types_of};
+ghost use Rattle.type_graph.specs.Claims.{types_of};
 ghost use Rattle.type_scopes.specs.Scopes.{Claimed, Refused, Safe};
 ghost use Rattle.type_patterns.specs.Asking.{Asked, Unasked, field_name};
 
@@ -12,7 +12,7 @@ use fut_flat::TypeField;
 use fut_scalar::List;
 use std::alloc::Global;
 use type_graph::UnifyErr;
-use type_records::fields;
+use type_rules::fields;
 use type_scopes::Inference;
 
 fn names_of<'a>(alloc: Global, fields: &[TypeField<'a>]) -> Result<List<&'a str>, UnifyErr>

@@ -11,7 +11,7 @@ use fut_flat::Ref;
 use fut_scalar::{BindId, IntType, ScalarType};
 use std::alloc::Global;
 use type_graph::UnifyErr;
-use type_instances::instance;
+use type_schemes::instance;
 use type_rules::Demand;
 use type_scopes::{Inference, Known, known_of};
 

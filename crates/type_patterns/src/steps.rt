@@ -4,14 +4,14 @@ ghost use Rattle.fut_types.specs.Types.{Made};
 ghost use Rattle.fut_types.specs.declared.Head.TheVariants as head;
 ghost use Rattle.fut_types.specs.declared.Kind.{Kind};
 ghost use Rattle.type_graph.specs.Graph.{Each, Tells};
-ghost use Rattle.type_claims.specs.Claims.{types_of};
+ghost use Rattle.type_graph.specs.Claims.{types_of};
 ghost use Rattle.type_rules.specs.Demands.{All_met, Are_demands};
 ghost use Rattle.type_scopes.specs.Scopes.{Safe};
 ghost use Rattle.type_patterns.specs.Asking.{Added, Asked, Unasked};
 
 use std::alloc::Global;
 use type_graph::UnifyErr;
-use type_rows::{push_own, tuple};
+use type_rules::{push_own, tuple};
 use type_rules::{Demand, put};
 use type_scopes::Inference;
 

@@ -10,13 +10,13 @@ use Rattle.fut_types.specs.declared.shapes.ShapeTable.{ShapeTable}
 use Rattle.fut_types.specs.Types.{Ty, Var, Sub, Kinds, applied, scalar_ty, fun_ty}
 use Rattle.fut_types.specs.Shapes.{Shapes}
 use Rattle.fut_typing.specs.Primitives.{array_ty, pair_ty, triple_ty, plain_type}
-use Rattle.type_claims.proofs.Grown.{joined, joined_low, joined_high}
+use Rattle.type_graph.proofs.Grown.{joined, joined_low, joined_high}
 use Rattle.type_rules.specs.declared.demand.Demand.{Demand}
 use Rattle.type_rules.specs.declared.demand.Demand.TheVariants as demand
 use Rattle.type_rules.specs.Demands.{Met, All_met, Allows, All_allow}
-use Rattle.type_rows.specs.Own.{Has_number, Own, All_own}
-use Rattle.type_rows.proofs.Said.{met_append, met_left, met_right}
-use Rattle.type_rows.proofs.Rules.{all_allow_append, own_append}
+use Rattle.type_rules.specs.Own.{Has_number, Own, All_own}
+use Rattle.type_rules.proofs.RowSaid.{met_append, met_left, met_right}
+use Rattle.type_rules.proofs.Rules.{all_allow_append, own_append}
 use Rattle.type_primitives.specs.Uses.{nodes, node, asked}
 
 pub number_small : (x : Letter) → number x < 6

@@ -3,7 +3,7 @@ use Rattle.std.proofs.Common.{◌≡◌, ℕ, suc, ◌+◌, ◌-◌, ◌≤◌, 
 use Rattle.fut_types.specs.declared.Kind.{Kind}
 use Rattle.type_rules.specs.declared.demand.Demand.{Demand}
 use Rattle.type_rules.specs.declared.demand.Demand.TheVariants as demand
-use Rattle.type_rows.proofs.Filling.{step_more, end_of}
+use Rattle.type_rules.proofs.Filling.{step_more, end_of}
 use Rattle.type_primitives.specs.Uses.{variable_demands}
 
 variables_cons : (places : Kind) (first n m : ℕ) → n ≡ suc m → variable_demands places first n ≡ demand.Has first places ∷ variable_demands places (first + 1) m

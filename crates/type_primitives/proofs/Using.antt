@@ -14,13 +14,13 @@ use Rattle.fut_types.specs.Types.{Ty, Var, Sub, Kinds, HasKind, level, rank, lea
 use Rattle.fut_types.specs.Shapes.{Shapes}
 use Rattle.fut_types.proofs.TyLaws.{level_most}
 use Rattle.fut_typing.specs.Primitives.{i64_ty, plain_type, prim_type}
-use Rattle.type_claims.proofs.Grown.{joined, joined_low, joined_high}
+use Rattle.type_graph.proofs.Grown.{joined, joined_low, joined_high}
 use Rattle.type_rules.specs.declared.demand.Demand.{Demand}
 use Rattle.type_rules.specs.declared.demand.Demand.TheVariants as demand
 use Rattle.type_rules.specs.Demands.{Met, All_met, Allows, All_allow}
-use Rattle.type_rows.specs.Own.{Has_number, Own, All_own, Met_beside}
-use Rattle.type_rows.proofs.Said.{met_append, met_left, met_right}
-use Rattle.type_rows.proofs.Rules.{beside_low, beside_high, all_allow_append, own_append}
+use Rattle.type_rules.specs.Own.{Has_number, Own, All_own, Met_beside}
+use Rattle.type_rules.proofs.RowSaid.{met_append, met_left, met_right}
+use Rattle.type_rules.proofs.Rules.{beside_low, beside_high, all_allow_append, own_append}
 use Rattle.type_primitives.specs.Uses.{Of_primitive, nodes, node, asked, variable_demands, use_demands}
 use Rattle.type_primitives.proofs.Asking.{number_small, types, Stand, asked_to, asked_from, node_has, asked_own, asked_allow}
 

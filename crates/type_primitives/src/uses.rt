@@ -2,7 +2,7 @@
 ghost use Rattle.std.specs.Prelude.{◌≡◌, ◌+◌, ◌<◌, ◌≤◌, ◌++◌, IsTrue, length, OnOk, IfOk, IfErr};
 ghost use Rattle.fut_types.specs.Shapes.{IsTable};
 ghost use Rattle.type_graph.specs.Graph.{Tables, Told, Tells};
-ghost use Rattle.type_claims.specs.Claims.{Sound, Extends, Adds, Nowhere};
+ghost use Rattle.type_graph.specs.Claims.{Sound, Extends, Adds, Nowhere};
 ghost use Rattle.fut_primitives.specs.Table.{written};
 ghost use Rattle.type_primitives.specs.Uses.{Of_primitive, nodes, use_demands, variable_demands};
 
@@ -13,7 +13,7 @@ use fut_scalar::List;
 use fut_types::{Kind, ShapeTable};
 use std::alloc::Global;
 use type_graph::{Entry, Node, UnifyErr};
-use type_rows::{push_demand, put_own};
+use type_rules::{push_demand, put_own};
 use type_rules::Demand;
 
 // The first nodes are of a kind.

@@ -9,7 +9,7 @@ use Rattle.type_graph.specs.declared.Entry.{Entry}
 use Rattle.type_graph.specs.declared.UnifyErr.{UnifyErr}
 use Rattle.type_graph.specs.declared.UnifyErr.TheVariants as err
 use Rattle.type_graph.specs.Graph.{Tables, Tells}
-use Rattle.type_claims.specs.Claims.{Sound, Extends, Adds, Nowhere}
+use Rattle.type_graph.specs.Claims.{Sound, Extends, Adds, Nowhere}
 use Rattle.type_rules.specs.declared.demand.Demand.{Demand}
 use Rattle.type_rules.specs.Demands.{Met, All_met, IsDemand, Are_demands, Allows, All_allow}
 

@@ -10,7 +10,7 @@ use Rattle.fut_types.specs.Shapes.{IsKnown}
 use Rattle.type_graph.specs.declared.Node.{Node}
 use Rattle.type_graph.specs.declared.Task.TheVariants as task
 use Rattle.type_graph.specs.Graph.{far, Tables, IsTask, Holds}
-use Rattle.type_claims.specs.Claims.{types_of, Allowed, Adds, Nowhere}
+use Rattle.type_graph.specs.Claims.{types_of, Allowed, Adds, Nowhere}
 use Rattle.type_rules.specs.declared.demand.Demand.{Demand}
 use Rattle.type_rules.specs.declared.demand.Demand.TheVariants as demand
 use Rattle.type_rules.specs.Demands.{Met, IsDemand, Allows}

@@ -2,13 +2,13 @@
 ghost use Rattle.std.specs.Prelude.{◌≤◌, length, OnOk, IfErr};
 ghost use Rattle.fut_types.specs.Shapes.{IsTable};
 ghost use Rattle.type_graph.specs.Graph.{Tables, Told, Tells};
-ghost use Rattle.type_claims.specs.Claims.{Sound, Extends, Adds, Nowhere};
+ghost use Rattle.type_graph.specs.Claims.{Sound, Extends, Adds, Nowhere};
 ghost use Rattle.type_rules.specs.Demands.{All_allow, All_met, Allows, Are_demands, IsDemand, Met};
 
 use fut_scalar::{List, ScalarType};
 use fut_types::{Head, Kind, ShapeTable};
 use std::alloc::Global;
-use type_claims::{assert_made, assert_task};
+use type_graph::{assert_made, assert_task};
 use type_graph::{Entry, FAR, Node, Task, UnifyErr};
 
 /// What is demanded of the types of nodes, which are given by their numbers.

@@ -18,10 +18,10 @@ use Rattle.type_graph.specs.Graph.{node_at, Each, numbers, Reading, Tables, read
 use Rattle.type_graph.specs.State.{AtLeast, AtMost, State, form_cap}
 use Rattle.type_graph.proofs.PartLaws.{reads, within_parts}
 use Rattle.type_graph.proofs.Ends.{starts}
-use Rattle.type_resolve.specs.Rereading.{Apart}
-use Rattle.type_resolve.proofs.Resolving.{at_number, at_top}
-use Rattle.type_resolve.proofs.Marks.{small_parts}
-use Rattle.type_resolve.proofs.Replacing.{chain_put, chain_names, chain_rank, chain_same, chain_agree}
+use Rattle.type_graph.specs.Rereading.{Apart}
+use Rattle.type_graph.proofs.Resolving.{at_number, at_top}
+use Rattle.type_graph.proofs.Marks.{small_parts}
+use Rattle.type_graph.proofs.Replacing.{chain_put, chain_names, chain_rank, chain_same, chain_agree}
 
 pub lt_or : (m n : ℕ) → (m < n) ⊎ (n ≤ m)
 lt_or zero zero = inr (omega arith)

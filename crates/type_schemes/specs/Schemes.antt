@@ -15,7 +15,7 @@ use Rattle.type_graph.specs.declared.Node.{Node}
 use Rattle.type_graph.specs.declared.Entry.{Entry}
 use Rattle.type_graph.specs.Graph.{node_at, entry_at, Reading, Tables, read, Listed, Solves, IsGraph, IsBound, AreEntries, IsRoot, IsMaker, IsParameter}
 use Rattle.type_graph.specs.State.{Tops, State}
-use Rattle.type_resolve.specs.Rereading.{Apart}
+use Rattle.type_graph.specs.Rereading.{Apart}
 use Rattle.type_schemes.specs.declared.PartForm.{PartForm}
 use Rattle.type_schemes.specs.declared.PartForm.TheVariants as part
 use Rattle.type_schemes.specs.declared.Part.{Part}

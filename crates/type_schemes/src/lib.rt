@@ -3,16 +3,33 @@
 //! When a definition ends, its type is copied once, part by part, into a store: what is of the definition's depth or below is
 //! shared with the graph. A use copies the parts anew. What is shared stays shared, so a copy has the size of the graph and
 //! not of the tree.
+//!
+//! The uses of definitions.
+//!
+//! A use of a definition makes a free node for each part of the copy of its type, and asks of them what the parts say. It
+//! costs the size of the copy.
+//!
+//! What typing says of a definition that has been put into a graph whole, and of its uses.
+//!
+//! Where a definition ends, its typing has been asked for, however the type parameters that it writes are read. Then it is
+//! generalised where none of their types is fixed by what stands around it, and it is not where one is; and where its type has
+//! been copied, its uses are the instances of the copy (`specs/Uses.antt`).
 #![tactic(auto)]
 
 ghost use Rattle.std.specs.Prelude.{◌≡◌, ◌<◌, ◌≤◌, ◌+◌, ◌++◌, ◌∷◌, [], ◌↔◌, length, true, false, IsTrue, OnOk, IfOk, IfErr};
 ghost use Rattle.type_graph.specs.Graph.{IsGraph, Tells};
-ghost use Rattle.type_resolve.specs.Resolving.{Placed};
+ghost use Rattle.type_graph.specs.Resolving.{Placed};
 ghost use Rattle.type_schemes.specs.Schemes.{part_at, with_part, memo_at, with_memo, definition, Entries, FormWithin, IsForeign, IsOurs, copy_kind, form_copy, next_to, no_label, child_at, label_at, child_number, child_label, child_count, head_count, Copied, Partial, Entered, Copies, Extends, Opened, Filled, Law};
+
+mod instances;
+mod uses;
 
 use fut_scalar::List;
 use fut_types::{Head, Kind};
 use type_graph::{Entry, Form, Node, UnifyErr, entry_of, find, node_of};
+
+pub use instances::{instance};
+pub use uses::{definitions_are_generalised};
 
 /// The types of all definitions have no more parts than this: more is want of memory, before the machine is full.
 pub const MOST_PARTS: usize = 16777216;

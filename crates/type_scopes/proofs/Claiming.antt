@@ -8,7 +8,7 @@ use Rattle.fut_typing.specs.Homes.{Env, empty, scope_of}
 use Rattle.type_graph.specs.Graph.{Tables, Told}
 use Rattle.type_graph.specs.declared.Node.{Node}
 use Rattle.type_graph.specs.declared.Entry.{Entry}
-use Rattle.type_claims.specs.Claims.{Adds, Extends as MoreNodes}
+use Rattle.type_graph.specs.Claims.{Adds, Extends as MoreNodes}
 use Rattle.type_scopes.proofs.Putting.{puts_added, puts_none, puts_then, puts_as, not_as, not_then}
 use Rattle.type_scopes.specs.declared.Inference.{Inference}
 use Rattle.type_scopes.specs.Scopes.{Safe, Reads, Ready, Claim, Homes, Claimed, Refused, Depends}

@@ -11,7 +11,7 @@ use Rattle.fut_typing.specs.Homes.{Env, scope_of}
 use Rattle.type_graph.specs.declared.Node.{Node}
 use Rattle.type_graph.specs.declared.Entry.{Entry}
 use Rattle.type_graph.specs.Graph.{far, Tables, Solves}
-use Rattle.type_claims.specs.Claims.{Extends as MoreNodes}
+use Rattle.type_graph.specs.Claims.{Extends as MoreNodes}
 use Rattle.type_schemes.specs.declared.Part.{Part}
 use Rattle.type_schemes.specs.declared.PartForm.{PartForm}
 use Rattle.type_schemes.specs.declared.PartForm.TheVariants as part

@@ -5,3 +5,9 @@ pub mod Opening
 pub mod Putting
 pub mod Seating
 pub mod Table
+pub mod Fixing
+pub mod Gone
+pub mod Meeting
+pub mod Reading
+pub mod Rows
+pub mod Within

@@ -3,7 +3,7 @@ use Rattle.std.proofs.Common.{ℕ, List}
 use Rattle.fut_types.specs.Types.{Sub, Kinds}
 use Rattle.type_graph.specs.declared.Node.{Node}
 use Rattle.type_graph.specs.Graph.{Tables}
-use Rattle.type_claims.specs.Claims.{Adds}
+use Rattle.type_graph.specs.Claims.{Adds}
 use Rattle.type_scopes.specs.Scopes.{Homes, Puts, NotPossible}
 
 abbrev pub Says : Type 1

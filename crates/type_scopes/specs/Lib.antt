@@ -1,2 +1,4 @@
 pub mod Table
 pub mod Scopes
+pub mod Parameters
+pub mod Definitions

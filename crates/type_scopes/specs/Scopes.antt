@@ -16,8 +16,8 @@ use Rattle.fut_typing.specs.Homes.{Env, Needs, scope_of, At_home}
 use Rattle.type_graph.specs.Graph.{far, Tables, Told, Plain, Solves, Meeting}
 use Rattle.type_graph.specs.declared.Node.{Node}
 use Rattle.type_graph.specs.State.{State, Backed}
-use Rattle.type_claims.specs.Claims.{Sound, Possible}
-use Rattle.type_labels.specs.Labels.{IsLabels, Labelled}
+use Rattle.type_graph.specs.Claims.{Sound, Possible}
+use Rattle.type_rules.specs.Labels.{IsLabels, Labelled}
 use Rattle.type_schemes.specs.declared.Part.{Part}
 use Rattle.type_schemes.specs.Schemes.{Extends, Region, Known as KnownHeads, Instance}
 use Rattle.type_scopes.specs.declared.names.Known.{Known}

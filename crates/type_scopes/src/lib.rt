@@ -2,20 +2,31 @@
 //!
 //! A name is entered where it is bound and taken back behind its scope, in the order in which a program is gone over.
 //! `specs/Scopes.antt` says what is known where a part of a program is gone over, and what is known behind it.
+//!
+//! Definitions: their parameters, and how they are generalised.
+//!
+//! A type parameter gets a node of its own where its definition begins. Where the definition ends, none of these nodes may be
+//! fixed by what stands around it; then the definition's type is copied, and its uses are the instances of the copy
+//! (`specs/Definitions.antt`).
 #![tactic(auto)]
 
+mod ending;
 mod names;
+mod parameters;
 mod patterns;
 mod steps;
 
 use fut_scalar::List;
 use fut_types::ShapeTable;
+use type_graph::{Entry, Node};
+use type_rules::Labels;
+use type_schemes::Part;
+
+pub use ending::generalise;
 pub use names::{Known, Past, Seat, enter, known_of, mark_of, note_seat, seat_of, take_back};
+pub use parameters::enter_parameters;
 pub use patterns::{enter_pattern, enter_patterns, enter_sizes};
 pub use steps::demand;
-use type_graph::{Entry, Node};
-use type_labels::Labels;
-use type_schemes::Part;
 
 /// What inference works on. It grows while a program is gone over.
 #[derive(Drop)]

@@ -14,7 +14,7 @@ use Rattle.type_graph.specs.declared.Form.{Form}
 use Rattle.type_graph.specs.declared.Form.TheVariants as form
 use Rattle.type_graph.specs.Graph.{Within}
 use Rattle.type_infer.specs.Reading.{Shown, Row_comes, Is_made}
-use Rattle.typed_meaning.specs.Walks.{All_hold_data}
+use Rattle.type_soundness.specs.Walks.{All_hold_data}
 use Rattle.typed_programs.specs.Forms.{function_form, tuple_form}
 use Rattle.typed_programs.specs.declared.entries.EntryTypeErr.{EntryTypeErr}
 use Rattle.typed_programs.specs.declared.entries.EntryTypeErr.TheVariants as err

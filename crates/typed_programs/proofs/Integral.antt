@@ -15,7 +15,7 @@ use Rattle.fut_typing.specs.Rules.{Rule}
 use Rattle.fut_typing.specs.Patterns.{with_pattern, with_patterns, with_parameters}
 use Rattle.fut_typing.specs.Generalised.{own_types, Scheme}
 use Rattle.fut_typing.specs.Typing.{with_turns, let_scheme, with_let, term_types, operand, Function_name, Let_typed, Typed, All_typed, Turns_typed}
-use Rattle.typed_meaning.specs.Meant.{Literal_here, Literal, A_literal, Turn_literal}
+use Rattle.type_soundness.specs.Meant.{Literal_here, Literal, A_literal, Turn_literal}
 
 -- what is known of the value where a let is typed
 let_value : (N : Names) (places : Kind) (is_function : Bool) (named : Type 0) (s : Scheme) (K : Kinds) (a : Sub) → Let_typed N places is_function named s K a → s.typed (own_types places s.parameters) K a

@@ -3,3 +3,7 @@ pub mod Typed
 pub mod Reading
 pub mod EntryTypes
 pub mod Using
+pub mod Forms
+pub mod Names
+pub mod Digits
+pub mod Numbered

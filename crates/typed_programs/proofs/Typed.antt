@@ -23,13 +23,13 @@ use Rattle.type_graph.specs.declared.Node.{Node}
 use Rattle.type_scopes.specs.declared.Inference.{Inference}
 use Rattle.type_infer.specs.Inferring.{Told_by, Has_typing, Infers}
 use Rattle.type_infer.specs.Reading.{Comes_to}
-use Rattle.typed_meaning.specs.Fits.{widest}
-use Rattle.typed_meaning.specs.Programs.{Definitions_told}
-use Rattle.typed_meaning.proofs.Literals.{literal_kept}
-use Rattle.built_forms.specs.Built.{Is_built}
+use Rattle.type_soundness.specs.Fits.{widest}
+use Rattle.type_soundness.specs.Programs.{Definitions_told}
+use Rattle.type_soundness.proofs.Literals.{literal_kept}
+use Rattle.typed_programs.specs.Built.{Is_built}
 use Rattle.typed_programs.specs.Typed.{integer_at, Typed_by, Is_integer, Nodes_tell}
 use Rattle.typed_programs.proofs.Integral.{integral}
-use Rattle.built_forms.proofs.Names.{once_each}
+use Rattle.typed_programs.proofs.Names.{once_each}
 
 -- ---- where defaults are put in, no variable is of integers
 same_variable : (v w : ℕ) → Var v ≡ Var w → v ≡ w

@@ -31,9 +31,9 @@ use Rattle.type_scopes.specs.declared.Inference.{Inference}
 use Rattle.type_graph.specs.Graph.{node_at}
 use Rattle.type_infer.specs.Inferring.{Numbers, TypeScheme, Instantiates, Has_scheme, Has_typing, Infers}
 use Rattle.type_infer.specs.Reading.{Reads, Comes_to, Generally, node_default}
-use Rattle.type_homes.specs.Listed.{AreHomes}
-use Rattle.typed_meaning.specs.Meant.{No_sizes}
-use Rattle.typed_meaning.specs.Programs.{Definitions_meant, None_has, One_each}
+use Rattle.flat_numbers.specs.Listed.{AreHomes}
+use Rattle.type_soundness.specs.Meant.{No_sizes}
+use Rattle.type_soundness.specs.Programs.{Definitions_meant, None_has, One_each}
 use Rattle.typed_programs.specs.EntryTypes.{scalar_tys, Results_are, Has_entry_type, number_of}
 use Rattle.typed_programs.specs.Entries.{Type_is, No_entry_type, May_be_used, Is_unwritten, Is_outside}
 use Rattle.typed_programs.proofs.EntryTypes.{parameters_data, results_data}

@@ -16,7 +16,7 @@ use Rattle.fut_typing.specs.Exact.{scope_behind}
 use Rattle.type_scopes.specs.declared.Inference.{Inference}
 use Rattle.type_infer.specs.Inferring.{Numbers}
 use Rattle.type_infer.specs.Reading.{Shown, Row_comes, Comes_to}
-use Rattle.typed_meaning.specs.Walks.{All_hold_data}
+use Rattle.type_soundness.specs.Walks.{All_hold_data}
 use Rattle.typed_programs.specs.EntryTypes.{scalar_tys, Results_are, Has_entry_type}
 use Rattle.typed_programs.specs.declared.entries.EntryTypeErr.{EntryTypeErr}
 use Rattle.typed_programs.specs.declared.entries.EntryTypeErr.TheVariants as err

@@ -12,9 +12,9 @@ use Rattle.fut_typing.specs.Answers.{Typing_is}
 use Rattle.type_graph.specs.declared.Form.{Form}
 use Rattle.type_graph.specs.declared.Node.{Node}
 use Rattle.type_scopes.specs.declared.Inference.{Inference}
-use Rattle.typed_meaning.specs.Programs.{Is_typed}
+use Rattle.type_soundness.specs.Programs.{Is_typed}
 use Rattle.type_infer.specs.Reading.{Comes_to, Is_made}
-use Rattle.typed_meaning.specs.Walks.{Is_walkable}
+use Rattle.type_soundness.specs.Walks.{Is_walkable}
 use Rattle.typed_programs.specs.declared.integers.IntegersErr.{IntegersErr}
 use Rattle.typed_programs.specs.declared.integers.IntegersErr.TheVariants as err
 use Rattle.typed_programs.specs.Forms.{integer_form}

@@ -4,7 +4,7 @@ ghost use Rattle.fut_typing.specs.Program.{program_of};
 ghost use Rattle.type_graph.specs.Graph.{IsGraph};
 ghost use Rattle.type_infer.specs.Inferring.{Infers};
 ghost use Rattle.type_infer.specs.Reading.{Generally};
-ghost use Rattle.built_forms.specs.Built.{Is_built};
+ghost use Rattle.typed_programs.specs.Built.{Is_built};
 ghost use Rattle.typed_programs.specs.Entries.{Because, Is_outside, Is_unwritten, May_be_used, No_entry_type, No_function, No_results, No_scalar, No_scalars, Parameters_are, Pushed, Results_at, Row_is, Type_is};
 ghost use Rattle.typed_programs.specs.EntryTypes.{number_of};
 
@@ -12,7 +12,7 @@ use crate::forms::{function_of, scalar_of, tuple_of};
 use fut_flat::Flat;
 use fut_scalar::{List, ScalarType};
 use std::alloc::Global;
-use type_homes::homes;
+use flat_numbers::homes;
 use type_infer::general_type_at;
 use type_scopes::Inference;
 

@@ -3,7 +3,7 @@ ghost use Rattle.std.specs.Prelude.{IfErr, IfOk, length};
 ghost use Rattle.fut_typing.specs.Program.{program_of};
 ghost use Rattle.type_graph.specs.Graph.{IsGraph};
 ghost use Rattle.type_infer.specs.Inferring.{Infers, Told_by};
-ghost use Rattle.built_forms.specs.Built.{Is_built};
+ghost use Rattle.typed_programs.specs.Built.{Is_built};
 ghost use Rattle.typed_programs.specs.Typed.{Lost_where, Nodes_tell, Typed_by};
 
 use crate::forms::integer_of;

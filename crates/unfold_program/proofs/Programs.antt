@@ -15,8 +15,8 @@ use Rattle.fut_blocks.specs.declared.block.Atom.{Atom}
 use Rattle.fut_blocks.specs.declared.block.Block.{Block}
 use Rattle.fut_blocks.specs.declared.block.Program.{Program}
 use Rattle.fut_blocks.specs.Meaning.{look}
-use Rattle.reach.proofs.Lists.{drop_end, one_more}
-use Rattle.reach.specs.Reach.{Reached, reached, is_set, named_term}
+use Rattle.unfold_reach.proofs.Lists.{drop_end, one_more}
+use Rattle.unfold_reach.specs.Reach.{Reached, reached, is_set, named_term}
 use Rattle.unfold.specs.Held.{known_of}
 use Rattle.unfold.specs.Knowns.{Known, Tuple_known, Knowns, knowns, listed, no_name, Scalar_known, Scope, Tops}
 use Rattle.unfold.specs.Programs.{Applies_all, a_none, a_more, Definitions_unfold, d_none, d_reached, d_other}

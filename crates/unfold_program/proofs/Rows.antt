@@ -10,7 +10,7 @@ use Rattle.fut_flat.specs.Erased.{FlatTerm, Row, lets, parameters, pattern_of, t
 use Rattle.fut_flat.specs.Numbers.{all_numbers, pattern_numbers}
 use Rattle.fut_flat.specs.Terms.{Let}
 use Rattle.fut_flat.proofs.ErasedForms.{row_of, row_is, term_lets}
-use Rattle.fut_numbers.proofs.PatternNumbers.{drop_end, one_more}
+use Rattle.flat_numbers.proofs.PatternNumbers.{drop_end, one_more}
 use Rattle.unfold.specs.Held.{known_of, scope_of}
 use Rattle.unfold.specs.Knowns.{Known, Scope}
 use Rattle.unfold.specs.Stuck.{Stuck, Stuck_all, no_pattern_of, stuck_behind, stuck_here, stuck_later, stuck_value}

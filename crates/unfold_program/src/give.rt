@@ -11,7 +11,7 @@ use crate::walked::{Branch, Parts, Walked};
 use bumpalo::Bump;
 use fut_blocks::{Act, Step};
 use fut_flat::{Act as Operation, Exp, Ref};
-use fut_numbers::after_exp;
+use flat_numbers::after_exp;
 use fut_scalar::{IntType, Place};
 use unfold::{Function, Known, Scope};
 use unfold_parts::{Refusal, Tops, Unfolding, bind, known_use, lay, operate};

@@ -4,7 +4,7 @@ ghost use Rattle.fut_flat.specs.Erased.{term_of};
 ghost use Rattle.unfold_program.specs.Answers.{Peeled_to, is_declared};
 
 use fut_flat::{Act, Exp, Form};
-use fut_numbers::after;
+use flat_numbers::after;
 use unfold_parts::Refusal;
 
 /// An expression, the number of its node, and the next one, which a node inside may have.

@@ -2,7 +2,7 @@
 ghost use Rattle.std.specs.Prelude.{◌≡◌, [], IfErr, IfOk, length, map};
 ghost use Rattle.fut_flat.specs.Erased.{term_of};
 ghost use Rattle.fut_meaning.specs.Flats.{flat_tops, named_terms};
-ghost use Rattle.reach.specs.Reach.{Reached, named_term};
+ghost use Rattle.unfold_reach.specs.Reach.{Reached, named_term};
 ghost use Rattle.unfold.specs.Held.{known_of, scope_of};
 ghost use Rattle.unfold.specs.Knowns.{no_name};
 ghost use Rattle.unfold_parts.specs.States.{steps_of};
@@ -16,9 +16,9 @@ use crate::walked::{Context, Setting};
 use bumpalo::Bump;
 use fut_blocks::{Atom, Program};
 use fut_flat::{Definition, Flat};
-use fut_numbers::{after, after_exp};
+use flat_numbers::{after, after_exp};
 use fut_scalar::{BindId, IntType, Scalar, ScalarType};
-use reach::{above, reached};
+use unfold_reach::{above, reached};
 use unfold::{Known, KnownForm, Scope};
 use unfold_parts::{Refusal, Tops, Unfolding, lay};
 

@@ -16,7 +16,7 @@ use bumpalo::Bump;
 use bumpalo::collections::into_bump_slice;
 use fut_blocks::{Act, Atom};
 use fut_flat::{Act as Operation, Exp, Form, Let, Loop, LoopForm, Pat};
-use fut_numbers::{after, after_exp, after_pattern, after_patterns, own_numbers_of};
+use flat_numbers::{after, after_exp, after_pattern, after_patterns, own_numbers_of};
 use fut_scalar::{BindId, Place, Scalar};
 use unfold::{Known, KnownForm, Scope};
 use unfold_parts::{Refusal, Unfolding, apply_primitive, bind, literal_type_at};

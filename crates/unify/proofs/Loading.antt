@@ -8,7 +8,7 @@ use Rattle.fut_types.specs.Shapes.{Shapes, HasPart}
 use Rattle.type_graph.specs.declared.Node.{Node}
 use Rattle.type_graph.specs.declared.Task.TheVariants as task
 use Rattle.type_graph.specs.Graph.{Tables, Solves, IsTask, Holds}
-use Rattle.type_claims.proofs.Adding.{Agree}
+use Rattle.type_graph.proofs.Adding.{Agree}
 use Rattle.unify.specs.declared.Ty.{Ty as Tree}
 use Rattle.unify.specs.declared.Known.{Known}
 use Rattle.unify.specs.declared.Subst.{Subst}

@@ -10,9 +10,9 @@ use Rattle.type_graph.specs.declared.Node.{Node}
 use Rattle.type_graph.specs.declared.Entry.{Entry}
 use Rattle.type_graph.specs.Graph.{far, node_at, Tables, Fits, Solves, IsGraph, Each}
 use Rattle.type_graph.specs.State.{State}
-use Rattle.type_claims.specs.Claims.{new_node, types_of, Sound, Extends, Possible, Adds, Nowhere, Inside, Grown}
-use Rattle.type_claims.proofs.Grown.{lt_or, node_old, node_new, graph_push, grown_push, solves_old, same_types, extend_one, extend_low, extend_last, joined, long_new}
-use Rattle.type_claims.proofs.Adding.{Agree, bound_push, entries_more}
+use Rattle.type_graph.specs.Claims.{new_node, types_of, Sound, Extends, Possible, Adds, Nowhere, Inside, Grown}
+use Rattle.type_graph.proofs.Grown.{lt_or, node_old, node_new, graph_push, grown_push, solves_old, same_types, extend_one, extend_low, extend_last, joined, long_new}
+use Rattle.type_graph.proofs.Adding.{Agree, bound_push, entries_more}
 use Rattle.unify.specs.declared.Ty.{Ty as Tree}
 use Rattle.unify.specs.declared.Ty.TheVariants as tree
 use Rattle.unify.specs.Substitutions.{type_of, row_of}

@@ -5,8 +5,8 @@ use Rattle.fut_types.specs.declared.shapes.ShapeTable.{ShapeTable}
 use Rattle.fut_types.specs.Shapes.{IsKnown}
 use Rattle.fut_types.specs.Types.{Ty, Var, Made, Tys, none, more, Sub, applied, all_applied, size, sizes}
 use Rattle.type_graph.specs.Graph.{IsMaker, Each}
-use Rattle.type_claims.specs.Claims.{types_of}
-use Rattle.type_claims.proofs.Adding.{Agree}
+use Rattle.type_graph.specs.Claims.{types_of}
+use Rattle.type_graph.proofs.Adding.{Agree}
 use Rattle.unify.specs.declared.Ty.{Ty as Tree, Ty-F, out-Ty, map-Ty, fold_out-Ty}
 use Rattle.unify.specs.declared.Ty.TheVariants as tree
 use Rattle.unify.specs.Substitutions.{layer, type_of, row_of, Within, All_within}

@@ -6,7 +6,7 @@ use Rattle.fut_types.specs.Types.{Ty, Tys, Sub, Kinds}
 use Rattle.type_graph.specs.declared.Node.{Node}
 use Rattle.type_graph.specs.Graph.{far, Tables, Plain, Solves, IsGraph, IsBound}
 use Rattle.type_graph.specs.State.{State}
-use Rattle.type_claims.specs.Claims.{Inside, types_of}
+use Rattle.type_graph.specs.Claims.{Inside, types_of}
 
 -- what is noted reaches the parts
 abbrev pub Ready : Tables → List Node → Type 0

@@ -19,7 +19,7 @@ use load::{load, variables};
 use read::read_back;
 use std::alloc::Global;
 use type_graph::UnifyErr;
-use type_resolve::resolve;
+use type_graph::resolve;
 
 /// A type: a variable, by its number, or made by a head of parts.
 #[derive(Drop)]

@@ -3,7 +3,7 @@ ghost use Rattle.std.specs.Prelude.{◌≡◌, ◌<◌, ◌≤◌, length, OnOk,
 ghost use Rattle.fut_types.specs.Types.{applied};
 ghost use Rattle.fut_types.specs.Shapes.{IsTable, HasPart};
 ghost use Rattle.type_graph.specs.Graph.{Tables, IsTask, Holds, Told, Tells};
-ghost use Rattle.type_claims.specs.Claims.{Sound, Extends};
+ghost use Rattle.type_graph.specs.Claims.{Sound, Extends};
 ghost use Rattle.unify.specs.Substitutions.{Within, Suits, All_suit, Has_parts, Bound, Meets, AreParts, AreKnown, AreBinds, type_of};
 ghost use Rattle.unify.specs.Putting.{Blank, Puts, Bars};
 
@@ -12,7 +12,7 @@ use crate::{Known, Subst, Ty};
 use fut_scalar::List;
 use fut_types::ShapeTable;
 use std::alloc::Global;
-use type_claims::{assert_task, push_node};
+use type_graph::{assert_task, push_node};
 use type_graph::{Entry, FAR, Form, Node, Task, UnifyErr};
 
 // So many nodes of which nothing is known.

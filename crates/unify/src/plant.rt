@@ -3,7 +3,7 @@ ghost use Rattle.std.specs.Prelude.{◌<◌, length, map, OnOk, IfOk, IfErr};
 ghost use Rattle.fut_types.specs.Types.{Made, applied, all_applied};
 ghost use Rattle.fut_types.specs.Shapes.{IsTable, IsKnown};
 ghost use Rattle.type_graph.specs.Graph.{Each, Tables, IsMaker, Told, Tells};
-ghost use Rattle.type_claims.specs.Claims.{Sound, Extends, types_of};
+ghost use Rattle.type_graph.specs.Claims.{Sound, Extends, types_of};
 ghost use Rattle.unify.specs.Substitutions.{Within, All_within, type_of, row_of};
 ghost use Rattle.unify.specs.Putting.{Bars, Always, Planted, Planted_all};
 
@@ -11,7 +11,7 @@ use crate::Ty;
 use fut_scalar::List;
 use fut_types::{Head, ShapeTable};
 use std::alloc::Global;
-use type_claims::{assert_made, push_node};
+use type_graph::{assert_made, push_node};
 use type_graph::{Entry, Form, Node, UnifyErr};
 
 // A node for a type that a head makes of those of others.

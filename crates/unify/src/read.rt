@@ -1,7 +1,7 @@
 // The substitution that a graph is.
 ghost use Rattle.std.specs.Prelude.{◌≡◌, ◌<◌, ◌+◌, ◌^◌, ◌++◌, ◌∷◌, [], length, OnOk, IfOk, IfErr};
 ghost use Rattle.type_graph.specs.Graph.{Closed, Starts, Tells};
-ghost use Rattle.type_resolve.specs.Resolving.{Placed};
+ghost use Rattle.type_graph.specs.Resolving.{Placed};
 ghost use Rattle.unify.specs.Reading.{HasRow, variables, chain_of, known_of, bind_of, answer};
 
 use crate::{Known, Subst, Ty};

@@ -8,8 +8,8 @@ use Rattle.fut_ast.specs.declared.module.DecForm.{DecForm as PlainDecForm}
 use Rattle.fut_tree.specs.declared.module.Dec.{Dec}
 use Rattle.fut_tree.specs.declared.module.DecForm.{DecForm}
 use Rattle.fut_tree.specs.Mods.{dec_of, decs_of, dec_form_of}
-use Rattle.fut_phrases.specs.declared.found.Found.{Found}
-use Rattle.fut_phrases.specs.Found.{found_as}
+use Rattle.parse_types.specs.declared.found.Found.{Found}
+use Rattle.parse_types.specs.Found.{found_as}
 use Rattle.fut_parser.specs.declared.module_tie.ModEnding.{ModEnding}
 
 -- a module expression, and whether it ended with its seal; the same without that

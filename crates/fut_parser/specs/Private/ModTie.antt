@@ -6,7 +6,7 @@ use Rattle.fut_ast.specs.Sorts.{Whole_mod, Last_mod, Atomic_mod}
 use Rattle.fut_grammar.specs.declared.fault.Stop.{Stop}
 use Rattle.fut_grammar.specs.Reading.{Gives}
 use Rattle.fut_grammar.specs.Phrases.{read_at}
-use Rattle.fut_phrases.specs.declared.found.Found.{Found}
+use Rattle.parse_types.specs.declared.found.Found.{Found}
 use Rattle.fut_parser.specs.declared.module_tie.ModEnding.{ModEnding}
 use Rattle.fut_parser.specs.declared.module_tie.ModSort.{ModSort}
 use Rattle.fut_parser.specs.declared.module_tie.ModSort.TheVariants as sort

@@ -21,8 +21,8 @@ use Rattle.value_text.specs.declared.reading.TextErr.TheVariants as text
 use Rattle.command_words.specs.CommandLine.{Command}
 use Rattle.futhark_status.specs.declared.status.EntryErr.{EntryErr}
 use Rattle.futhark_status.specs.declared.status.LimitKind.TheVariants as limit
-use Rattle.plain_runs.specs.declared.preparing.PrepareErr.{PrepareErr}
-use Rattle.plain_runs.specs.declared.preparing.PrepareErr.TheVariants as prepare
+use Rattle.unfolded_runs.specs.declared.preparing.PrepareErr.{PrepareErr}
+use Rattle.unfolded_runs.specs.declared.preparing.PrepareErr.TheVariants as prepare
 use Rattle.futhark_status.specs.declared.status.Why.{Why}
 use Rattle.futhark_status.specs.declared.status.Why.TheVariants as why
 use Rattle.futhark_status.specs.declared.status.Status.{Status}

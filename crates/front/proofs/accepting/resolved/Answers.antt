@@ -1,5 +1,5 @@
 use Rattle.fut_tree.specs.Names.{all}
-use Rattle.module_scopes.specs.Programs.{resolve_program}
+use Rattle.elab_scopes.specs.Programs.{resolve_program}
 use Rattle.front.proofs.Joining.{refused_so}
 use Rattle.front.proofs.accepting.resolved.Goals as goal
 

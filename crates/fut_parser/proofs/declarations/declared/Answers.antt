@@ -4,7 +4,7 @@ use Rattle.fut_ast.specs.ModRows.{dec_def, dec_entry, dec_let}
 use Rattle.fut_ast.specs.Rows.{of_mod}
 use Rattle.fut_grammar.specs.Phrases.{bounded, dec_rest_at, ended, flat_at, items, other_dec_at, phrases, read_at}
 use Rattle.fut_grammar.specs.Reading.{refuse_sort, row_at}
-use Rattle.fut_phrases.proofs.ReadLaws.{same_read}
+use Rattle.parse_types.proofs.ReadLaws.{same_read}
 use Rattle.fut_parser.proofs.declarations.declared.Goals as goal
 
 pub returns-then-not-begins_declared : goal.returns-then-not-begins_declared

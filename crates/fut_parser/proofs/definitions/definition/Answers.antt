@@ -3,7 +3,7 @@ use Rattle.std.proofs.Common.{sym, ap, refl, arith}
 use Rattle.fut_ast.specs.declared.node.Spot.{Spot}
 use Rattle.fut_grammar.specs.Phrases.{items}
 use Rattle.fut_grammar.specs.Reading.{has_at, parts_at, sub_at}
-use Rattle.fut_module_types.proofs.Stops.{part_stopped, stopped, taken}
+use Rattle.parse_module_types.proofs.Stops.{part_stopped, stopped, taken}
 use Rattle.fut_parser.proofs.definitions.definition.Goals as goal
 
 pub returns-in-Err : goal.returns-in-Err

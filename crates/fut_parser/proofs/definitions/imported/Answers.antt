@@ -1,7 +1,7 @@
 -- The word and the text.
 use Rattle.std.proofs.Common.{refl, arith}
 use Rattle.fut_grammar.specs.Reading.{has_at, parts_at, row_at}
-use Rattle.fut_module_types.proofs.Stops.{part_stopped}
+use Rattle.parse_module_types.proofs.Stops.{part_stopped}
 use Rattle.fut_parser.proofs.definitions.imported.Goals as goal
 
 pub returns-in-Err : goal.returns-in-Err

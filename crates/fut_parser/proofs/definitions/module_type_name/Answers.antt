@@ -6,7 +6,7 @@ use Rattle.fut_ast.specs.declared.node.Spot.{Spot}
 use Rattle.fut_ast.specs.Tokens.{tail}
 use Rattle.fut_grammar.specs.Phrases.{items}
 use Rattle.fut_grammar.specs.Reading.{has_at, parts_at, row_at, sub_at}
-use Rattle.fut_module_types.proofs.Stops.{part_stopped, taken}
+use Rattle.parse_module_types.proofs.Stops.{part_stopped, taken}
 use Rattle.fut_parser.proofs.definitions.module_type_name.Goals as goal
 
 pub returns-in-Err : goal.returns-in-Err

@@ -4,7 +4,7 @@ use Rattle.fut_token.specs.declared.token.Fixed.TheVariants as fixed
 use Rattle.fut_ast.specs.declared.node.Spot.{Spot}
 use Rattle.fut_grammar.specs.Phrases.{items}
 use Rattle.fut_grammar.specs.Reading.{has_at, parts_at, row_at, sub_at}
-use Rattle.fut_module_types.proofs.Stops.{part_stopped, stopped, taken}
+use Rattle.parse_module_types.proofs.Stops.{part_stopped, stopped, taken}
 use Rattle.fut_parser.proofs.definitions.type_name.Goals as goal
 
 pub returns-in-Err : goal.returns-in-Err

@@ -2,7 +2,7 @@
 use Rattle.std.proofs.Common.{sym, ◌∙◌, refl}
 use Rattle.fut_grammar.specs.Phrases.{bounded, ended, read_at, step}
 use Rattle.fut_grammar.specs.Reading.{refuse_sort}
-use Rattle.fut_module_types.proofs.Stops.{stopped}
+use Rattle.parse_module_types.proofs.Stops.{stopped}
 use Rattle.fut_parser.proofs.module_cycle.argument_node.Goals as goal
 
 pub returns-then-not-begins_module_argument : goal.returns-then-not-begins_module_argument

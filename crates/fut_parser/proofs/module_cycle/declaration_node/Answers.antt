@@ -2,7 +2,7 @@
 use Rattle.std.proofs.Common.{sym, ◌∙◌, refl}
 use Rattle.fut_grammar.specs.Phrases.{bounded, dec_at, ended, phrases, read_at, step}
 use Rattle.fut_grammar.specs.Reading.{refuse_sort}
-use Rattle.fut_phrases.proofs.ReadLaws.{same_read}
+use Rattle.parse_types.proofs.ReadLaws.{same_read}
 use Rattle.fut_parser.proofs.module_cycle.declaration_node.Goals as goal
 
 pub returns-then-not-begins_declaration : goal.returns-then-not-begins_declaration

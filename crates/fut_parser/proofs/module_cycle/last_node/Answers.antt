@@ -2,7 +2,7 @@
 use Rattle.std.proofs.Common.{sym, ◌∙◌, refl}
 use Rattle.fut_grammar.specs.Phrases.{bounded, ended, far_at, read_at, step, whole_mod_at}
 use Rattle.fut_grammar.specs.Reading.{refuse_sort}
-use Rattle.fut_module_types.proofs.Stops.{part_stopped, stopped}
+use Rattle.parse_module_types.proofs.Stops.{part_stopped, stopped}
 use Rattle.fut_parser.proofs.module_cycle.last_node.Goals as goal
 
 pub returns-then-not-begins_module : goal.returns-then-not-begins_module

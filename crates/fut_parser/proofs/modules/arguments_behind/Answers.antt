@@ -2,8 +2,8 @@
 use Rattle.std.proofs.Common.{◌≡◌, ◌+◌, ◌≤◌, suc, sym, ◌∙◌, refl, arith}
 use Rattle.fut_grammar.specs.Phrases.{once_at}
 use Rattle.fut_grammar.specs.Reading.{has_at, parts_at, suffix_at}
-use Rattle.fut_module_types.proofs.Stops.{stopped}
-use Rattle.fut_phrases.proofs.ReadLaws.{above, below, low_as}
+use Rattle.parse_module_types.proofs.Stops.{stopped}
+use Rattle.parse_types.proofs.ReadLaws.{above, below, low_as}
 use Rattle.fut_parser.proofs.modules.arguments_behind.Goals as goal
 
 pub returns-then-not-begins_module_argument : goal.returns-then-not-begins_module_argument

@@ -2,8 +2,8 @@
 use Rattle.std.proofs.Common.{◌≡◌, ◌+◌, ◌≤◌, suc, sym, arith}
 use Rattle.fut_grammar.specs.Phrases.{phrases}
 use Rattle.fut_grammar.specs.Reading.{has_at, parts_at, sub_at}
-use Rattle.fut_module_types.proofs.Stops.{part_stopped, stopped}
-use Rattle.fut_phrases.proofs.ReadLaws.{low_as}
+use Rattle.parse_module_types.proofs.Stops.{part_stopped, stopped}
+use Rattle.parse_types.proofs.ReadLaws.{low_as}
 use Rattle.fut_parser.proofs.modules.body_behind.Goals as goal
 
 pub returns-in-Err : goal.returns-in-Err

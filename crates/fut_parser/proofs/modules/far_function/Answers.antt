@@ -1,7 +1,7 @@
 -- What stands behind the function's body ends it, or is refused.
 use Rattle.std.proofs.Common.{sym, ◌∙◌, refl}
 use Rattle.fut_grammar.specs.Phrases.{ended, far_at}
-use Rattle.fut_module_types.proofs.Stops.{part_stopped}
+use Rattle.parse_module_types.proofs.Stops.{part_stopped}
 use Rattle.fut_parser.proofs.modules.far_function.Goals as goal
 
 pub returns-in-Err : goal.returns-in-Err

@@ -2,7 +2,7 @@
 use Rattle.std.proofs.Common.{sym, ap}
 use Rattle.fut_ast.specs.declared.node.Spot.{Spot}
 use Rattle.fut_grammar.specs.Reading.{has_at, parts_at, row_at, sub_at}
-use Rattle.fut_module_types.proofs.Stops.{part_stopped}
+use Rattle.parse_module_types.proofs.Stops.{part_stopped}
 use Rattle.fut_parser.proofs.modules.function.Goals as goal
 
 pub returns-in-Err : goal.returns-in-Err

@@ -1,7 +1,7 @@
 -- A module, its arguments and its seal, one after the other.
 use Rattle.std.proofs.Common.{sym}
 use Rattle.fut_grammar.specs.Phrases.{applied_mod_at, last_mod_at}
-use Rattle.fut_module_types.proofs.Stops.{part_stopped, stopped}
+use Rattle.parse_module_types.proofs.Stops.{part_stopped, stopped}
 use Rattle.fut_parser.proofs.modules.last_below.Goals as goal
 
 pub returns-in-Err : goal.returns-in-Err

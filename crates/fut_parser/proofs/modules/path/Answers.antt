@@ -2,8 +2,8 @@
 use Rattle.std.proofs.Common.{◌+◌, ◌≤◌, sym, ap, arith}
 use Rattle.fut_ast.specs.declared.node.Spot.{Spot}
 use Rattle.fut_grammar.specs.Reading.{has_at, parts_at, row_at}
-use Rattle.fut_module_types.proofs.Stops.{part_stopped}
-use Rattle.fut_phrases.proofs.ReadLaws.{low_as}
+use Rattle.parse_module_types.proofs.Stops.{part_stopped}
+use Rattle.parse_types.proofs.ReadLaws.{low_as}
 use Rattle.fut_parser.proofs.modules.path.Goals as goal
 
 pub returns-in-Err : goal.returns-in-Err

@@ -4,7 +4,7 @@ use Rattle.std.proofs.Math.Nat.{zero-max}
 use Rattle.fut_token.specs.declared.token.Fixed.TheVariants as fixed
 use Rattle.fut_grammar.specs.Phrases.{phrases}
 use Rattle.fut_grammar.specs.Reading.{has_at, parts_at, row_at, sub_at}
-use Rattle.fut_module_types.proofs.Stops.{missing, part_stopped, taken}
+use Rattle.parse_module_types.proofs.Stops.{missing, part_stopped, taken}
 use Rattle.fut_parser.proofs.modules.round.Goals as goal
 
 pub returns-in-Err : goal.returns-in-Err

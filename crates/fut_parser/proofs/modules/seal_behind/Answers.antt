@@ -3,8 +3,8 @@ use Rattle.std.proofs.Common.{◌≡◌, ◌+◌, ◌≤◌, suc, sym, ◌∙◌
 use Rattle.fut_token.specs.declared.token.Fixed.TheVariants as fixed
 use Rattle.fut_grammar.specs.Phrases.{once_at, phrases}
 use Rattle.fut_grammar.specs.Reading.{has_at, parts_at, sub_at, suffix_at}
-use Rattle.fut_module_types.proofs.Stops.{part_stopped, taken}
-use Rattle.fut_phrases.proofs.ReadLaws.{above, below, low_as}
+use Rattle.parse_module_types.proofs.Stops.{part_stopped, taken}
+use Rattle.parse_types.proofs.ReadLaws.{above, below, low_as}
 use Rattle.fut_parser.proofs.modules.seal_behind.Goals as goal
 
 pub returns-then-not-starts_with : goal.returns-then-not-starts_with

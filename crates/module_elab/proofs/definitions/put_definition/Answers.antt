@@ -1,6 +1,6 @@
 use Rattle.std.proofs.Common.{◌++◌, [], ◌∷◌, refl, ◌∙◌}
-use Rattle.module_nodes.specs.Built.{built0, no_memory3}
-use Rattle.module_nodes.proofs.Joined.{three_then, three_stop}
+use Rattle.elab_nodes.specs.Built.{built0, no_memory3}
+use Rattle.elab_nodes.proofs.Joined.{three_then, three_stop}
 use Rattle.module_elab.proofs.definitions.put_definition.Goals as goal
 
 pub returns-in-Ok-push : goal.returns-in-Ok-push

@@ -1,7 +1,7 @@
 -- What was put so far.
 use Rattle.std.proofs.Common.{drop}
 use Rattle.fut_tree.specs.Mods.{decs_of}
-use Rattle.module_scopes.specs.Programs.{resolve_decs}
+use Rattle.elab_scopes.specs.Programs.{resolve_decs}
 use Rattle.module_elab.specs.Walks.{So_far, seen_of}
 use Rattle.module_elab.proofs.files.resolved_decs.Given as goal
 

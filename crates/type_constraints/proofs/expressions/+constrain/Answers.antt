@@ -1,7 +1,7 @@
 use Rattle.std.proofs.Common.{◌≡◌, ◌≤◌, ◌<◌, ◌+◌, ◌++◌, List, [], ◌∷◌, map, take, slice_index_or, subst, sym, ◌∙◌, ap, refl, arith}
 use Rattle.fut_flat.specs.Numbers.{numbers, all_numbers}
 use Rattle.fut_flat.specs.Erased.{FlatPattern, FlatTerm, operation_of, parameters, term_of, terms}
-use Rattle.type_uses.specs.Uses.{type_numbers}
+use Rattle.type_schemes.specs.Uses.{type_numbers}
 use Rattle.type_constraints.proofs.Definitions.{definition_err3, definition_ok, definition_own, definition_root, definition_sound, definition_unruled, function_err, function_ok, function_refused, no_record, no_sizes, no_tuple, no_typed, no_wild, row_numbers}
 use Rattle.fut_flat.proofs.ErasedForms.{term_use, term_strict, term_apply, term_if, term_lambda, term_lets}
 use Rattle.fut_typing.proofs.Ranges.{numbers_some, own_some, pattern_some}

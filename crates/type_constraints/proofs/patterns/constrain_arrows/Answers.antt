@@ -1,6 +1,6 @@
 use Rattle.std.proofs.Common.{◌≡◌}
 use Rattle.fut_typing.specs.Patterns.{arrows}
-use Rattle.type_claims.specs.Claims.{types_of}
+use Rattle.type_graph.specs.Claims.{types_of}
 use Rattle.type_scopes.proofs.Claiming.{claimed_graph, ok_both}
 use Rattle.type_patterns.proofs.Asking.{err_both}
 use Rattle.type_constraints.proofs.patterns.constrain_arrows.Goals as goal

@@ -1,7 +1,7 @@
 use Rattle.std.proofs.Common.{◌≡◌}
 use Rattle.fut_types.specs.Types.{Made}
 use Rattle.fut_types.specs.declared.Head.TheVariants as head
-use Rattle.type_claims.specs.Claims.{types_of}
+use Rattle.type_graph.specs.Claims.{types_of}
 use Rattle.type_scopes.proofs.Claiming.{claimed_graph, ok_both}
 use Rattle.type_patterns.proofs.Asking.{err_both}
 use Rattle.type_constraints.proofs.patterns.constrain_made.Goals as goal

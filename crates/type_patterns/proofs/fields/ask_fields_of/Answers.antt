@@ -2,7 +2,7 @@ use Rattle.std.proofs.Common.{◌∙◌, ap, subst, List}
 use Rattle.fut_ast.specs.Sorts.{Text}
 use Rattle.fut_flat.specs.Erased.{texts}
 use Rattle.fut_typing.specs.Names.{IsRecord}
-use Rattle.type_claims.specs.Claims.{types_of}
+use Rattle.type_graph.specs.Claims.{types_of}
 use Rattle.type_rules.proofs.Adding.{on_ok, if_err}
 use Rattle.type_patterns.specs.Asking.{Asked, Unasked}
 use Rattle.type_patterns.proofs.fields.ask_fields_of.Goals as goal

@@ -1,7 +1,7 @@
 use Rattle.std.proofs.Common.{refl}
 use Rattle.fut_flat.specs.Erased.{texts}
 use Rattle.fut_typing.specs.Names.{IsRecord}
-use Rattle.type_claims.specs.Claims.{types_of}
+use Rattle.type_graph.specs.Claims.{types_of}
 use Rattle.type_patterns.proofs.Asking.{ok_four, err_four}
 use Rattle.type_patterns.proofs.Labelling.{asked_given, unasked_given}
 use Rattle.type_patterns.proofs.fields.ask_record_of.Goals as goal

@@ -1,6 +1,6 @@
 use Rattle.fut_flat.specs.Erased.{texts}
 use Rattle.fut_typing.specs.Names.{IsRecord}
-use Rattle.type_claims.specs.Claims.{types_of}
+use Rattle.type_graph.specs.Claims.{types_of}
 use Rattle.type_rules.proofs.Adding.{on_ok, if_err}
 use Rattle.type_patterns.proofs.Asking.{asked_claimed, unasked_refused}
 use Rattle.type_patterns.proofs.fields.constrain_fields.Goals as goal

@@ -1,7 +1,7 @@
 use Rattle.std.proofs.Common.{◌≡◌}
 use Rattle.fut_types.specs.Types.{Made}
 use Rattle.fut_types.specs.declared.Head.TheVariants as head
-use Rattle.type_claims.specs.Claims.{types_of}
+use Rattle.type_graph.specs.Claims.{types_of}
 use Rattle.type_scopes.proofs.Claiming.{ok_both}
 use Rattle.type_patterns.proofs.Asking.{asked_graph, unasked_graph, err_both}
 use Rattle.type_patterns.proofs.steps.ask_tuple_of.Goals as goal

@@ -2,8 +2,8 @@ use Rattle.std.proofs.Common.{◌+◌, length, sym, subst, ◌∙◌}
 use Rattle.fut_primitives.specs.Table.{written}
 use Rattle.type_rules.specs.Demands.{All_allow}
 use Rattle.type_rules.proofs.Adding.{on_ok, if_err}
-use Rattle.type_rows.specs.Own.{All_own, Met_beside}
-use Rattle.type_rows.proofs.Rules.{rule_adds, rule_nowhere}
+use Rattle.type_rules.specs.Own.{All_own, Met_beside}
+use Rattle.type_rules.proofs.Rules.{rule_adds, rule_nowhere}
 use Rattle.type_primitives.specs.Uses.{Of_primitive, nodes, use_demands}
 use Rattle.type_primitives.proofs.Using.{use_own, use_allow, use_to, use_from}
 use Rattle.type_primitives.proofs.uses.primitive.Goals as goal

@@ -1,5 +1,5 @@
 use Rattle.std.proofs.Common.{subst}
-use Rattle.type_claims.specs.Claims.{Adds}
+use Rattle.type_graph.specs.Claims.{Adds}
 use Rattle.type_rules.specs.Demands.{All_met, All_allow}
 use Rattle.type_rules.proofs.Adding.{tells_both, extends_same, extends_then, no_demand, demand_at, put_more, put_refused, take_all}
 use Rattle.type_rules.proofs.demand.put.Goals as goal

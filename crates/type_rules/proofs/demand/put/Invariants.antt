@@ -3,7 +3,7 @@ use Rattle.fut_types.specs.declared.shapes.ShapeTable.{ShapeTable}
 use Rattle.type_graph.specs.declared.Node.{Node}
 use Rattle.type_graph.specs.declared.Entry.{Entry}
 use Rattle.type_graph.specs.Graph.{Tables, Told}
-use Rattle.type_claims.specs.Claims.{Extends, Adds}
+use Rattle.type_graph.specs.Claims.{Extends, Adds}
 use Rattle.type_rules.specs.declared.demand.Demand.{Demand}
 use Rattle.type_rules.specs.Demands.{All_met, All_allow}
 use Rattle.type_rules.proofs.demand.put.Given as goal

@@ -1,6 +1,6 @@
 use Rattle.std.proofs.Common.{subst}
 use Rattle.fut_types.specs.Shapes.{Shapes}
-use Rattle.type_claims.specs.Claims.{Adds}
+use Rattle.type_graph.specs.Claims.{Adds}
 use Rattle.type_rules.specs.Demands.{All_allow, All_met}
 use Rattle.type_scopes.proofs.Claiming.{claimed_graph, ok_both}
 use Rattle.type_scopes.proofs.steps.demand.Goals as goal

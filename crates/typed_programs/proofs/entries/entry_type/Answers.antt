@@ -4,7 +4,7 @@ use Rattle.typed_programs.specs.Entries.{Because, Is_outside, Is_unwritten, May_
 use Rattle.typed_programs.proofs.EntryTypes.{because}
 use Rattle.typed_programs.proofs.Reading.{if_ok, if_err}
 use Rattle.typed_programs.proofs.Using.{may_be_used, none_outside, not_outside, number_within, outside_heads, plain_heads}
-use Rattle.built_forms.proofs.Names.{once_each}
+use Rattle.typed_programs.proofs.Names.{once_each}
 use Rattle.typed_programs.proofs.entries.entry_type.Goals as goal
 
 pub returns-then-flat-at-gt0-clause-outside : goal.returns-then-flat-at-gt0-clause-outside

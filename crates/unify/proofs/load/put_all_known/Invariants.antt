@@ -1,6 +1,6 @@
 use Rattle.std.proofs.Common.{◌≡◌}
 use Rattle.type_graph.specs.Graph.{Tables, Told}
-use Rattle.type_claims.specs.Claims.{Extends}
+use Rattle.type_graph.specs.Claims.{Extends}
 use Rattle.unify.specs.Substitutions.{Suit_first}
 use Rattle.unify.specs.Putting.{Puts}
 use Rattle.unify.proofs.load.put_all_known.Given as goal

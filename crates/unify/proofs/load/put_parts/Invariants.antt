@@ -1,6 +1,6 @@
 use Rattle.std.proofs.Common.{take}
 use Rattle.type_graph.specs.Graph.{Tables, Told}
-use Rattle.type_claims.specs.Claims.{Extends}
+use Rattle.type_graph.specs.Claims.{Extends}
 use Rattle.unify.specs.Substitutions.{Has_parts}
 use Rattle.unify.specs.Putting.{Puts}
 use Rattle.unify.proofs.load.put_parts.Given as goal

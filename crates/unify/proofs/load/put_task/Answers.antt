@@ -1,7 +1,7 @@
 use Rattle.std.proofs.Common.{subst}
 use Rattle.type_graph.specs.Graph.{Holds}
 use Rattle.type_graph.proofs.Ends.{if_err}
-use Rattle.type_claims.specs.Claims.{Allowed, Adds, Nowhere}
+use Rattle.type_graph.specs.Claims.{Allowed, Adds, Nowhere}
 use Rattle.unify.proofs.Outcomes.{both_ok}
 use Rattle.unify.proofs.Putting.{puts_adds, bars_nowhere}
 use Rattle.unify.proofs.load.put_task.Goals as goal

@@ -1,7 +1,7 @@
 use Rattle.std.proofs.Common.{◌+◌, ◌≤◌, ◌<◌, length, map, take, refl, sym, subst, arith}
 use Rattle.fut_types.specs.Types.{Made, all_applied}
 use Rattle.type_graph.specs.Graph.{Each}
-use Rattle.type_claims.specs.Claims.{types_of}
+use Rattle.type_graph.specs.Claims.{types_of}
 use Rattle.unify.specs.Substitutions.{Within, type_of, row_of}
 use Rattle.unify.specs.Putting.{Planted, Planted_all}
 use Rattle.unify.proofs.Trees.{within_var, made_known, made_maker, made_parts, within_at, within_more, below_last, all_below, made_size, item_size, item_at, next_item, take_whole}

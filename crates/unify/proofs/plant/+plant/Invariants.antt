@@ -1,7 +1,7 @@
 use Rattle.std.proofs.Common.{◌<◌, ◌+◌, ◌*◌, length, take, map}
 use Rattle.fut_types.specs.Types.{all_applied, size, sizes}
 use Rattle.type_graph.specs.Graph.{Each, Tables, Told}
-use Rattle.type_claims.specs.Claims.{Extends}
+use Rattle.type_graph.specs.Claims.{Extends}
 use Rattle.unify.specs.Substitutions.{type_of, row_of}
 use Rattle.unify.specs.Putting.{Planted_all}
 use Rattle.unify.proofs.plant.+plant.Given as goal

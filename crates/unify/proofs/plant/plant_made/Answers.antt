@@ -1,8 +1,8 @@
 use Rattle.std.proofs.Common.{◌≡◌, suc, ◌<◌, length, sym, subst, arith}
 use Rattle.fut_types.specs.Types.{Made}
 use Rattle.type_graph.specs.Graph.{Each}
-use Rattle.type_claims.specs.Claims.{types_of, Adds, Nowhere}
-use Rattle.type_claims.proofs.Grown.{sound_inside}
+use Rattle.type_graph.specs.Claims.{types_of, Adds, Nowhere}
+use Rattle.type_graph.proofs.Grown.{sound_inside}
 use Rattle.unify.proofs.Trees.{all_below}
 use Rattle.unify.proofs.Outcomes.{tells_both}
 use Rattle.unify.proofs.Putting.{free_extends, free_long, free_sound, planted_made, bars_made}

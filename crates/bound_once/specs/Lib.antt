@@ -1,3 +1,0 @@
-pub mod Binders
-pub mod Parameters
-pub mod Claims

@@ -1,7 +1,0 @@
-use Rattle.std.proofs.Common.{take}
-use Rattle.std.specs.List.{All}
-use Rattle.built_forms.specs.Trees.{Is_digit}
-use Rattle.built_forms.proofs.positions.are_digits.Given as goal
-
-abbrev pub invariant-loop-byte : goal.invariant-loop-byte
-invariant-loop-byte l = All Is_digit (take l.byte-index l.bytes)

@@ -1,0 +1,15 @@
+pub mod Readings
+pub mod Downs
+pub mod Grown
+pub mod Told
+pub mod Terms
+pub mod Sizes
+pub mod Programs
+pub mod Filled
+pub mod Parts
+pub mod OnceTerms
+pub mod OncePrograms
+pub mod Times
+pub mod Parameters
+pub mod Ways
+pub mod Alone

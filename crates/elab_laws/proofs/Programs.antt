@@ -1,0 +1,171 @@
+-- The flat definitions that elaboration makes stand for those of the files.
+use Rattle.std.proofs.Common.{◌≡◌, ℕ, suc, ◌+◌, ◌<◌, ◌≤◌, ◌++◌, List, [], ◌∷◌, Bool, true, false, cond, Option, Some, None, Result, Ok, Err, refl, sym, ap, ◌∙◌, subst, arith, length}
+use Rattle.std.specs.Str.{bytes_eq}
+use Rattle.fut_scalar.specs.declared.place.BindId.{BindId}
+use Rattle.fut_scalar.specs.declared.place.Place.{Place}
+use Rattle.fut_ast.specs.Sorts.{Text}
+use Rattle.fut_ast.specs.declared.node.Label.{Label}
+use Rattle.fut_ast.specs.declared.pat.Head.{Head}
+use Rattle.fut_ast.specs.declared.module.Dec.{Dec}
+use Rattle.fut_ast.specs.declared.module.DecForm.{DecForm-F, out-DecForm}
+use Rattle.fut_ast.specs.declared.module.Program.{Program}
+use Rattle.fut_flat.specs.Numbers.{numbers}
+use Rattle.fut_flat.specs.Sources.{SourceTerm, source_parameters}
+use Rattle.elab_scopes.specs.Names.{Refusal}
+use Rattle.elab_scopes.specs.Scopes.{a_value, Scope, value_in, enter}
+use Rattle.elab_scopes.specs.Resolve.{Numbered, next, with_text}
+use Rattle.elab_scopes.specs.Programs.{FlatDefinition, define, definition_term, is_entry_named, has_text, DecLayer, Seen, Defined, behind, resolve_dec_form, resolve_dec, resolve_decs, new_file, resolve_files, FlatProgram, program_of, resolve_program}
+use Rattle.fut_meaning.specs.Flats.{flat_tops}
+use Rattle.fut_meaning.specs.Resolved.{Resolved, Definitions_resolved, no_definition, definition_and}
+use Rattle.fut_meaning.proofs.SameNumbers.{numbers_same}
+use Rattle.fut_meaning.proofs.SamePrograms.{program_sim}
+use Rattle.fut_meaning.proofs.Sims.{go_back, go_forth}
+use Rattle.elab_laws.specs.Sizeless.{Sizeless, Definitions_sizeless}
+use Rattle.elab_laws.proofs.Told.{Told, definition_told}
+use Rattle.elab_laws.proofs.Sizes.{no_head, term_plain}
+use Rattle.elab_laws.specs.Sourced.{outside_of, No_sizes, Plain, Written, Plain_written, source_tops, written_form, written_decs, written, binds, named_values}
+use Rattle.fut_meaning.proofs.SameData.{all_datums_same, source_allows, source_reports, flat_allows, flat_reports}
+use Rattle.elab_laws.specs.Claims.{ElaboratedAddsNothing, ElaboratedLosesNothing, SameReports, SameResults}
+use Rattle.elab_laws.proofs.Readings.{reads_outside, Below, sees_below}
+use Rattle.elab_laws.proofs.Downs.{down}
+use Rattle.elab_laws.proofs.Grown.{went, ok_part, ok_rest, More, more_text}
+use Rattle.elab_laws.proofs.Terms.{term_so, heads_more, heads_read}
+
+-- definitions resolved one after the other
+data Run : Scope → List Text → List Written → List FlatDefinition → Scope → List Text → Type 0 where
+  run_none : {sc : Scope} {made : List Text} → Run sc made [] [] sc made
+  run_more : {sc sc' : Scope} {made m made' : List Text} {ws : List Written} {d : FlatDefinition} {fs : List FlatDefinition} (file : ℕ) (is_entry : Bool) (x : Text) (heads : List Head) (value : SourceTerm) → Told value → define file is_entry x heads value sc made ≡ Ok (d, m) → Run (a_value x d.bind ∷ sc) m ws fs sc' made' → Run sc made (record { name = x; parameters = source_parameters heads; value = value } ∷ ws) (d ∷ fs) sc' made'
+
+run-append : {sc sc1 sc2 : Scope} {m m1 m2 : List Text} {ws us : List Written} {fs gs : List FlatDefinition} → Run sc m ws fs sc1 m1 → Run sc1 m1 us gs sc2 m2 → Run sc m (ws ++ us) (fs ++ gs) sc2 m2
+run-append run_none s = s
+run-append (run_more file is_entry x heads value t e r) s = run_more file is_entry x heads value t e (run-append r s)
+
+-- from what was seen before some definitions to what is seen behind them
+abbrev Goes : Seen → List Written → List FlatDefinition → Seen → Type 0
+Goes s ws fs s' = Run s.scope s.made ws fs s'.scope s'.made
+
+behind_is : {C : Type 0} (x : Text) (s s' : Seen) (d : FlatDefinition) (r : Numbered FlatDefinition) → behind x s r ≡ Ok (d, s') → ((m : List Text) → r ≡ Ok (d, m) → s'.scope ≡ a_value x d.bind ∷ s.scope → s'.made ≡ m → C) → C
+behind_is x s s' d (Ok (c, m)) e k = k m (ap (λ z. Ok (z, m)) (ok_part e)) (ap (λ z. z.scope) (sym (ok_rest e)) ∙ ap (λ z. a_value x z.bind ∷ s.scope) (ok_part e)) (ap (λ z. z.made) (sym (ok_rest e)))
+behind_is x s s' d (Err w) e k = absurd (let z : ◌≡◌ {A = Defined FlatDefinition} (Err w) (Ok (d, s')) = e in cc)
+
+not_refused : {C A : Type 0} (w : Refusal) (z : A) → ◌≡◌ {A = Result A Refusal} (Err w) (Ok z) → C
+not_refused {C} {A} w z e = absurd (let y : ◌≡◌ {A = Result A Refusal} (Err w) (Ok z) = e in cc)
+
+chosen : {C A : Type 0} (t : Bool) (w : Refusal) (r : Result A Refusal) (z : A) → cond t (Err w) r ≡ Ok z → (r ≡ Ok z → C) → C
+chosen true w r z e k = not_refused w z e
+chosen false w r z e k = k e
+
+def_goes : (file : ℕ) (is_entry : Bool) (x : Label) (heads : List Head) (value : SourceTerm) (s s' : Seen) (d : FlatDefinition) → Told value → behind x.name s (define file is_entry x.name heads value s.scope s.made) ≡ Ok (d, s') → Goes s (record { name = x.name; parameters = source_parameters heads; value = value } ∷ []) (d ∷ []) s'
+def_goes file is_entry x heads value s s' d t e =
+    behind_is x.name s s' d _ e (λ m h i j. run_more file is_entry x.name heads value t h (subst (λ z. Run (a_value x.name d.bind ∷ s.scope) m [] [] z s'.made) (sym i) (subst (λ z. Run (a_value x.name d.bind ∷ s.scope) m [] [] (a_value x.name d.bind ∷ s.scope) z) (sym j) run_none)))
+
+form_goes : (file : ℕ) (at : Place) (l : DecLayer) (s s' : Seen) (d : FlatDefinition) → resolve_dec_form file at l s ≡ Ok (d, s') → Goes s (written_form l) (d ∷ []) s'
+form_goes file at (DecForm-F.Def is_entry x heads ps t e) s s' d h = chosen (has_text s.own x.name) _ _ (d, s') h (def_goes file is_entry x heads (definition_term ps t e) s s' d (definition_told ps t e))
+form_goes file at l s s' d h = not_refused _ (d, s') h
+
+dec_goes : (file : ℕ) (dec : Dec) (s s' : Seen) (d : FlatDefinition) → resolve_dec file dec s ≡ Ok (d, s') → Goes s (written_form (out-DecForm dec.form)) (d ∷ []) s'
+dec_goes file dec s s' d h = chosen dec.local _ _ (d, s') h (form_goes file dec.place (out-DecForm dec.form) s s' d)
+
+goes_end : (s : Seen) {m s' : Seen} {ws : List Written} {fs gs : List FlatDefinition} → Goes s ws fs m → ◌≡◌ {A = Defined (List FlatDefinition)} (Ok (fs, m)) (Ok (gs, s')) → Goes s ws gs s'
+goes_end s {m} {s'} {ws} {fs} {gs} r e = subst (λ z. Goes s ws z s') (ok_part e) (subst (λ z. Goes s ws fs z) (ok_rest e) r)
+
+decs_go : (file : ℕ) (ds : List Dec) (s s' : Seen) (fs : List FlatDefinition) → resolve_decs file ds s ≡ Ok (fs, s') → Goes s (written_decs ds) fs s'
+unfolding resolve_decs
+decs_go file [] s s' fs e = goes_end s run_none e
+decs_go file (d ∷ ds) s s' fs e = went _ _ _ e (λ a m h g. went _ _ _ g (λ as' n i q. goes_end s (run-append (dec_goes file d s m a h) (decs_go file ds m n as' i)) q))
+
+files_go : (file : ℕ) (ps : List Program) (s s' : Seen) (fs : List FlatDefinition) → resolve_files file ps s ≡ Ok (fs, s') → Goes s (written ps) fs s'
+unfolding resolve_files
+files_go file [] s s' fs e = goes_end s run_none e
+files_go file (p ∷ ps) s s' fs e = went _ _ _ e (λ a m h g. went _ _ _ g (λ b n i q. goes_end s (run-append (decs_go file p.decs (new_file s) m a h) (files_go (suc file) ps m n b i)) q))
+
+-- ---- each definition
+
+record Defined_so (sc : Scope) (made m : List Text) (d : FlatDefinition) (value : SourceTerm) : Type 0 where
+  bind : d.bind.0 ≡ length made
+  more : suc (length made) ≤ length m
+  resolved : Resolved (suc (length made)) [] (outside_of sc) value d.value
+
+define_so : (file : ℕ) (is_entry : Bool) (x : Text) (heads : List Head) (value : SourceTerm) (sc : Scope) (made m : List Text) (d : FlatDefinition) → No_sizes (source_parameters heads) → Plain value → define file is_entry x heads value sc made ≡ Ok (d, m) → Defined_so sc made m d value
+unfolding define
+define_so file is_entry x heads value sc made m d n p e =
+    went _ _ _ e (λ h k i g. went _ _ _ g (λ v l j q.
+    let le : More (with_text made x) k = subst (λ z. More (with_text made x) z) (ok_rest i) (heads_more (source_parameters heads) (with_text made x) n) in
+    let rd = subst (λ z. Rattle.elab_laws.proofs.Readings.Reads (enter z.1 sc) [] (outside_of sc)) (ok_part i) (heads_read (source_parameters heads) (with_text made x) n (reads_outside sc)) in
+    let y = term_so value (enter h.1 sc) k l v [] (outside_of sc) p rd j in
+    subst (λ z. Defined_so sc made m z value) (ok_part q)
+    (subst (λ z. Defined_so sc made z (record { bind = next made; parameters = h.0; value = v; is_entry = is_entry_named is_entry x; file = file }) value) (ok_rest q)
+    (record { bind = refl; more = omega (arith, more_text made x, le, y.more); resolved = down (omega (arith, more_text made x, le)) y.resolved }))))
+
+below_value : {n m : ℕ} {sc : Scope} (x : Text) (b : BindId) → n ≤ m → b.0 < m → Below n sc → Below m (a_value x b ∷ sc)
+unfolding value_in
+below_value {n} {m} {sc} x b le lt r = record { below = λ y c e. either (bytes_eq x y) (value_in sc y) c e (λ h. omega (arith, r.below y c h, le)) }
+  where
+    some_is : (c : BindId) → Some b ≡ Some c → b ≡ c
+    some_is c h = cc
+
+    either : (t : Bool) (o : Option BindId) (c : BindId) → cond t (Some b) o ≡ Some c → (o ≡ Some c → c.0 < m) → c.0 < m
+    either true o c e k = subst (λ z. z.0 < m) (some_is c e) lt
+    either false o c e k = k e
+
+tops_resolved : {sc sc' : Scope} {made made' : List Text} {ws : List Written} {fs : List FlatDefinition} (lo : ℕ) → Run sc made ws fs sc' made' → Below (length made) sc → Plain_written ws → Definitions_resolved (length made) (source_tops lo sc ws (binds fs)) (flat_tops lo (named_values fs))
+unfolding flat_tops
+tops_resolved lo run_none b p = no_definition
+tops_resolved {sc} {made = made} lo (run_more {m = m} {ws = ws} {d} {fs} file is_entry x heads value t e r) b p =
+    let y = define_so file is_entry x heads value sc made m d p.0 p.1 e in
+    let le : length made ≤ length m = omega (arith, y.more) in
+    let lt : d.bind.0 < length m = omega (arith, y.bind, y.more) in
+    let rest = tops_resolved (lo + (1 + numbers value)) r (below_value x d.bind le lt b) p.2 in
+    definition_and refl refl (omega (arith, y.bind)) lt
+    (sees_below (suc d.bind.0) sc (record { below = λ z c h. omega (arith, b.below z c h, y.bind) }))
+    (down (omega (arith, y.bind)) y.resolved)
+    (subst (λ z. Definitions_resolved (length m) (source_tops (lo + (1 + numbers value)) (a_value x d.bind ∷ sc) ws (binds fs)) (flat_tops (lo + (1 + z)) (named_values fs))) (numbers_same y.resolved) rest)
+
+-- ---- programs
+
+program_is : {C : Type 0} (r : Defined (List FlatDefinition)) (flat : FlatProgram) → program_of r ≡ Ok flat → ((s : Seen) → r ≡ Ok (flat.definitions, s) → C) → C
+program_is (Ok (ds, s)) flat e k = k s (ap (λ z. Ok (z.definitions, s)) (same_program e))
+  where
+    same_program : {a b : FlatProgram} → ◌≡◌ {A = Result FlatProgram Refusal} (Ok a) (Ok b) → a ≡ b
+    same_program h = cc
+program_is (Err w) flat e k = not_refused w flat e
+
+nothing_below : {n : ℕ} → Below n []
+unfolding value_in
+nothing_below = record { below = λ x b e. absurd (let z : None ≡ Some b = e in cc) }
+
+definition_plain : (file : ℕ) (is_entry : Bool) (x : Text) (heads : List Head) (value : SourceTerm) (sc : Scope) (made m : List Text) (d : FlatDefinition) → Told value → No_sizes d.parameters → Sizeless d.value → define file is_entry x heads value sc made ≡ Ok (d, m) → No_sizes (source_parameters heads) × Plain value
+unfolding define
+definition_plain file is_entry x heads value sc made m d t n z e =
+    went _ _ _ e (λ h k i g. went _ _ _ g (λ v l j q. (
+      no_head (source_parameters heads) (with_text made x) (subst No_sizes (ap (λ w. w.parameters) (sym (ok_part q)) ∙ ap (λ w. w.0) (sym (ok_part i))) n),
+      term_plain value (enter h.1 sc) k l v t (subst Sizeless (ap (λ w. w.value) (sym (ok_part q))) z) j,
+    )))
+
+plain_tops : {sc sc' : Scope} {made made' : List Text} {ws : List Written} {fs : List FlatDefinition} → Run sc made ws fs sc' made' → Definitions_sizeless fs → Plain_written ws
+plain_tops run_none z = tt
+plain_tops {sc} {made = made} (run_more {m = m} {d = d} file is_entry x heads value t e r) z =
+    let y = definition_plain file is_entry x heads value sc made m d t z.0 z.1 e in
+    (y.0, y.1, plain_tops r z.2)
+
+pub elaborated : (ps : List Program) (flat : FlatProgram) → resolve_program ps ≡ Ok flat → Definitions_sizeless flat.definitions → Definitions_resolved 0 (source_tops 0 [] (written ps) (binds flat.definitions)) (flat_tops 0 (named_values flat.definitions))
+unfolding resolve_program
+elaborated ps flat e z = program_is _ flat e (λ s h. let r = files_go 0 ps (record { own = []; scope = []; made = [] }) s flat.definitions h in tops_resolved 0 r nothing_below (plain_tops r z))
+
+pub elaborated_adds_nothing : ElaboratedAddsNothing
+elaborated_adds_nothing ps flat e p integer_at tight budget entry vs ws s o f x = go_back (program_sim integer_at tight budget entry true (elaborated ps flat e p) s) o f x
+
+pub elaborated_loses_nothing : ElaboratedLosesNothing
+elaborated_loses_nothing ps flat e p integer_at tight budget entry vs ws s o f x = go_forth (program_sim integer_at tight budget entry false (elaborated ps flat e p) s) o f x
+
+pub same_results : SameResults
+same_results ps flat e p integer_at tight budget entry arguments result words = (
+  λ x. source_allows _ result words (elaborated_adds_nothing ps flat e p integer_at tight budget entry _ _ (all_datums_same arguments) _ words x),
+  λ x. flat_allows _ result words (elaborated_loses_nothing ps flat e p integer_at tight budget entry _ _ (all_datums_same arguments) _ words x),
+)
+
+pub same_reports : SameReports
+same_reports ps flat e p integer_at tight budget entry arguments report words = (
+  λ x. source_reports _ report words (elaborated_adds_nothing ps flat e p integer_at tight budget entry _ _ (all_datums_same arguments) _ words x),
+  λ x. flat_reports _ report words (elaborated_loses_nothing ps flat e p integer_at tight budget entry _ _ (all_datums_same arguments) _ words x),
+)

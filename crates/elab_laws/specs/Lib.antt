@@ -1,0 +1,6 @@
+pub mod Sourced
+pub mod Sizeless
+pub mod Claims
+pub mod Binders
+pub mod Parameters
+pub mod OnceClaims

@@ -1,0 +1,9 @@
+pub mod PatternNumbers
+pub mod TermNumbers
+pub mod Lists
+pub mod Heads
+pub mod Layers
+pub mod Homed
+pub mod PlaceLists
+pub mod PlaceLayers
+pub mod Counted

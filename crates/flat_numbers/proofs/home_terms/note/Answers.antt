@@ -1,0 +1,8 @@
+use Rattle.flat_numbers.proofs.Lists.{none_yet, one_again}
+use Rattle.flat_numbers.proofs.home_terms.note.Goals as goal
+
+pub loop-init : goal.loop-init
+loop-init c = none_yet _
+
+pub loop-preserved : goal.loop-preserved
+loop-preserved c = one_again _ _ c.loop.invariant c.push.ensures

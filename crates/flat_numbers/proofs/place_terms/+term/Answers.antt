@@ -1,0 +1,59 @@
+use Rattle.std.proofs.Common.{sym}
+use Rattle.flat_numbers.specs.Places.{exp_places, let_places}
+use Rattle.flat_numbers.proofs.PlaceLists.{all_looped, looped, none_yet, then, told_as}
+use Rattle.flat_numbers.proofs.PlaceLayers.{let_is, loop_is, places_use, places_strict, places_lambda, places_apply, places_lets, places_if, places_loop, places_counted, places_over, places_while}
+use Rattle.flat_numbers.proofs.place_terms.+term.Goals as goal
+
+pub note_exp-returns-in-Use : goal.note_exp-returns-in-Use
+note_exp-returns-in-Use t c = told_as (places_use _ _ _ c.in-Use.is) (then (then c.push.ensures c.note.ensures) c.note-in-Use.ensures)
+
+pub note_exp-returns-in-Strict : goal.note_exp-returns-in-Strict
+note_exp-returns-in-Strict t c = told_as (places_strict _ _ _ _ _ c.own_numbers_of.ensures c.in-Strict.is) (then c.note-in-Strict.ensures c.note_parts.ensures)
+
+pub note_exp-returns-in-Lambda : goal.note_exp-returns-in-Lambda
+note_exp-returns-in-Lambda t c = told_as (places_lambda _ _ _ c.in-Lambda.is) (then (then c.push-in-Lambda.ensures c.note_patterns.ensures) c.note_exp.ensures)
+
+pub note_exp-returns-in-Apply : goal.note_exp-returns-in-Apply
+note_exp-returns-in-Apply t c = told_as (places_apply _ _ _ c.in-Apply.is) (then (then c.push-in-Apply.ensures c.note_exp-in-Apply.ensures) c.note_exp-in-Apply-2.ensures)
+
+pub note_exp-returns-in-Lets : goal.note_exp-returns-in-Lets
+note_exp-returns-in-Lets t c = told_as (places_lets _ _ _ c.in-Lets.is) (then c.note_lets.ensures c.note_exp-in-Lets.ensures)
+
+pub note_exp-returns-in-If : goal.note_exp-returns-in-If
+note_exp-returns-in-If t c = told_as (places_if _ _ _ _ c.in-If.is) (then (then (then c.push-in-If.ensures c.note_exp-in-If.ensures) c.note_exp-in-If-2.ensures) c.note_exp-in-If-3.ensures)
+
+pub note_exp-returns-in-Loop : goal.note_exp-returns-in-Loop
+note_exp-returns-in-Loop t c = told_as (places_loop _ _ c.in-Loop.is) c.note_loop.ensures
+
+pub note_parts-loop-part-init : goal.note_parts-loop-part-init
+note_parts-loop-part-init t c = none_yet _
+
+pub note_parts-loop-part-preserved : goal.note_parts-loop-part-preserved
+note_parts-loop-part-preserved t c = looped exp_places _ c.loop-part.part-index _ c.loop-part-test.true c.loop-part.invariant c.note_exp.ensures
+
+pub note_parts-returns : goal.note_parts-returns
+note_parts-returns t c = all_looped exp_places _ _ c.loop-part-test.false c.loop-part.invariant
+
+pub note_lets-loop-one-init : goal.note_lets-loop-one-init
+note_lets-loop-one-init t c = none_yet _
+
+pub note_lets-loop-one-preserved : goal.note_lets-loop-one-preserved
+note_lets-loop-one-preserved t c = looped (let_places c.args.at) _ c.loop-one.one-index _ c.loop-one-test.true c.loop-one.invariant c.note_let.ensures
+
+pub note_lets-returns : goal.note_lets-returns
+note_lets-returns t c = all_looped (let_places c.args.at) _ _ c.loop-one-test.false c.loop-one.invariant
+
+pub note_let-returns : goal.note_let-returns
+note_let-returns t c = told_as (sym (let_is _ _)) (then (then c.push.ensures c.note_pattern.ensures) c.note_exp.ensures)
+
+pub note_loop-returns : goal.note_loop-returns
+note_loop-returns t c = told_as (sym (loop_is _ _)) (then (then (then (then c.push.ensures c.note_pattern.ensures) c.note_exp.ensures) c.note_turns.ensures) c.note_exp-2.ensures)
+
+pub note_turns-returns-in-For : goal.note_turns-returns-in-For
+note_turns-returns-in-For t c = told_as (places_counted _ _ _ _ c.in-For.is) (then c.push.ensures c.note_exp.ensures)
+
+pub note_turns-returns-in-ForIn : goal.note_turns-returns-in-ForIn
+note_turns-returns-in-ForIn t c = told_as (places_over _ _ _ _ c.in-ForIn.is) (then c.note_pattern.ensures c.note_exp-in-ForIn.ensures)
+
+pub note_turns-returns-in-While : goal.note_turns-returns-in-While
+note_turns-returns-in-While t c = told_as (places_while _ _ _ c.in-While.is) c.note_exp-in-While.ensures

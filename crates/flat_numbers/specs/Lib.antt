@@ -1,0 +1,6 @@
+pub mod Fields
+pub mod Listed
+pub mod Trees
+pub mod Noted
+pub mod Places
+pub mod PlaceNoted

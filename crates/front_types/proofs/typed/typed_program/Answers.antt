@@ -1,5 +1,0 @@
-use Rattle.fut_typing.specs.Program.{program_of}
-use Rattle.front_types.proofs.typed.typed_program.Goals as goal
-
-pub returns-clause-err : goal.returns-clause-err
-returns-clause-err c = c.placed.ensures (program_of c.args.flat) c.infer.new.inference c.in-Err.ensures.err

@@ -1,7 +1,0 @@
--- Any operator is one of the loosest level or tighter.
-use Rattle.std.proofs.Common.{◌∙◌}
-use Rattle.fut_exp_parts.proofs.TokenLaws.{any_level}
-use Rattle.fut_exp_parts.proofs.exp_tokens.next_any_operator.Goals as goal
-
-pub returns : goal.returns
-returns c = c.next_operator.ensures ∙ any_level c.args.tokens.now

@@ -1,2 +1,0 @@
-pub mod PatternNumbers
-pub mod TermNumbers

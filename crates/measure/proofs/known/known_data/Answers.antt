@@ -1,6 +1,0 @@
-use Rattle.std.proofs.Common.{refl}
-use Rattle.measure.proofs.Mirror.{known_data as is_known_data}
-use Rattle.measure.proofs.known.known_data.Goals as goal
-
-pub returns : goal.returns
-returns c = is_known_data _ refl

@@ -1,8 +1,0 @@
-use Rattle.std.proofs.Common.{◌≡◌}
-use Rattle.fut_flat.specs.Erased.{texts}
-use Rattle.measure.specs.Fields.{put_named}
-use Rattle.measure.proofs.Fielding.{put_from}
-use Rattle.measure.proofs.lists.put_named.Given as goal
-
-abbrev pub invariant-loop-at : goal.invariant-loop-at
-invariant-loop-at g l = put_from l.name l.item l.at (texts l.names) l.made ≡ put_named l.name l.item (texts l.names) l.items

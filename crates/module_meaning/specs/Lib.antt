@@ -1,3 +1,0 @@
-pub mod Sourced
-pub mod Sizeless
-pub mod Claims

@@ -1,5 +1,0 @@
-use Rattle.module_nodes.proofs.Parts.{part_made}
-use Rattle.module_nodes.proofs.exps.on_part.Goals as goal
-
-pub returns : goal.returns
-returns c = part_made c.args.act c.args.mark _ _ _ c.one.ensures c.strict.ensures

@@ -1,0 +1,3 @@
+// Lists of phrases with commas between.
+
+pub use parse_types::lists::commas_from;

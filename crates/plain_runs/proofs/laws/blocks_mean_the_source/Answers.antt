@@ -1,5 +1,0 @@
-use Rattle.plain_runs.proofs.Runs.{blocks_mean_the_source}
-use Rattle.plain_runs.proofs.laws.blocks_mean_the_source.Goals as goal
-
-pub returns : goal.returns
-returns c = blocks_mean_the_source

@@ -1,5 +1,0 @@
-use Rattle.plain_runs.proofs.Runs.{files_allow_some}
-use Rattle.plain_runs.proofs.laws.files_allow_some_outcome.Goals as goal
-
-pub returns : goal.returns
-returns c = files_allow_some

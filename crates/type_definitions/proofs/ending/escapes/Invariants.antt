@@ -1,7 +1,0 @@
-use Rattle.std.proofs.Common.{take}
-use Rattle.type_graph.specs.Graph.{Each}
-use Rattle.type_definitions.proofs.Fixing.{Deep_one}
-use Rattle.type_definitions.proofs.ending.escapes.Given as goal
-
-abbrev pub invariant-loop-parameter : goal.invariant-loop-parameter
-invariant-loop-parameter l = Each (Deep_one l.depth l.inference) (take l.parameter-index l.own)

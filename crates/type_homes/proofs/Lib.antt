@@ -1,4 +1,0 @@
-pub mod Lists
-pub mod Heads
-pub mod Layers
-pub mod Homed

@@ -1,5 +1,0 @@
-pub mod Spelling
-pub mod Numbering
-pub mod Keys
-pub mod Permutations
-pub mod Named

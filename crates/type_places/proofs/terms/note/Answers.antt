@@ -1,8 +1,0 @@
-use Rattle.type_places.proofs.Lists.{none_yet, one_again}
-use Rattle.type_places.proofs.terms.note.Goals as goal
-
-pub loop-init : goal.loop-init
-loop-init c = none_yet _
-
-pub loop-preserved : goal.loop-preserved
-loop-preserved c = one_again _ _ c.loop.invariant c.push.ensures

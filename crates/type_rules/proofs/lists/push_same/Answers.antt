@@ -1,0 +1,12 @@
+use Rattle.std.proofs.Common.{arith}
+use Rattle.type_rules.proofs.Filling.{same_step, same_end}
+use Rattle.type_rules.proofs.lists.push_same.Goals as goal
+
+pub loop-at-preserved : goal.loop-at-preserved
+loop-at-preserved c = record {
+  so_far = same_step c.loop-at.demands _ c.args.parts.now c.loop-at.at c.push_demand.new.demands c.args.node c.loop-at-test.true c.in-Ok.ensures.ok c.loop-at.invariant.so_far;
+  within = omega (arith, c.loop-at-test.true);
+}
+
+pub returns-clause-ok : goal.returns-clause-ok
+returns-clause-ok c = same_end c.loop-at.demands _ c.args.parts.now c.loop-at.at c.args.node c.loop-at-test.false c.loop-at.invariant.so_far

@@ -1,0 +1,51 @@
+-- A value stays of its type where further definitions are evaluated.
+use Rattle.std.proofs.Common.{ℕ, List, [], ◌∷◌, Bool}
+use Rattle.fut_scalar.specs.declared.scalar.IntType.{IntType}
+use Rattle.fut_types.specs.declared.Head.TheVariants as head
+use Rattle.fut_types.specs.Types.{Ty, Var, Made, Tys, none, more}
+use Rattle.fut_typing.specs.Names.{Names}
+use Rattle.fut_meaning.specs.Values.{Scalar_value, Tuple_value, Record_value, no_value, value_and, Closure, Primitive_value}
+use Rattle.fut_meaning.specs.Flats.{FlatValue, FlatTops, FlatMode}
+use Rattle.type_soundness.specs.Fits.{FlatValues, FlatFields, Grows, Fits, All_fit, Fields_fit}
+
+pub grows_self : (tops : FlatTops) → Grows tops tops
+grows_self tops k v e = e
+
+pub grows_more : (tops tops' tops'' : FlatTops) → Grows tops tops' → Grows tops' tops'' → Grows tops tops''
+grows_more tops tops' tops'' g h k v e = h k v (g k v e)
+
+module _ (N : Names) (integer_at : ℕ → IntType) (M : FlatMode) (budget : ℕ) (total : Bool) where
+  mutual
+    unfolding Fits All_fit Fields_fit
+
+    pub fits_grow : (t : Ty) (tops tops' : FlatTops) → Grows tops tops' → (v : FlatValue) → Fits N integer_at M budget total t tops v → Fits N integer_at M budget total t tops' v
+    fits_grow (Var n) tops tops' g v h = h
+    fits_grow (Made (head.Scalar s) ts) tops tops' g v h = h
+    fits_grow (Made head.Array ts) tops tops' g v h = h
+    fits_grow (Made head.Tuple ts) tops tops' g (Tuple_value vs) h = (h.0, all_fit_grow ts tops tops' g vs h.1)
+    fits_grow (Made head.Tuple ts) tops tops' g (Scalar_value s) h = absurd h.1
+    fits_grow (Made head.Tuple ts) tops tops' g (Record_value fs) h = absurd h.1
+    fits_grow (Made head.Tuple ts) tops tops' g (Closure ps e lo env) h = absurd h.1
+    fits_grow (Made head.Tuple ts) tops tops' g (Primitive_value p at vs) h = absurd h.1
+    fits_grow (Made (head.Record n) ts) tops tops' g (Record_value fs) h = (h.0, fields_fit_grow (N.shapes.fields n) ts tops tops' g fs h.1)
+    fits_grow (Made (head.Record n) ts) tops tops' g (Scalar_value s) h = absurd h
+    fits_grow (Made (head.Record n) ts) tops tops' g (Tuple_value vs) h = absurd h
+    fits_grow (Made (head.Record n) ts) tops tops' g (Closure ps e lo env) h = absurd h
+    fits_grow (Made (head.Record n) ts) tops tops' g (Primitive_value p at vs) h = absurd h
+    fits_grow (Made head.Fun none) tops tops' g v h = h
+    fits_grow (Made head.Fun (more t none)) tops tops' g v h = h
+    fits_grow (Made head.Fun (more t (more u none))) tops tops' g v h = λ tops'' g'. h tops'' (grows_more tops tops' tops'' g g')
+    fits_grow (Made head.Fun (more t (more u (more w ts)))) tops tops' g v h = h
+    fits_grow (Made (head.Rigid n k) ts) tops tops' g v h = h
+    fits_grow (Made (head.Abstract n d) ts) tops tops' g v h = h
+
+    pub all_fit_grow : (ts : Tys) (tops tops' : FlatTops) → Grows tops tops' → (vs : FlatValues) → All_fit N integer_at M budget total ts tops vs → All_fit N integer_at M budget total ts tops' vs
+    all_fit_grow none tops tops' g vs h = h
+    all_fit_grow (more t ts) tops tops' g no_value h = absurd h
+    all_fit_grow (more t ts) tops tops' g (value_and v vs) h = (fits_grow t tops tops' g v h.0, all_fit_grow ts tops tops' g vs h.1)
+
+    pub fields_fit_grow : (ls : List ℕ) (ts : Tys) (tops tops' : FlatTops) → Grows tops tops' → (fs : FlatFields) → Fields_fit N integer_at M budget total ls ts tops fs → Fields_fit N integer_at M budget total ls ts tops' fs
+    fields_fit_grow [] none tops tops' g fs h = tt
+    fields_fit_grow [] (more t ts) tops tops' g fs h = absurd h
+    fields_fit_grow (l ∷ ls) none tops tops' g fs h = absurd h
+    fields_fit_grow (l ∷ ls) (more t ts) tops tops' g fs h = ((h.0.0, h.0.1, h.0.2, h.0.3, fits_grow t tops tops' g h.0.1 h.0.4), fields_fit_grow ls ts tops tops' g fs h.1)

@@ -1,5 +1,0 @@
-use Rattle.typed_blocks.proofs.ResultTypes.{results_are_of}
-use Rattle.typed_blocks.proofs.laws.results_are_of_their_types.Goals as goal
-
-pub returns : goal.returns
-returns c = results_are_of

@@ -1,4 +1,0 @@
-pub mod Sorts
-pub mod Shaped
-pub mod Claims
-pub mod Fits

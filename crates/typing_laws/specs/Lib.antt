@@ -1,0 +1,5 @@
+pub mod Parameters
+pub mod Ways
+pub mod Claims
+pub mod Alike
+pub mod NumberingClaims

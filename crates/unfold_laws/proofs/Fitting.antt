@@ -1,0 +1,112 @@
+-- What is known stays where more definitions are known, and the part of a record is known by its label.
+use Rattle.std.proofs.Common.{◌≡◌, Bool, true, false, cond, ℕ, refl, sym, ◌∙◌, subst, List, [], ◌∷◌, Option, Some, None, if◌then◌else◌, ◌==◌, eq-eqb}
+use native.Mathlib.Decide.{ℕ_discrete}
+use Rattle.std.specs.Str.{bytes_eq}
+use Rattle.std.proofs.lemmas.Slice.Eq.{bytes_eq-Decides}
+use Rattle.fut_scalar.specs.declared.scalar.IntType.{IntType}
+use Rattle.fut_ast.specs.Sorts.{Text}
+use Rattle.fut_types.specs.declared.Head.TheVariants as head
+use Rattle.fut_types.specs.Types.{Ty, Var, Made, Tys, none, more}
+use Rattle.fut_types.specs.Shapes.{place_from, part_at}
+use Rattle.fut_typing.specs.Names.{Names}
+use Rattle.type_soundness.proofs.Records.{there_place}
+use Rattle.fut_blocks.specs.Meaning.{look}
+use Rattle.fut_meaning.specs.Knowns.{or_else}
+use Rattle.unfold.specs.Knowns.{Known, Scalar_known, Tuple_known, Record_known, Function_known, Primitive_known, Knowns, no_known, known_and, Known_fields, no_known_field, known_field_and, Scope as Seen, Tops, local, find, field}
+use Rattle.unfold_laws.specs.Fits.{Learns, Each_field, Fits, All_fit, Keyed}
+
+pub some_same : {A : Type 0} {x y : A} → Some x ≡ Some y → x ≡ y
+some_same e = cc
+
+pub none_some : {A C : Type 0} {o : Option A} {x : A} → o ≡ Some x → o ≡ None → C
+none_some {x = x} e f = absurd (let z : None ≡ Some x = sym f ∙ e in cc)
+
+pub learns_self : (tops : Tops) → Learns tops tops
+learns_self tops k s e = e
+
+pub learns_more : (tops tops' tops'' : Tops) → Learns tops tops' → Learns tops' tops'' → Learns tops tops''
+learns_more tops tops' tops'' g h k s e = h k s (g k s e)
+
+pub find_learns : (tops tops' : Tops) → Learns tops tops' → (sc : Seen) (b : ℕ) (s : Known) → find tops sc b ≡ Some s → find tops' sc b ≡ Some s
+unfolding find
+find_learns tops tops' g sc b s e = known (local sc b) e
+  where
+    known : (o : Option Known) → or_else o (look tops b) ≡ Some s → or_else o (look tops' b) ≡ Some s
+    known None e = g b s e
+    known (Some u) e = e
+
+-- ---- fields
+pub each_map : (P Q : Text → Known → Type 0) → ((g : Text) (s : Known) → P g s → Q g s) → (fs : Known_fields) → Each_field P fs → Each_field Q fs
+each_map P Q go no_known_field h = tt
+each_map P Q go (known_field_and g s fs) h = (go g s h.0, each_map P Q go fs h.1)
+
+pub each_found : (P : Text → Known → Type 0) (f : Text) (s : Known) (fs : Known_fields) → Each_field P fs → field f fs ≡ Some s → P f s
+each_found P f s no_known_field h e = absurd (let z : None ≡ Some s = e in cc)
+each_found P f s (known_field_and g u fs) h e = known (bytes_eq g f) refl (each_found P f s fs h.1) e
+  where
+    known : (b : Bool) → bytes_eq g f ≡ b → (field f fs ≡ Some s → P f s) → cond b (Some u) (field f fs) ≡ Some s → P f s
+    known true is rec e = subst (λ x. P x s) ((bytes_eq-Decides g f).0 is) (subst (λ y. P g y) (some_same e) h.0)
+    known false is rec e = rec e
+
+module _ (N : Names) (integer_at : ℕ → IntType) where
+  -- ---- a label's part
+  pub keyed_found : (l : ℕ) (u : Ty) (tops : Tops) (s : Known) (ls : List ℕ) (ts : Tys) → part_at (place_from 0 l ls) ts ≡ Some u → Keyed N integer_at ls ts tops l s → Fits N integer_at u tops s
+  unfolding Keyed place_from part_at
+  keyed_found l u tops s [] ts e h = absurd h
+  keyed_found l u tops s (x ∷ xs) none e h = absurd h
+  keyed_found l u tops s (x ∷ xs) (more t ts) e h = elim (ℕ_discrete x l) as (λ d. Fits N integer_at u tops s) [
+    | yes same ↦
+        let here : Some t ≡ Some u = subst (λ b. part_at (if b then Some 0 else place_from 1 l xs) (more t ts) ≡ Some u) (eq-eqb x l same) e in
+        subst (λ w. Fits N integer_at w tops s) (some_same here) (h.0 same)
+    | no ne ↦ keyed_found l u tops s xs ts (sym (there_place l x xs t ts ne) ∙ e) (h.1 ne)
+  ]
+
+  pub keyed_from : (l : ℕ) (u : Ty) (tops : Tops) (s : Known) (ls : List ℕ) (ts : Tys) → part_at (place_from 0 l ls) ts ≡ Some u → Fits N integer_at u tops s → Keyed N integer_at ls ts tops l s
+  unfolding Keyed place_from part_at
+  keyed_from l u tops s [] none e h = absurd (let z : None ≡ Some u = e in cc)
+  keyed_from l u tops s [] (more t ts) e h = absurd (let z : None ≡ Some u = e in cc)
+  keyed_from l u tops s (x ∷ xs) none e h = absurd (none_at (if x == l then Some 0 else place_from 1 l xs) e)
+    where
+      none_at : (o : Option ℕ) → part_at o none ≡ Some u → ⊥
+      none_at None e = let z : None ≡ Some u = e in cc
+      none_at (Some i) e = let z : None ≡ Some u = e in cc
+  keyed_from l u tops s (x ∷ xs) (more t ts) e h = (
+    (λ same. subst (λ w. Fits N integer_at w tops s) (sym (some_same (subst (λ b. part_at (if b then Some 0 else place_from 1 l xs) (more t ts) ≡ Some u) (eq-eqb x l same) e))) h),
+    (λ ne. keyed_from l u tops s xs ts (sym (there_place l x xs t ts ne) ∙ e) h),
+  )
+
+  -- ---- more definitions
+  mutual
+    unfolding Fits All_fit Keyed
+
+    pub fits_learn : (t : Ty) (tops tops' : Tops) → Learns tops tops' → (s : Known) → Fits N integer_at t tops s → Fits N integer_at t tops' s
+    fits_learn (Var n) tops tops' g s h = h
+    fits_learn (Made (head.Scalar x) ts) tops tops' g s h = h
+    fits_learn (Made head.Array ts) tops tops' g s h = h
+    fits_learn (Made head.Tuple ts) tops tops' g (Tuple_known ss) h = (h.0, all_fit_learn ts tops tops' g ss h.1)
+    fits_learn (Made head.Tuple ts) tops tops' g (Scalar_known u) h = absurd h.1
+    fits_learn (Made head.Tuple ts) tops tops' g (Record_known fs) h = absurd h.1
+    fits_learn (Made head.Tuple ts) tops tops' g (Function_known ps e lo sc) h = absurd h.1
+    fits_learn (Made head.Tuple ts) tops tops' g (Primitive_known p at ss) h = absurd h.1
+    fits_learn (Made (head.Record n) ts) tops tops' g (Record_known fs) h =
+        (h.0, each_map (λ f u. Keyed N integer_at (N.shapes.fields n) ts tops (N.label f) u) (λ f u. Keyed N integer_at (N.shapes.fields n) ts tops' (N.label f) u) (λ f u k. keyed_learn (N.shapes.fields n) ts tops tops' g (N.label f) u k) fs h.1)
+    fits_learn (Made (head.Record n) ts) tops tops' g (Scalar_known u) h = absurd h
+    fits_learn (Made (head.Record n) ts) tops tops' g (Tuple_known ss) h = absurd h
+    fits_learn (Made (head.Record n) ts) tops tops' g (Function_known ps e lo sc) h = absurd h
+    fits_learn (Made (head.Record n) ts) tops tops' g (Primitive_known p at ss) h = absurd h
+    fits_learn (Made head.Fun none) tops tops' g s h = h
+    fits_learn (Made head.Fun (more t none)) tops tops' g s h = h
+    fits_learn (Made head.Fun (more t (more u none))) tops tops' g s h = λ tops'' g'. h tops'' (learns_more tops tops' tops'' g g')
+    fits_learn (Made head.Fun (more t (more u (more w ts)))) tops tops' g s h = h
+    fits_learn (Made (head.Rigid n k) ts) tops tops' g s h = h
+    fits_learn (Made (head.Abstract n d) ts) tops tops' g s h = h
+
+    all_fit_learn : (ts : Tys) (tops tops' : Tops) → Learns tops tops' → (ss : Knowns) → All_fit N integer_at ts tops ss → All_fit N integer_at ts tops' ss
+    all_fit_learn none tops tops' g ss h = h
+    all_fit_learn (more t ts) tops tops' g no_known h = absurd h
+    all_fit_learn (more t ts) tops tops' g (known_and s ss) h = (fits_learn t tops tops' g s h.0, all_fit_learn ts tops tops' g ss h.1)
+
+    keyed_learn : (ls : List ℕ) (ts : Tys) (tops tops' : Tops) → Learns tops tops' → (l : ℕ) (s : Known) → Keyed N integer_at ls ts tops l s → Keyed N integer_at ls ts tops' l s
+    keyed_learn [] ts tops tops' g l s h = absurd h
+    keyed_learn (x ∷ ls) none tops tops' g l s h = absurd h
+    keyed_learn (x ∷ ls) (more t ts) tops tops' g l s h = ((λ e. fits_learn t tops tops' g s (h.0 e)), (λ ne. keyed_learn ls ts tops tops' g l s (h.1 ne)))

@@ -1,0 +1,308 @@
+-- A typed operation takes what is known of its parts, and what is known of its result is known by its type.
+use Rattle.std.proofs.Common.{◌≡◌, Bool, ℕ, suc, ◌+◌, ◌*◌, ◌^◌, ◌%◌, ◌≤◌, ◌<◌, min, refl, sym, ap, ◌∙◌, subst, arith, List, [], ◌∷◌, Option, Some, None, pos}
+use Rattle.std.specs.Int.{int_rem_euclid}
+use Rattle.std.specs.Prelude.{unsigned_abs}
+use Rattle.std.proofs.Math.IntN.{pos-+ℤ-pos}
+use Rattle.std.proofs.lemmas.Int.{int_rem_euclid_is}
+use Rattle.std.proofs.lemmas.Nat.{pow_pos}
+use mathlib.Core.Logic.{◌⊎◌, inl, inr}
+use Rattle.fut_scalar.specs.Integers.{width_of}
+use Rattle.fut_scalar.specs.declared.operator.BinOp.{BinOp}
+use Rattle.fut_scalar.specs.declared.operator.BinOp.TheVariants as op
+use Rattle.fut_scalar.specs.declared.place.BindId.{BindId}
+use Rattle.fut_scalar.specs.declared.place.Place.{Place}
+use Rattle.fut_scalar.specs.declared.scalar.IntType.{IntType}
+use Rattle.fut_scalar.specs.declared.scalar.Scalar.TheVariants as scalar
+use Rattle.fut_scalar.specs.declared.scalar.ScalarType.{ScalarType}
+use Rattle.fut_scalar.specs.declared.scalar.ScalarType.TheVariants as types
+use Rattle.fut_ast.specs.Sorts.{Text}
+use Rattle.fut_flat.specs.declared.prim.Ref.{Ref}
+use Rattle.fut_flat.specs.Erased.{FlatType}
+use Rattle.fut_flat.specs.Terms.{Operation, Integer, Truth, Tuple_of, Record_of, Array_of, Binary, Negate, Complement, Index, Project, Update, Replace, Ascribe, Coerce, Declared, Assert, Range}
+use Rattle.fut_types.specs.declared.Kind.TheVariants as kind
+use Rattle.fut_types.specs.declared.Head.TheVariants as head
+use Rattle.fut_types.specs.Types.{Ty, Var, Made, Tys, none, more, Kinds, HasKind, rank, least, scalar_ty}
+use Rattle.fut_typing.specs.Names.{Names, AreNames, IsRecord, count}
+use Rattle.fut_typing.specs.Primitives.{bool_ty}
+use Rattle.fut_typing.specs.Rules.{Operator, Rule}
+use Rattle.fut_meaning.specs.Operations.{named_values}
+use Rattle.fut_meaning.specs.Operators.{integer}
+use Rattle.fut_blocks.specs.declared.block.Atom.{Atom}
+use Rattle.fut_blocks.specs.Meaning.{fitted}
+use Rattle.type_soundness.specs.Fits.{widest}
+use Rattle.type_soundness.specs.Meant.{Operation_meant}
+use Rattle.type_soundness.proofs.Operating.{Told}
+use Rattle.unfold.specs.Knowns.{Known, Scalar_known, Tuple_known, Record_known, Known_fields, Tops, knowns, fields, part, replaced}
+use Rattle.unfold.specs.Stuck.{No_operation, no_function}
+use Rattle.unfold.specs.Unfolding.{Bindings, literal_type, Operates, o_integer, o_truth, o_tuple, o_record, o_binary, o_equal, o_unequal, o_negate, o_complement, o_project, o_replace, o_ascribe, o_coerce, o_declared, o_assert}
+use Rattle.unfold_laws.specs.Fits.{On_scalar, Fits, All_fit}
+use Rattle.unfold_laws.proofs.Fitting.{some_same}
+use Rattle.unfold_laws.proofs.Recording.{Each_fits, record_fits, project_fits, replace_fits}
+use Rattle.unfold_laws.proofs.Shaping.{scalar_is, shaped, one_shape, Compares, compares}
+
+at_zero : (m k : ℕ) → 0 < k → unsigned_abs (int_rem_euclid (pos m) (pos k)) ≡ m % k
+at_zero m k some = let e : m + 0 * k ≡ m = omega arith in ap unsigned_abs (int_rem_euclid_is (pos m) (pos k) k 0 m some refl (pos-+ℤ-pos m (0 * k) ∙ ap pos e))
+
+fitted_integer : (t : IntType) (m : ℕ) → fitted (scalar.Int t m) ≡ integer t (pos m)
+fitted_integer t m = ap (scalar.Int t) (sym (at_zero m (2 ^ width_of t) (pow_pos (width_of t))))
+
+-- an operator compares two values for equality, or takes two integers
+by_operator : (K : Kinds) (C : BinOp → Type 0) (t u : Ty) → (t ≡ bool_ty → HasKind K kind.Equal u → C op.Eq) → (t ≡ bool_ty → HasKind K kind.Equal u → C op.Ne) → ((o : BinOp) → (t ≡ bool_ty) ⊎ (t ≡ u) → HasKind K kind.Integer u → C o) → (o : BinOp) → Operator o K t u → C o
+by_operator K C t u eq ne other op.Eq r = eq r.0 r.1
+by_operator K C t u eq ne other op.Ne r = ne r.0 r.1
+by_operator K C t u eq ne other op.Lt r = other op.Lt (inl r.0) r.1
+by_operator K C t u eq ne other op.Le r = other op.Le (inl r.0) r.1
+by_operator K C t u eq ne other op.Gt r = other op.Gt (inl r.0) r.1
+by_operator K C t u eq ne other op.Ge r = other op.Ge (inl r.0) r.1
+by_operator K C t u eq ne other op.Add r = other op.Add (inr r.0) r.1
+by_operator K C t u eq ne other op.Sub r = other op.Sub (inr r.0) r.1
+by_operator K C t u eq ne other op.Mul r = other op.Mul (inr r.0) r.1
+by_operator K C t u eq ne other op.Div r = other op.Div (inr r.0) r.1
+by_operator K C t u eq ne other op.Mod r = other op.Mod (inr r.0) r.1
+by_operator K C t u eq ne other op.Quot r = other op.Quot (inr r.0) r.1
+by_operator K C t u eq ne other op.Rem r = other op.Rem (inr r.0) r.1
+by_operator K C t u eq ne other op.Pow r = other op.Pow (inr r.0) r.1
+by_operator K C t u eq ne other op.And r = other op.And (inr r.0) r.1
+by_operator K C t u eq ne other op.Or r = other op.Or (inr r.0) r.1
+by_operator K C t u eq ne other op.Xor r = other op.Xor (inr r.0) r.1
+by_operator K C t u eq ne other op.Shl r = other op.Shl (inr r.0) r.1
+by_operator K C t u eq ne other op.Shr r = other op.Shr (inr r.0) r.1
+by_operator K C t u eq ne other op.Min r = other op.Min (inr r.0) r.1
+by_operator K C t u eq ne other op.Max r = other op.Max (inr r.0) r.1
+
+-- an operator gives a scalar
+binary_scalar : (i : IntType) (o : BinOp) (at : Place) (ss : List Known) (n n' : ℕ) (bs : Bindings) (s : Known) → Operates i (Binary o) at ss n bs s n' → On_scalar s
+binary_scalar i o at _ _ _ _ _ (o_binary le) = tt
+binary_scalar i _ at _ _ _ _ _ (o_equal e) = tt
+binary_scalar i _ at _ _ _ _ _ (o_unequal e le) = tt
+
+module _ (N : Names) (integer_at : ℕ → IntType) (K : Kinds) where
+  abbrev At : Tops → Ty → Known → Type 0
+  At tops t s = Fits N integer_at t tops s
+
+  -- ---- scalars
+  pub fits_scalar : (tops : Tops) (x : ScalarType) (t : Ty) (s : Known) → t ≡ scalar_ty x → On_scalar s → At tops t s
+  unfolding Fits
+  fits_scalar tops x t s e h = subst (λ y. At tops y s) (sym e) h
+
+  pub scalar_fits : (tops : Tops) (x : ScalarType) (t : Ty) (s : Known) → t ≡ scalar_ty x → At tops t s → (u : Atom) × (s ≡ Scalar_known u)
+  unfolding Fits
+  scalar_fits tops x t s e h = scalar_is s (subst (λ y. At tops y s) e h)
+
+  scalar_kind : (tops : Tops) (t : Ty) (s : Known) → HasKind K kind.Scalar t → At tops t s → On_scalar s
+  unfolding Fits rank least
+  scalar_kind tops (Var n) s k h = absurd h
+  scalar_kind tops (Made (head.Scalar x) ts) s k h = h
+  scalar_kind tops (Made head.Array ts) s k h = absurd h
+  scalar_kind tops (Made head.Tuple ts) s k h = absurd (let z : 3 ≤ min 2 (least K ts) = k in omega (arith, z))
+  scalar_kind tops (Made (head.Record n) ts) s k h = absurd (let z : 3 ≤ min 2 (least K ts) = k in omega (arith, z))
+  scalar_kind tops (Made head.Fun ts) s k h = absurd (let z : 3 ≤ min 0 (least K ts) = k in omega (arith, z))
+  scalar_kind tops (Made (head.Rigid n d) ts) s k h = absurd h
+  scalar_kind tops (Made (head.Abstract n d) ts) s k h = absurd h
+
+  pub of_scalars : (tops : Tops) (t : Ty) (s : Known) → HasKind K kind.Scalar t → At tops t s → (u : Atom) × (s ≡ Scalar_known u)
+  of_scalars tops t s k h = scalar_is s (scalar_kind tops t s k h)
+
+  pub of_integers : (tops : Tops) (t : Ty) (s : Known) → HasKind K kind.Integer t → At tops t s → (u : Atom) × (s ≡ Scalar_known u)
+  of_integers tops t s k h = of_scalars tops t s (let y : 4 ≤ rank K t = k in let z : 3 ≤ rank K t = omega (arith, y) in z) h
+
+  -- a type of one scalar has all
+  pub any_scalar : (tops : Tops) (t : Ty) (u : Atom) (s : Known) → At tops t (Scalar_known u) → On_scalar s → At tops t s
+  unfolding Fits
+  any_scalar tops t u s h k = let r = scalar_is s k in subst (At tops t) (sym r.1) (another t r.0 h)
+    where
+      another : (t : Ty) (w : Atom) → At tops t (Scalar_known u) → At tops t (Scalar_known w)
+      another (Var n) w h = absurd h
+      another (Made (head.Scalar x) ts) w h = tt
+      another (Made head.Array ts) w h = absurd h
+      another (Made head.Tuple ts) w h = absurd h.1
+      another (Made (head.Record n) ts) w h = absurd h
+      another (Made head.Fun none) w h = absurd h
+      another (Made head.Fun (more t none)) w h = absurd h
+      another (Made head.Fun (more t (more v none))) w h = λ tops' g s k. absurd ((h tops' g s k).0 (no_function refl))
+      another (Made head.Fun (more t (more v (more x ts)))) w h = absurd h
+      another (Made (head.Rigid n d) ts) w h = absurd h
+      another (Made (head.Abstract n d) ts) w h = absurd h
+
+  -- two values of a type are compared
+  equal_there : (tops : Tops) (at : Place) (u : Ty) (s r : Known) → HasKind K kind.Equal u → At tops u s → At tops u r → Compares at s r
+  equal_there tops at u s r k h g =
+      let d : HasKind K kind.Data u = let y : 2 ≤ rank K u = k in let z : 1 ≤ rank K u = omega (arith, y) in z in
+      let a = shaped N integer_at K tops u s d h in
+      let l = a.1 [] in
+      let m = one_shape N integer_at K tops u s r d h g a.0 l.0 [] l.1 [] in
+      compares at a.0 s r l.0 [] m.0 [] l.1 m.1
+
+  module _ (are : AreNames N) (tops : Tops) (i : IntType) (at : Place) where
+    -- there is a way on, and what is known of the result is known by this type
+    abbrev pub Gives : Operation Ref BindId → List Known → Ty → Type 0
+    Gives o ss t = (No_operation i o at ss → ⊥) × ((n n' : ℕ) (bs : Bindings) (s : Known) → Operates i o at ss n bs s n' → At tops t s)
+
+    gives_as : (o : Operation Ref BindId) (s r : Known) (t : Ty) → s ≡ r → Gives o (r ∷ []) t → Gives o (s ∷ []) t
+    gives_as o s r t e g = subst (λ y. Gives o (y ∷ []) t) (sym e) g
+
+    gives_both : (o : Operation Ref BindId) (s s' r r' : Known) (t : Ty) → s ≡ r → s' ≡ r' → Gives o (r ∷ r' ∷ []) t → Gives o (s ∷ s' ∷ []) t
+    gives_both o s s' r r' t e e' g = subst (λ y. Gives o (y ∷ s' ∷ []) t) (sym e) (subst (λ y. Gives o (r ∷ y ∷ []) t) (sym e') g)
+
+    -- ---- literals
+    integer_gives : (m : ℕ) (suffix : Option IntType) (j : IntType) (t : Ty) → t ≡ scalar_ty (types.Int j) → Gives (Integer m suffix) [] t
+    integer_gives m suffix j t e = ((λ h. h 0 0 [] _ (o_integer {c = scalar.Int (literal_type i suffix) m} (fitted_integer (literal_type i suffix) m))), (λ n n' bs s x. known n n' bs s x))
+      where
+        known : (n n' : ℕ) (bs : Bindings) (s : Known) → Operates i (Integer m suffix) at [] n bs s n' → At tops t s
+        known _ _ _ _ (o_integer f) = fits_scalar tops (types.Int j) t _ e tt
+
+    truth_gives : (b : Bool) (t : Ty) → t ≡ bool_ty → Gives (Truth b) [] t
+    truth_gives b t e = ((λ h. h 0 0 [] _ o_truth), (λ n n' bs s x. known n n' bs s x))
+      where
+        known : (n n' : ℕ) (bs : Bindings) (s : Known) → Operates i (Truth b) at [] n bs s n' → At tops t s
+        known _ _ _ _ o_truth = fits_scalar tops types.Bool t _ e tt
+
+    -- ---- tuples and records
+    all_listed : (ts : Tys) (ss : List Known) → Each_fits N integer_at tops ts ss → All_fit N integer_at ts tops (knowns ss)
+    unfolding All_fit
+    all_listed none [] h = tt
+    all_listed none (s ∷ ss) h = absurd h
+    all_listed (more t ts) [] h = absurd h
+    all_listed (more t ts) (s ∷ ss) h = (h.0, all_listed ts ss h.1)
+
+    tuple_fits : (t : Ty) (ts : Tys) (ss : List Known) → t ≡ Made head.Tuple ts → count ts < widest → Each_fits N integer_at tops ts ss → At tops t (Tuple_known (knowns ss))
+    unfolding Fits
+    tuple_fits t ts ss e lt h = subst (λ y. At tops y (Tuple_known (knowns ss))) (sym e) (lt, all_listed ts ss h)
+
+    tuple_gives : (t : Ty) (ts : Tys) (ss : List Known) → t ≡ Made head.Tuple ts → count ts < widest → Each_fits N integer_at tops ts ss → Gives Tuple_of ss t
+    tuple_gives t ts ss e lt h = ((λ g. g 0 0 [] _ o_tuple), (λ n n' bs s x. known n n' bs s x))
+      where
+        known : (n n' : ℕ) (bs : Bindings) (s : Known) → Operates i Tuple_of at ss n bs s n' → At tops t s
+        known _ _ _ _ o_tuple = tuple_fits t ts ss e lt h
+
+    record_gives : (names : List Text) (t : Ty) (ts : Tys) (ss : List Known) → IsRecord N names t ts → Each_fits N integer_at tops ts ss → Gives (Record_of names) ss t
+    record_gives names t ts ss r h = ((λ g. g 0 0 [] _ (o_record made.1)), (λ n n' bs s x. known n n' bs s x))
+      where
+        made : (pairs : List (Text × Known)) × (named_values names ss ≡ Some pairs) × At tops t (Record_known (fields pairs))
+        made = record_fits N integer_at tops are names t ts ss r h
+
+        known : (n n' : ℕ) (bs : Bindings) (s : Known) → Operates i (Record_of names) at ss n bs s n' → At tops t s
+        known _ _ _ _ (o_record e) = subst (λ l. At tops t (Record_known (fields l))) (some_same (sym made.1 ∙ e)) made.2
+
+    project_gives : (f : Text) (t : Ty) (s : Known) → (r : Known) × (part f s ≡ Some r) × At tops t r → Gives (Project f) (s ∷ []) t
+    project_gives f t s p = ((λ g. g 0 0 [] _ (o_project p.1)), (λ n n' bs r x. known n n' bs r x))
+      where
+        known : (n n' : ℕ) (bs : Bindings) (r : Known) → Operates i (Project f) at (s ∷ []) n bs r n' → At tops t r
+        known _ _ _ _ (o_project e) = subst (At tops t) (some_same (sym p.1 ∙ e)) p.2
+
+    replace_gives : (f : Text) (t : Ty) (u s : Known) → (fs : Known_fields) × (u ≡ Record_known fs) × At tops t (Record_known (replaced f s fs)) → Gives (Replace f) (u ∷ s ∷ []) t
+    replace_gives f t u s p = gives_both (Replace f) u s (Record_known p.0) s t p.1 refl ((λ g. g 0 0 [] _ o_replace), (λ n n' bs r x. known n n' bs r x))
+      where
+        known : (n n' : ℕ) (bs : Bindings) (r : Known) → Operates i (Replace f) at (Record_known p.0 ∷ s ∷ []) n bs r n' → At tops t r
+        known _ _ _ _ o_replace = p.2
+
+    -- ---- written types
+    ascribe_gives : (e : FlatType) (t : Ty) (s : Known) → At tops t s → Gives (Ascribe e) (s ∷ []) t
+    ascribe_gives e t s h = ((λ g. g 0 0 [] _ o_ascribe), (λ n n' bs r x. known n n' bs r x))
+      where
+        known : (n n' : ℕ) (bs : Bindings) (r : Known) → Operates i (Ascribe e) at (s ∷ []) n bs r n' → At tops t r
+        known _ _ _ _ o_ascribe = h
+
+    coerce_gives : (e : FlatType) (t : Ty) (s : Known) → At tops t s → Gives (Coerce e) (s ∷ []) t
+    coerce_gives e t s h = ((λ g. g 0 0 [] _ o_coerce), (λ n n' bs r x. known n n' bs r x))
+      where
+        known : (n n' : ℕ) (bs : Bindings) (r : Known) → Operates i (Coerce e) at (s ∷ []) n bs r n' → At tops t r
+        known _ _ _ _ o_coerce = h
+
+    declared_gives : (e : FlatType) (t : Ty) (s : Known) → At tops t s → Gives (Declared e) (s ∷ []) t
+    declared_gives e t s h = ((λ g. g 0 0 [] _ o_declared), (λ n n' bs r x. known n n' bs r x))
+      where
+        known : (n n' : ℕ) (bs : Bindings) (r : Known) → Operates i (Declared e) at (s ∷ []) n bs r n' → At tops t r
+        known _ _ _ _ o_declared = h
+
+    assert_gives : (t : Ty) (u : Atom) → At tops t (Scalar_known u) → Gives Assert (Scalar_known u ∷ []) t
+    assert_gives t u h = ((λ g. g 0 0 _ _ o_assert), (λ n n' bs r x. known n n' bs r x))
+      where
+        known : (n n' : ℕ) (bs : Bindings) (r : Known) → Operates i Assert at (Scalar_known u ∷ []) n bs r n' → At tops t r
+        known _ _ _ _ o_assert = h
+
+    -- ---- scalars
+    negate_gives : (t : Ty) (u : Atom) → At tops t (Scalar_known u) → Gives Negate (Scalar_known u ∷ []) t
+    negate_gives t u h = ((λ g. g 0 1 _ _ (o_negate (let z : 0 ≤ 0 = omega arith in z))), (λ n n' bs r x. known n n' bs r x))
+      where
+        known : (n n' : ℕ) (bs : Bindings) (r : Known) → Operates i Negate at (Scalar_known u ∷ []) n bs r n' → At tops t r
+        known _ _ _ _ (o_negate le) = any_scalar tops t u _ h tt
+
+    complement_gives : (t : Ty) (u : Atom) → At tops t (Scalar_known u) → Gives Complement (Scalar_known u ∷ []) t
+    complement_gives t u h = ((λ g. g 0 1 _ _ (o_complement (let z : 0 ≤ 0 = omega arith in z))), (λ n n' bs r x. known n n' bs r x))
+      where
+        known : (n n' : ℕ) (bs : Bindings) (r : Known) → Operates i Complement at (Scalar_known u ∷ []) n bs r n' → At tops t r
+        known _ _ _ _ (o_complement le) = any_scalar tops t u _ h tt
+
+    binary_gives : (o : BinOp) (t u : Ty) (s r : Known) → Operator o K t u → At tops u s → At tops u r → Gives (Binary o) (s ∷ r ∷ []) t
+    binary_gives o t u s r rule h g = by_operator K (λ o. Gives (Binary o) (s ∷ r ∷ []) t) t u
+        (λ e k. (
+          (λ f. let c = equal_there tops at u s r k h g 0 in f 0 c.2 c.0 (Scalar_known c.1) (o_equal c.3)),
+          (λ n n' bs v x. fits_scalar tops types.Bool t v e (binary_scalar i op.Eq at (s ∷ r ∷ []) n n' bs v x)),
+        ))
+        (λ e k. (
+          (λ f. let c = equal_there tops at u s r k h g 0 in f 0 (suc c.2) _ _ (o_unequal c.3 (let z : c.2 ≤ c.2 = omega arith in z))),
+          (λ n n' bs v x. fits_scalar tops types.Bool t v e (binary_scalar i op.Ne at (s ∷ r ∷ []) n n' bs v x)),
+        ))
+        (λ o e k. reckons o e (of_integers tops u s k h) (of_integers tops u r k g)) o rule
+      where
+        of_type : (t ≡ bool_ty) ⊎ (t ≡ u) → (w : Atom) × (s ≡ Scalar_known w) → (v : Known) → On_scalar v → At tops t v
+        of_type (inl e) a v k = fits_scalar tops types.Bool t v e k
+        of_type (inr e) a v k = subst (λ y. At tops y v) (sym e) (any_scalar tops u a.0 v (subst (At tops u) a.1 h) k)
+
+        reckons : (o : BinOp) → (t ≡ bool_ty) ⊎ (t ≡ u) → (w : Atom) × (s ≡ Scalar_known w) → (w : Atom) × (r ≡ Scalar_known w) → Gives (Binary o) (s ∷ r ∷ []) t
+        reckons o e a b = (
+          (λ f. subst (λ y. No_operation i (Binary o) at (y ∷ r ∷ []) → ⊥) (sym a.1) (subst (λ y. No_operation i (Binary o) at (Scalar_known a.0 ∷ y ∷ []) → ⊥) (sym b.1) (λ f. f 0 1 _ _ (o_binary (let z : 0 ≤ 0 = omega arith in z)))) f),
+          (λ n n' bs v x. of_type e a v (binary_scalar i o at (s ∷ r ∷ []) n n' bs v x)),
+        )
+
+    -- ---- by forms
+    abbrev pub Of : Operation Ref BindId → Type 0
+    Of o = (t u : Ty) (ts : Tys) (ss : List Known) → Operation_meant o → Rule N kind.Data K o t u ts → Told i o t → count ts < widest → Each_fits N integer_at tops ts ss → Gives o ss t
+
+    no_parts : (o : Operation Ref BindId) → ((t u : Ty) → Operation_meant o → Rule N kind.Data K o t u none → Told i o t → Gives o [] t) → ((t u x : Ty) (ts : Tys) → Rule N kind.Data K o t u (more x ts) → ⊥) → Of o
+    no_parts o here further t u none [] m r l lt h = here t u m r l
+    no_parts o here further t u none (s ∷ ss) m r l lt h = absurd h
+    no_parts o here further t u (more x ts) ss m r l lt h = absurd (further t u x ts r)
+
+    one_part : (o : Operation Ref BindId) → ((t u : Ty) → Rule N kind.Data K o t u none → ⊥) → ((t u x : Ty) (s : Known) → Operation_meant o → Rule N kind.Data K o t u (more x none) → At tops x s → Gives o (s ∷ []) t)
+        → ((t u x y : Ty) (ts : Tys) → Rule N kind.Data K o t u (more x (more y ts)) → ⊥) → Of o
+    one_part o fewer here further t u none ss m r l lt h = absurd (fewer t u r)
+    one_part o fewer here further t u (more x none) [] m r l lt h = absurd h
+    one_part o fewer here further t u (more x none) (s ∷ []) m r l lt h = here t u x s m r h.0
+    one_part o fewer here further t u (more x none) (s ∷ s' ∷ ss) m r l lt h = absurd h.1
+    one_part o fewer here further t u (more x (more y ts)) ss m r l lt h = absurd (further t u x y ts r)
+
+    two_parts : (o : Operation Ref BindId) → ((t u : Ty) → Rule N kind.Data K o t u none → ⊥) → ((t u x : Ty) → Rule N kind.Data K o t u (more x none) → ⊥)
+        → ((t u x y : Ty) (s s' : Known) → Operation_meant o → Rule N kind.Data K o t u (more x (more y none)) → At tops x s → At tops y s' → Gives o (s ∷ s' ∷ []) t)
+        → ((t u x y z : Ty) (ts : Tys) → Rule N kind.Data K o t u (more x (more y (more z ts))) → ⊥) → Of o
+    two_parts o no-one one-one here further t u none ss m r l lt h = absurd (no-one t u r)
+    two_parts o no-one one-one here further t u (more x none) ss m r l lt h = absurd (one-one t u x r)
+    two_parts o no-one one-one here further t u (more x (more y none)) [] m r l lt h = absurd h
+    two_parts o no-one one-one here further t u (more x (more y none)) (s ∷ []) m r l lt h = absurd h.1
+    two_parts o no-one one-one here further t u (more x (more y none)) (s ∷ s' ∷ []) m r l lt h = here t u x y s s' m r h.0 h.1.0
+    two_parts o no-one one-one here further t u (more x (more y none)) (s ∷ s' ∷ s'' ∷ ss) m r l lt h = absurd h.1.1
+    two_parts o no-one one-one here further t u (more x (more y (more z ts))) ss m r l lt h = absurd (further t u x y z ts r)
+
+    same_fits : (t x : Ty) (s : Known) → t ≡ x → At tops x s → At tops t s
+    same_fits t x s e h = subst (λ y. At tops y s) (sym e) h
+
+    pub operation_gives : (o : Operation Ref BindId) → Of o
+    operation_gives (Integer n None) = no_parts (Integer n None) (λ t u m r l. integer_gives n None i t l) (λ t u x ts r. r)
+    operation_gives (Integer n (Some j)) = no_parts (Integer n (Some j)) (λ t u m r l. integer_gives n (Some j) j t r) (λ t u x ts r. r)
+    operation_gives (Truth b) = no_parts (Truth b) (λ t u m r l. truth_gives b t r) (λ t u x ts r. r)
+    operation_gives Tuple_of = λ t u ts ss m r l lt h. tuple_gives t ts ss r lt h
+    operation_gives (Record_of names) = λ t u ts ss m r l lt h. record_gives names t ts ss r h
+    operation_gives Array_of = λ t u ts ss m r l lt h. absurd m
+    operation_gives (Binary o) = two_parts (Binary o) (λ t u r. r) (λ t u x r. r) (λ t u x y s s' m r h g. binary_gives o t u s s' r.0 (subst (λ z. At tops z s) r.1 h) (subst (λ z. At tops z s') r.2 g)) (λ t u x y z ts r. r)
+    operation_gives Negate = one_part Negate (λ t u r. r) (λ t u x s m r h. let k = same_fits t x s r.0 h in let q = of_integers tops t s r.1 k in gives_as Negate s (Scalar_known q.0) t q.1 (negate_gives t q.0 (subst (At tops t) q.1 k))) (λ t u x y ts r. r)
+    operation_gives Complement = one_part Complement (λ t u r. r) (λ t u x s m r h. let k = same_fits t x s r.0 h in let q = of_scalars tops t s r.1 k in gives_as Complement s (Scalar_known q.0) t q.1 (complement_gives t q.0 (subst (At tops t) q.1 k))) (λ t u x y ts r. r)
+    operation_gives (Index ps) = λ t u ts ss m r l lt h. absurd m
+    operation_gives (Project f) = one_part (Project f) (λ t u r. r) (λ t u x s m r h. project_gives f t s (project_fits N integer_at tops are f t u s r.1 (subst (λ y. At tops y s) r.0 h))) (λ t u x y ts r. r)
+    operation_gives Update = λ t u ts ss m r l lt h. absurd m
+    operation_gives (Replace f) = two_parts (Replace f) (λ t u r. r) (λ t u x r. r) (λ t u x y s s' m r h g. replace_gives f t s s' (replace_fits N integer_at tops are f t y s s' m r.1 (same_fits t x s r.0 h) g)) (λ t u x y z ts r. r)
+    operation_gives (Ascribe e) = one_part (Ascribe e) (λ t u r. r) (λ t u x s m r h. ascribe_gives e t s (same_fits t x s r h)) (λ t u x y ts r. r)
+    operation_gives (Coerce e) = one_part (Coerce e) (λ t u r. r) (λ t u x s m r h. coerce_gives e t s (same_fits t x s r h)) (λ t u x y ts r. r)
+    operation_gives (Declared e) = one_part (Declared e) (λ t u r. r) (λ t u x s m r h. declared_gives e t s (same_fits t x s r h)) (λ t u x y ts r. r)
+    operation_gives Assert = one_part Assert (λ t u r. r) (λ t u x s m r h. let k = same_fits t x s (r.1 ∙ sym r.0) h in let q = scalar_fits tops types.Bool t s r.1 k in gives_as Assert s (Scalar_known q.0) t q.1 (assert_gives t q.0 (subst (At tops t) q.1 k))) (λ t u x y ts r. r)
+    operation_gives (Range stepped end) = λ t u ts ss m r l lt h. absurd m

@@ -1,0 +1,55 @@
+-- What typing promises of unfolding: there is always a way on, and the blocks to which a program unfolds give for the
+-- components of arguments of its types the components of a value of its result's type, or a report, and never go wrong.
+use Rattle.std.specs.Prelude.{ℕ, List, [], Bool, false}
+use Rattle.fut_scalar.specs.declared.place.BindId.{BindId}
+use Rattle.fut_scalar.specs.declared.scalar.IntType.{IntType}
+use Rattle.fut_flat.specs.declared.prim.Ref.{Ref}
+use Rattle.fut_flat.specs.declared.program.Flat.{Flat}
+use Rattle.fut_types.specs.declared.Kind.{Kind}
+use Rattle.fut_types.specs.declared.Kind.TheVariants as kind
+use Rattle.fut_types.specs.Types.{Ty, Tys, Sub, Kinds, HasKind}
+use Rattle.fut_typing.specs.Exact.{scope_behind}
+use Rattle.fut_typing.specs.Names.{Names, AreNames}
+use Rattle.fut_typing.specs.Patterns.{arrows}
+use Rattle.fut_typing.specs.Program.{program_of}
+use Rattle.fut_typing.specs.Scopes.{nothing}
+use Rattle.fut_meaning.specs.Claims.{Safe}
+use Rattle.fut_meaning.specs.Flats.{FlatValue, FlatMode, named_terms, flat_tops}
+use Rattle.fut_meaning.specs.Meaning.{plain}
+use Rattle.fut_meaning.specs.Values.{Values, listed}
+use Rattle.fut_blocks.specs.declared.block.Program.{Program}
+use Rattle.fut_blocks.specs.Meaning.{Component}
+use Rattle.fut_blocks.specs.Programs.{Program_means, AreOf}
+use Rattle.fut_blocks.specs.Typed.{Sort}
+use Rattle.type_soundness.specs.Programs.{Is_typed, Arguments_fit, Result_fits}
+use Rattle.unfold_laws.specs.Shaped.{All_of_shapes}
+use Rattle.unfold_laws.specs.Sorts.{Sorts}
+use Rattle.unfold.specs.Programs.{Program_unfolds}
+use Rattle.unfold.specs.Shapes.{Shape, Shapes, All_split, Is_value}
+use Rattle.unfold.specs.Stuck.{Program_stuck}
+
+-- the components of a value of this type
+pub record Components_fit (N : Names) (integer_at : ℕ → IntType) (M : FlatMode) (budget : ℕ) (h : Shape) (u : Ty) (components : List Component) : Type 0 where
+  pub value : FlatValue
+  pub split : Is_value h components value
+  pub fits : Result_fits N integer_at M budget false u value
+
+abbrev pub BlocksNeverWrong : Type 0
+BlocksNeverWrong =
+    (N : Names) → AreNames N → (places : Kind) (K : Kinds) (a : Sub) (integer_at : ℕ → IntType) (tight : Bool) (budget : ℕ) (flat : Flat) → Is_typed N places K a integer_at flat
+    → (entry : BindId) (ts : Tys) (u : Ty) → (scope_behind N places (program_of flat) 0 nothing).uses entry.0 K a (arrows ts u)
+    → (hs : Shapes) (h : Shape) (p : Program) → Program_unfolds integer_at (flat_tops 0 (named_terms flat)) entry.0 hs h p
+    → (arguments : Values Ref BindId (Unit {0})) (components : List Component) → All_split hs arguments components [] → Arguments_fit N integer_at (plain tight) budget false ts (listed arguments)
+    → Safe (Components_fit N integer_at (plain tight) budget h u) (Program_means budget p components)
+
+-- and so the results are of the scalar types of the components of the result's type
+abbrev pub ResultsAreOf : Type 0
+ResultsAreOf = (N : Names) (integer_at : ℕ → IntType) (tight : Bool) (budget : ℕ) (h : Shape) (u : Ty) (ss : List Sort) (components : List Component) → Sorts u ss [] → Components_fit N integer_at (plain tight) budget h u components → AreOf ss components
+
+-- Unfolding a typed program is never stuck, from each entry that takes data of these shapes and gives data. Its places, as the
+-- branches of an `if` and what a loop carries, hold data alone.
+abbrev pub UnfoldingNeverStuck : Type 0
+UnfoldingNeverStuck =
+    (N : Names) → AreNames N → (K : Kinds) (a : Sub) (integer_at : ℕ → IntType) (flat : Flat) → Is_typed N kind.Data K a integer_at flat
+    → (entry : BindId) (ts : Tys) (u : Ty) → (scope_behind N kind.Data (program_of flat) 0 nothing).uses entry.0 K a (arrows ts u) → HasKind K kind.Data u
+    → (hs : Shapes) → All_of_shapes ts hs → Program_stuck integer_at (flat_tops 0 (named_terms flat)) entry.0 hs → ⊥

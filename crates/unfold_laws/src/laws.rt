@@ -1,0 +1,17 @@
+// Laws of typed programs' blocks, each carried by a call.
+ghost use Rattle.unfold_laws.specs.Claims.{BlocksNeverWrong, ResultsAreOf, UnfoldingNeverStuck};
+
+/// The law that the blocks of a typed program give a value of its entry's result type or a report, and never go wrong.
+pub fn typed_blocks_never_go_wrong()
+    ensures { BlocksNeverWrong }
+{}
+
+/// The law that the components of a value of the result's type are of the scalar types of that type's components.
+pub fn results_are_of_their_types()
+    ensures { ResultsAreOf }
+{}
+
+/// The law that unfolding a typed program comes to no place from which there is no way on.
+pub fn unfolding_of_typed_programs_is_never_stuck()
+    ensures { UnfoldingNeverStuck }
+{}
