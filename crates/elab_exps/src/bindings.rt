@@ -4,13 +4,13 @@ ghost use Rattle.fut_flat.specs.declared.exp.LoopForm.TheVariants as turns;
 ghost use Rattle.elab_nodes.specs.Built.{Built2, Built3};
 
 use crate::heads::Head;
-use fut_flat as flat;
-use fut_flat::Exp;
-use fut_scalar::BindId;
 use elab_nodes::both::both;
 use elab_nodes::rows::Turning;
 use elab_scopes::Stop;
 use elab_types::Bound;
+use fut_flat as flat;
+use fut_flat::Exp;
+use fut_scalar::BindId;
 
 /// One let.
 pub fn let_row<'a>(

@@ -4,12 +4,12 @@ ghost use Rattle.fut_flat.specs.Sources.{composed_name, left_function, right_fun
 ghost use Rattle.elab_exps.specs.Heads.{Gathered};
 ghost use Rattle.elab_exps.specs.Lists.{is_then};
 
-use fut_ast::Oper;
-use fut_flat::Exp;
-use fut_scalar::BindId;
 use elab_nodes::both::both;
 use elab_nodes::rows::Functions;
 use elab_scopes::Stop;
+use fut_ast::Oper;
+use fut_flat::Exp;
+use fut_scalar::BindId;
 
 /// The name of the function on the left.
 pub fn left_name<'a>() -> &'a str

@@ -29,12 +29,12 @@ use crate::operations::{Operation, gathered, operation_of};
 use crate::sections::{led, looked_before};
 use bumpalo::Bump;
 use bumpalo::collections::into_bump_slice;
-use fut_flat as flat;
-use fut_flat::Act;
-use fut_tree::{Bind, Exp, Form, Held, LoopForm, TypeExp};
 use elab_nodes::{exps as nodes, rows, typed};
 use elab_scopes::{Names, Stop};
 use elab_types::{in_scope, listed, numbered, put, resolved_parameters, resolved_type};
+use fut_flat as flat;
+use fut_flat::Act;
+use fut_tree::{Bind, Exp, Form, Held, LoopForm, TypeExp};
 
 /// An expression with its names resolved.
 #[cycle(exps)]

@@ -8,13 +8,11 @@ ghost use Rattle.elab_exps.specs.Heads.{Behind, Brought_head, Brought_heads, Bro
 ghost use Rattle.elab_exps.specs.Parts.{inside_pattern, sized_pattern};
 
 use bumpalo::Bump;
+use elab_scopes::{Names, Stop};
+use elab_types::{Bound, Sizes, bring, in_scope, numbered_heads, numbered_sizes, resolved_pattern};
 use fut_flat as flat;
 use fut_scalar::BindId;
 use fut_tree::{Head as SourceHead, Pat};
-use elab_scopes::{Names, Stop};
-use elab_types::{
-    Bound, Sizes, bring, in_scope, numbered_heads, numbered_sizes, resolved_pattern,
-};
 
 /// Size names, and a pattern that sees them.
 #[derive(Clone, Copy)]

@@ -12,12 +12,12 @@ ghost use Rattle.elab_exps.specs.Order.{is_named, is_turned};
 ghost use Rattle.elab_exps.specs.Plain.{Plain};
 
 use bumpalo::Bump;
+use elab_nodes::uses;
+use elab_scopes::{Names, Stop, value_of};
 use fut_ast::Oper;
 use fut_flat::{Act, Exp};
 use fut_scalar::{BinOp, Place};
 use fut_tree::{Exp as SourceExp, Form};
-use elab_nodes::uses;
-use elab_scopes::{Names, Stop, value_of};
 
 /// A name that is used, and the fields that are left of its path.
 #[tactic(auto, using(crate::proofs::UseLaws::use_rules))]

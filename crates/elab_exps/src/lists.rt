@@ -8,10 +8,10 @@ ghost use Rattle.elab_exps.specs.Lists.{all_exps, exps_of, maybe_exp, part_of};
 
 use bumpalo::Bump;
 use bumpalo::collections::into_bump_slice;
+use elab_scopes::Stop;
 use fut_flat as flat;
 use fut_flat::Part;
 use fut_tree::{Exp, ExpField, Held, Ix};
-use elab_scopes::Stop;
 
 fn held_exps<'a>(
     exps: &[Held<'a, Exp<'a>>],

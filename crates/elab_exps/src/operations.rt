@@ -14,9 +14,9 @@ use crate::lists::{
     field_exps, field_names, index_exps, index_kinds, one_exp, range_exps, two_exps, update_exps,
 };
 use bumpalo::Bump;
+use elab_scopes::Stop;
 use fut_flat::Act;
 use fut_tree::{Exp, ExpField, Form, Held, Ix};
-use elab_scopes::Stop;
 
 /// An operation, and its parts in the order in which they are evaluated.
 #[derive(Clone, Copy)]

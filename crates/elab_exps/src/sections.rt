@@ -7,9 +7,9 @@ ghost use Rattle.elab_exps.specs.Parts.{name_before, source_of};
 ghost use Rattle.elab_exps.specs.Sections.{applied_in, called_in, is_held_name, led, looked, spelled_of, use_in};
 ghost use Rattle.fut_tree.specs.Names.{names as texts_of};
 
+use elab_scopes::{Names, Refusal, Stop, value_of};
 use fut_scalar::Place;
 use fut_tree::{Exp, Form};
-use elab_scopes::{Names, Refusal, Stop, value_of};
 
 /// A name as it is spelled, and its place.
 #[derive(Clone, Copy)]

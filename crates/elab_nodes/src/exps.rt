@@ -6,9 +6,9 @@ ghost use Rattle.elab_nodes.specs.Built.{Built0, Built1, Built2, Built3};
 
 use crate::both::both;
 use bumpalo::Bump;
+use elab_scopes::Stop;
 use fut_flat::{Act, Exp, Form, Pat};
 use fut_scalar::Place;
-use elab_scopes::Stop;
 
 /// An expression that the arena holds.
 pub fn node<'a>(bump: &'a Bump, place: Place, form: Form<'a>) -> Result<&'a Exp<'a>, Stop<'a>>

@@ -8,9 +8,9 @@ ghost use Rattle.elab_nodes.specs.Built.{Built1, Built2};
 
 use crate::both::both;
 use bumpalo::Bump;
+use elab_scopes::Stop;
 use fut_flat::{Pat, PatField, PatForm, TypeExp};
 use fut_scalar::{BindId, Place};
-use elab_scopes::Stop;
 
 /// A name.
 pub fn bound<'a>(place: Place, bind: Result<BindId, Stop<'a>>) -> Result<Pat<'a>, Stop<'a>>

@@ -9,10 +9,10 @@ ghost use Rattle.elab_nodes.specs.Composed.{composition, name_alone, ordered, tw
 use crate::both::both;
 use crate::exps::{applied, lambda, node, on_part};
 use bumpalo::Bump;
+use elab_scopes::Stop;
 use fut_flat as flat;
 use fut_flat::{Act, Exp, Form, Let, LoopForm, Pat, PatForm, Ref};
 use fut_scalar::{BindId, Place};
-use elab_scopes::Stop;
 
 /// A row of lets before a body.
 pub fn rowed<'a>(

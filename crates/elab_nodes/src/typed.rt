@@ -7,9 +7,9 @@ ghost use Rattle.elab_nodes.specs.Built.{Built2};
 use crate::both::both;
 use crate::exps::on_part;
 use bumpalo::Bump;
+use elab_scopes::Stop;
 use fut_flat::{Act, Exp, TypeExp};
 use fut_scalar::Place;
-use elab_scopes::Stop;
 
 /// `e : t`
 pub fn ascribed<'a>(

@@ -9,9 +9,9 @@ ghost use Rattle.elab_scopes.specs.declared.refusal.Stop.TheVariants as stop;
 
 use crate::both::both;
 use bumpalo::Bump;
+use elab_scopes::Stop;
 use fut_flat::{Ref, Size, TypeArg, TypeExp, TypeField, TypeForm};
 use fut_scalar::{BindId, Place};
-use elab_scopes::Stop;
 
 /// A type that the arena holds.
 pub fn held<'a>(bump: &'a Bump, ty: TypeExp<'a>) -> Result<&'a TypeExp<'a>, Stop<'a>>

@@ -7,9 +7,9 @@ ghost use Rattle.elab_scopes.specs.Resolve.{projected};
 
 use crate::exps::{node, on_part};
 use bumpalo::Bump;
+use elab_scopes::Stop;
 use fut_flat::{Act, Exp, Form, Ref};
 use fut_scalar::Place;
-use elab_scopes::Stop;
 
 /// A field of a record.
 pub fn field<'a>(

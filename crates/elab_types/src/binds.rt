@@ -15,10 +15,10 @@ use crate::numbers::numbered;
 use crate::pats::{Bound, resolved_pattern};
 use bumpalo::Bump;
 use bumpalo::collections::into_bump_slice;
+use elab_scopes::{Entry, Names, Stop};
 use fut_flat as flat;
 use fut_scalar::BindId;
 use fut_tree::{Head, HeadForm, Held, Pat};
-use elab_scopes::{Entry, Names, Stop};
 
 /// Brings names in scope, the first one first.
 #[tactic(auto, using(crate::proofs::BindLaws::entering_rules))]

@@ -3,8 +3,8 @@ ghost use Rattle.std.specs.Prelude.{◌≡◌};
 ghost use Rattle.elab_scopes.specs.Table.{bound_of};
 ghost use Rattle.elab_types.specs.Numbering.{Numbers, Comes};
 
-use fut_scalar::BindId;
 use elab_scopes::{Entry, Names, Stop};
+use fut_scalar::BindId;
 
 /// The next number, for a name of this text.
 #[tactic(auto, using(crate::proofs::Numbering::numbers))]

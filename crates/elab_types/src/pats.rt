@@ -15,11 +15,11 @@ use crate::numbers::numbered;
 use crate::types::resolved_type;
 use bumpalo::Bump;
 use bumpalo::collections::into_bump_slice;
+use elab_nodes::pats as nodes;
+use elab_scopes::{Entry, Names, Refusal, Stop};
 use fut_flat as flat;
 use fut_scalar::{BindId, Place};
 use fut_tree::{Held, Pat, PatField, PatForm};
-use elab_nodes::pats as nodes;
-use elab_scopes::{Entry, Names, Refusal, Stop};
 
 /// A name that a pattern binds, once.
 #[tactic(auto, using(crate::proofs::PatLaws::naming_rules))]

@@ -17,12 +17,12 @@ use crate::lists::put;
 use crate::numbers::{in_scope, numbered};
 use bumpalo::Bump;
 use bumpalo::collections::into_bump_slice;
+use elab_nodes::types as nodes;
+use elab_scopes::{Names, Stop, size_of, type_of};
 use fut_flat as flat;
 use fut_flat::Ref;
 use fut_scalar::Place;
 use fut_tree::{Held, SizeExp, SizeForm, TypeArg, TypeExp, TypeField, TypeForm};
-use elab_nodes::types as nodes;
-use elab_scopes::{Names, Stop, size_of, type_of};
 
 /// A size, or a number of its own for one that is not written.
 #[tactic(auto, using(crate::proofs::TypeLaws::size_rules))]

@@ -19,7 +19,7 @@ mod place_table;
 mod place_terms;
 mod terms;
 
-pub use home_table::{homes};
+pub use home_table::homes;
 pub use patterns::{after, after_pattern, after_patterns};
-pub use place_table::{places};
+pub use place_table::places;
 pub use terms::{after_exp, own_numbers_of};

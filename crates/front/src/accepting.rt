@@ -12,7 +12,6 @@ ghost use Rattle.front.specs.Stages.{Explains, Is_accepted, IsMisnamed, Misnames
 use crate::reading::{Prelude, prelude_tree};
 use crate::refusals::{NameErr, Refused};
 use bumpalo::Bump;
-use typed_programs::{Accepted, TypeErr, typed_program};
 use fut_flat::Flat;
 use fut_parser::{ParseErr, parse};
 use fut_scalar::{Name, NoMemory};
@@ -20,6 +19,7 @@ use fut_token::Token;
 use fut_tree::{Held, Program};
 use module_elab::{ModErr, PRELUDE_PATH, SourceSet, elaborate};
 use std::alloc::Global;
+use typed_programs::{Accepted, TypeErr, typed_program};
 use unbuilt_tokens::first_unbuilt;
 
 /// The number of the named file: the first in load order.

@@ -1,7 +1,7 @@
 // Why a program is not accepted.
-use typed_programs::TypeErr;
 use fut_parser::ParseErr;
 use fut_scalar::{Name, Place};
+use typed_programs::TypeErr;
 
 /// Why the names of a program are refused, and where.
 #[derive(Debug, Drop)]

@@ -16,12 +16,12 @@ use crate::mod_tokens::{begins_declaration, begins_declared};
 use crate::module_tie::{DecAnswer, ModSort, ReadDeclaration, ReadModule};
 use bumpalo::Bump;
 use fut_grammar::Stop;
+use fut_token::{Fixed, Token};
+use fut_tree::{Dec, DecForm, Label};
 use parse_module_types::{maybe_module_type, module_params};
 use parse_types::found::Found;
 use parse_types::lists::{BeginItem, ReadItem};
 use parse_types::tokens::{greater, next_spot, refused, rest_of, starts_with, take, take_word};
-use fut_token::{Fixed, Token};
-use fut_tree::{Dec, DecForm, Label};
 
 impl<'a, D: ReadDeclaration<'a>> ReadItem<'a, Dec<'a>> for Items<D> {
     ghost sort = { Dec_item };

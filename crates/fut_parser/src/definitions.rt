@@ -11,15 +11,15 @@ ghost use Rattle.fut_parser.specs.Private.ModFound.{dec_form_found};
 
 use bumpalo::Bump;
 use fut_ast::What;
-use parse_exps::whole_expression;
 use fut_grammar::Stop;
+use fut_token::{Fixed, Token};
+use fut_tree::{DecForm, Label};
+use parse_exps::whole_expression;
 use parse_module_types::module_type;
 use parse_types::found::Found;
 use parse_types::params::{heads_inside, maybe_type_inside, patterns_inside};
 use parse_types::tokens::{greater, next_spot, rest_of, take, take_text, take_word, without_form};
 use parse_types::types::whole_type;
-use fut_token::{Fixed, Token};
-use fut_tree::{DecForm, Label};
 
 /// What is read as a declaration without its `local`.
 pub type DecFormAnswer<'a> = Result<Found<'a, DecForm<'a>>, Stop>;

@@ -7,9 +7,9 @@ ghost use Rattle.parse_types.specs.Found.{tree_found};
 use crate::module_tie::{ModAnswer, ModEnding};
 use bumpalo::Bump;
 use fut_grammar::Stop;
-use parse_types::found::Found;
 use fut_token::Token;
 use fut_tree::ModExp;
+use parse_types::found::Found;
 
 /// This module expression was read, and the arena holds it.
 pub fn made<'a>(

@@ -3,8 +3,8 @@ ghost use Rattle.std.specs.Prelude.{◌≡◌};
 ghost use Rattle.fut_ast.specs.Behind.{begins, begins_dec, begins_dec_rest, begins_mod_argument, behind_mod};
 ghost use Rattle.fut_ast.specs.Sorts.{Whole_mod};
 
-use parse_types::tokens::{starts_with, starts_with_word};
 use fut_token::{Fixed, Token};
+use parse_types::tokens::{starts_with, starts_with_word};
 
 /// Whether an argument of a parametric module begins here.
 pub fn begins_module_argument(tokens: &[Token]) -> bool

@@ -16,10 +16,10 @@ use crate::module_tie::{DecAnswer, ModAnswer, ModEnding, ModSort, ReadDeclaratio
 use crate::modules::{argument_below, last_below};
 use bumpalo::Bump;
 use fut_grammar::{Fault, Stop};
-use parse_types::found::Found;
-use parse_types::tokens::refused;
 use fut_token::Token;
 use fut_tree::Dec;
+use parse_types::found::Found;
+use parse_types::tokens::refused;
 
 // As the last part of a form, where its ending is kept, or as any other part.
 #[tactic(auto, unfolding(fut_grammar::specs::Phrases::read_at, fut_grammar::specs::Phrases::bounded, fut_grammar::specs::Phrases::far_at, fut_grammar::specs::Phrases::ended, fut_grammar::specs::Phrases::step, fut_grammar::specs::Phrases::whole_mod_at, fut_grammar::specs::Reading::refuse_sort))]

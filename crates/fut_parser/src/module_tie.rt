@@ -8,9 +8,9 @@ ghost use Rattle.parse_module_types.specs.MtypeTie.{Law};
 ghost use Rattle.fut_parser.specs.Private.ModTie.{Mod_law, Reads_mod};
 
 use fut_grammar::Stop;
-use parse_types::found::Found;
 use fut_token::Token;
 use fut_tree::{Dec, ModExp};
+use parse_types::found::Found;
 
 /// The sorts of module expressions that stand in productions.
 #[derive(Clone, Copy)]

@@ -20,15 +20,15 @@ use crate::module_tie::{ModAnswer, ModEnding, ModSort, ReadDeclaration, ReadModu
 use bumpalo::Bump;
 use fut_ast::Spot;
 use fut_grammar::{Fault, Stop};
+use fut_scalar::Place;
+use fut_token::{Fixed, Token};
+use fut_tree::{Held, ModExp, ModForm, Param};
 use parse_module_types::{maybe_module_type, module_parameter, module_type};
 use parse_types::found::Found;
 use parse_types::lists::{BeginItem, ReadItem, many, several};
 use parse_types::tokens::{
     greater, next_spot, refused, rest_of, starts_with, starts_with_word, take, take_path, take_text,
 };
-use fut_scalar::Place;
-use fut_token::{Fixed, Token};
-use fut_tree::{Held, ModExp, ModForm, Param};
 
 /// A module expression, its height, and the tokens behind it, where its ending is of no use.
 type Module<'a> = Result<Found<'a, &'a ModExp<'a>>, Stop>;

@@ -20,12 +20,12 @@ use crate::module_tie::{DecAnswer, ReadDeclaration};
 use bumpalo::Bump;
 use fut_ast::What;
 use fut_grammar::{Fault, Stop};
-use parse_types::found::Found;
-use parse_types::lists::many;
-use parse_types::tokens::refused;
 use fut_scalar::Place;
 use fut_token::Token;
 use fut_tree::{Dec, Program};
+use parse_types::found::Found;
+use parse_types::lists::many;
+use parse_types::tokens::refused;
 
 /// Why a program could not be parsed.
 ///

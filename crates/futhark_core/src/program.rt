@@ -14,16 +14,15 @@ ghost use Rattle.futhark_core.specs.Row.{ActionRow, CheckRow, IsReady, ProgramRo
 use crate::statuses::{failed_status, input_status};
 use bumpalo::Bump;
 use command_words::{Action, Command};
-use front::entry_at;
-use front::Accepted;
+use front::{Accepted, entry_at};
 use fut_blocks::Program;
 use fut_eval::eval;
 use fut_io::{ReadErr, Sink, Source, read_all, write_all};
 use fut_scalar::{BindId, Name, ScalarType};
 use futhark_status::{EntryErr, LimitKind, Status};
-use unfolded_runs::{PrepareErr, prepare};
 use std::alloc::Global;
 use typed_programs::{EntryType, EntryTypeErr, entry_type};
+use unfolded_runs::{PrepareErr, prepare};
 use value_text::{print_values, read_args};
 
 /// The most bytes of the input.

@@ -7,13 +7,13 @@ ghost use Rattle.elab_scopes.specs.Programs.{is_entry_named, resolve_dec};
 
 use crate::values::definition_value;
 use bumpalo::Bump;
-use fut_flat as flat;
-use fut_scalar::BindId;
-use fut_tree::{Dec, DecForm, Exp, Head, Held, Label, Pat, TypeExp};
 use elab_exps::brought_heads;
 use elab_nodes::both::both;
 use elab_scopes::{Names, Refusal, Stop, Texts};
 use elab_types::{in_scope, numbered};
+use fut_flat as flat;
+use fut_scalar::BindId;
+use fut_tree::{Dec, DecForm, Exp, Head, Held, Label, Pat, TypeExp};
 
 /// A definition as it is written.
 #[derive(Clone, Copy)]

@@ -8,10 +8,10 @@ ghost use Rattle.elab_scopes.specs.Programs.{resolve_decs, resolve_files, resolv
 use crate::definitions::resolved_dec;
 use bumpalo::Bump;
 use bumpalo::collections::into_bump_slice;
+use elab_scopes::{Names, Stop, Texts};
 use fut_flat::{Definition, Flat};
 use fut_scalar::NoMemory;
 use fut_tree::{Dec, Held, Program};
-use elab_scopes::{Names, Stop, Texts};
 use std::alloc::Global;
 
 /// Puts the definitions of a file behind those that there are.

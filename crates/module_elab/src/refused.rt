@@ -2,8 +2,8 @@
 ghost use Rattle.std.specs.Prelude.{◌≡◌};
 ghost use Rattle.module_elab.specs.Elaborated.{error_of};
 
-use fut_scalar::Place;
 use elab_scopes::{Refusal, Stop};
+use fut_scalar::Place;
 
 /// Why elaboration refuses a set of files, and where.
 #[derive(Clone, Copy)]

@@ -6,12 +6,12 @@ ghost use Rattle.elab_scopes.specs.Programs.{definition_term};
 ghost use Rattle.elab_scopes.specs.Resolve.{resolve};
 
 use bumpalo::Bump;
-use fut_flat as flat;
-use fut_tree::{Exp, Held, Pat, TypeExp};
 use elab_exps::resolved_body;
 use elab_nodes::exps;
 use elab_scopes::{Names, Stop};
 use elab_types::resolved_parameters;
+use fut_flat as flat;
+use fut_tree::{Exp, Held, Pat, TypeExp};
 
 /// The value of a definition. With parameters it is a function.
 #[tactic(auto, using(crate::proofs::ValueLaws::value_none))]

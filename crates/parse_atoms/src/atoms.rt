@@ -14,13 +14,13 @@ use crate::made::{made, made_before};
 use crate::tie::ReadExp;
 use bumpalo::Bump;
 use fut_ast::{Spot, What};
-use parse_nodes::exp_nodes::{field, index};
-use parse_nodes::exp_tokens::{goes_on_atom, starts_with_tight, take_digits};
 use fut_grammar::{Fault, Stop};
-use parse_types::found::Found;
-use parse_types::tokens::{next_spot, refused, rest_of, starts_with, take_word, without_form};
 use fut_token::{Fixed, Token};
 use fut_tree::Exp;
+use parse_nodes::exp_nodes::{field, index};
+use parse_nodes::exp_tokens::{goes_on_atom, starts_with_tight, take_digits};
+use parse_types::found::Found;
+use parse_types::tokens::{next_spot, refused, rest_of, starts_with, take_word, without_form};
 
 /// An atom.
 #[tactic(auto, unfolding(fut_grammar::specs::Phrases::atom_at))]

@@ -15,16 +15,16 @@ use crate::made::made_before;
 use crate::parens::paren_below;
 use crate::tie::{ExpSort, ReadExp};
 use bumpalo::Bump;
+use fut_grammar::Stop;
+use fut_token::{Fixed, Token};
+use fut_tree::{Exp, Held};
 use parse_nodes::exp_nodes::{array, record};
 use parse_nodes::lists::commas_from;
-use fut_grammar::Stop;
 use parse_types::found::Found;
 use parse_types::lists::ReadItem;
 use parse_types::tokens::{
     next_spot, refused, rest_of, starts_with, starts_with_int, starts_with_word,
 };
-use fut_token::{Fixed, Token};
-use fut_tree::{Exp, Held};
 
 /// An expression of one token or in brackets.
 pub fn base_below<'a, R: ReadExp<'a>>(

@@ -9,15 +9,15 @@ ghost use Rattle.parse_types.specs.Found.{found_as};
 use crate::items::Items;
 use crate::tie::{ExpAnswer, ExpSort, ReadExp};
 use bumpalo::Bump;
-use parse_nodes::exp_nodes::name_used;
-use parse_nodes::lists::commas_from;
 use fut_grammar::Stop;
-use parse_types::found::Found;
-use parse_types::lists::ReadItem;
-use parse_types::tokens::{next_spot, refused, rest_of, starts_with, take_word};
 use fut_scalar::NoMemory;
 use fut_token::{Fixed, Token};
 use fut_tree::{Exp, ExpField};
+use parse_nodes::exp_nodes::name_used;
+use parse_nodes::lists::commas_from;
+use parse_types::found::Found;
+use parse_types::lists::ReadItem;
+use parse_types::tokens::{next_spot, refused, rest_of, starts_with, take_word};
 
 /// Fields with commas between.
 pub fn field_list<'a, R: ReadExp<'a>>(

@@ -15,18 +15,18 @@ ghost use Rattle.fut_tree.specs.Exps.{loop_of};
 use crate::made::{ending_made, loop_made};
 use crate::tie::{Ending, ExpSort, ReadExp, read_behind};
 use bumpalo::Bump;
+use fut_grammar::Stop;
+use fut_token::{Fixed, Token};
+use fut_tree::{Exp, LoopForm, Pat};
 use parse_nodes::exp_nodes::{choice, function};
 use parse_nodes::loops::{for_in_loop, for_loop, looping, while_loop};
 use parse_nodes::pat_exps::{exp_of_pattern, has_wildcard};
-use fut_grammar::Stop;
 use parse_types::found::Found;
 use parse_types::params::{maybe_applied_type, several_patterns, size_names};
 use parse_types::patterns::whole_pattern;
 use parse_types::tokens::{
     greater, next_spot, next_word, refused, rest_of, starts_with, starts_with_word, take,
 };
-use fut_token::{Fixed, Token};
-use fut_tree::{Exp, LoopForm, Pat};
 
 /// A form that begins with a keyword other than `let`.
 pub fn form_below<'a, R: ReadExp<'a>>(

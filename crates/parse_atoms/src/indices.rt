@@ -13,15 +13,15 @@ use crate::items::Items;
 use crate::tie::{ExpSort, ReadExp};
 use bumpalo::Bump;
 use fut_ast::What;
+use fut_grammar::Stop;
+use fut_token::{Fixed, Token};
+use fut_tree::{Exp, Ix};
 use parse_nodes::exp_tokens::{begins_exp_operand, take_one, without_stride};
 use parse_nodes::index_nodes::{NamedPart, Upto, WrittenPart, index_part, named_part};
 use parse_nodes::lists::commas_from;
-use fut_grammar::Stop;
 use parse_types::found::Found;
 use parse_types::lists::ReadItem;
 use parse_types::tokens::{greater, next_spot, refused, rest_of, starts_with, take, without_form};
-use fut_token::{Fixed, Token};
-use fut_tree::{Exp, Ix};
 
 /// Parts of an index with commas between.
 pub fn index_list<'a, R: ReadExp<'a>>(

@@ -9,14 +9,12 @@ ghost use Rattle.parse_types.specs.Found.{tree_found};
 
 use crate::made::made;
 use bumpalo::Bump;
-use parse_nodes::exp_nodes::{
-    array, integer, path as path_node, record, truth, unit as unit_node,
-};
 use fut_grammar::Stop;
-use parse_types::found::Found;
-use parse_types::tokens::{next_spot, refused, rest_of, starts_with, take_number, take_path};
 use fut_token::{Fixed, Token};
 use fut_tree::Exp;
+use parse_nodes::exp_nodes::{array, integer, path as path_node, record, truth, unit as unit_node};
+use parse_types::found::Found;
+use parse_types::tokens::{next_spot, refused, rest_of, starts_with, take_number, take_path};
 
 /// A path of names.
 #[tactic(auto, unfolding(fut_grammar::specs::Reading::row_at, fut_grammar::specs::Reading::parts_at, fut_grammar::specs::Reading::has_at))]

@@ -16,9 +16,11 @@ use crate::tie::{ExpSort, ReadExp, read_behind};
 use crate::written::written_list;
 use bumpalo::Bump;
 use bumpalo::collections::into_bump_slice;
+use fut_grammar::Stop;
+use fut_token::{Fixed, Token};
+use fut_tree::Bind;
 use parse_nodes::binds::{function_bound, update_bound};
 use parse_nodes::exp_tokens::{begins_function, begins_update};
-use fut_grammar::Stop;
 use parse_types::found::Found;
 use parse_types::params::{
     heads_inside, maybe_type_inside, several_patterns_inside, size_names_inside,
@@ -27,8 +29,6 @@ use parse_types::patterns::whole_pattern;
 use parse_types::tokens::{
     begins_pattern, greater, next_spot, next_word, refused, rest_of, starts_with, take,
 };
-use fut_token::{Fixed, Token};
-use fut_tree::Bind;
 
 /// A row of lets, and the `in` behind it.
 pub fn lets<'a, R: ReadExp<'a>>(

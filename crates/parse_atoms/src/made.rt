@@ -12,11 +12,11 @@ ghost use Rattle.fut_ast.specs.declared.exp.LoopForm.{LoopForm as PlainLoop};
 use crate::tie::Ending;
 use fut_ast::Ended;
 use fut_grammar::Stop;
-use parse_types::found::Found;
-use parse_types::tokens::{refused, rest_of, starts_with};
 use fut_scalar::NoMemory;
 use fut_token::{Fixed, Token};
 use fut_tree::{Bind, Exp, LoopForm};
+use parse_types::found::Found;
+use parse_types::tokens::{refused, rest_of, starts_with};
 
 /// An expression was read, if there was memory for its node.
 pub fn made<'a>(

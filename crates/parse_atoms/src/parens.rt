@@ -15,20 +15,18 @@ use crate::made::made_before;
 use crate::tie::{ExpSort, ReadExp};
 use bumpalo::Bump;
 use fut_ast::{Spot, What};
+use fut_grammar::Stop;
+use fut_token::{Fixed, Token};
+use fut_tree::Exp;
 use parse_nodes::exp_nodes::round as round_of;
 use parse_nodes::exp_tokens::{
     level_of, makes_section, next_any_operator, past_operator, take_operator,
 };
 use parse_nodes::index_nodes::section_of_index;
-use parse_nodes::sections::{
-    operator_alone, section_of_fields, section_of_left, section_of_right,
-};
-use fut_grammar::Stop;
+use parse_nodes::sections::{operator_alone, section_of_fields, section_of_left, section_of_right};
 use parse_types::found::Found;
 use parse_types::lists::in_front;
 use parse_types::tokens::{next_spot, refused, rest_of, starts_with, take_path, without_form};
-use fut_token::{Fixed, Token};
-use fut_tree::Exp;
 
 /// What stands in parentheses.
 pub fn paren_below<'a, R: ReadExp<'a>>(

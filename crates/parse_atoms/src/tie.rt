@@ -8,10 +8,10 @@ ghost use Rattle.parse_types.specs.Found.{found_as};
 
 use fut_ast::Ended;
 use fut_grammar::Stop;
-use parse_types::found::Found;
-use parse_types::tokens::{refused, rest_of, starts_with};
 use fut_token::{Fixed, Token};
 use fut_tree::Exp;
+use parse_types::found::Found;
+use parse_types::tokens::{refused, rest_of, starts_with};
 
 /// The sorts of expressions that stand in productions.
 #[derive(Clone, Copy)]

@@ -8,14 +8,14 @@ ghost use Rattle.parse_types.specs.Found.{list_found};
 use crate::tie::{ExpSort, ReadExp};
 use bumpalo::Bump;
 use fut_ast::What;
+use fut_grammar::Stop;
+use fut_token::Token;
+use fut_tree::{Exp, Held};
 use parse_nodes::exp_tokens::begins_exp_operand;
 use parse_nodes::lists::commas_from;
-use fut_grammar::Stop;
 use parse_types::found::Found;
 use parse_types::lists::ReadItem;
 use parse_types::tokens::{refused, without_form};
-use fut_token::Token;
-use fut_tree::{Exp, Held};
 
 /// Parts of the index of an update, with commas between. A `let` reads them in the same way.
 #[tactic(auto, using(crate::proofs::ItemLaws::targets_same))]

@@ -3,8 +3,8 @@ ghost use Rattle.std.specs.Prelude.{◌≡◌, ◌≤◌, ◌||◌, false, if◌
 ghost use Rattle.fut_grammar.specs.Reading.{refuse};
 
 use fut_grammar::Fault;
-use parse_types::tokens::refused;
 use fut_token::Token;
+use parse_types::tokens::refused;
 
 /// Whether one more suffix may not stand behind an expression: something tighter goes on with it, or it is as high as may be.
 pub fn is_full(goes_on: bool, height: u32, inner: u32) -> bool

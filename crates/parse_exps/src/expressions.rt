@@ -16,16 +16,16 @@ use crate::updates::replacement;
 use crate::wholes::{last_below, operand_below, operands_below, right_below, whole_below};
 use bumpalo::Bump;
 use fut_ast::Ended;
+use fut_grammar::{Fault, Stop};
+use fut_token::Token;
+use fut_tree::Exp;
 use parse_atoms::atoms::atom_below;
 use parse_atoms::tie::{AnyExp, Ending, ExpAnswer, ExpSort, FirstInside, ReadExp, Replacement};
 use parse_nodes::exp_tokens::{
     begins_exp_atom, begins_exp_big, begins_exp_operand, goes_on_app, goes_on_atom, goes_on_typed,
 };
-use fut_grammar::{Fault, Stop};
 use parse_types::found::Found;
 use parse_types::tokens::{refused, starts_with_word};
-use fut_token::Token;
-use fut_tree::Exp;
 
 // Whether an expression of the sort begins here.
 fn begins_sort(sort: ExpSort, tokens: &[Token]) -> bool

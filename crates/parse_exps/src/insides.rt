@@ -15,16 +15,16 @@ use crate::typed::all_behind;
 use crate::wholes::{big_below, whole_typed};
 use bumpalo::Bump;
 use fut_ast::{Ended, Spot};
+use fut_grammar::Stop;
+use fut_token::{Fixed, Token};
+use fut_tree::Exp;
 use parse_atoms::tie::{Ending, FirstInside, ReadExp};
 use parse_nodes::exp_tokens::{
     begins_exp_operand, goes_on_chain, left_level_of, level_of, next_section, past_operator,
     takes_left,
 };
-use fut_grammar::Stop;
 use parse_types::found::Found;
 use parse_types::tokens::{next_spot, refused, rest_of};
-use fut_token::{Fixed, Token};
-use fut_tree::Exp;
 
 /// What stands first in parentheses.
 pub fn inside_below<'a, R: ReadExp<'a>>(

@@ -18,6 +18,9 @@ ghost use Rattle.fut_grammar.specs.Reading.{Fails, Gives, parts_at, refuse, row_
 use crate::behind::{is_full, too_high};
 use bumpalo::Bump;
 use fut_ast::{Ended, Oper, Spot};
+use fut_grammar::{Fault, Stop};
+use fut_token::{Fixed, Token};
+use fut_tree::Exp;
 use parse_atoms::atoms::atom_below;
 use parse_atoms::made::{ending_made, made};
 use parse_atoms::tie::{Ending, ExpSort, ReadExp, read_behind};
@@ -27,11 +30,8 @@ use parse_nodes::exp_tokens::{
     goes_on_atom, next_between, right_level_of, take_operator,
 };
 use parse_nodes::joins::join;
-use fut_grammar::{Fault, Stop};
 use parse_types::found::Found;
 use parse_types::tokens::{greater, next_spot, refused, rest_of, starts_with};
-use fut_token::{Fixed, Token};
-use fut_tree::Exp;
 
 /// An operand of an operator.
 #[tactic(auto, unfolding(fut_grammar::specs::Phrases::unary_at, fut_grammar::specs::Reading::row_at))]

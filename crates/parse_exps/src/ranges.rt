@@ -11,14 +11,14 @@ use crate::behind::{is_full, too_high};
 use crate::operators::chain_below;
 use bumpalo::Bump;
 use fut_ast::{Ended, Spot};
+use fut_grammar::Stop;
+use fut_token::{Fixed, Token};
 use parse_atoms::made::ending_made;
 use parse_atoms::tie::{Ending, ExpSort, ReadExp};
 use parse_nodes::exp_nodes::range;
 use parse_nodes::exp_tokens::{goes_on_chain, goes_on_to_range, take_end};
-use fut_grammar::Stop;
 use parse_types::found::Found;
 use parse_types::tokens::{greater, next_spot, rest_of, starts_with};
-use fut_token::{Fixed, Token};
 
 /// A range, or what ranges are made of.
 #[tactic(auto, unfolding(fut_grammar::specs::Phrases::range_at))]

@@ -13,17 +13,17 @@ use crate::ranges::end_behind;
 use crate::updates::updates_again;
 use bumpalo::Bump;
 use fut_ast::{Ended, Spot};
+use fut_grammar::Stop;
+use fut_scalar::{NoMemory, Place};
+use fut_token::{Fixed, Token};
+use fut_tree::{Exp, TypeExp};
 use parse_atoms::made::ending_made;
 use parse_atoms::tie::{Ending, ReadExp};
 use parse_nodes::exp_nodes::{ascribed, coerced};
 use parse_nodes::exp_tokens::goes_on_updated;
-use fut_grammar::Stop;
 use parse_types::found::Found;
 use parse_types::tokens::{greater, next_spot, rest_of, starts_with};
 use parse_types::types::whole_type;
-use fut_scalar::{NoMemory, Place};
-use fut_token::{Fixed, Token};
-use fut_tree::{Exp, TypeExp};
 
 /// An expression that begins with an operand.
 #[tactic(auto, unfolding(fut_grammar::specs::Phrases::typed_at))]

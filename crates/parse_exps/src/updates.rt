@@ -13,6 +13,9 @@ ghost use Rattle.fut_tree.specs.Names.{names};
 use crate::behind::{is_full, too_high};
 use bumpalo::Bump;
 use fut_ast::{Ended, Spot, What};
+use fut_grammar::Stop;
+use fut_scalar::NoMemory;
+use fut_token::{Fixed, Token};
 use parse_atoms::made::ending_made;
 use parse_atoms::tie::{AnyExp, Ending, ExpSort, ReadExp, Replacement, read_behind};
 use parse_atoms::written::written_list;
@@ -20,13 +23,10 @@ use parse_nodes::binds::path_behind;
 use parse_nodes::exp_nodes::updated;
 use parse_nodes::exp_tokens::goes_on_range;
 use parse_nodes::replacing::with_field_replaced;
-use fut_grammar::Stop;
 use parse_types::found::Found;
 use parse_types::tokens::{
     greater, next_spot, rest_of, starts_with, take, take_word, without_form,
 };
-use fut_scalar::NoMemory;
-use fut_token::{Fixed, Token};
 
 /// Updates, as many as stand there.
 pub fn updates_again<'a, R: ReadExp<'a>>(

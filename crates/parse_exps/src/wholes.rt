@@ -12,17 +12,17 @@ use crate::operators::chain_below;
 use crate::ranges::range_below;
 use crate::typed::typed_below;
 use bumpalo::Bump;
+use fut_grammar::Stop;
+use fut_token::{Fixed, Token};
+use fut_tree::Exp;
 use parse_atoms::forms::form_below;
 use parse_atoms::lets::lets;
 use parse_atoms::made::ending_made;
 use parse_atoms::tie::{Ending, ReadExp};
 use parse_nodes::exp_nodes::lets as lets_node;
 use parse_nodes::exp_tokens::{begins_exp_operand, goes_on_chain, goes_on_range, goes_on_typed};
-use fut_grammar::Stop;
 use parse_types::found::Found;
 use parse_types::tokens::{greater, next_spot, refused, starts_with};
-use fut_token::{Fixed, Token};
-use fut_tree::Exp;
 
 /// Any expression, and how it ended.
 #[tactic(auto, unfolding(fut_grammar::specs::Phrases::last_at))]

@@ -12,10 +12,10 @@ use crate::tie::{MemberAnswer, ModTypeAnswer, ReadModType};
 use crate::types::{parameter, whole_below};
 use bumpalo::Bump;
 use fut_grammar::{Fault, Stop};
-use parse_types::found::Found;
-use parse_types::tokens::{begins_member, begins_module_type, refused, starts_with};
 use fut_token::{Fixed, Token};
 use fut_tree::{ModType, Param, Spec};
+use parse_types::found::Found;
+use parse_types::tokens::{begins_member, begins_module_type, refused, starts_with};
 
 /// A module type of a height up to the depth, in which the types behind `with` may have arrows or not.
 #[cycle(module_types)]

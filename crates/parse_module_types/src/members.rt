@@ -15,6 +15,8 @@ use crate::tie::{MemberAnswer, ReadMember, ReadModType, whole_behind};
 use bumpalo::Bump;
 use fut_ast::What;
 use fut_grammar::Stop;
+use fut_token::{Fixed, Token};
+use fut_tree::{Label, Spec, SpecForm, TypeExp};
 use parse_types::found::Found;
 use parse_types::heads::heads;
 use parse_types::lists::{BeginItem, ReadItem};
@@ -22,8 +24,6 @@ use parse_types::tokens::{
     begins_member, greater, next_spot, rest_of, starts_with, take, take_word, without_form,
 };
 use parse_types::types::whole_type;
-use fut_token::{Fixed, Token};
-use fut_tree::{Label, Spec, SpecForm, TypeExp};
 
 /// Members of a module type, each read by what reads one.
 #[derive(Clone, Copy)]

@@ -11,11 +11,11 @@ ghost use Rattle.fut_tree.specs.Names.{maybe};
 use crate::cycle::{module_parameter, module_type};
 use bumpalo::Bump;
 use fut_grammar::Stop;
+use fut_token::{Fixed, Token};
+use fut_tree::{ModType, Param};
 use parse_types::found::Found;
 use parse_types::lists::{BeginItem, ReadItem, many};
 use parse_types::tokens::{greater, rest_of, starts_with};
-use fut_token::{Fixed, Token};
-use fut_tree::{ModType, Param};
 
 /// Parameters of a module in a declaration, as many as stand there.
 pub fn module_params<'a>(

@@ -9,10 +9,10 @@ ghost use Rattle.parse_module_types.specs.MtypeTie.{Law, Mtype_law};
 ghost use Rattle.parse_types.specs.Found.{tree_found};
 
 use fut_grammar::Stop;
-use parse_types::found::Found;
-use parse_types::tokens::{refused, rest_of, starts_with};
 use fut_token::{Fixed, Token};
 use fut_tree::{ModType, Spec};
+use parse_types::found::Found;
+use parse_types::tokens::{refused, rest_of, starts_with};
 
 /// What is read as a module type.
 pub type ModTypeAnswer<'a> = Result<Found<'a, &'a ModType<'a>>, Stop>;

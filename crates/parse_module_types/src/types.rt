@@ -16,6 +16,8 @@ use crate::tie::{ModTypeAnswer, ReadMember, ReadModType, whole_behind};
 use bumpalo::Bump;
 use fut_ast::Spot;
 use fut_grammar::{Fault, Stop};
+use fut_token::{Fixed, Token};
+use fut_tree::{Label, ModType, ModTypeForm, Param, TypeExp, With};
 use parse_types::found::Found;
 use parse_types::lists::{BeginItem, ReadItem, many, several};
 use parse_types::tokens::{
@@ -23,8 +25,6 @@ use parse_types::tokens::{
     take, take_path, take_word,
 };
 use parse_types::types::{applied_type, whole_type};
-use fut_token::{Fixed, Token};
-use fut_tree::{Label, ModType, ModTypeForm, Param, TypeExp, With};
 
 /// Any module type.
 #[tactic(auto, unfolding(fut_grammar::specs::Phrases::whole_mtype_at))]

@@ -10,10 +10,10 @@ ghost use Rattle.fut_tree.specs.Pats.{heads_of};
 
 use crate::exp_nodes::{function, name_let, name_used, updated};
 use bumpalo::Bump;
-use parse_types::lists::led_by;
-use parse_types::pat_nodes;
 use fut_scalar::{NoMemory, Place};
 use fut_tree::{Bind, Exp, Head, Held, Pat, TypeExp};
+use parse_types::lists::led_by;
+use parse_types::pat_nodes;
 
 /// A function's name is bound to a function.
 pub fn function_bound<'a>(

@@ -8,9 +8,9 @@ ghost use Rattle.fut_tree.specs.Names.{all, maybe, names};
 
 use bumpalo::Bump;
 use fut_ast::{End, Oper};
-use parse_types::pat_nodes;
 use fut_scalar::{IntType, NoMemory, Place};
 use fut_tree::{Bind, Exp, ExpField, Form, Held, Ix, Pat, TypeExp};
+use parse_types::pat_nodes;
 
 /// An expression that the arena holds. A form is handed over inside its expression alone: by itself it is dear to prove.
 pub fn held<'a>(bump: &'a Bump, e: Exp<'a>) -> Result<&'a Exp<'a>, NoMemory>

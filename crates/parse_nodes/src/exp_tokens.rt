@@ -37,11 +37,11 @@ ghost use Rattle.fut_grammar.specs.Reading.{Gives, digits_at, end_at, look_at, o
 
 use fut_ast::{End, Ended, Spot, What};
 use fut_grammar::{Fault, Stop};
+use fut_token::{Fixed, Token, TokenKind};
 use parse_types::tokens::{
     begins_parameter, begins_pattern, next_spot, refused, rest_of, starts_with, starts_with_int,
     starts_with_word, take_number, take_word_before,
 };
-use fut_token::{Fixed, Token, TokenKind};
 
 fn stands_tight(tokens: &[Token]) -> bool
     ensures { result ≡ is_tight tokens.now }

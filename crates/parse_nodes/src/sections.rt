@@ -21,10 +21,10 @@ use crate::exp_nodes::{function, function_of_name, let_name, path};
 use crate::joins::{NameAt, join_names, join_uses};
 use crate::new_names::{FIRST_NAME, HELD_NAME, SECOND_NAME};
 use bumpalo::Bump;
-use parse_types::pat_nodes;
 use fut_scalar::{NoMemory, Place};
 use fut_token::Fixed;
 use fut_tree::{Exp, Held};
+use parse_types::pat_nodes;
 
 /// An operator alone in parentheses.
 pub fn operator_alone<'a>(

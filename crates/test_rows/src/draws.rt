@@ -6,8 +6,8 @@ use crate::runs::row::Row;
 use crate::stage::Came;
 use crate::tally::Tally;
 use crate::texts::Text;
-use test_shown::Shown;
 use std::alloc::Global;
+use test_shown::Shown;
 
 /// How many texts are drawn, of how many pieces, and the state that the drawing begins with.
 #[derive(Clone, Copy)]

@@ -9,8 +9,8 @@ use fut_parser::parse;
 use fut_scalar::Place;
 use fut_tree::{Held, Program};
 use module_elab::{ModErr, PRELUDE, PRELUDE_PATH, SourceSet, elaborate};
-use test_shown::{Shown, show_flat, show_types};
 use std::alloc::Global;
+use test_shown::{Shown, show_flat, show_types};
 
 /// Answers a text with its flat program, or with the types of its definitions.
 #[derive(Clone, Copy)]

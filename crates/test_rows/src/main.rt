@@ -27,10 +27,10 @@ use crate::scalars::Scalars;
 use crate::tally::Tally;
 use crate::tokens::Tokens;
 use crate::trees::Trees;
-use test_shown::Shown;
 use std::alloc::Global;
 use std::process::ExitCode;
 use std::{env, fs, io};
+use test_shown::Shown;
 
 /// Goes through the rows of a text by what answers them.
 fn check_by<A: Answers + Drop>(alloc: Global, answers: A, text: &[u8], tally: &mut Tally) {

@@ -3,8 +3,8 @@ use crate::fault::Wrong;
 use crate::parts::Parts;
 use crate::tally::Tally;
 use crate::texts::{Text, add_text, expand, is_answer, is_comment, is_text};
-use test_shown::Shown;
 use std::alloc::Global;
+use test_shown::Shown;
 
 /// What answers the texts of rows.
 pub trait Answers {

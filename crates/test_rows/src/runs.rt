@@ -9,8 +9,8 @@ use crate::runs::row::Row;
 use crate::stage::{Came, Stage};
 use crate::tally::Tally;
 use fut_scalar::NoMemory;
-use test_shown::Shown;
 use std::alloc::Global;
+use test_shown::Shown;
 
 /// How many bytes the lines before the first blank one have, with their ends.
 fn row_length(text: &[u8]) -> usize {

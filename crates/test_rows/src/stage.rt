@@ -3,8 +3,8 @@ use crate::texts::Text;
 use fut_io::{MemLoader, MemSink, MemSource, MemWords};
 use futhark_command::run_command_line;
 use futhark_status::code;
-use test_shown::Shown;
 use std::alloc::Global;
+use test_shown::Shown;
 
 /// What came of a call: its status, and what it wrote on out and on err.
 #[derive(Drop)]

@@ -2,8 +2,8 @@
 use crate::rows::Answers;
 use fut_lexer::{LexErr, Token, TokenKind, lex};
 use fut_token::{Lift, fixed_text};
-use test_shown::Shown;
 use std::alloc::Global;
+use test_shown::Shown;
 
 /// The most bytes of a text that is cut into tokens.
 pub const MOST_BYTES: usize = 4_194_304;

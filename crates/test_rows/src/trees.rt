@@ -7,8 +7,8 @@ use bumpalo::Bump;
 use fut_ast::form_name;
 use fut_lexer::{Token, lex};
 use fut_parser::{ParseErr, parse};
-use test_shown::{Shown, show_program};
 use std::alloc::Global;
+use test_shown::{Shown, show_program};
 
 /// What stands around each text, in lines of its own, and around the tree of each.
 #[derive(Clone, Copy)]

@@ -3,13 +3,13 @@
 use crate::flat::refs::show_bind;
 use crate::line::Shown;
 use crate::texts::scalar_text;
+use flat_numbers::places;
 use fut_flat::{Definition, Flat};
 use fut_scalar::{IntType, List, ScalarType};
 use fut_types::{Head, Kind};
 use std::alloc::Global;
 use type_graph::Form;
 use type_infer::{InferErr, infer, new_inference};
-use flat_numbers::places;
 use type_schemes::PartForm;
 use type_scopes::{Inference, Known};
 

@@ -18,11 +18,11 @@ use crate::setting::Setting;
 use crate::uses::use_name;
 use fut_flat::{Act, Exp, Form, Head, Let, Loop, LoopForm, Pat, PatForm, Ref};
 use fut_scalar::{BindId, List, Place, ScalarType};
-use type_scopes::{enter_parameters, generalise};
 use type_graph::UnifyErr;
 use type_rules::{Demand, application, carried, choice, counted, gone_over};
 use type_scopes::{
-    Inference, Known, demand, enter, enter_pattern, enter_sizes, mark_of, take_back,
+    Inference, Known, demand, enter, enter_parameters, enter_pattern, enter_sizes, generalise,
+    mark_of, take_back,
 };
 
 /// Asks for the rules of all numbers of an expression, which begin at `lo`. The answer is where they end.

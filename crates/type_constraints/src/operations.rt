@@ -14,10 +14,8 @@ use crate::setting::Setting;
 use fut_flat::Act;
 use std::alloc::Global;
 use type_graph::UnifyErr;
-use type_rules::label;
 use type_patterns::{constrain_ascription, constrain_fields};
-use type_rules::{array, index, tuple, update_at};
-use type_rules::{projection, replacement};
+use type_rules::{array, index, label, projection, replacement, tuple, update_at};
 use type_scopes::{Inference, demand};
 
 /// How many numbers an operation has beside those of its parts.

@@ -11,10 +11,10 @@ ghost use Rattle.type_graph.specs.Graph.{Each, IsTask, Tables, IsMaker, Told, Ho
 ghost use Rattle.type_graph.specs.Claims.{Sound, Extends, Adds, Nowhere, Allowed, Bears, Stands, new_node, parameter_node, links, types_of};
 
 use crate::levels::lower;
+use crate::{Entry, FAR, Form, Node, Task, UnifyErr, solve};
 use fut_scalar::List;
 use fut_types::{Head, Kind, ShapeTable};
 use std::alloc::Global;
-use crate::{Entry, FAR, Form, Node, Task, UnifyErr, solve};
 
 /// A graph has no more nodes than this: more is want of memory, before the machine is full.
 pub const MOST_NODES: usize = 33554432;

@@ -10,10 +10,10 @@ ghost use Rattle.type_graph.specs.Graph.{IsGraph, IsMaker, Tables, Told, Solved,
 ghost use Rattle.type_graph.specs.Claims.{Sound};
 ghost use Rattle.type_graph.specs.Levels.{Over, Lowered};
 
+use crate::{Entry, Form, Node, Task, UnifyErr, find, node_of, solve};
 use fut_scalar::List;
 use fut_types::{Head, Kind, ShapeTable};
 use std::alloc::Global;
-use crate::{Entry, Form, Node, Task, UnifyErr, find, node_of, solve};
 
 fn deeper(one: u32, other: u32) -> u32
     ensures one { one ≤ result }

@@ -37,13 +37,17 @@ mod roots;
 mod steps;
 mod tasks;
 
+pub use claims::{
+    MOST_NODES, assert_made, assert_parameter, assert_task, push_node, push_parameter,
+};
 use fut_scalar::{List, NoMemory};
 use fut_types::{Head, Kind, ShapeTable};
-use steps::step;
-
-pub use claims::{MOST_NODES, assert_made, assert_parameter, assert_task, push_node, push_parameter};
-pub use resolving::{Mark, Step, is_fixed, parameters_may_be_read_otherwise, resolve, settled_graphs_have_solutions, settled_types_are_principal};
+pub use resolving::{
+    Mark, Step, is_fixed, parameters_may_be_read_otherwise, resolve, settled_graphs_have_solutions,
+    settled_types_are_principal,
+};
 pub use roots::{find, node_of, put};
+use steps::step;
 pub use tasks::entry_of;
 
 /// The level of a node that nothing outside a definition has touched.

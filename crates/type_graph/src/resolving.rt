@@ -14,9 +14,9 @@ ghost use Rattle.type_graph.specs.Filling.{Fills};
 ghost use Rattle.type_graph.specs.Rereading.{Bears_it, Deeper, Left, Rereads};
 ghost use Rattle.type_graph.specs.declared.resolving.Mark.TheVariants as mark;
 
+use crate::{Entry, Form, Node, UnifyErr, entry_of, find, node_of};
 use fut_scalar::{List, NoMemory};
 use std::alloc::Global;
-use crate::{Entry, Form, Node, UnifyErr, entry_of, find, node_of};
 
 /// How far the walk has come with a node: not seen, on the way to its parts, or done.
 #[derive(Clone, Copy)]

@@ -24,12 +24,12 @@ mod types;
 use crate::graph::build;
 use crate::refusals::BuildErr;
 pub use begin::new_inference;
+use flat_numbers::homes;
 use fut_flat::Flat;
 use fut_scalar::List;
 use fut_types::Kind;
 use std::alloc::Global;
 use type_answers::undetermined;
-use flat_numbers::homes;
 use type_scopes::Inference;
 pub use types::{general_type_at, type_at};
 

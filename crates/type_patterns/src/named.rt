@@ -11,8 +11,8 @@ use fut_flat::Ref;
 use fut_scalar::{BindId, IntType, ScalarType};
 use std::alloc::Global;
 use type_graph::UnifyErr;
-use type_schemes::instance;
 use type_rules::Demand;
+use type_schemes::instance;
 use type_scopes::{Inference, Known, known_of};
 
 /// Asks that a node has a type at which a name of the program may be used.

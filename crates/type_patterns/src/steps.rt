@@ -11,8 +11,7 @@ ghost use Rattle.type_patterns.specs.Asking.{Added, Asked, Unasked};
 
 use std::alloc::Global;
 use type_graph::UnifyErr;
-use type_rules::{push_own, tuple};
-use type_rules::{Demand, put};
+use type_rules::{Demand, push_own, put, tuple};
 use type_scopes::Inference;
 
 /// Adds free nodes. The answer is the number of the first.

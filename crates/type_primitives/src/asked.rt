@@ -7,8 +7,7 @@ ghost use Rattle.type_primitives.specs.Uses.{asked, node, nodes};
 use fut_primitives::{Letter, Scalars, Written};
 use fut_scalar::List;
 use type_graph::UnifyErr;
-use type_rules::push_demand;
-use type_rules::Demand;
+use type_rules::{Demand, push_demand};
 
 /// The node of a type, and the first number behind those of its parts.
 #[derive(Clone, Copy)]

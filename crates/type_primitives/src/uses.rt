@@ -13,8 +13,7 @@ use fut_scalar::List;
 use fut_types::{Kind, ShapeTable};
 use std::alloc::Global;
 use type_graph::{Entry, Node, UnifyErr};
-use type_rules::{push_demand, put_own};
-use type_rules::Demand;
+use type_rules::{Demand, push_demand, put_own};
 
 // The first nodes are of a kind.
 fn push_variables(

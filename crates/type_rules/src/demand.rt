@@ -8,8 +8,7 @@ ghost use Rattle.type_rules.specs.Demands.{All_allow, All_met, Allows, Are_deman
 use fut_scalar::{List, ScalarType};
 use fut_types::{Head, Kind, ShapeTable};
 use std::alloc::Global;
-use type_graph::{assert_made, assert_task};
-use type_graph::{Entry, FAR, Node, Task, UnifyErr};
+use type_graph::{Entry, FAR, Node, Task, UnifyErr, assert_made, assert_task};
 
 /// What is demanded of the types of nodes, which are given by their numbers.
 #[derive(Clone, Copy)]

@@ -35,7 +35,7 @@ mod spelled;
 
 pub use demand::{Demand, put};
 pub use forms::{application, carried, choice, counted, gone_over};
-pub use label_table::{a_table_goes_on_to_names};
+pub use label_table::a_table_goes_on_to_names;
 pub use labels::{Labels, label, no_labels, no_shapes};
 pub use lists::{push_demand, push_same};
 pub use names::labelled;

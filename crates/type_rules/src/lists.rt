@@ -7,11 +7,11 @@ ghost use Rattle.type_graph.specs.Graph.{Tells};
 ghost use Rattle.type_rules.specs.declared.demand.Demand.TheVariants as demand;
 ghost use Rattle.type_rules.specs.Lists.{all_same, all_sizes, function_demands, index_demands, left_demand, update_demands};
 
+use crate::Demand;
 use fut_flat::Part;
 use fut_scalar::{IntType, List, ScalarType};
 use fut_types::Kind;
 use type_graph::UnifyErr;
-use crate::Demand;
 
 pub fn push_demand(demands: &mut List<Demand>, demand: Demand) -> Result<(), UnifyErr>
     ensures ok { OnOk result (demands.new ≡ demands.old ++ demand ∷ []) }

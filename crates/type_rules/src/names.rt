@@ -4,10 +4,10 @@ ghost use Rattle.fut_flat.specs.Erased.{texts};
 ghost use Rattle.type_rules.specs.Labels.{Goes_on, IsLabels};
 ghost use Rattle.type_rules.specs.Fields.{Numbered};
 
+use crate::{Labels, label};
 use fut_scalar::{List, NoMemory};
 use fut_types::ShapeTable;
 use std::alloc::Global;
-use crate::{Labels, label};
 
 /// The number of each name.
 pub fn labelled<'a>(

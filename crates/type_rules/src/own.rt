@@ -6,12 +6,11 @@ ghost use Rattle.type_graph.specs.Claims.{Sound, Extends, Adds, Nowhere};
 ghost use Rattle.type_rules.specs.Demands.{All_allow};
 ghost use Rattle.type_rules.specs.Own.{All_own, Freed, Met_beside};
 
+use crate::{Demand, put};
 use fut_scalar::List;
 use fut_types::ShapeTable;
 use std::alloc::Global;
-use type_graph::push_node;
-use type_graph::{Entry, Form, Node, UnifyErr};
-use crate::{Demand, put};
+use type_graph::{Entry, Form, Node, UnifyErr, push_node};
 
 /// Adds free nodes.
 pub fn push_own(nodes: &mut List<Node>, count: u32) -> Result<(), UnifyErr>

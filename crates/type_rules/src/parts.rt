@@ -8,13 +8,11 @@ ghost use Rattle.fut_types.specs.declared.Head.TheVariants as head;
 ghost use Rattle.type_rules.specs.Demands.{All_allow, All_met, Are_demands};
 ghost use Rattle.type_rules.specs.Records.{Has_parts, part_demands};
 
+use crate::{Demand, push_demand, push_own, put};
 use fut_scalar::List;
 use fut_types::{Head, ShapeTable};
 use std::alloc::Global;
-use type_graph::assert_made;
-use type_graph::{Entry, Node, UnifyErr};
-use crate::{push_demand, push_own};
-use crate::{Demand, put};
+use type_graph::{Entry, Node, UnifyErr, assert_made};
 
 fn count_up(alloc: Global, first: u32, count: u32) -> Result<List<u32>, UnifyErr>
     requires { first + count < 4294967295 }

@@ -11,6 +11,7 @@ ghost use Rattle.type_rules.specs.declared.demand.Demand.TheVariants as demand;
 ghost use Rattle.type_rules.specs.Lists.{all_same, all_sizes, function_demands, index_demands, update_demands};
 ghost use Rattle.fut_types.specs.declared.Kind.{Kind as TheKind};
 
+use crate::Demand;
 use crate::lists::{
     push_demand, push_function, push_index, push_same, push_sizes, push_update, takes,
 };
@@ -19,9 +20,7 @@ use fut_flat::Part;
 use fut_scalar::List;
 use fut_types::{Head, Kind, ShapeTable};
 use std::alloc::Global;
-use type_graph::assert_made;
-use type_graph::{Entry, Node, UnifyErr};
-use crate::Demand;
+use type_graph::{Entry, Node, UnifyErr, assert_made};
 
 /// A tuple: its type is made of those of its parts.
 pub fn tuple(

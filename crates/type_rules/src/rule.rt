@@ -10,11 +10,11 @@ ghost use Rattle.type_rules.specs.Fields.{Row_is};
 use crate::names::labelled;
 use crate::order::ascending;
 use crate::parts::put_record;
+use crate::{Labels, record};
 use fut_scalar::{List, NoMemory};
 use fut_types::ShapeTable;
 use std::alloc::Global;
 use type_graph::{Entry, Node, UnifyErr};
-use crate::{Labels, record};
 
 // The number of the record with these labels, or nothing where one stands twice.
 fn number_of_row(

@@ -10,12 +10,11 @@ ghost use Rattle.type_graph.specs.Claims.{Sound, Extends, Inside, Adds, Nowhere}
 ghost use Rattle.type_schemes.specs.Schemes.{PartWithin, PartKnown, Region, Known};
 ghost use Rattle.type_schemes.specs.Instances.{IsUse, IsLabelled, asked, Pushes, Use, Uses, Instanced, Frees};
 
+use crate::{Part, PartForm, part_of};
 use fut_scalar::List;
 use fut_types::ShapeTable;
 use std::alloc::Global;
-use type_graph::push_node;
-use type_graph::{Entry, FAR, Form, Node, Task, UnifyErr, solve as bring_about};
-use crate::{Part, PartForm, part_of};
+use type_graph::{Entry, FAR, Form, Node, Task, UnifyErr, push_node, solve as bring_about};
 
 fn push_task(tasks: &mut List<Task>, task: Task) -> Result<(), UnifyErr>
     ensures ok { OnOk result (tasks.new ≡ tasks.old ++ task ∷ []) }

@@ -26,10 +26,9 @@ mod uses;
 
 use fut_scalar::List;
 use fut_types::{Head, Kind};
+pub use instances::instance;
 use type_graph::{Entry, Form, Node, UnifyErr, entry_of, find, node_of};
-
-pub use instances::{instance};
-pub use uses::{definitions_are_generalised};
+pub use uses::definitions_are_generalised;
 
 /// The types of all definitions have no more parts than this: more is want of memory, before the machine is full.
 pub const MOST_PARTS: usize = 16777216;

@@ -5,7 +5,6 @@
 // been copied, its uses are the instances of the copy (`specs/Uses.antt`).
 ghost use Rattle.type_schemes.specs.Uses.{Law};
 
-
 /// What is told of a definition where it ends: its uses, and whether it is generalised.
 pub fn definitions_are_generalised()
     ensures { Law }

@@ -5,10 +5,9 @@ ghost use Rattle.type_graph.specs.Claims.{Sound};
 ghost use Rattle.type_scopes.specs.Table.{seat_at};
 ghost use Rattle.type_scopes.specs.Definitions.{Deep, Escapes, Generalises};
 
-use type_graph::UnifyErr;
-use type_graph::is_fixed;
-use type_schemes::scheme;
 use crate::{Inference, Known, enter, seat_of};
+use type_graph::{UnifyErr, is_fixed};
+use type_schemes::scheme;
 
 // Whether a type parameter is fixed by what stands at a depth or outside.
 fn escapes(own: &[u32], depth: u32, inference: &Inference) -> bool

@@ -16,17 +16,16 @@ mod parameters;
 mod patterns;
 mod steps;
 
+pub use ending::generalise;
 use fut_scalar::List;
 use fut_types::ShapeTable;
-use type_graph::{Entry, Node};
-use type_rules::Labels;
-use type_schemes::Part;
-
-pub use ending::generalise;
 pub use names::{Known, Past, Seat, enter, known_of, mark_of, note_seat, seat_of, take_back};
 pub use parameters::enter_parameters;
 pub use patterns::{enter_pattern, enter_patterns, enter_sizes};
 pub use steps::demand;
+use type_graph::{Entry, Node};
+use type_rules::Labels;
+use type_schemes::Part;
 
 /// What inference works on. It grows while a program is gone over.
 #[derive(Drop)]

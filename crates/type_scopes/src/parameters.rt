@@ -7,12 +7,11 @@ ghost use Rattle.type_schemes.specs.Uses.{type_numbers};
 ghost use Rattle.type_scopes.specs.Scopes.{Safe};
 ghost use Rattle.type_scopes.specs.Parameters.{Meets_all, Meets_one, Met_type};
 
+use crate::{Inference, Known, Seat, enter, note_seat};
 use fut_flat::{Head, HeadForm};
 use fut_scalar::List;
 use fut_types::Kind;
-use type_graph::push_parameter;
-use type_graph::UnifyErr;
-use crate::{Inference, Known, Seat, enter, note_seat};
+use type_graph::{UnifyErr, push_parameter};
 
 // The types that a type parameter stands for.
 fn kind_of(places: Kind, lifted: bool) -> Kind

@@ -4,8 +4,8 @@ ghost use Rattle.std.specs.List.{All};
 ghost use Rattle.typed_programs.specs.Trees.{Definition_built};
 ghost use Rattle.typed_programs.specs.Built.{Numbers_rise};
 
-use crate::operations::heads_are_built;
 use crate::built_terms::exp_is_built;
+use crate::operations::heads_are_built;
 use fut_flat::Definition;
 
 /// Whether all definitions have only forms that are built.

@@ -9,10 +9,10 @@ ghost use Rattle.typed_programs.specs.Entries.{Because, Is_outside, Is_unwritten
 ghost use Rattle.typed_programs.specs.EntryTypes.{number_of};
 
 use crate::forms::{function_of, scalar_of, tuple_of};
+use flat_numbers::homes;
 use fut_flat::Flat;
 use fut_scalar::{List, ScalarType};
 use std::alloc::Global;
-use flat_numbers::homes;
 use type_infer::general_type_at;
 use type_scopes::Inference;
 

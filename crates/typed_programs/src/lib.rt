@@ -22,7 +22,7 @@ mod operations;
 mod positions;
 mod typed;
 
-pub use built::{is_built};
+pub use built::is_built;
 pub use entries::{EntryType, EntryTypeErr, entry_type};
 pub use integers::{IntegersErr, integer_types};
 pub use typed::{Accepted, TypeErr, typed_program};

@@ -6,14 +6,13 @@ ghost use Rattle.type_scopes.specs.declared.Inference.{Inference as TheInference
 ghost use Rattle.typed_programs.specs.Known.{Knows};
 ghost use Rattle.typed_programs.specs.Mistyped.{Mistyped};
 
-use crate::is_built;
+use crate::{integer_types, is_built};
+use flat_numbers::places;
 use fut_flat::Flat;
 use fut_scalar::{IntType, List, Place};
 use std::alloc::Global;
 use type_infer::{InferErr, infer, new_inference};
-use flat_numbers::places;
 use type_scopes::Inference;
-use crate::integer_types;
 
 /// A program that has a typing.
 #[derive(Drop)]

@@ -9,9 +9,9 @@ ghost use Rattle.unfold_program.specs.Answers.{Argued, Closed_to, Operated_to, S
 
 use crate::walked::{Branch, Parts, Walked};
 use bumpalo::Bump;
+use flat_numbers::after_exp;
 use fut_blocks::{Act, Step};
 use fut_flat::{Act as Operation, Exp, Ref};
-use flat_numbers::after_exp;
 use fut_scalar::{IntType, Place};
 use unfold::{Function, Known, Scope};
 use unfold_parts::{Refusal, Tops, Unfolding, bind, known_use, lay, operate};

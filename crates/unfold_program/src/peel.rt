@@ -3,8 +3,8 @@ ghost use Rattle.std.specs.Prelude.{◌≡◌, ◌+◌, IfOk};
 ghost use Rattle.fut_flat.specs.Erased.{term_of};
 ghost use Rattle.unfold_program.specs.Answers.{Peeled_to, is_declared};
 
-use fut_flat::{Act, Exp, Form};
 use flat_numbers::after;
+use fut_flat::{Act, Exp, Form};
 use unfold_parts::Refusal;
 
 /// An expression, the number of its node, and the next one, which a node inside may have.

@@ -14,13 +14,13 @@ ghost use Rattle.unfold_program.specs.Whole.{All_applied, Are_scalars, Defined_t
 use crate::walk::{apply, walk};
 use crate::walked::{Context, Setting};
 use bumpalo::Bump;
+use flat_numbers::{after, after_exp};
 use fut_blocks::{Atom, Program};
 use fut_flat::{Definition, Flat};
-use flat_numbers::{after, after_exp};
 use fut_scalar::{BindId, IntType, Scalar, ScalarType};
-use unfold_reach::{above, reached};
 use unfold::{Known, KnownForm, Scope};
 use unfold_parts::{Refusal, Tops, Unfolding, lay};
+use unfold_reach::{above, reached};
 
 /// What is known of some definitions, and the number of the next one.
 #[derive(Drop)]

@@ -13,11 +13,11 @@ ghost use Rattle.unfolded_runs.specs.Prepared.{Is_blocks, Is_past, Is_prepared};
 ghost use Rattle.unfolded_runs.specs.declared.preparing.PrepareErr.TheVariants as prepare_err;
 
 use bumpalo::Bump;
-use typed_programs::Accepted;
 use fut_blocks::Program;
 use fut_flat::Flat;
 use fut_meaning::{MeasureErr, Measured};
 use fut_scalar::{BindId, IntType, ScalarType};
+use typed_programs::Accepted;
 use unfold_measure::measure;
 use unfold_program::{Refusal, unfold};
 

@@ -18,8 +18,7 @@ use fut_types::{Head, Kind, ShapeTable};
 use load::{load, variables};
 use read::read_back;
 use std::alloc::Global;
-use type_graph::UnifyErr;
-use type_graph::resolve;
+use type_graph::{UnifyErr, resolve};
 
 /// A type: a variable, by its number, or made by a head of parts.
 #[derive(Drop)]

@@ -12,8 +12,7 @@ use crate::{Known, Subst, Ty};
 use fut_scalar::List;
 use fut_types::ShapeTable;
 use std::alloc::Global;
-use type_graph::{assert_task, push_node};
-use type_graph::{Entry, FAR, Form, Node, Task, UnifyErr};
+use type_graph::{Entry, FAR, Form, Node, Task, UnifyErr, assert_task, push_node};
 
 // So many nodes of which nothing is known.
 pub fn variables(alloc: Global, count: u32) -> Result<List<Node>, UnifyErr>

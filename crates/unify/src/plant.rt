@@ -11,8 +11,7 @@ use crate::Ty;
 use fut_scalar::List;
 use fut_types::{Head, ShapeTable};
 use std::alloc::Global;
-use type_graph::{assert_made, push_node};
-use type_graph::{Entry, Form, Node, UnifyErr};
+use type_graph::{Entry, Form, Node, UnifyErr, assert_made, push_node};
 
 // A node for a type that a head makes of those of others.
 fn plant_made(
