@@ -11,7 +11,7 @@ use crate::refusal::Refusal;
 use crate::table::Names;
 use fut_flat::Ref;
 use fut_primitives::{member_of, primitive_of, scalar_of};
-use fut_scalar::Place;
+use fut_scalar::{Place, ScalarType};
 
 /// What a path names, how many of its names are modules, and the fields that are left.
 #[derive(Clone, Copy)]

@@ -4,13 +4,21 @@ ghost use Rattle.fut_scalar.specs.Reports.{kind_of};
 
 use crate::{Place, ScalarFault};
 
-/// What a running program fails by. Further kinds come with the forms that can fail so.
+/// What a running program fails by.
 #[derive(Clone, Copy, Debug, PartialEq, Eq)]
 pub enum FailKind {
+    /// An index or an end of a slice is out of range, or there is no row where one is wanted.
+    Bounds,
     Division,
     Power,
     /// The condition of an `assert` is false.
     Assert,
+    /// Sizes differ.
+    Size,
+    /// A range leads nowhere, or a size is negative.
+    Range,
+    /// The weight of an array is greater than the greatest.
+    TooLarge,
     /// A `while` loop needs more turns than the budget has.
     Turns,
 }

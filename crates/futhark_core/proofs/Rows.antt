@@ -37,6 +37,8 @@ module _ (asked : Command) (source : Source) (e : Entered) (ready : IsReady aske
   unread (text.BadText at) bytes read short x out = record { entered = e; ready = ready; bytes = bytes; read = read; short = short; refuses = rw same x; out = out }
   unread (text.WrongType at) bytes read short x out = record { entered = e; ready = ready; bytes = bytes; read = read; short = short; refuses = rw same x; out = out }
   unread (text.OutOfRange at) bytes read short x out = record { entered = e; ready = ready; bytes = bytes; read = read; short = short; refuses = rw same x; out = out }
+  unread (text.Irregular at) bytes read short x out = record { entered = e; ready = ready; bytes = bytes; read = read; short = short; refuses = rw same x; out = out }
+  unread (text.TooLarge at) bytes read short x out = record { entered = e; ready = ready; bytes = bytes; read = read; short = short; refuses = rw same x; out = out }
   unread (text.Missing param) bytes read short x out = record { entered = e; ready = ready; bytes = bytes; read = read; short = short; refuses = rw same x; out = out }
   unread (text.Extra at) bytes read short x out = record { entered = e; ready = ready; bytes = bytes; read = read; short = short; refuses = rw same x; out = out }
 
@@ -50,7 +52,11 @@ module _ (asked : Command) (source : Source) (e : Entered) (ready : IsReady aske
     by_kind : (kind : FailKind) (report : Report) (path : List ℕ) → report.kind ≡ kind → ComesTo asked source old.input new.input (Fails report) → path ≡ asked.file → new.out ≡ old.out → ProgramRow (kind_status kind report path) asked source old new
     by_kind fail.Division report path k c is out = ((λ t. absurd (let z : fail.Division ≡ fail.Turns = sym k ∙ t in cc)), record { path_is = is; comes = c; out = out })
     by_kind fail.Power report path k c is out = ((λ t. absurd (let z : fail.Power ≡ fail.Turns = sym k ∙ t in cc)), record { path_is = is; comes = c; out = out })
+    by_kind fail.Bounds report path k c is out = ((λ t. absurd (let z : fail.Bounds ≡ fail.Turns = sym k ∙ t in cc)), record { path_is = is; comes = c; out = out })
     by_kind fail.Assert report path k c is out = ((λ t. absurd (let z : fail.Assert ≡ fail.Turns = sym k ∙ t in cc)), record { path_is = is; comes = c; out = out })
+    by_kind fail.Size report path k c is out = ((λ t. absurd (let z : fail.Size ≡ fail.Turns = sym k ∙ t in cc)), record { path_is = is; comes = c; out = out })
+    by_kind fail.Range report path k c is out = ((λ t. absurd (let z : fail.Range ≡ fail.Turns = sym k ∙ t in cc)), record { path_is = is; comes = c; out = out })
+    by_kind fail.TooLarge report path k c is out = ((λ t. absurd (let z : fail.TooLarge ≡ fail.Turns = sym k ∙ t in cc)), record { path_is = is; comes = c; out = out })
     by_kind fail.Turns report path k c is out = (k, record { path_is = is; comes = c; out = out })
 
     pub unevaluated : (err : EvalErr) (path : List ℕ) → Evaluates asked.turns p arguments (Err err) → path ≡ asked.file → new.out ≡ old.out → ProgramRow (failed_status err path) asked source old new

@@ -49,9 +49,13 @@ fn report_status(report: Report, path: Name) -> Status
 {
     match report.kind {
         FailKind::Turns => Status::Turns(report, path),
-        FailKind::Division => Status::Failure(report, path),
-        FailKind::Power => Status::Failure(report, path),
-        FailKind::Assert => Status::Failure(report, path),
+        FailKind::Bounds
+        | FailKind::Division
+        | FailKind::Power
+        | FailKind::Assert
+        | FailKind::Size
+        | FailKind::Range
+        | FailKind::TooLarge => Status::Failure(report, path),
     }
 }
 

@@ -125,15 +125,21 @@ abbrev pub input_line : TextErr → Line
 input_line (text.BadText position) = Counted (codes "input: ") position (codes ": bad text")
 input_line (text.WrongType position) = Counted (codes "input: ") position (codes ": wrong type")
 input_line (text.OutOfRange position) = Counted (codes "input: ") position (codes ": number out of range")
+input_line (text.Irregular position) = Counted (codes "input: ") position (codes ": rows of different length")
+input_line (text.TooLarge position) = Counted (codes "input: ") position (codes ": too large")
 input_line (text.Missing param) = Counted (codes "input: parameter ") param (codes " is missing")
 input_line (text.Extra position) = Counted (codes "input: ") position (codes ": extra text")
 input_line text.Memory = Nothing
 
 -- what a failure is called
 abbrev pub kind_text : FailKind → List ℕ
+kind_text kind.Bounds = codes "index out of bounds"
 kind_text kind.Division = codes "division by zero"
 kind_text kind.Power = codes "negative exponent"
 kind_text kind.Assert = codes "assertion failed"
+kind_text kind.Size = codes "size mismatch"
+kind_text kind.Range = codes "bad range"
+kind_text kind.TooLarge = codes "array too large"
 kind_text kind.Turns = codes "turns spent"
 
 abbrev pub line_form : Status → Line

@@ -126,6 +126,8 @@ fn input_line(reason: TextErr) -> Line<'static>
         TextErr::BadText { at } => Line::Counted(b"input: ", at, b": bad text"),
         TextErr::WrongType { at } => Line::Counted(b"input: ", at, b": wrong type"),
         TextErr::OutOfRange { at } => Line::Counted(b"input: ", at, b": number out of range"),
+        TextErr::Irregular { at } => Line::Counted(b"input: ", at, b": rows of different length"),
+        TextErr::TooLarge { at } => Line::Counted(b"input: ", at, b": too large"),
         TextErr::Missing { param } => Line::Counted(b"input: parameter ", param, b" is missing"),
         TextErr::Extra { at } => Line::Counted(b"input: ", at, b": extra text"),
         TextErr::Memory => Line::Nothing,
@@ -137,9 +139,13 @@ fn kind_text(kind: FailKind) -> &'static [u8]
     ensures { result.now ≡ kind_text kind }
 {
     match kind {
+        FailKind::Bounds => b"index out of bounds",
         FailKind::Division => b"division by zero",
         FailKind::Power => b"negative exponent",
         FailKind::Assert => b"assertion failed",
+        FailKind::Size => b"size mismatch",
+        FailKind::Range => b"bad range",
+        FailKind::TooLarge => b"array too large",
         FailKind::Turns => b"turns spent",
     }
 }
