@@ -12,6 +12,13 @@ pub enum Dim {
     Unknown(NodeId, u32),
 }
 
+/// A type of scalars, or of arrays of scalars of so many dimensions, without their sizes.
+#[derive(Clone, Copy, Debug, PartialEq, Eq)]
+pub struct DataType {
+    pub elem: ScalarType,
+    pub rank: u32,
+}
+
 /// The type of an argument or a result of an entry: a scalar where it has no sizes, else an array of scalars.
 #[derive(Debug, Drop)]
 pub struct ArgType {
