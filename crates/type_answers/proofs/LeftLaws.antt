@@ -16,7 +16,7 @@ use Rattle.type_graph.specs.State.{Tops, State}
 use Rattle.type_graph.proofs.Cases.{each_append, each_left, each_right}
 use Rattle.type_graph.proofs.StateLaws.{each_map}
 use Rattle.type_graph.specs.Resolving.{resolved, Stable, Loose}
-use Rattle.type_graph.proofs.Resolving.{loose_stable, made_stable, top_stable}
+use Rattle.type_graph.proofs.Resolution.{loose_stable, made_stable, top_stable}
 use Rattle.type_answers.specs.Left.{Undecided, IsUndecided, Stands_in_type, made_parts, seen_at, with_seen, On, Seen}
 
 -- rows of numbers, one by one

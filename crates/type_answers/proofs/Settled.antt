@@ -10,7 +10,7 @@ use Rattle.type_graph.specs.declared.Node.{Node}
 use Rattle.type_graph.specs.Graph.{node_at, Tables, Plain, Readable, Each, Names, Shows, Solves, IsGraph, parts_of}
 use Rattle.type_graph.specs.State.{State}
 use Rattle.type_graph.specs.Resolving.{resolved, in_reading, noted, Settled, SettledIn}
-use Rattle.type_graph.proofs.Resolving.{stable, factors, plain_types, loose_stable, instance_solves, respects_noted}
+use Rattle.type_graph.proofs.Resolution.{stable, factors, plain_types, loose_stable, instance_solves, respects_noted}
 use Rattle.type_graph.specs.Claims.{Inside, Possible}
 use Rattle.type_answers.specs.Settled.{form_opens, opens_below, Tells_all, Law}
 use Rattle.type_answers.proofs.Opens.{all_each, each_all, chain_met, chain_named, pairs_below, opens_at, opens_each}

@@ -11,7 +11,7 @@ use Rattle.type_graph.specs.declared.Entry.{Entry}
 use Rattle.type_graph.specs.Graph.{node_at, Tables, Solves}
 use Rattle.type_graph.specs.Resolving.{resolved, noted, Settled, Loose}
 use Rattle.type_graph.specs.Filling.{Filled}
-use Rattle.type_graph.proofs.Resolving.{stable, factors, plain_types, vars_home, respects_noted}
+use Rattle.type_graph.proofs.Resolution.{stable, factors, plain_types, vars_home, respects_noted}
 use Rattle.type_graph.proofs.Filling.{filled}
 use Rattle.type_graph.specs.Claims.{Possible}
 use Rattle.type_answers.specs.Left.{Undecided, IsUndecided, Decided}

@@ -7,7 +7,7 @@ pub mod Cases
 pub mod Reducing
 pub mod Ends
 pub mod Loop
-pub mod Resolving
+pub mod Resolution
 pub mod Marks
 pub mod Walking
 pub mod Replacing

@@ -15,7 +15,7 @@ use Rattle.type_graph.proofs.StateLaws.{each_map}
 use Rattle.type_graph.specs.declared.resolving.Mark.{Mark}
 use Rattle.type_graph.specs.declared.resolving.Mark.TheVariants as mark
 use Rattle.type_graph.specs.Resolving.{Settled, SettledIn, Founded, Walked, mark_at, with_mark, white, whites}
-use Rattle.type_graph.proofs.Resolving.{settled_loose, settled_made, settled_up, each_number, smaller}
+use Rattle.type_graph.proofs.Resolution.{settled_loose, settled_made, settled_up, each_number, smaller}
 
 pub mark_same : (marks : List Mark) (i : ℕ) (x : Mark) → i < length marks → mark_at (with_mark marks i x) i ≡ x
 unfolding mark_at with_mark

@@ -30,7 +30,7 @@ use Rattle.type_graph.specs.declared.Entry.{Entry}
 use Rattle.type_graph.specs.Graph.{far, node_at, Tables, Meeting}
 use Rattle.type_graph.specs.State.{Backed}
 use Rattle.type_graph.specs.Resolving.{resolved, noted, Stable, Loose}
-use Rattle.type_graph.proofs.Resolving.{factors, plain_types, vars_home}
+use Rattle.type_graph.proofs.Resolution.{factors, plain_types, vars_home}
 use Rattle.type_graph.specs.Claims.{Possible}
 use Rattle.flat_numbers.specs.Listed.{Program_homed}
 use Rattle.type_scopes.specs.declared.Inference.{Inference}

@@ -15,7 +15,7 @@ use Rattle.type_graph.specs.declared.Entry.{Entry}
 use Rattle.type_graph.specs.Graph.{node_at, entry_at, Each, Reading, Tables, read, type_made, Listed, children, chained, Names, All_named, Shows, Solves, Within, IsGraph, IsBound, AreEntries, IsRoot, IsMaker, IsParameter}
 use Rattle.type_graph.specs.State.{State, form_cap}
 use Rattle.type_graph.specs.Rereading.{Apart}
-use Rattle.type_graph.proofs.Resolving.{at_top}
+use Rattle.type_graph.proofs.Resolution.{at_top}
 use Rattle.type_schemes.specs.declared.PartForm.{PartForm}
 use Rattle.type_schemes.specs.declared.PartForm.TheVariants as part
 use Rattle.type_schemes.specs.declared.Part.{Part}

@@ -19,7 +19,7 @@ use Rattle.type_graph.specs.State.{AtLeast, AtMost, State, form_cap}
 use Rattle.type_graph.proofs.PartLaws.{reads, within_parts}
 use Rattle.type_graph.proofs.Ends.{starts}
 use Rattle.type_graph.specs.Rereading.{Apart}
-use Rattle.type_graph.proofs.Resolving.{at_number, at_top}
+use Rattle.type_graph.proofs.Resolution.{at_number, at_top}
 use Rattle.type_graph.proofs.Marks.{small_parts}
 use Rattle.type_graph.proofs.Replacing.{chain_put, chain_names, chain_rank, chain_same, chain_agree}
 

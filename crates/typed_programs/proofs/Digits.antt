@@ -5,7 +5,7 @@ use Rattle.std.specs.List.{All}
 use Rattle.fut_ast.specs.Sorts.{Text}
 use Rattle.fut_typing.specs.Names.{Digits, Spells}
 use Rattle.typed_programs.specs.Trees.{Is_digit}
-use Rattle.typed_programs.proofs.Forms.{first_of, others, all_more}
+use Rattle.typed_programs.proofs.FormLaws.{first_of, others, all_more}
 
 digits_spell : (before : ℕ) (cs : Text) → All Is_digit cs → (n : ℕ) × Digits before cs n
 unfolding Is_digit

@@ -1,9 +1,9 @@
 pub mod Integral
-pub mod Typed
+pub mod TypedLaws
 pub mod Reading
 pub mod EntryTypes
 pub mod Using
-pub mod Forms
+pub mod FormLaws
 pub mod Names
 pub mod Digits
 pub mod Numbered

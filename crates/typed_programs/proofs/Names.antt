@@ -13,7 +13,7 @@ use Rattle.type_soundness.specs.Meant.{No_sizes}
 use Rattle.type_soundness.specs.Programs.{None_has, One_each}
 use Rattle.typed_programs.specs.Trees.{Heads_built}
 use Rattle.typed_programs.specs.Built.{Numbers_rise}
-use Rattle.typed_programs.proofs.Forms.{first_of, others, all_more}
+use Rattle.typed_programs.proofs.FormLaws.{first_of, others, all_more}
 
 abbrev pub Is_type : HeadForm → Type 0
 Is_type (head.Size b) = ⊥

@@ -37,7 +37,7 @@ use Rattle.type_soundness.specs.Programs.{Definitions_meant, None_has, One_each}
 use Rattle.typed_programs.specs.EntryTypes.{scalar_tys, Results_are, Has_entry_type, number_of}
 use Rattle.typed_programs.specs.Entries.{Type_is, No_entry_type, May_be_used, Is_unwritten, Is_outside}
 use Rattle.typed_programs.proofs.EntryTypes.{parameters_data, results_data}
-use Rattle.typed_programs.proofs.Typed.{typing_holds}
+use Rattle.typed_programs.proofs.TypedLaws.{typing_holds}
 
 suits_none : (places : Kind) (K : Kinds) (c : Sub) (ps : List (Parameter BindId)) → has_types ps ≡ false → Suits places K c ps
 suits_none places K c [] h = tt

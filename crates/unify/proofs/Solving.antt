@@ -18,7 +18,7 @@ use Rattle.type_graph.proofs.Loop.{self_tables, told_self}
 use Rattle.type_graph.specs.Claims.{Sound}
 use Rattle.type_graph.proofs.Grown.{lt_or}
 use Rattle.type_graph.specs.Resolving.{type_of as type_of_form, resolved, noted, SettledIn, Settled}
-use Rattle.type_graph.proofs.Resolving.{stable, link_stable, made_stable, loose_stable, has_stable}
+use Rattle.type_graph.proofs.Resolution.{stable, link_stable, made_stable, loose_stable, has_stable}
 use Rattle.unify.specs.declared.Ty.{Ty as Tree}
 use Rattle.unify.specs.declared.Ty.TheVariants as tree
 use Rattle.unify.specs.declared.Known.{Known}

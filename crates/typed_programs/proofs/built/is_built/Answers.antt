@@ -1,4 +1,4 @@
-use Rattle.typed_programs.proofs.Forms.{definitions_meant, definitions_walkable, definitions_were}
+use Rattle.typed_programs.proofs.FormLaws.{definitions_meant, definitions_walkable, definitions_were}
 use Rattle.typed_programs.proofs.built.is_built.Goals as goal
 
 pub returns-then-are_built : goal.returns-then-are_built

@@ -1,4 +1,4 @@
-use Rattle.typed_programs.proofs.Forms.{was_use, was_strict, was_lambda, was_apply, was_lets, was_if, was_loop, loop_was, was_counted, was_while, never_over, none_more, built_use, built_strict, built_lambda, built_apply, built_lets, built_if, built_loop, loop_built, built_counted, built_while}
+use Rattle.typed_programs.proofs.FormLaws.{was_use, was_strict, was_lambda, was_apply, was_lets, was_if, was_loop, loop_was, was_counted, was_while, never_over, none_more, built_use, built_strict, built_lambda, built_apply, built_lets, built_if, built_loop, loop_built, built_counted, built_while}
 use Rattle.typed_programs.proofs.built_terms.+term.Goals as goal
 
 pub exp_is_built-returns-in-Use : goal.exp_is_built-returns-in-Use

@@ -2,7 +2,7 @@ use Rattle.std.proofs.Common.{length}
 use Rattle.type_infer.specs.Inferring.{Told_by}
 use Rattle.typed_programs.specs.Typed.{Nodes_tell, Typed_by}
 use Rattle.typed_programs.proofs.Reading.{if_ok}
-use Rattle.typed_programs.proofs.Typed.{program_typed}
+use Rattle.typed_programs.proofs.TypedLaws.{program_typed}
 use Rattle.typed_programs.proofs.integers.integer_types.Goals as goal
 
 pub returns-clause-ok : goal.returns-clause-ok

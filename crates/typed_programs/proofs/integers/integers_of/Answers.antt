@@ -2,7 +2,7 @@ use Rattle.std.proofs.Common.{◌≡◌, ◌+◌, length, sym, ◌∙◌, ap, ar
 use Rattle.std.proofs.lemmas.List.{length-append}
 use Rattle.type_infer.specs.Reading.{Comes_to}
 use Rattle.typed_programs.proofs.Reading.{integer_tells}
-use Rattle.typed_programs.proofs.Typed.{nodes_more}
+use Rattle.typed_programs.proofs.TypedLaws.{nodes_more}
 use Rattle.typed_programs.proofs.integers.integers_of.Goals as goal
 
 pub loop-node-preserved : goal.loop-node-preserved
