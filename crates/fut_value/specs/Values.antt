@@ -1,49 +1,67 @@
--- The shape of a value, and values that are well formed: scalars fit their types, each row of an array has the row
--- shape, and each dimension, those of row shapes among them, is below 2^63.
-use Rattle.std.specs.Prelude.{◌≡◌, ◌<◌, ◌^◌, List, [], ◌∷◌, length}
-use Rattle.fut_scalar.specs.Integers.{FitsType}
-use Rattle.fut_scalar.specs.declared.scalar.Scalar.{Scalar}
-use Rattle.fut_scalar.specs.declared.scalar.Scalar.TheVariants as scalar
-use Rattle.fut_scalar.specs.declared.scalar.ScalarType.TheVariants as type
-use Rattle.fut_value.specs.declared.shape.Shape.{Shape, Shape-F, rec-Shape}
-use Rattle.fut_value.specs.declared.shape.Shape.TheVariants as shape
-use Rattle.fut_value.specs.declared.value.Value.{Value, Value-F, fold-Value, rec-Value}
+-- Flat values: the type of the scalars, the sizes of the levels from the outermost inwards, and the words of the scalars, those of
+-- the first row first. What such a value stands for is plain data.
+use Rattle.std.specs.Prelude.{◌≡◌, ℕ, zero, suc, ◌*◌, ◌<◌, ◌^◌, max, List, [], ◌∷◌, All, length, map, take, drop}
+use Rattle.fut_scalar.specs.Integers.{width_of}
+use Rattle.fut_scalar.specs.declared.scalar.ScalarType.{ScalarType}
+use Rattle.fut_scalar.specs.declared.scalar.ScalarType.TheVariants as sort
+use Rattle.fut_arithmetic.specs.Words.{scalar_of_word}
+use Rattle.fut_value.specs.Data as plain
+use Rattle.fut_value.specs.Data.{Datum, Scalar_datum, Array_datum, datums}
+use Rattle.fut_value.specs.declared.shape.Shape.{Shape}
+use Rattle.fut_value.specs.declared.value.Value.{Value}
 
-abbrev pub scalar_shape : Scalar → Shape
-scalar_shape (scalar.Int ty bits) = shape.Scalar (type.Int ty)
-scalar_shape (scalar.Bool b) = shape.Scalar type.Bool
+-- ---- sizes
 
-abbrev pub shape_step : Value-F Shape → Shape
-shape_step (Value-F.Scalar s) = scalar_shape s
-shape_step (Value-F.Tuple parts) = shape.Tuple parts
-shape_step (Value-F.Record fields) = shape.Record fields
-shape_step (Value-F.Array row rows) = shape.Array (length rows) row
+-- how many scalars an array of these sizes has
+abbrev pub product : List ℕ → ℕ
+product [] = 1
+product (n ∷ ns) = n * product ns
 
--- the shape of a value
-abbrev pub shape_of : Value → Shape
-shape_of = fold-Value Shape shape_step
+-- the greatest product of sizes from the outermost one on
+abbrev pub weight_of : List ℕ → ℕ
+weight_of [] = 1
+weight_of (n ∷ ns) = n * max 1 (weight_of ns)
 
-abbrev pub Each : {X : Type 0} → (X → Type 0) → List X → Type 0
-Each P [] = Unit {0}
-Each P (x ∷ xs) = P x × Each P xs
+abbrev pub greatest_weight : ℕ
+greatest_weight = 33554432
 
-abbrev pub Fits_step : (X : Type 0) → (X → Shape) → (X → Type 0) → Shape-F X → Type 0
-Fits_step X at Fits (Shape-F.Scalar t) = Unit {0}
-Fits_step X at Fits (Shape-F.Tuple parts) = Each Fits parts
-Fits_step X at Fits (Shape-F.Record fields) = Each (λ f. Fits f.1) fields
-Fits_step X at Fits (Shape-F.Array dim row) = (dim < 2 ^ 63) × Fits row
+-- the shape of data of these sizes
+abbrev pub shape_with : ScalarType → List ℕ → plain.Shape
+shape_with ty [] = plain.Scalar_shape ty
+shape_with ty (n ∷ ns) = plain.Array_shape n (shape_with ty ns)
 
--- each dimension of a shape is below 2^63
-abbrev pub Fits_dimensions : Shape → Type 0
-Fits_dimensions = rec-Shape (Type 0) Fits_step
+abbrev pub shape_in : Shape → plain.Shape
+shape_in shape = shape_with shape.elem shape.sizes
 
-abbrev pub Formed_step : (X : Type 0) → (X → Value) → (X → Type 0) → Value-F X → Type 0
-Formed_step X at Formed (Value-F.Scalar s) = FitsType s
-Formed_step X at Formed (Value-F.Tuple parts) = Each Formed parts
-Formed_step X at Formed (Value-F.Record fields) = Each (λ f. Formed f.1) fields
-Formed_step X at Formed (Value-F.Array row rows) =
-    (length rows < 2 ^ 63) × Fits_dimensions row × Each (λ r. Formed r × (shape_of (at r) ≡ row)) rows
+-- ---- data
 
--- a value is well formed
-abbrev pub IsWellFormed : Value → Type 0
-IsWellFormed = rec-Value (Type 0) Formed_step
+-- words in so many parts of one length
+abbrev pub cut : (count : ℕ) → (length : ℕ) → List ℕ → List (List ℕ)
+cut zero length words = []
+cut (suc n) length words = take length words ∷ cut n length (drop length words)
+
+abbrev pub first_word : List ℕ → ℕ
+first_word [] = 0
+first_word (w ∷ ws) = w
+
+-- the data of these sizes and words
+abbrev pub datum_with : ScalarType → List ℕ → List ℕ → Datum
+datum_with ty [] words = Scalar_datum (scalar_of_word ty (first_word words))
+datum_with ty (n ∷ ns) words = Array_datum (shape_with ty ns) (datums (map (datum_with ty ns) (cut n (product ns) words)))
+
+-- what a value stands for
+abbrev pub datum_of : Value → Datum
+datum_of value = datum_with value.shape.elem value.shape.sizes value.words
+
+-- ---- well formed
+
+-- how many words are scalars of a type
+abbrev pub word_count : ScalarType → ℕ
+word_count (sort.Int ty) = 2 ^ width_of ty
+word_count sort.Bool = 2
+
+-- as many words as the sizes say, each of the type, and each size below 2^63
+pub record IsWellFormed (value : Value) : Type 0 where
+  pub all : length value.words ≡ product value.shape.sizes
+  pub fit : All (λ w. w < word_count value.shape.elem) value.words
+  pub below : All (λ n. n < 2 ^ 63) value.shape.sizes

@@ -1,11 +1,14 @@
-//! Values of the language and their shapes, as programs take and give them. An array holds its rows and their shape,
-//! so that an empty one has a shape too.
+//! Values as programs take and give them: scalars, and arrays of scalars of any rank. A value is flat, the type of its
+//! scalars, the sizes of its levels and the words of its scalars in order, so copying and reading go over one list. What it
+//! stands for is plain data (`specs/Data.antt`), an array as the shape of its rows and its rows (`specs/Values.antt`).
 #![tactic(auto)]
 
 mod copy;
+mod laws;
 mod shape;
 mod value;
 
 pub use copy::copy_value;
-pub use shape::Shape;
-pub use value::Value;
+pub use laws::values_have_their_shapes;
+pub use shape::{GREATEST_WEIGHT, Shape, weight, weight_of, weight_of_rows};
+pub use value::{Value, as_scalar, value_of};

@@ -39,6 +39,7 @@ module _ (asked : Command) (source : Source) (e : Entered) (ready : IsReady aske
   unread (text.OutOfRange at) bytes read short x out = record { entered = e; ready = ready; bytes = bytes; read = read; short = short; refuses = rw same x; out = out }
   unread (text.Irregular at) bytes read short x out = record { entered = e; ready = ready; bytes = bytes; read = read; short = short; refuses = rw same x; out = out }
   unread (text.TooLarge at) bytes read short x out = record { entered = e; ready = ready; bytes = bytes; read = read; short = short; refuses = rw same x; out = out }
+  unread (text.SizeClash param have want) bytes read short x out = record { entered = e; ready = ready; bytes = bytes; read = read; short = short; refuses = rw same x; out = out }
   unread (text.Missing param) bytes read short x out = record { entered = e; ready = ready; bytes = bytes; read = read; short = short; refuses = rw same x; out = out }
   unread (text.Extra at) bytes read short x out = record { entered = e; ready = ready; bytes = bytes; read = read; short = short; refuses = rw same x; out = out }
 

@@ -23,7 +23,7 @@ use futhark_status::{EntryErr, LimitKind, Status};
 use std::alloc::Global;
 use typed_programs::{EntryType, EntryTypeErr, entry_type};
 use unfolded_runs::{PrepareErr, prepare};
-use value_text::{print_values, read_args};
+use value_text::{print_scalars, read_scalars};
 
 /// The most bytes of the input.
 const MOST_INPUT_BYTES: u64 = 67_108_864;
@@ -54,7 +54,7 @@ fn run_ready<S: Source, K: Sink>(
         },
         Err(ReadErr::Memory) => return Status::Memory,
     };
-    let arguments = match read_args(alloc, params, bytes.as_slice()) {
+    let arguments = match read_scalars(alloc, params, bytes.as_slice()) {
         Ok(arguments) => arguments,
         Err(err) => return input_status(err),
     };
@@ -62,7 +62,7 @@ fn run_ready<S: Source, K: Sink>(
         Ok(results) => results,
         Err(err) => return failed_status(err, path),
     };
-    let Ok(text) = print_values(alloc, results.as_slice()) else {
+    let Ok(text) = print_scalars(alloc, results.as_slice()) else {
         return Status::Memory;
     };
     match write_all(out, &text) {

@@ -1,23 +1,26 @@
 -- What comes on err.
 use Rattle.std.specs.Prelude.{◌≡◌, ◌⊎◌, ℕ, List, decimal}
+use Rattle.std.specs.Fmt.{signed_decimal}
 use Rattle.fut_io.specs.Outside.{SinkSeen, Took, TookPart}
-use Rattle.futhark_status.specs.Status.{Line, Nothing, Said, Counted, Named, Placed, line_of}
+use Rattle.futhark_status.specs.Status.{Line, Nothing, Said, Counted, Clashing, Named, Placed, line_of}
 use Rattle.futhark_status.specs.declared.line.Line.{Line as HeldLine}
 use Rattle.futhark_status.specs.declared.line.Line.TheVariants as held
 use Rattle.futhark_status.specs.declared.pieces.Piece.{Piece}
-use Rattle.futhark_status.specs.declared.pieces.Piece.TheVariants.{Text, Number}
+use Rattle.futhark_status.specs.declared.pieces.Piece.TheVariants.{Text, Number, Signed}
 use Rattle.futhark_status.specs.declared.status.Status.{Status}
 use Rattle.futhark_status.specs.declared.status.Status.TheVariants.{Done}
 
 abbrev pub piece_bytes : Piece → List ℕ
 piece_bytes (Text text) = text.now
 piece_bytes (Number n) = decimal n
+piece_bytes (Signed z) = signed_decimal z
 
 -- what a line that code holds says
 abbrev pub line_in : HeldLine → Line
 line_in held.Nothing = Nothing
 line_in (held.Said said) = Said said.now
 line_in (held.Counted before number behind) = Counted before.now number behind.now
+line_in (held.Clashing param have want) = Clashing param have want
 line_in (held.Named before name behind) = Named before.now name.now behind.now
 line_in (held.Placed path place before name behind) = Placed path.now place before.now name.now behind.now
 

@@ -1,5 +1,6 @@
 -- The number of each status, which is the program's exit status, and its line on err.
-use Rattle.std.specs.Prelude.{ℕ, List, [], ◌∷◌, ◌==◌, cond, codes, decimal, flat_map}
+use Rattle.std.specs.Prelude.{ℕ, ℤ, List, [], ◌∷◌, ◌==◌, cond, codes, decimal, flat_map}
+use Rattle.std.specs.Fmt.{signed_decimal}
 use Rattle.fut_scalar.specs.declared.place.Place.{Place}
 use Rattle.fut_lexer.specs.declared.lexer.LexErr.{LexErr}
 use Rattle.fut_lexer.specs.declared.lexer.LexErr.TheVariants as lex
@@ -46,6 +47,8 @@ pub data Line : Type 0 where
   Said : List ℕ → Line
   -- a number between texts
   Counted : List ℕ → ℕ → List ℕ → Line
+  -- the size of a parameter that is another one than is wanted
+  Clashing : (param have : ℕ) → (want : ℤ) → Line
   -- a text between texts
   Named : List ℕ → List ℕ → List ℕ → Line
   -- what is said of a place of a file, with a name inside
@@ -69,6 +72,8 @@ abbrev pub bytes_of : Line → List ℕ
 bytes_of Nothing = joined []
 bytes_of (Said said) = joined (beginning ∷ said ∷ newline ∷ [])
 bytes_of (Counted before number behind) = joined (beginning ∷ before ∷ decimal number ∷ behind ∷ newline ∷ [])
+bytes_of (Clashing param have want) =
+    joined (beginning ∷ codes "input: size of parameter " ∷ decimal param ∷ codes ": have " ∷ decimal have ∷ codes ", want " ∷ signed_decimal want ∷ newline ∷ [])
 bytes_of (Named before name behind) = joined (beginning ∷ before ∷ name ∷ behind ∷ newline ∷ [])
 bytes_of (Placed path place before name behind) =
     joined (beginning ∷ path_at place path ∷ codes ":" ∷ decimal place.line ∷ codes ":" ∷ decimal place.column ∷ codes ": " ∷ before ∷ name ∷ behind ∷ newline ∷ [])
@@ -127,6 +132,7 @@ input_line (text.WrongType position) = Counted (codes "input: ") position (codes
 input_line (text.OutOfRange position) = Counted (codes "input: ") position (codes ": number out of range")
 input_line (text.Irregular position) = Counted (codes "input: ") position (codes ": rows of different length")
 input_line (text.TooLarge position) = Counted (codes "input: ") position (codes ": too large")
+input_line (text.SizeClash param have want) = Clashing param have want
 input_line (text.Missing param) = Counted (codes "input: parameter ") param (codes " is missing")
 input_line (text.Extra position) = Counted (codes "input: ") position (codes ": extra text")
 input_line text.Memory = Nothing

@@ -21,6 +21,8 @@ pub enum Line<'a> {
     Said(&'a [u8]),
     /// A number between texts.
     Counted(&'a [u8], u64, &'a [u8]),
+    /// The size of a parameter that is another one than is wanted.
+    Clashing { param: u64, have: u64, want: i64 },
     /// A text between texts.
     Named(&'a [u8], &'a [u8], &'a [u8]),
     /// What is said of a place of a file, with a name inside.
@@ -128,6 +130,7 @@ fn input_line(reason: TextErr) -> Line<'static>
         TextErr::OutOfRange { at } => Line::Counted(b"input: ", at, b": number out of range"),
         TextErr::Irregular { at } => Line::Counted(b"input: ", at, b": rows of different length"),
         TextErr::TooLarge { at } => Line::Counted(b"input: ", at, b": too large"),
+        TextErr::SizeClash { param, have, want } => Line::Clashing { param, have, want },
         TextErr::Missing { param } => Line::Counted(b"input: parameter ", param, b" is missing"),
         TextErr::Extra { at } => Line::Counted(b"input: ", at, b": extra text"),
         TextErr::Memory => Line::Nothing,

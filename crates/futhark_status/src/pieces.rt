@@ -3,7 +3,7 @@ ghost use Rattle.std.specs.Prelude.{flat_map, map, OnOk, OnErr};
 ghost use Rattle.fut_io.specs.Outside.{Took, TookPart};
 ghost use Rattle.futhark_status.specs.Report.{line_in, piece_bytes};
 ghost use Rattle.std.specs.Prelude.{◌∷◌, ◌≡◌, []};
-ghost use Rattle.futhark_status.specs.Status.{beginning, bytes_of, joined, newline, path_at, Placed};
+ghost use Rattle.futhark_status.specs.Status.{beginning, bytes_of, joined, Clashing, newline, path_at, Placed};
 
 use crate::line::Line;
 use fut_io::{Failed, Sink, write_all};
@@ -15,6 +15,7 @@ use itoa::Buffer;
 pub enum Piece<'a> {
     Text(&'a [u8]),
     Number(u64),
+    Signed(i64),
 }
 
 fn write_piece<E: Sink>(err: &mut E, piece: &Piece) -> Result<(), Failed>
@@ -24,6 +25,10 @@ fn write_piece<E: Sink>(err: &mut E, piece: &Piece) -> Result<(), Failed>
     match piece {
         Piece::Text(text) => write_all(err, text),
         Piece::Number(number) => {
+            let mut buffer = Buffer::new();
+            write_all(err, buffer.format(*number).as_bytes())
+        }
+        Piece::Signed(number) => {
             let mut buffer = Buffer::new();
             write_all(err, buffer.format(*number).as_bytes())
         }
@@ -110,6 +115,26 @@ fn write_around<'a, E: Sink>(
     )
 }
 
+/// Writes what is said of a size that is another one than is wanted.
+fn write_clash<E: Sink>(err: &mut E, param: u64, have: u64, want: i64) -> Result<(), Failed>
+    ensures ok { OnOk result (Took (E.seen err.old) (E.seen err.new) (bytes_of (Clashing param have want))) }
+    ensures failed { OnErr result (TookPart (E.seen err.old) (E.seen err.new) (bytes_of (Clashing param have want))) }
+{
+    write_pieces(
+        err,
+        &[
+            Piece::Text(b"futhark: "),
+            Piece::Text(b"input: size of parameter "),
+            Piece::Number(param),
+            Piece::Text(b": have "),
+            Piece::Number(have),
+            Piece::Text(b", want "),
+            Piece::Signed(want),
+            Piece::Text(b"\n"),
+        ],
+    )
+}
+
 /// Writes a line.
 pub fn write_line<'a, E: Sink>(err: &mut E, line: Line<'a>) -> Result<(), Failed>
     ensures ok { OnOk result (Took (E.seen err.old) (E.seen err.new) (bytes_of (line_in line.entry))) }
@@ -128,6 +153,7 @@ pub fn write_line<'a, E: Sink>(err: &mut E, line: Line<'a>) -> Result<(), Failed
         Line::Counted(before, number, behind) => {
             write_around(err, before, Piece::Number(number), behind)
         }
+        Line::Clashing { param, have, want } => write_clash(err, param, have, want),
         Line::Named(before, name, behind) => write_around(err, before, Piece::Text(name), behind),
         Line::Placed(path, place, before, name, behind) => {
             write_placed(err, path, place, before, name, behind)

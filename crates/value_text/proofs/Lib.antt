@@ -5,6 +5,14 @@ pub mod Dimensions
 pub mod Integers
 pub mod RoundTrip
 pub mod Texts
+pub mod WrittenSizes
+pub mod Agreed
 pub mod Sound
-pub mod Weights
 pub mod Rows
+pub mod Emptied
+pub mod ReadEmpty
+pub mod ArgumentValues
+pub mod Printed
+pub mod Formed
+pub mod Spelt
+pub mod ReadBack

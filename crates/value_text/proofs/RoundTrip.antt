@@ -17,8 +17,8 @@ use Rattle.fut_scalar.specs.declared.scalar.ScalarType.TheVariants as sort
 use Rattle.fut_arithmetic.specs.Types.{type_of}
 use Rattle.name_characters.specs.Names.{goes_on_name}
 use Rattle.value_text.specs.Claims.{TextReadsBack, OutputReadsBack}
-use Rattle.value_text.specs.Grammar.{nothing, blank, closed, in_comment, All_in_number, value_on, IsNumber, Spells, truth, falsehood, integer, Text, ended, value_and}
-use Rattle.value_text.specs.Numbers.{digit_of, ends_in_underscore, is_in_number, starts_digit}
+use Rattle.value_text.specs.Grammar.{nothing, blank, closed, in_comment, All_in_number, IsNumber, Spells, truth, falsehood, integer, Text, ended, value_and}
+use Rattle.value_text.specs.Numbers.{digit_of, ends_in_underscore, is_in_number, starts_digit, value_on}
 use Rattle.value_text.specs.Printing.{text_of, output_of}
 use Rattle.value_text.specs.Reading.{may_be, signed, value_in}
 use Rattle.value_text.specs.Words.{is_digit, name_goes_on, name_of}
@@ -29,12 +29,12 @@ use Rattle.value_text.proofs.Texts.{texts_are_read}
 
 -- ---- decimal digits
 
-abbrev IsDigits : List ℕ → Type 0
+abbrev pub IsDigits : List ℕ → Type 0
 IsDigits [] = Unit {0}
 IsDigits (c ∷ cs) = IsInRange 48 57 c × IsDigits cs
 
 module _ (c : ℕ) (r : IsInRange 48 57 c) where
-  digit : is_digit c ≡ true
+  pub digit : is_digit c ≡ true
   digit = ap (λ t. t && nat_le c 57) (le-leb 48 c r.0) ∙ le-leb c 57 r.1
 
   in_number : is_in_number Decimal c ≡ true
@@ -52,7 +52,7 @@ module _ (c : ℕ) (r : IsInRange 48 57 c) where
       let next : 10 * n + digit_of c ≡ n * 10 + (c - 48) = omega (arith, e) in
       ap (λ t. cond t (value_on Decimal n cs) (value_on Decimal (10 * n + digit_of c) cs)) no_underscore ∙ ap (λ m. value_on Decimal m cs) next
 
-own : IsNumeralModel IsDigits (value_on Decimal 0)
+pub own : IsNumeralModel IsDigits (value_on Decimal 0)
 own =
     numerals_by_fold IsDigits (record { empty = tt; parts = λ c cs p. p; more = λ c cs r p. (r, p) }) (value_on Decimal)
     (record { empty = λ n. refl; more = λ n c cs r. value_more c r n cs })

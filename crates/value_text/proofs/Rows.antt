@@ -17,6 +17,7 @@ carry x y f (text.WrongType at) h = f (text.WrongType at) h
 carry x y f (text.OutOfRange at) h = f (text.OutOfRange at) h
 carry x y f (text.Irregular at) h = f (text.Irregular at) h
 carry x y f (text.TooLarge at) h = f (text.TooLarge at) h
+carry x y f (text.SizeClash param have want) h = f (text.SizeClash param have want) h
 carry x y f (text.Missing param) h = f (text.Missing param) h
 carry x y f (text.Extra at) h = f (text.Extra at) h
 
@@ -27,6 +28,7 @@ refused_is x (text.WrongType at) h = h
 refused_is x (text.OutOfRange at) h = h
 refused_is x (text.Irregular at) h = h
 refused_is x (text.TooLarge at) h = h
+refused_is x (text.SizeClash param have want) h = h
 refused_is x (text.Missing param) h = h
 refused_is x (text.Extra at) h = h
 
@@ -37,7 +39,7 @@ err_on (Err e) f g d h = err_same e d h
     err_same e d h = cc
 err_on (Ok a) f g d h = ap (λ r. and_then r (g a)) h
 
-first_err : {A B : Type 0} (x : Result A TextErr) (f : A → Result B TextErr) (e : TextErr) → x ≡ Err e → and_then x f ≡ Err e
+pub first_err : {A B : Type 0} (x : Result A TextErr) (f : A → Result B TextErr) (e : TextErr) → x ≡ Err e → and_then x f ≡ Err e
 first_err x f e h = ap (λ r. and_then r f) h
 
 pub row_refused : (x : Result Read TextErr) (f : Read → Result (List ℕ) TextErr) (err : TextErr) → Refused_so x err → Refused_so (and_then x f) err

@@ -14,8 +14,8 @@ use Rattle.fut_scalar.specs.declared.scalar.ScalarType.TheVariants as sort
 use Rattle.value_text.specs.Claims.{OnlyTextsAreRead}
 use Rattle.value_text.specs.Empties.{empty_len}
 use Rattle.value_text.specs.Gaps.{is_blank, gap_at, gap_from, one_more}
-use Rattle.value_text.specs.Grammar.{IsLine, Gap, nothing, blank, comment, Last_gap, closed, in_comment, All_in_number, value_on, IsNumber, sign, prefix, suffix, Spells, truth, falsehood, integer, Text, ended, value_and}
-use Rattle.value_text.specs.Numbers.{base_at, digit_of, is_in_number, ends_in_underscore, number_len, number_on, number_of, number_at, prefix_of, radix, starts_digit}
+use Rattle.value_text.specs.Grammar.{IsLine, Gap, nothing, blank, comment, Last_gap, closed, in_comment, All_in_number, IsNumber, sign, prefix, suffix, Spells, truth, falsehood, integer, Text, ended, value_and}
+use Rattle.value_text.specs.Numbers.{base_at, digit_of, is_in_number, ends_in_underscore, number_len, number_on, number_of, number_at, prefix_of, radix, starts_digit, value_on}
 use Rattle.value_text.specs.Reading.{Reader, Values, in_range, may_be, nothing_at, signed, value_as, value_at, value_in, values_on, with_front, with_spelled, with_value}
 use Rattle.value_text.specs.Spelled.{empty_array, word_front, integer_at, integer_of_number, integer_of_suffix, spelled_at, spelled_by, unsigned_at, word_at}
 use Rattle.value_text.specs.Words.{is_digit, is_word, common, name_goes_on, name_of, suffix_at, suffix_of, type_at, type_front}
@@ -46,7 +46,7 @@ is_not false h = refl
 -- ---- blanks and comments
 
 -- what stands at the front of a text, outside of a comment
-data Gapped (bytes : List ℕ) : Type 0 where
+pub data Gapped (bytes : List ℕ) : Type 0 where
   gapped : (gap rest : List ℕ) → bytes ≡ gap ++ rest → Gap gap → gap_from false bytes ≡ length gap → Gapped bytes
   all_gap : Last_gap bytes → gap_from false bytes ≡ length bytes → Gapped bytes
 
@@ -121,7 +121,7 @@ mutual
 
 -- ---- words
 
-ok_is : {A B : Type 0} (x y : A) → ◌≡◌ {A = Result A B} (Ok x) (Ok y) → x ≡ y
+pub ok_is : {A B : Type 0} (x y : A) → ◌≡◌ {A = Result A B} (Ok x) (Ok y) → x ≡ y
 ok_is x y e = cc
 
 common_is : (bytes word : List ℕ) → common bytes word ≡ length word → bytes ≡ word ++ drop (length word) bytes
@@ -135,12 +135,12 @@ common_is (b ∷ bs) (c ∷ cs) h = by_test (b == c) refl h (common_is bs cs)
     by_test false e k more = absurd (omega arith)
 
 -- a word at the front, and what stands behind it
-record Stands (bytes word : List ℕ) : Type 0 where
+pub record Stands (bytes word : List ℕ) : Type 0 where
   pub rest : List ℕ
   pub is : bytes ≡ word ++ rest
   pub ends : name_goes_on rest ≡ false
 
-word_is : (bytes word : List ℕ) → is_word bytes word ≡ true → Stands bytes word
+pub word_is : (bytes word : List ℕ) → is_word bytes word ≡ true → Stands bytes word
 unfolding is_word
 word_is bytes word h =
     let rest = drop (length word) bytes in
@@ -321,7 +321,7 @@ unsigned_is minus bytes s h = by_number (number_at (base_at bytes) (minus + pref
     by_number (Ok m) e k = by_suffix m (suffix_at (drop m.length (drop (prefix_of (base_at bytes)) bytes))) (number_is (base_at bytes) (minus + prefix_of (base_at bytes)) (drop (prefix_of (base_at bytes)) bytes) m e) refl k
     by_number (Err a) e k = absurd cc
 
-record Integer_is (bytes : List ℕ) (s : Spelled) : Type 0 where
+pub record Integer_is (bytes : List ℕ) (s : Spelled) : Type 0 where
   pub negative : Bool
   pub base : Base
   pub digits : List ℕ
@@ -340,7 +340,7 @@ turned : (bytes : List ℕ) (s : Spelled) → Unsigned_is 1 bytes s → Integer_
 turned bytes s u =
     record { negative = true; base = u.base; digits = u.digits; named = u.named; rest = u.rest; is = ap (λ z. 45 ∷ z) u.is; number = u.number; ends = u.ends; form = u.form; long = u.long }
 
-integer_is : (bytes : List ℕ) (s : Spelled) → integer_at bytes ≡ Ok s → Integer_is bytes s
+pub integer_is : (bytes : List ℕ) (s : Spelled) → integer_at bytes ≡ Ok s → Integer_is bytes s
 unfolding integer_at
 integer_is [] s h = plain [] s (unsigned_is 0 [] s h)
 integer_is (b ∷ bs) s h = by_test (b == 45) refl h
@@ -351,7 +351,7 @@ integer_is (b ∷ bs) s h = by_test (b == 45) refl h
 
 -- ---- values
 
-record Value_is (ty : ScalarType) (bytes : List ℕ) (n : ℕ) (value : Scalar) : Type 0 where
+pub record Value_is (ty : ScalarType) (bytes : List ℕ) (n : ℕ) (value : Scalar) : Type 0 where
   pub word : List ℕ
   pub rest : List ℕ
   pub is : bytes ≡ word ++ rest
@@ -429,7 +429,7 @@ word_value ty position bytes s value h v = by_true (is_word bytes (codes "true")
         bool_value ty position true bytes (codes "true") s.length value truth w (sym (ap (λ z. z.length) o)) (ap (λ z. value_as ty position z.form) o ∙ v)
     by_true false e k = by_false (is_word bytes (codes "false")) refl k
 
-spelled_value : (ty : ScalarType) (position b : ℕ) (bytes : List ℕ) (s : Spelled) (value : Scalar) → spelled_by b bytes ≡ Ok s → value_as ty position s.form ≡ Ok value → Value_is ty bytes s.length value
+pub spelled_value : (ty : ScalarType) (position b : ℕ) (bytes : List ℕ) (s : Spelled) (value : Scalar) → spelled_by b bytes ≡ Ok s → value_as ty position s.form ≡ Ok value → Value_is ty bytes s.length value
 spelled_value ty position b bytes s value h v = by_bracket (b == 91) h
   where
     by_digit : (t : Bool) → cond t (integer_at bytes) (word_at bytes) ≡ Ok s → Value_is ty bytes s.length value

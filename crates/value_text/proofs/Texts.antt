@@ -12,8 +12,8 @@ use Rattle.fut_scalar.specs.declared.scalar.ScalarType.TheVariants as sort
 use Rattle.name_characters.specs.Names.{goes_on_name}
 use Rattle.value_text.specs.Claims.{TextsAreRead}
 use Rattle.value_text.specs.Gaps.{is_blank, begins_with, gap_at, gap_from, one_more}
-use Rattle.value_text.specs.Grammar.{IsLine, Gap, nothing, blank, comment, Last_gap, closed, in_comment, All_in_number, value_on, IsNumber, sign, prefix, suffix, Spells, truth, falsehood, integer, Text, ended, value_and}
-use Rattle.value_text.specs.Numbers.{base_at, digit_of, is_in_number, ends_in_underscore, number_len, number_on, number_at, prefix_of, radix, starts_digit}
+use Rattle.value_text.specs.Grammar.{IsLine, Gap, nothing, blank, comment, Last_gap, closed, in_comment, All_in_number, IsNumber, sign, prefix, suffix, Spells, truth, falsehood, integer, Text, ended, value_and}
+use Rattle.value_text.specs.Numbers.{base_at, digit_of, is_in_number, ends_in_underscore, number_len, number_on, number_at, prefix_of, radix, starts_digit, value_on}
 use Rattle.value_text.specs.Reading.{Reader, in_range, may_be, nothing_at, signed, value_as, value_at, value_in, values_on, with_front, with_spelled, with_value}
 use Rattle.value_text.specs.Spelled.{integer_at, minus_at, spelled_at, unsigned_at, word_at}
 use Rattle.value_text.specs.Words.{is_digit, is_word, common, name_goes_on, name_of, suffix_at, type_at}
@@ -42,7 +42,7 @@ right_holds true t e = refl
 right_holds false t e = e
 
 -- a byte of which a test holds is none of which it doesn't
-differs : (p : ℕ → Bool) (b c : ℕ) (s t : Bool) → p b ≡ s → p c ≡ t → (s ≡ t → ⊥) → (b == c) ≡ false
+pub differs : (p : ℕ → Bool) (b c : ℕ) (s t : Bool) → p b ≡ s → p c ≡ t → (s ≡ t → ⊥) → (b == c) ≡ false
 differs p b c s t e f apart = by_test (b == c) refl
   where
     by_test : (r : Bool) → (b == c) ≡ r → r ≡ false
@@ -92,7 +92,7 @@ module _ (base : Base) where
       by_base Hexadecimal = omega arith
       by_base Binary = omega arith
 
-  grows : (n : ℕ) (cs : List ℕ) → n ≤ value_on base n cs
+  pub grows : (n : ℕ) (cs : List ℕ) → n ≤ value_on base n cs
   grows n [] = omega arith
   grows n (c ∷ cs) = by_test (c == 95) (grows n cs) (grows (radix base * n + digit_of c) cs) (at_least n)
     where
@@ -126,7 +126,7 @@ module _ (base : Base) where
 
 -- ---- the type behind it
 
-none_common : (bytes : List ℕ) → common bytes [] ≡ 0
+pub none_common : (bytes : List ℕ) → common bytes [] ≡ 0
 none_common [] = refl
 none_common (b ∷ bs) = refl
 
@@ -140,7 +140,7 @@ name_common U16 rest = ap (λ n. 1 + (1 + (1 + n))) (none_common rest)
 name_common U32 rest = ap (λ n. 1 + (1 + (1 + n))) (none_common rest)
 name_common U64 rest = ap (λ n. 1 + (1 + (1 + n))) (none_common rest)
 
-type_is : (ty : IntType) (rest : List ℕ) → name_goes_on rest ≡ false → type_at (name_of ty ++ rest) ≡ Some ty
+pub type_is : (ty : IntType) (rest : List ℕ) → name_goes_on rest ≡ false → type_at (name_of ty ++ rest) ≡ Some ty
 unfolding type_at is_word
 type_is I8 rest z = rw (z, name_common I8 rest) refl
 type_is I16 rest z = rw (z, name_common I16 rest) refl
@@ -218,24 +218,24 @@ unsigned_is minus base digits named rest h z =
 -- ---- how values begin
 
 -- a digit of a base begins an integer
-digit_first : (base : Base) (digits tail : List ℕ) → IsNumber base digits → (c : ℕ) × (cs : List ℕ) × ((prefix base ++ (digits ++ tail)) ≡ c ∷ cs) × (is_digit c ≡ true)
+pub digit_first : (base : Base) (digits tail : List ℕ) → IsNumber base digits → (c : ℕ) × (cs : List ℕ) × ((prefix base ++ (digits ++ tail)) ≡ c ∷ cs) × (is_digit c ≡ true)
 digit_first Hexadecimal digits tail h = (48, 120 ∷ (digits ++ tail), refl, refl)
 digit_first Binary digits tail h = (48, 98 ∷ (digits ++ tail), refl, refl)
 digit_first Decimal [] tail h = let s = h.starts in absurd cc
 digit_first Decimal (c ∷ cs) tail h = (c, cs ++ tail, refl, h.starts)
 
-no_gap_at : (b : ℕ) (bs : List ℕ) → (b == 45 && begins_with 45 bs) ≡ false → is_blank b ≡ false → gap_at (b ∷ bs) ≡ 0
+pub no_gap_at : (b : ℕ) (bs : List ℕ) → (b == 45 && begins_with 45 bs) ≡ false → is_blank b ≡ false → gap_at (b ∷ bs) ≡ 0
 unfolding gap_at
 no_gap_at b bs e f = ap (λ r. one_more r (λ inside. gap_from inside bs)) (third (b == 45 && begins_with 45 bs) (is_blank b) _ _ _ e f)
 
 module _ (c : ℕ) (d : is_digit c ≡ true) where
-  no_minus : (c == 45) ≡ false
+  pub no_minus : (c == 45) ≡ false
   no_minus = differs is_digit c 45 true false d refl (λ k. cc)
 
   no_bracket : (c == 91) ≡ false
   no_bracket = differs is_digit c 91 true false d refl (λ k. cc)
 
-  no_blank : is_blank c ≡ false
+  pub no_blank : is_blank c ≡ false
   no_blank = rw (differs is_digit c 32 true false d refl (λ k. cc), differs is_digit c 9 true false d refl (λ k. cc), differs is_digit c 10 true false d refl (λ k. cc), differs is_digit c 13 true false d refl (λ k. cc)) refl
 
 integer_by : (minus : ℕ) (bytes digits : List ℕ) → minus_at bytes ≡ minus → drop minus bytes ≡ digits → integer_at bytes ≡ unsigned_at minus digits
@@ -282,11 +282,12 @@ integer_is negative base digits named rest h z =
 -- ---- a value
 
 -- what a spelling gives before this text
-record Found (ty : ScalarType) (word rest : List ℕ) (value : Scalar) : Type 0 where
+pub record Found (ty : ScalarType) (word rest : List ℕ) (value : Scalar) : Type 0 where
   pub no_gap : gap_at (word ++ rest) ≡ 0
   pub form : Form
   pub spelled : spelled_at (word ++ rest) ≡ Ok (record { form = form; length = length word })
   pub is : (position : ℕ) → value_as ty position form ≡ Ok value
+  pub no_close : begins_with 93 (word ++ rest) ≡ false
 
 pub integer_word : (negative : Bool) (base : Base) (digits : List ℕ) (named : Option IntType) (rest : List ℕ)
     → (sign negative ++ (prefix base ++ (digits ++ suffix named))) ++ rest ≡ sign negative ++ (prefix base ++ (digits ++ (suffix named ++ rest)))
@@ -321,10 +322,14 @@ true_common rest = ap (λ n. 1 + (1 + (1 + (1 + n)))) (none_common rest)
 false_common : (rest : List ℕ) → common (codes "false" ++ rest) (codes "false") ≡ 5
 false_common rest = ap (λ n. 1 + (1 + (1 + (1 + (1 + n))))) (none_common rest)
 
-found : (ty : ScalarType) (word rest : List ℕ) (value : Scalar) → Spells ty word value → name_goes_on rest ≡ false → Found ty word rest value
+no_close : (negative : Bool) (bytes : List ℕ) → (c : ℕ) × (cs : List ℕ) × (bytes ≡ c ∷ cs) × (is_digit c ≡ true) → begins_with 93 (sign negative ++ bytes) ≡ false
+no_close true bytes first = refl
+no_close false bytes first = ap (begins_with 93) first.2 ∙ differs is_digit first.0 93 true false first.3 refl (λ k. cc)
+
+pub found : (ty : ScalarType) (word rest : List ℕ) (value : Scalar) → Spells ty word value → name_goes_on rest ≡ false → Found ty word rest value
 unfolding gap_at word_at is_word
-found _ _ rest _ truth z = record { no_gap = refl; form = form.Truth true; spelled = rw (z, true_common rest) refl; is = λ position. refl }
-found _ _ rest _ falsehood z = record { no_gap = refl; form = form.Truth false; spelled = rw (z, false_common rest) refl; is = λ position. refl }
+found _ _ rest _ truth z = record { no_gap = refl; form = form.Truth true; spelled = rw (z, true_common rest) refl; is = λ position. refl; no_close = refl }
+found _ _ rest _ falsehood z = record { no_gap = refl; form = form.Truth false; spelled = rw (z, false_common rest) refl; is = λ position. refl; no_close = refl }
 found _ _ rest _ (integer {ty} {value} negative base digits named h m v) z =
     let e = integer_word negative base digits named rest in
     let both = integer_is negative base digits named rest h z in
@@ -333,6 +338,7 @@ found _ _ rest _ (integer {ty} {value} negative base digits named h m v) z =
       form = form.Integer negative (value_on base 0 digits) named;
       spelled = ap spelled_at e ∙ both.0 ∙ ap (λ k. Ok (record { form = form.Integer negative (value_on base 0 digits) named; length = k })) (integer_len negative base digits named);
       is = λ position. integer_as ty value negative (value_on base 0 digits) named position m v;
+      no_close = ap (begins_with 93) e ∙ no_close negative (prefix base ++ (digits ++ (suffix named ++ rest))) (digit_first base digits (suffix named ++ rest) h);
     }
 
 -- ---- blanks and comments
@@ -347,7 +353,7 @@ open_line : (line : List ℕ) → IsLine line → gap_from true line ≡ length 
 open_line [] l = refl
 open_line (b ∷ line) l = ap (λ t. one_more (Some (not t)) (λ inside. gap_from inside line)) l.0 ∙ ap suc (open_line line l.1)
 
-gap_is : (gap bytes : List ℕ) → Gap gap → gap_from false (gap ++ bytes) ≡ length gap + gap_from false bytes
+pub gap_is : (gap bytes : List ℕ) → Gap gap → gap_from false (gap ++ bytes) ≡ length gap + gap_from false bytes
 gap_is _ bytes nothing = omega arith
 gap_is _ bytes (blank {b} {bs} e h) =
     let more = gap_is bs bytes h in
@@ -359,7 +365,7 @@ gap_is _ bytes (comment line bs l h) =
     let long = length-append line (10 ∷ bs) in
     omega (arith, more, this, long)
 
-last_gap : (bytes : List ℕ) → Last_gap bytes → gap_at bytes ≡ length bytes
+pub last_gap : (bytes : List ℕ) → Last_gap bytes → gap_at bytes ≡ length bytes
 unfolding gap_at
 last_gap bytes (closed h) = ap (gap_from false) (sym (append-nil bytes)) ∙ gap_is bytes [] h ∙ omega arith
 last_gap _ (in_comment bs line h l) =

@@ -30,6 +30,7 @@ explains types bytes (text.WrongType position) h = h
 explains types bytes (text.OutOfRange position) h = h
 explains types bytes (text.Irregular position) h = h
 explains types bytes (text.TooLarge position) h = h
+explains types bytes (text.SizeClash param have want) h = h
 explains types bytes (text.Missing param) h = h
 explains types bytes (text.Extra position) h = h
 

@@ -1,5 +1,5 @@
 -- What is proved of the text of values.
-use Rattle.std.specs.Prelude.{◌≡◌, ℕ, ◌<◌, ◌^◌, ℤ, true, List, [], ◌∷◌, ◌++◌, map, All, Some}
+use Rattle.std.specs.Prelude.{◌≡◌, ℕ, ◌<◌, ◌^◌, ℤ, true, List, length, Ok, [], ◌∷◌, ◌++◌, map, All, Some}
 use Rattle.std.specs.Char.{encode_utf8, IsScalar}
 use Rattle.fut_scalar.specs.Integers.{FitsType, integer_of, width_of}
 use Rattle.fut_scalar.specs.declared.scalar.IntType.{IntType}
@@ -7,9 +7,16 @@ use Rattle.fut_scalar.specs.declared.scalar.Scalar.{Scalar}
 use Rattle.fut_scalar.specs.declared.scalar.Scalar.TheVariants as scalar
 use Rattle.fut_scalar.specs.declared.scalar.ScalarType.{ScalarType}
 use Rattle.fut_arithmetic.specs.Types.{type_of}
+use Rattle.fut_scalar.specs.declared.sizes.ArgType.{ArgType}
+use Rattle.fut_value.specs.declared.value.Value.{Value}
 use Rattle.name_characters.specs.Names.{goes_on_name}
+use Rattle.fut_value.specs.Values.{IsWellFormed, datum_of}
+use Rattle.value_text.specs.Arguments as arguments
+use Rattle.value_text.specs.Gives.{HaveTypes, IsLight}
+use Rattle.value_text.specs.Sizes.{Known, values_for}
+use Rattle.value_text.specs.Values as arrays
 use Rattle.value_text.specs.Grammar.{Text}
-use Rattle.value_text.specs.Printing.{text_of, output_of}
+use Rattle.value_text.specs.Printing.{data_output, data_text, text_of, output_of}
 use Rattle.value_text.specs.Reading.{Reads, value_in}
 use Rattle.value_text.specs.Words.{name_goes_on}
 
@@ -44,3 +51,18 @@ FoundIntegersStand = (ty : IntType) (z : ℤ) (value : Scalar) → value_in ty z
 -- and each value of the type is found
 abbrev pub IntegersAreFound : Type 0
 IntegersAreFound = (ty : IntType) (bits : ℕ) → bits < 2 ^ width_of ty → value_in ty (integer_of ty bits) ≡ Some (scalar.Int ty bits)
+
+-- a text of the grammar of scalars and arrays reads as its values
+abbrev pub ArgumentsAreRead : Type 0
+ArgumentsAreRead = (types : List ArgType) (bytes : List ℕ) (values : List Value) → arrays.Text types bytes values → arguments.Reads types bytes values
+
+-- the text of a value reads as that value, as a parameter of its type whose sizes it has
+abbrev pub ValuesReadBack : Type 0
+ValuesReadBack =
+    (t : ArgType) (value : Value) (known : Known) → value.shape.elem ≡ t.elem → length value.shape.sizes ≡ length t.dims → IsWellFormed value → IsLight value → values_for 1 (t ∷ []) (value ∷ []) [] ≡ Ok known
+    → arguments.Reads (t ∷ []) (data_text (datum_of value)) (value ∷ [])
+
+-- what is printed reads as the values that were printed
+abbrev pub LinesReadBack : Type 0
+LinesReadBack =
+    (types : List ArgType) (values : List Value) (known : Known) → HaveTypes types values → All IsWellFormed values → All IsLight values → values_for 1 types values [] ≡ Ok known → arguments.Reads types (data_output (map datum_of values)) values

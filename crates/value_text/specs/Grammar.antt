@@ -1,13 +1,13 @@
 -- The grammar of a text: a value for each type, with blanks and comments before it, and behind the last one. No character
 -- that continues a name stands directly behind a value.
-use Rattle.std.specs.Prelude.{◌≡◌, ◌+◌, ◌*◌, ◌^◌, ◌<◌, ◌++◌, ℕ, Bool, true, false, cond, ◌==◌, List, [], ◌∷◌, Option, Some, None, codes}
+use Rattle.std.specs.Prelude.{◌≡◌, ◌^◌, ◌<◌, ◌++◌, ℕ, Bool, true, false, ◌==◌, List, [], ◌∷◌, Option, Some, None, codes}
 use Rattle.fut_scalar.specs.declared.scalar.IntType.{IntType}
 use Rattle.fut_scalar.specs.declared.scalar.Scalar.{Scalar}
 use Rattle.fut_scalar.specs.declared.scalar.Scalar.TheVariants as scalar
 use Rattle.fut_scalar.specs.declared.scalar.ScalarType.{ScalarType}
 use Rattle.fut_scalar.specs.declared.scalar.ScalarType.TheVariants as sort
 use Rattle.value_text.specs.Gaps.{is_blank}
-use Rattle.value_text.specs.Numbers.{digit_of, ends_in_underscore, is_in_number, radix, starts_digit}
+use Rattle.value_text.specs.Numbers.{ends_in_underscore, is_in_number, starts_digit, value_on}
 use Rattle.value_text.specs.Reading.{may_be, signed, value_in}
 use Rattle.value_text.specs.Words.{name_of, name_goes_on}
 use Rattle.value_text.specs.declared.numbers.Base.{Base}
@@ -31,11 +31,6 @@ pub data Last_gap : List ℕ → Type 0 where
 abbrev pub All_in_number : Base → List ℕ → Type 0
 All_in_number base [] = Unit {0}
 All_in_number base (b ∷ bs) = (is_in_number base b ≡ true) × All_in_number base bs
-
--- the value of a number and the digits behind it, passing over underscores
-abbrev pub value_on : Base → ℕ → List ℕ → ℕ
-value_on base n [] = n
-value_on base n (b ∷ bs) = cond (b == 95) (value_on base n bs) (value_on base (radix base * n + digit_of b) bs)
 
 -- digits with underscores between them, whose value is below 2^64
 pub record IsNumber (base : Base) (bytes : List ℕ) : Type 0 where

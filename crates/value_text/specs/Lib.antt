@@ -4,8 +4,14 @@ pub mod Numbers
 pub mod Empties
 pub mod Spelled
 pub mod Reading
+pub mod Written
 pub mod Arrays
+pub mod Sizes
+pub mod Arguments
+pub mod Agreeing
 pub mod Gives
 pub mod Grammar
+pub mod Values
 pub mod Printing
+pub mod FlatText
 pub mod Claims

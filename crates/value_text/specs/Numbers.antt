@@ -34,6 +34,11 @@ is_in_number base b = is_digit_of base b || b == 95
 abbrev pub digit_of : ℕ → ℕ
 digit_of b = cond (nat_le b 57) (b - 48) (cond (nat_le b 70) (b - 55) (b - 87))
 
+-- the value of a number and the digits behind it, passing over underscores
+abbrev pub value_on : Base → ℕ → List ℕ → ℕ
+value_on base n [] = n
+value_on base n (b ∷ bs) = cond (b == 95) (value_on base n bs) (value_on base (radix base * n + digit_of b) bs)
+
 -- the value of a number and the digits behind it, or the position of the first digit with which it reaches 2^64
 abbrev pub number_on : Base → (value position : ℕ) → List ℕ → Result ℕ ℕ
 number_on base value position [] = Ok value

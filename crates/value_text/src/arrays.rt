@@ -1,19 +1,19 @@
 // Values of any rank, read into flat words in one pass. Sizes of rows stand in two lists an array, so a row of scalars takes none.
-ghost use Rattle.std.specs.Prelude.{◌≡◌, ◌≤◌, ◌<◌, ◌+◌, ◌-◌, ◌*◌, ◌^◌, ◌++◌, [], true, Ok, Err, drop, length, min, max, nat_lt, IfOk, IfErr, OnOk};
-ghost use Rattle.value_text.specs.Arrays.{and_then, counted, first_sizes, greatest_weight, no_row, no_rows, other_than_rows, read_at, rows_up_to, same_sizes, spelled_scalar, weight};
+ghost use Rattle.std.specs.Prelude.{◌≡◌, ◌≤◌, ◌<◌, ◌+◌, ◌-◌, ◌*◌, ◌^◌, ◌++◌, ℕ, List as Items, [], true, false, Ok, Err, drop, length, min, max, nat_lt, IfOk, IfErr, OnOk};
+ghost use Rattle.fut_value.specs.Values.{greatest_weight, weight_of};
+ghost use Rattle.value_text.specs.Arrays.{and_then, counted, empty_as, first_sizes, is_wanted_empty, no_row, no_rows, other_than_rows, read_at, rows_up_to, same_sizes, spelled_scalar};
 ghost use Rattle.value_text.specs.Gives.{Gives, Gives_row, Refused_so};
 ghost use Rattle.value_text.specs.Gaps.{begins_with, gap_at};
 
 use crate::gaps::{begins_with, behind, gap};
 use crate::reading::TextErr;
-use crate::spelled::spelled_at;
+use crate::spelled::{Form, spelled_at};
 use crate::wanted::value_as;
+use crate::written::{has_zero, names_type, read_sizes};
 use fut_arithmetic::encode_word;
 use fut_scalar::{List, NoMemory, ScalarType};
+use fut_value::{GREATEST_WEIGHT, weight_of, weight_of_rows};
 use std::alloc::Global;
-
-/// The greatest weight of an array.
-const GREATEST_WEIGHT: u64 = 33_554_432;
 
 /// The sizes of the first row of an array, and of the row that is read.
 #[derive(Drop)]
@@ -22,27 +22,10 @@ struct RowSizes {
     own: List<u64>,
 }
 
-/// The weight of an array of these sizes, or the greatest number where it is above.
-fn weight(sizes: &[u64]) -> u64
-    ensures { result ≡ min (weight sizes.now) (2 ^ 64 - 1) }
-{
-    match sizes {
-        [] => 1,
-        [size, rest @ ..] => size.saturating_mul(weight(rest).max(1)),
-    }
-}
-
-/// The weight of so many rows of these sizes, or the greatest number where it is above.
-fn weight_of_rows(count: u64, sizes: &[u64]) -> u64
-    ensures { result ≡ min (count * max 1 (weight sizes.now)) (2 ^ 64 - 1) }
-{
-    count.saturating_mul(weight(sizes).max(1))
-}
-
 /// Whether an array of so many rows of these sizes is too large.
-#[tactic(auto, using(crate::proofs::Weights::under))]
+#[tactic(auto, using(crate::proofs::WrittenSizes::under))]
 fn is_too_large(count: u64, sizes: &[u64]) -> bool
-    ensures { result ≡ nat_lt greatest_weight (count * max 1 (weight sizes.now)) }
+    ensures { result ≡ nat_lt greatest_weight (count * max 1 (weight_of sizes.now)) }
 {
     weight_of_rows(count, sizes) > GREATEST_WEIGHT
 }
@@ -116,26 +99,82 @@ fn read_scalar(
     }
 }
 
-/// What begins with no bracket where an array is wanted: empty arrays are not read yet.
-#[tactic(auto, unfolding(crate::specs::Arrays::other_than_rows))]
+/// Whether an empty array of these sizes, with the name of its type behind them, is one of this rank and type.
+fn is_wanted_empty(ty: ScalarType, rank: usize, sizes: &[u64], after: &[u8]) -> bool
+    ensures { result ≡ is_wanted_empty ty rank sizes.now after.now }
+{
+    sizes.len() == rank && has_zero(sizes) && names_type(ty, behind(after, gap(after)))
+}
+
+/// The sizes of an empty array, whose spelling takes so many bytes: the text is what stands behind the bracket that opens
+/// them, where the other position is.
+#[tactic(auto, using(crate::proofs::ReadEmpty::empties), unfolding(crate::specs::Arrays::empty_as))]
+fn read_sizes_as(
+    alloc: Global,
+    ty: ScalarType,
+    rank: usize,
+    position: u64,
+    from: u64,
+    text: &[u8],
+    sizes: &mut List<u64>,
+) -> Result<(), TextErr>
+    requires place { from + length text.now < 2 ^ 64 }
+    ensures gives { IfOk result (λ _. (n : ℕ) (ws : Items ℕ) → Gives (empty_as ty rank position from n text.now) ws ws sizes.old sizes.new n) }
+    ensures refused { IfErr result (λ err. (n : ℕ) → Refused_so (empty_as ty rank position from n text.now) err) }
+{
+    let mut own = List::new(alloc);
+    let found = read_sizes(text, &mut own)?;
+    if !is_wanted_empty(ty, rank, own.as_slice(), behind(text, found.end)) {
+        return Err(TextErr::WrongType { at: position });
+    }
+    if let Some(offset) = found.beyond {
+        return Err(TextErr::OutOfRange {
+            at: from + offset as u64,
+        });
+    }
+    if weight_of(own.as_slice()) > GREATEST_WEIGHT {
+        return Err(TextErr::TooLarge { at: position });
+    }
+    append(sizes, own.as_slice())?;
+    Ok(())
+}
+
+/// What begins with no bracket where an array is wanted: an empty array, or nothing that is wanted.
+#[tactic(auto, using(crate::proofs::Emptied::empties, crate::proofs::ReadEmpty::others), unfolding(crate::specs::Arrays::other_than_rows))]
 fn read_other(
+    alloc: Global,
     ty: ScalarType,
     rank: usize,
     position: u64,
     text: &[u8],
-    words: &mut List<u64>,
     sizes: &mut List<u64>,
 ) -> Result<usize, TextErr>
-    requires { position + length text.now < 2 ^ 64 }
-    ensures gives { IfOk result (λ n. Gives (other_than_rows ty rank position text.now) words.old words.new sizes.old sizes.new n) }
+    requires place { position + length text.now < 2 ^ 64 }
+    requires other { begins_with 91 text.now ≡ false }
+    ensures gives { IfOk result (λ n. (ws : Items ℕ) → Gives (other_than_rows ty rank position text.now) ws ws sizes.old sizes.new n) }
     ensures within { IfOk result (λ n. n ≤ length text.now) }
     ensures refused { IfErr result (Refused_so (other_than_rows ty rank position text.now)) }
 {
-    match spelled_at(text) {
-        Ok(_) => Err(TextErr::WrongType { at: position }),
-        Err(offset) => Err(TextErr::BadText {
-            at: position + offset as u64,
-        }),
+    let spelled = match spelled_at(text) {
+        Ok(spelled) => spelled,
+        Err(offset) => {
+            return Err(TextErr::BadText {
+                at: position + offset as u64,
+            });
+        }
+    };
+    match spelled.form {
+        Form::Array => {
+            let word = behind(text, 5);
+            let opening = gap(word) + 1;
+            let inner = behind(word, opening);
+            let from = position + 5 + opening as u64;
+            match read_sizes_as(alloc, ty, rank, position, from, inner, sizes) {
+                Ok(()) => Ok(spelled.length),
+                Err(err) => Err(err),
+            }
+        }
+        _ => Err(TextErr::WrongType { at: position }),
     }
 }
 
@@ -281,7 +320,7 @@ pub fn read_at(
         return read_scalar(ty, position, text, words);
     }
     if !begins_with(b'[', text) {
-        return read_other(ty, rank, position, text, words, sizes);
+        return read_other(alloc, ty, rank, position, text, sizes);
     }
     let inner = behind(text, 1);
     if begins_with(b']', behind(inner, gap(inner))) {

@@ -31,7 +31,7 @@ fn mark(byte: u8, text: &[u8]) -> Result<usize, usize>
 }
 
 #[tactic(auto, using(crate::proofs::Between::prefix_within), unfolding(crate::specs::Empties::digit_len))]
-fn digit_len(text: &[u8]) -> usize
+pub fn digit_len(text: &[u8]) -> usize
     ensures value { result ≡ digit_len text.now }
     ensures within { result ≤ length text.now }
 {
@@ -92,7 +92,7 @@ fn size(text: &[u8]) -> Result<usize, usize>
 
 /// A dimension in its brackets.
 #[tactic(auto, unfolding(crate::specs::Empties::dimension))]
-fn dimension(text: &[u8]) -> Result<usize, usize>
+pub fn dimension(text: &[u8]) -> Result<usize, usize>
     ensures value { result ≡ dimension text.now }
     ensures within { MatchResult result (λ n. n ≤ length text.now) (λ n. n ≤ length text.now) }
 {

@@ -1,5 +1,5 @@
 // Laws of the text of values, each carried by a call.
-ghost use Rattle.value_text.specs.Claims.{FoundIntegersStand, IntegersAreFound, NamesGoOn, NothingElseGoesOn, OnlyTextsAreRead, OutputReadsBack, TextReadsBack, TextsAreRead};
+ghost use Rattle.value_text.specs.Claims.{ArgumentsAreRead, FoundIntegersStand, IntegersAreFound, LinesReadBack, NamesGoOn, NothingElseGoesOn, OnlyTextsAreRead, OutputReadsBack, TextReadsBack, TextsAreRead, ValuesReadBack};
 
 /// The law that a text of the grammar (`specs/Grammar.antt`) reads as its values, and no other text as any.
 pub fn texts_are_read()
@@ -23,4 +23,16 @@ pub fn printed_values_read_back()
 pub fn integers_are_kept()
     ensures stand { FoundIntegersStand }
     ensures found { IntegersAreFound }
+{}
+
+/// The law that a text of the grammar of scalars and arrays (`specs/Values.antt`) reads as its values.
+pub fn arguments_are_read()
+    ensures { ArgumentsAreRead }
+{}
+
+/// The law that the text of a value of weight at most 33,554,432 reads as that value, where its parameter has its sizes, and
+/// what is printed reads as the values that were printed.
+pub fn values_read_back()
+    ensures one { ValuesReadBack }
+    ensures all { LinesReadBack }
 {}

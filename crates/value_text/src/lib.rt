@@ -7,6 +7,8 @@
 //! `specs/Grammar.antt`, and [`printed_values_read_back`] that printing and reading belong together.
 #![tactic(auto)]
 
+mod arguments;
+mod array_texts;
 mod arrays;
 mod empties;
 mod gaps;
@@ -14,11 +16,16 @@ mod laws;
 mod numbers;
 mod printing;
 mod reading;
+mod sizes;
 mod spelled;
 mod wanted;
 mod words;
+mod written;
 
-pub use arrays::read_at;
-pub use laws::{integers_are_kept, names_go_on, printed_values_read_back, texts_are_read};
-pub use printing::{print_value, print_values};
-pub use reading::{TextErr, read_args};
+pub use arguments::read_args;
+pub use array_texts::{print_value, print_values};
+pub use laws::{
+    arguments_are_read, integers_are_kept, names_go_on, printed_values_read_back, texts_are_read,
+};
+pub use printing::print_scalars;
+pub use reading::{TextErr, read_scalars};

@@ -113,7 +113,7 @@ fn with_digit(base: Base, value: u64, byte: u8) -> Option<u64>
 
 /// The value of digits, or the position of the first digit with which it reaches 2^64.
 #[tactic(auto)]
-fn value_of(base: Base, digits: &[u8], position: usize) -> Result<u64, usize>
+pub fn value_of(base: Base, digits: &[u8], position: usize) -> Result<u64, usize>
     requires { position ≤ 3 }
     ensures value { result ≡ number_on base 0 position digits.now }
     ensures place { IfErr result (λ at. at ≤ position + length digits.now) }

@@ -11,7 +11,7 @@ use itoa::{Buffer, Integer};
 use std::alloc::Global;
 
 /// Puts the decimal digits of an integer behind a text.
-fn put_decimal<I: Integer>(text: &mut Vec<u8>, integer: I) -> Result<(), NoMemory>
+pub fn put_decimal<I: Integer>(text: &mut Vec<u8>, integer: I) -> Result<(), NoMemory>
     ensures { OnOk result (text.new.items ≡ text.old.items ++ I.text integer) }
 {
     let mut buffer = Buffer::new();
@@ -34,7 +34,7 @@ fn put_integer(text: &mut Vec<u8>, ty: IntType, bits: u64) -> Result<(), NoMemor
 }
 
 /// Puts the text of a value behind a text.
-fn put_value(text: &mut Vec<u8>, value: Scalar) -> Result<(), NoMemory>
+pub fn put_scalar(text: &mut Vec<u8>, value: Scalar) -> Result<(), NoMemory>
     requires { FitsType value }
     ensures { OnOk result (text.new.items ≡ text.old.items ++ text_of value) }
 {
@@ -54,23 +54,13 @@ fn put_line(text: &mut Vec<u8>, value: Scalar) -> Result<(), NoMemory>
     requires { FitsType value }
     ensures { OnOk result (text.new.items ≡ text.old.items ++ line_of value) }
 {
-    put_value(text, value)?;
+    put_scalar(text, value)?;
     text.extend_from_slice(b"\n")?;
     Ok(())
 }
 
-/// The text of a value, without a newline.
-pub fn print_value(alloc: Global, value: Scalar) -> Result<Vec<u8>, NoMemory>
-    requires { FitsType value }
-    ensures { IfOk result (λ text. text.items ≡ text_of value) }
-{
-    let mut text = Vec::new(alloc);
-    put_value(&mut text, value)?;
-    Ok(text)
-}
-
 /// A line for each value: the output of a run, for the components of its result.
-pub fn print_values(alloc: Global, values: &[Scalar]) -> Result<Vec<u8>, NoMemory>
+pub fn print_scalars(alloc: Global, values: &[Scalar]) -> Result<Vec<u8>, NoMemory>
     requires { All FitsType values.now }
     ensures { IfOk result (λ text. text.items ≡ output_of values.now) }
 {

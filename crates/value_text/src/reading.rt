@@ -24,6 +24,8 @@ pub enum TextErr {
     Irregular { at: u64 },
     /// With the row or element that begins here, the array around it has a weight above 33,554,432.
     TooLarge { at: u64 },
+    /// A size of this parameter is another one than its name or number wants.
+    SizeClash { param: u64, have: u64, want: i64 },
     /// The text ends before this parameter.
     Missing { param: u64 },
     /// Something stands behind the last value.
@@ -78,7 +80,11 @@ fn read_value(ty: ScalarType, param: u64, position: u64, text: &[u8]) -> Result<
 }
 
 /// The arguments that a text reads as, one for each type.
-pub fn read_args(alloc: Global, types: &[ScalarType], text: &[u8]) -> Result<List<Scalar>, TextErr>
+pub fn read_scalars(
+    alloc: Global,
+    types: &[ScalarType],
+    text: &[u8],
+) -> Result<List<Scalar>, TextErr>
     ensures reads { IfOk result (Reads types.now text.now) }
     ensures typed { IfOk result (λ values. map type_of values ≡ types.now) }
     ensures fit { IfOk result (All FitsType) }

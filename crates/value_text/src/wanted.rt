@@ -87,7 +87,7 @@ fn value_in(ty: IntType, negative: bool, magnitude: u64) -> Option<Scalar>
     }
 }
 
-fn type_number(ty: IntType) -> u8
+pub fn type_number(ty: IntType) -> u8
     ensures { result ≡ type_number ty }
 {
     match ty {
