@@ -9,6 +9,6 @@ mod shape;
 mod value;
 
 pub use copy::copy_value;
-pub use laws::values_have_their_shapes;
+pub use laws::{values_have_their_shapes, weight_goes_by_leaves};
 pub use shape::{GREATEST_WEIGHT, Shape, weight, weight_of, weight_of_rows};
 pub use value::{Value, as_scalar, value_of};
