@@ -193,7 +193,7 @@ pub record Counts (count : ℕ) (first row sizes : List ℕ) : Type 0 where
   pub first_is : (count ≡ 0 → ⊥) → first ≡ row
   pub light : weight_of ((count + 1) ∷ row) ≤ greatest_weight
 
-counted_is : (position count : ℕ) (first row sizes : List ℕ) → counted position count first row ≡ Ok sizes → Counts count first row sizes
+pub counted_is : (position count : ℕ) (first row sizes : List ℕ) → counted position count first row ≡ Ok sizes → Counts count first row sizes
 unfolding counted
 counted_is position count first row sizes h = by_weight (nat_lt greatest_weight (weight_of ((count + 1) ∷ kept))) refl h
   where

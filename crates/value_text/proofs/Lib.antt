@@ -16,3 +16,5 @@ pub mod Printed
 pub mod Formed
 pub mod Spelt
 pub mod ReadBack
+pub mod OnlyValues
+mod Examples

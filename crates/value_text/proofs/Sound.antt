@@ -110,7 +110,7 @@ by_newline b bs true h g c = subst (λ z. Commented (z ∷ bs)) (sym (eqb-true b
 by_newline b bs false h g c = line_more b bs h c
 
 mutual
-  outside : (bytes : List ℕ) → Gapped bytes
+  pub outside : (bytes : List ℕ) → Gapped bytes
   outside [] = gapped [] [] refl nothing refl
   outside (b ∷ []) = one_byte b (is_blank b) refl (no_and (b == 45))
   outside (b ∷ c ∷ cs) = by_front b c cs (b == 45 && c == 45) (is_blank b) refl refl (outside (c ∷ cs)) (inside cs)
@@ -157,7 +157,7 @@ named_by bytes x other ty h k = by_test (is_word bytes (name_of x)) refl h
     by_test true e f = subst (λ z. is_word bytes (name_of z) ≡ true) (some_is x ty f) e
     by_test false e f = k f
 
-type_is : (bytes : List ℕ) (ty : IntType) → type_at bytes ≡ Some ty → is_word bytes (name_of ty) ≡ true
+pub type_is : (bytes : List ℕ) (ty : IntType) → type_at bytes ≡ Some ty → is_word bytes (name_of ty) ≡ true
 unfolding type_at
 type_is bytes ty h =
     named_by bytes I8 _ ty h

@@ -35,7 +35,7 @@ use Rattle.value_text.proofs.Texts.{found, gap_is, last_gap, no_blank, no_gap_at
 
 -- ---- lists
 
-two_drops : (n m : ℕ) (xs ys zs : List ℕ) → drop n xs ≡ ys → drop m ys ≡ zs → drop (n + m) xs ≡ zs
+pub two_drops : (n m : ℕ) (xs ys zs : List ℕ) → drop n xs ≡ ys → drop m ys ≡ zs → drop (n + m) xs ≡ zs
 two_drops n m xs ys zs e f = sym (drop-drop m n xs) ∙ ap (drop m) e ∙ f
 
 -- ---- blanks
@@ -177,7 +177,7 @@ module _ (n : ℕ) (before inside ds behind rest : List ℕ) (g : Gap before) (h
         ∙ size_read ds (behind ++ 93 ∷ rest) some all stops n value less;
   }
 
-length_is : (before inside ds behind more : List ℕ) → length (before ++ (91 ∷ (inside ++ (ds ++ (behind ++ 93 ∷ more))))) ≡ length before + 1 + (length inside + length ds + (length behind + 1)) + length more
+pub length_is : (before inside ds behind more : List ℕ) → length (before ++ (91 ∷ (inside ++ (ds ++ (behind ++ 93 ∷ more))))) ≡ length before + 1 + (length inside + length ds + (length behind + 1)) + length more
 length_is before inside ds behind more =
     let a = length-append before (91 ∷ (inside ++ (ds ++ (behind ++ 93 ∷ more)))) in
     let b = length-append inside (ds ++ (behind ++ 93 ∷ more)) in
@@ -185,7 +185,7 @@ length_is before inside ds behind more =
     let d = length-append behind (93 ∷ more) in
     omega (arith, a, b, c, d)
 
-one_bracket : (before inside ds behind more rest : List ℕ) → (before ++ (91 ∷ (inside ++ (ds ++ (behind ++ 93 ∷ more))))) ++ rest ≡ before ++ (91 ∷ (inside ++ (ds ++ (behind ++ 93 ∷ (more ++ rest)))))
+pub one_bracket : (before inside ds behind more rest : List ℕ) → (before ++ (91 ∷ (inside ++ (ds ++ (behind ++ 93 ∷ more))))) ++ rest ≡ before ++ (91 ∷ (inside ++ (ds ++ (behind ++ 93 ∷ (more ++ rest)))))
 one_bracket before inside ds behind more rest =
     append_assoc before (91 ∷ (inside ++ (ds ++ (behind ++ 93 ∷ more)))) rest
     ∙ ap (λ z. before ++ (91 ∷ z)) (append_assoc inside (ds ++ (behind ++ 93 ∷ more)) rest ∙ ap (λ z. inside ++ z) (append_assoc ds (behind ++ 93 ∷ more) rest ∙ ap (λ z. ds ++ z) (append_assoc behind (93 ∷ more) rest)))
@@ -394,6 +394,23 @@ module _ (ty : ScalarType) (ns opening brackets before behind rest : List ℕ) (
         ∙ ap (empty_as ty (length ns) position (position + 5 + (gap_at spelled + 1)) (5 + long)) opened
         ∙ sized_read position (position + 5 + (gap_at spelled + 1))
 
+pub empty_bytes : (name opening brackets before behind rest : List ℕ)
+    → (codes "empty" ++ (opening ++ (40 ∷ (brackets ++ (before ++ (name ++ (behind ++ 41 ∷ []))))))) ++ rest ≡ codes "empty" ++ (opening ++ (40 ∷ (brackets ++ (before ++ (name ++ (behind ++ 41 ∷ rest))))))
+empty_bytes name opening brackets before behind rest =
+    ap (λ z. codes "empty" ++ z) (append_assoc opening (40 ∷ (brackets ++ (before ++ (name ++ (behind ++ 41 ∷ []))))) rest
+    ∙ ap (λ z. opening ++ (40 ∷ z)) (append_assoc brackets (before ++ (name ++ (behind ++ 41 ∷ []))) rest
+    ∙ ap (λ z. brackets ++ z) (append_assoc before (name ++ (behind ++ 41 ∷ [])) rest ∙ ap (λ z. before ++ z) (append_assoc name (behind ++ 41 ∷ []) rest ∙ ap (λ z. name ++ z) (append_assoc behind (41 ∷ []) rest)))))
+
+pub empty_length : (name opening brackets before behind : List ℕ)
+    → length (codes "empty" ++ (opening ++ (40 ∷ (brackets ++ (before ++ (name ++ (behind ++ 41 ∷ []))))))) ≡ 5 + (length opening + 1 + (length brackets + (length before + length name + (length behind + 1))))
+empty_length name opening brackets before behind =
+    let a = length-append opening (40 ∷ (brackets ++ (before ++ (name ++ (behind ++ 41 ∷ []))))) in
+    let b = length-append brackets (before ++ (name ++ (behind ++ 41 ∷ []))) in
+    let c = length-append before (name ++ (behind ++ 41 ∷ [])) in
+    let d = length-append name (behind ++ 41 ∷ []) in
+    let e = length-append behind (41 ∷ []) in
+    omega (arith, a, b, c, d, e)
+
 -- ---- a value
 
 pub record Value_reads (ty : ScalarType) (ns ws word rest : List ℕ) : Type 0 where
@@ -435,6 +452,9 @@ row_ends : (ns behind : List ℕ) (c : ℕ) (rest : List ℕ) → Gap behind →
 row_ends [] behind c rest g h = gap_ends behind c rest g h
 row_ends (n ∷ ns) behind c rest g h = tt
 
+pub row_bytes : (before word behind rest tail : List ℕ) → (before ++ (word ++ (behind ++ rest))) ++ tail ≡ before ++ (word ++ (behind ++ (rest ++ tail)))
+row_bytes before word behind rest tail = append_assoc before (word ++ (behind ++ rest)) tail ∙ ap (λ z. before ++ z) (append_assoc word (behind ++ rest) tail ∙ ap (λ z. word ++ z) (append_assoc behind rest tail))
+
 module _ (ty : ScalarType) (ns : List ℕ) (row : Row) (each : (ws word rest : List ℕ) → row ws word → Ends ns rest → Value_reads ty ns ws word rest) (start : ℕ) where
   abbrev reader : Array_reader
   reader = read_at ty (length ns)
@@ -456,9 +476,6 @@ module _ (ty : ScalarType) (ns : List ℕ) (row : Row) (each : (ws word rest : L
   row_front fuel count first words at before front g z =
       ap (λ m. row_and reader (rows_up_to fuel reader) (record { count = count; sizes = first; words = words }) start (at + m) (drop m (before ++ front))) (after_gap before front g z)
       ∙ ap (row_and reader (rows_up_to fuel reader) (record { count = count; sizes = first; words = words }) start (at + length before)) (drop-append_seam before front)
-
-  row_bytes : (before word behind rest tail : List ℕ) → (before ++ (word ++ (behind ++ rest))) ++ tail ≡ before ++ (word ++ (behind ++ (rest ++ tail)))
-  row_bytes before word behind rest tail = append_assoc before (word ++ (behind ++ rest)) tail ∙ ap (λ z. before ++ z) (append_assoc word (behind ++ rest) tail ∙ ap (λ z. word ++ z) (append_assoc behind rest tail))
 
   row_length : (before word behind rest : List ℕ) → length (before ++ (word ++ (behind ++ rest))) ≡ length before + length word + length behind + length rest
   row_length before word behind rest =
@@ -545,21 +562,10 @@ module _ (ty : ScalarType) (n : ℕ) (ns : List ℕ) (each : (ws word rest : Lis
   }
     where
       whole : word ++ rest ≡ codes "empty" ++ (s.opening ++ (40 ∷ (s.brackets ++ (s.before ++ (type_text ty ++ (s.behind ++ 41 ∷ rest))))))
-      whole =
-          ap (λ z. z ++ rest) s.is
-          ∙ ap (λ z. codes "empty" ++ z) (append_assoc s.opening (40 ∷ (s.brackets ++ (s.before ++ (type_text ty ++ (s.behind ++ 41 ∷ []))))) rest
-          ∙ ap (λ z. s.opening ++ (40 ∷ z)) (append_assoc s.brackets (s.before ++ (type_text ty ++ (s.behind ++ 41 ∷ []))) rest
-          ∙ ap (λ z. s.brackets ++ z) (append_assoc s.before (type_text ty ++ (s.behind ++ 41 ∷ [])) rest ∙ ap (λ z. s.before ++ z) (append_assoc (type_text ty) (s.behind ++ 41 ∷ []) rest ∙ ap (λ z. type_text ty ++ z) (append_assoc s.behind (41 ∷ []) rest)))))
+      whole = ap (λ z. z ++ rest) s.is ∙ empty_bytes (type_text ty) s.opening s.brackets s.before s.behind rest
 
       long_is : 5 + (length s.opening + 1 + (length s.brackets + (length s.before + length (type_text ty) + (length s.behind + 1)))) ≡ length word
-      long_is =
-          let a = length-append s.opening (40 ∷ (s.brackets ++ (s.before ++ (type_text ty ++ (s.behind ++ 41 ∷ []))))) in
-          let b = length-append s.brackets (s.before ++ (type_text ty ++ (s.behind ++ 41 ∷ []))) in
-          let c = length-append s.before (type_text ty ++ (s.behind ++ 41 ∷ [])) in
-          let d = length-append (type_text ty) (s.behind ++ 41 ∷ []) in
-          let e = length-append s.behind (41 ∷ []) in
-          let w = ap length s.is in
-          omega (arith, a, b, c, d, e, w)
+      long_is = sym (ap length s.is ∙ empty_length (type_text ty) s.opening s.brackets s.before s.behind)
 
 pub value_reads : (ty : ScalarType) (ns ws word rest : List ℕ) → Spells_value ty ns ws word → Ends ns rest → Value_reads ty ns ws word rest
 value_reads ty [] ws word rest s e = scalar_reads ty ws word rest s e
@@ -567,7 +573,7 @@ value_reads ty (n ∷ ns) ws word rest s e = array_reads ty n ns (value_reads ty
 
 -- ---- the whole text
 
-some_bytes : (bytes : List ℕ) (ty : ScalarType) (rank position : ℕ) (read : Read) → read_at ty rank position bytes ≡ Ok read → 0 < length bytes
+pub some_bytes : (bytes : List ℕ) (ty : ScalarType) (rank position : ℕ) (read : Read) → read_at ty rank position bytes ≡ Ok read → 0 < length bytes
 unfolding spelled_scalar other_than_rows
 some_bytes [] ty zero position read h = absurd cc
 some_bytes [] ty (suc n) position read h = absurd cc

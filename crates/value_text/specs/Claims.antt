@@ -66,3 +66,19 @@ ValuesReadBack =
 abbrev pub LinesReadBack : Type 0
 LinesReadBack =
     (types : List ArgType) (values : List Value) (known : Known) → HaveTypes types values → All IsWellFormed values → All IsLight values → values_for 1 types values [] ≡ Ok known → arguments.Reads types (data_output (map datum_of values)) values
+
+-- and nothing else reads as values
+abbrev pub OnlyArgumentsAreRead : Type 0
+OnlyArgumentsAreRead = (types : List ArgType) (bytes : List ℕ) (values : List Value) → arguments.Reads types bytes values → arrays.Text types bytes values
+
+-- values that are read are of their parameters' types
+abbrev pub ArgumentsHaveTypes : Type 0
+ArgumentsHaveTypes = (types : List ArgType) (bytes : List ℕ) (values : List Value) → arguments.Reads types bytes values → HaveTypes types values
+
+-- and well formed
+abbrev pub ArgumentsAreFormed : Type 0
+ArgumentsAreFormed = (types : List ArgType) (bytes : List ℕ) (values : List Value) → arguments.Reads types bytes values → All IsWellFormed values
+
+-- and pass no greatest weight
+abbrev pub ArgumentsAreLight : Type 0
+ArgumentsAreLight = (types : List ArgType) (bytes : List ℕ) (values : List Value) → arguments.Reads types bytes values → All IsLight values

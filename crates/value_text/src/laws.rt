@@ -1,5 +1,5 @@
 // Laws of the text of values, each carried by a call.
-ghost use Rattle.value_text.specs.Claims.{ArgumentsAreRead, FoundIntegersStand, IntegersAreFound, LinesReadBack, NamesGoOn, NothingElseGoesOn, OnlyTextsAreRead, OutputReadsBack, TextReadsBack, TextsAreRead, ValuesReadBack};
+ghost use Rattle.value_text.specs.Claims.{ArgumentsAreFormed, ArgumentsAreLight, ArgumentsAreRead, ArgumentsHaveTypes, FoundIntegersStand, IntegersAreFound, LinesReadBack, NamesGoOn, NothingElseGoesOn, OnlyArgumentsAreRead, OnlyTextsAreRead, OutputReadsBack, TextReadsBack, TextsAreRead, ValuesReadBack};
 
 /// The law that a text of the grammar (`specs/Grammar.antt`) reads as its values, and no other text as any.
 pub fn texts_are_read()
@@ -25,9 +25,17 @@ pub fn integers_are_kept()
     ensures found { IntegersAreFound }
 {}
 
-/// The law that a text of the grammar of scalars and arrays (`specs/Values.antt`) reads as its values.
+/// The law that a text of the grammar of scalars and arrays (`specs/Values.antt`) reads as its values, and no other text as any.
 pub fn arguments_are_read()
-    ensures { ArgumentsAreRead }
+    ensures all { ArgumentsAreRead }
+    ensures only { OnlyArgumentsAreRead }
+{}
+
+/// The law that values which a text reads as are of their parameters' types, well formed, and of weight at most 33,554,432.
+pub fn arguments_fit()
+    ensures typed { ArgumentsHaveTypes }
+    ensures formed { ArgumentsAreFormed }
+    ensures light { ArgumentsAreLight }
 {}
 
 /// The law that the text of a value of weight at most 33,554,432 reads as that value, where its parameter has its sizes, and
