@@ -1,5 +1,5 @@
 -- What comes of two ranges, one behind the other.
-use Rattle.std.proofs.Common.{◌≡◌, ℕ, zero, suc, ◌+◌, ◌-◌, ◌<◌, ◌≤◌, ◌++◌, List, [], ◌∷◌, length, map, refl, sym, ap, ◌∙◌, subst, arith, Bool, true, false, nat_lt}
+use Rattle.std.proofs.Common.{◌≡◌, ℕ, zero, suc, ◌+◌, ◌-◌, ◌<◌, ◌≤◌, ◌++◌, List, [], ◌∷◌, length, map, refl, sym, ap, ◌∙◌, subst, arith, Bool, true, false, nat_lt, Result, Ok, Err, IfOk}
 use Rattle.std.specs.List.{range_with_len}
 use Rattle.std.proofs.lemmas.List.{map-append}
 use Rattle.std.proofs.lemmas.List.FromFn.{length-range_with_len}
@@ -21,6 +21,10 @@ cut a (suc n) m =
 long_as : {A B : Type 0} (f : A → B) (xs : List A) → length (map f xs) ≡ length xs
 long_as f [] = refl
 long_as f (x ∷ xs) = ap suc (long_as f xs)
+
+pub when_ok : {A E : Type 0} (r : Result A E) (P Q : A → Type 0) → IfOk r P → ((a : A) → P a → Q a) → IfOk r Q
+when_ok (Ok v) P Q e h = h v e
+when_ok (Err x) P Q e h = tt
 
 module _ {A : Type 0} (row : ℕ → A) where
   pub range_parts : (lo mid hi : ℕ) → lo ≤ mid → mid ≤ hi → range row lo mid ++ range row mid hi ≡ range row lo hi

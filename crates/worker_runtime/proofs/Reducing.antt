@@ -9,10 +9,11 @@ use Rattle.outcomes.proofs.Glue.{ends_means, fault_means}
 use Rattle.outcomes.proofs.Trees.{node_of, fails_before, fails_behind, is_bracket, empty_bracket}
 use Rattle.worker_runtime.specs.declared.outcome.Made.{Made}
 use Rattle.worker_runtime.specs.declared.outcome.StageFault.{StageFault}
+use Rattle.worker_runtime.specs.declared.outcome.Chunk.{Chunk}
 use Rattle.worker_runtime.specs.declared.outcome.Chunk.TheVariants.{Came, Failed}
 use Rattle.worker_runtime.specs.declared.outcome.Applied.TheVariants.{Gave, Broke}
 use Rattle.worker_runtime.specs.Rows.{Ends_in}
-use Rattle.worker_runtime.specs.Ranges.{Function, Monoid, range, Came_to, Fault_of, Kept, Folded, Fold_fails, Applies_to, Fold_gives}
+use Rattle.worker_runtime.specs.Ranges.{Function, Monoid, range, Came_to, Fault_of, Went, Kept, Folded, Fold_fails, Applies_to, Fold_gives}
 use Rattle.worker_runtime.specs.Phases.{Is_reduce}
 use Rattle.worker_runtime.proofs.Joined.{came_both, came_on, some_of, end_fails, ends_fails, range_none, nothing_ends}
 
@@ -114,3 +115,7 @@ module _ {A W : Type 0} (rows : W → List A) (fn : Function A) (m : Monoid A) w
       let q = ends_means fn.means (λ ys a. (ys ≡ []) × (a ≡ 0)) (Bracket true m.op m.neutral) m.neutral (λ ys a k. (0, (let y = k.1 in omega arith), subst (λ l. Bracket true m.op m.neutral l (Val m.neutral) 0) (sym k.0) (empty_bracket m.op m.neutral))) 0 fn.stages (range fn.row 0 count) 0
       (subst (λ l. Ends_with fn.means (λ ys a. (ys ≡ []) × (a ≡ 0)) 0 fn.stages l 0) (sym none) (nothing_ends fn.means (λ ys a. (ys ≡ []) × (a ≡ 0)) (refl, refl) fn.stages 0)) in
       (m.neutral, e, q.0, omega arith, q.2)
+
+  pub is_reduce_went : (count : ℕ) (o : Chunk W) → Went rows fn (Folded m) (Fold_fails m) 0 count o → Is_reduce rows fn m count o
+  is_reduce_went count (Came made) p = is_reduce_came count made p
+  is_reduce_went count (Failed w) p = is_reduce_failed count w p

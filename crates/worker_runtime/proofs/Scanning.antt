@@ -8,9 +8,10 @@ use Rattle.outcomes.proofs.Glue.{ends_means, fault_means}
 use Rattle.outcomes.proofs.Trees.{is_scan, scan_stops, scanned_length}
 use Rattle.worker_runtime.specs.declared.outcome.Made.{Made}
 use Rattle.worker_runtime.specs.declared.outcome.StageFault.{StageFault}
+use Rattle.worker_runtime.specs.declared.outcome.Chunk.{Chunk}
 use Rattle.worker_runtime.specs.declared.outcome.Chunk.TheVariants.{Came, Failed}
 use Rattle.worker_runtime.specs.declared.outcome.Applied.TheVariants.{Gave, Broke}
-use Rattle.worker_runtime.specs.Ranges.{Function, Monoid, range, Came_to, Fault_of, Kept, Scanned_to, Beginning_fails, Scan_gives}
+use Rattle.worker_runtime.specs.Ranges.{Function, Monoid, range, Came_to, Fault_of, Went, Kept, Scanned_to, Beginning_fails, Scan_gives}
 use Rattle.worker_runtime.specs.Phases.{Is_scan}
 use Rattle.worker_runtime.proofs.Joined.{came_on, some_of, end_fails, range_none, nothing_ends}
 
@@ -54,3 +55,7 @@ module _ {A W : Type 0} (rows : W → List A) (fn : Function A) (m : Monoid A) w
   scanned_none made e h =
       let k : Scanned_to m (rows made.words) [] 0 = (0, omega arith, subst (λ l. Scanned m.op m.neutral [] [] l 0) (sym e) refl) in
       (0, omega arith, subst (λ l. Ends_with fn.means (Scanned_to m (rows made.words)) 0 fn.stages l 0) (sym (range_none fn.row 0)) (nothing_ends fn.means (Scanned_to m (rows made.words)) k fn.stages 0))
+
+  pub is_scan_went : (count : ℕ) (o : Chunk W) → Went rows fn (Scanned_to m) (Beginning_fails m) 0 count o → Is_scan rows fn m count o
+  is_scan_went count (Came made) p = is_scan_came count made p
+  is_scan_went count (Failed w) p = is_scan_failed count w p

@@ -24,6 +24,10 @@ pub in_order_more : {O : Type 0} (ran : ℕ → O → Type 0) (j : ℕ) (os : Li
 in_order_more ran j [] o h r = let z : j + 0 ≡ j = omega arith in (subst (λ i. ran i o) z r, tt)
 in_order_more ran j (x ∷ os) o h r = let z : j + suc (length os) ≡ j + 1 + length os = omega arith in (h.0, in_order_more ran (j + 1) os o h.1 (subst (λ i. ran i o) z r))
 
+-- no chunks, no elements
+pub tiled_none : (size count n : ℕ) → n ≡ 0 → Tiled size count n → count ≡ 0
+tiled_none size count n z t = let cover = subst (λ k. count ≤ k * size) z t.1 in let y : 0 * size ≡ 0 = omega arith in omega arith
+
 module _ (size count : ℕ) where
   -- where chunk j begins, or the end
   abbrev pub bound : ℕ → ℕ

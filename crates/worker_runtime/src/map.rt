@@ -72,7 +72,8 @@ pub fn map_phase<
     ensures { IfOk result (λ o. Is_map W.rows (C.function code.now) count o) }
 {
     let phase = Mapping { code };
-    match all_chunks(rt, alloc, &phase, count, options, gate)? {
+    let sifted = all_chunks(rt, alloc, &phase, count, options, gate)?;
+    match sifted {
         AllChunks::Fault(fault) => Ok(Chunk::Failed(fault)),
         AllChunks::Parts(parts) => {
             let made = all_rows(alloc, code, parts.as_slice(), options.chunk, count)?;

@@ -109,7 +109,8 @@ pub fn reduce_phase<
     ensures { IfOk result (λ o. Is_reduce W.rows (C.function code.now) (O.monoid op.now) count o) }
 {
     let phase = Reducing { code, op };
-    let parts = match all_chunks(rt, alloc, &phase, count, options, gate)? {
+    let sifted = all_chunks(rt, alloc, &phase, count, options, gate)?;
+    let parts = match sifted {
         AllChunks::Fault(fault) => return Ok(Chunk::Failed(fault)),
         AllChunks::Parts(parts) => parts,
     };
@@ -117,8 +118,5 @@ pub fn reduce_phase<
         let words = op.neutral(alloc)?;
         return Ok(Chunk::Came(Made { words, handed: 0 }));
     }
-    match together(alloc, code, op, parts.as_slice(), options.chunk, count)? {
-        Chunk::Failed(fault) => Ok(Chunk::Failed(fault)),
-        Chunk::Came(made) => Ok(Chunk::Came(made)),
-    }
+    together(alloc, code, op, parts.as_slice(), options.chunk, count)
 }

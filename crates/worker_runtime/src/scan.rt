@@ -75,7 +75,8 @@ pub fn scan_phase<
     ensures { IfOk result (λ o. Is_scan W.rows (C.function code.now) (O.monoid op.now) count o) }
 {
     let phase = Scanning { code, op };
-    let parts = match all_chunks(rt, alloc, &phase, count, options, gate)? {
+    let sifted = all_chunks(rt, alloc, &phase, count, options, gate)?;
+    let parts = match sifted {
         AllChunks::Fault(fault) => return Ok(Chunk::Failed(fault)),
         AllChunks::Parts(parts) => parts,
     };
@@ -83,7 +84,8 @@ pub fn scan_phase<
         let words = code.none(alloc, 0)?;
         return Ok(Chunk::Came(Made { words, handed: 0 }));
     }
-    let carries = match carries_of(alloc, code, op, parts.as_slice(), options.chunk, count)? {
+    let behind = carries_of(alloc, code, op, parts.as_slice(), options.chunk, count)?;
+    let carries = match behind {
         Carries::Broke(fault) => return Ok(Chunk::Failed(fault)),
         Carries::All(carries) => carries,
     };

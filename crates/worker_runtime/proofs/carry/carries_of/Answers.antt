@@ -1,4 +1,4 @@
-use Rattle.std.proofs.Common.{rules, ◌≡◌, ◌∙◌, suc, ◌+◌, ◌-◌, [], ◌∷◌, ◌++◌, length, sym, subst, refl, arith}
+use Rattle.std.proofs.Common.{rules, ◌≡◌, ◌∙◌, suc, ◌+◌, ◌-◌, ◌*◌, [], ◌∷◌, ◌++◌, length, sym, subst, refl, arith}
 use Rattle.worker_runtime.specs.declared.outcome.Made.{Made}
 use Rattle.worker_runtime.specs.declared.outcome.StageFault.{StageFault}
 use Rattle.worker_runtime.specs.Ranges.{Came_to, Scanned_to}
@@ -12,24 +12,24 @@ pub last-requires : goal.last-requires
 last-requires g c =
     let fn = g.C.RangeCode.function c.args.code.now in
     let m = g.O.OperatorCode.monoid c.args.op.now in
-    let p = part_at c.args.size c.args.count g.W.Rows.rows fn (Scanned_to m) c.args.parts.now c.requires.tiled c.requires.came 0 c.index-first.result c.requires.some c.index-first.is in
-    scan_some g.W.Rows.rows fn m (bound c.args.size c.args.count 0) (bound c.args.size c.args.count 1) c.index-first.result (chunk_some c.args.size c.args.count (length c.args.parts.now) 0 c.requires.some c.requires.tiled) p
+    let p = part_at c.args.size c.args.count g.W.Rows.rows fn (Scanned_to m) c.args.parts.now c.requires.tiled c.requires.came 0 c.index-parts-0.result c.requires.some c.index-parts-0.is in
+    scan_some g.W.Rows.rows fn m (bound c.args.size c.args.count 0) (bound c.args.size c.args.count 1) c.index-parts-0.result (chunk_some c.args.size c.args.count (length c.args.parts.now) 0 c.requires.some c.requires.tiled) p
 
-pub last-last-requires : goal.last-last-requires
-last-last-requires g c =
+pub last-requires-in-loop-k : goal.last-requires-in-loop-k
+last-requires-in-loop-k g c =
     let fn = g.C.RangeCode.function c.args.code.now in
     let m = g.O.OperatorCode.monoid c.args.op.now in
     let k = c.loop-k.k in
     let lt = c.loop-k-test.true in
-    let p = part_at c.args.size c.args.count g.W.Rows.rows fn (Scanned_to m) c.args.parts.now c.requires.tiled c.requires.came k c.index-part.result (omega arith) c.index-part.is in
-    scan_some g.W.Rows.rows fn m (bound c.args.size c.args.count k) (bound c.args.size c.args.count (k + 1)) c.index-part.result (chunk_some c.args.size c.args.count (length c.args.parts.now) k (omega arith) c.requires.tiled) p
+    let p = part_at c.args.size c.args.count g.W.Rows.rows fn (Scanned_to m) c.args.parts.now c.requires.tiled c.requires.came k c.index-parts-k.result (omega arith) c.index-parts-k.is in
+    scan_some g.W.Rows.rows fn m (bound c.args.size c.args.count k) (bound c.args.size c.args.count (k + 1)) c.index-parts-k.result (chunk_some c.args.size c.args.count (length c.args.parts.now) k (omega arith) c.requires.tiled) p
 
 pub loop-k-init : goal.loop-k-init
 loop-k-init g c =
     let o : Made _ = record { words = c.in_ok-words.words; handed = 0 } in
     let items : c.push.new.self.items ≡ o ∷ [] = search rules in
     let last = c.in_ok-words.ensures in
-    let at = rows_at_is g.W.Rows.rows c.args.parts.now 0 c.index-first.result c.requires.some c.index-first.is in
+    let at = rows_at_is g.W.Rows.rows c.args.parts.now 0 c.index-parts-0.result c.requires.some c.index-parts-0.is in
     record {
       low = omega arith;
       long = search rules;
@@ -45,7 +45,7 @@ loop-k-preserved g c =
     let k = c.loop-k.k in
     let lt = c.loop-k-test.true in
     let items : c.push-in-Gave.new.self.items ≡ c.loop-k.carries.items ++ c.in-Gave.made ∷ [] = search rules in
-    let at = rows_at_is g.W.Rows.rows c.args.parts.now k c.index-part.result (omega arith) c.index-part.is in
+    let at = rows_at_is g.W.Rows.rows c.args.parts.now k c.index-parts-k.result (omega arith) c.index-parts-k.is in
     let here = rows_at_is g.W.Rows.rows c.loop-k.carries.items (k - 1) c.index-carry.result (omega arith) (search rules) in
     let last = c.in_ok-last.ensures in
     record {
@@ -63,7 +63,7 @@ returns-in-Broke g c =
     let long = i.long in
     let k = c.loop-k.k in
     let lt = c.loop-k-test.true in
-    let at = rows_at_is g.W.Rows.rows c.args.parts.now k c.index-part.result (omega arith) c.index-part.is in
+    let at = rows_at_is g.W.Rows.rows c.args.parts.now k c.index-parts-k.result (omega arith) c.index-parts-k.is in
     let here = rows_at_is g.W.Rows.rows c.loop-k.carries.items (k - 1) c.index-carry.result (omega arith) (search rules) in
     let last = c.in_ok-last.ensures in
     let w : StageFault = record { stage = c.stage_count.result; element = k * c.args.size; report = c.in-Broke.report } in

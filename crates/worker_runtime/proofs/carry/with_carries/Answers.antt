@@ -1,4 +1,4 @@
-use Rattle.std.proofs.Common.{rules, ◌≡◌, ◌∙◌, suc, ◌+◌, ◌++◌, length, sym, subst, refl, arith, ap}
+use Rattle.std.proofs.Common.{rules, ◌≡◌, ◌∙◌, suc, ◌+◌, ◌*◌, ◌++◌, length, sym, subst, refl, arith, ap}
 use Rattle.worker_runtime.specs.declared.outcome.Made.{Made}
 use Rattle.worker_runtime.specs.declared.outcome.StageFault.{StageFault}
 use Rattle.worker_runtime.specs.Ranges.{Came_to, Scanned_to, Carry_gives}
@@ -14,11 +14,11 @@ loop-j-init g c =
     let fn = g.C.RangeCode.function c.args.code.now in
     let m = g.O.OperatorCode.monoid c.args.op.now in
     let l = c.requires.long.0 in
-    let p = part_at c.args.size c.args.count rows fn (Scanned_to m) c.args.parts.now c.requires.tiled c.requires.came 0 c.index-first.result (omega arith) c.index-first.is in
-    let at = rows_at_is rows c.args.parts.now 0 c.index-first.result (omega arith) c.index-first.is in
-    let o : Made _ = record { words = c.append.new.self; handed = c.index-first.result.handed } in
-    let e : rows c.append.new.self ≡ rows c.index-first.result.words = search rules in
-    carried_first rows m c.args.parts.now c.args.carries.now c.requires.links fn (bound c.args.size c.args.count 1) c.index-first.result o at e (omega arith) (subst (λ i. Came_to rows fn (Scanned_to m) i (bound c.args.size c.args.count 1) c.index-first.result) (bound_none c.args.size c.args.count) p)
+    let p = part_at c.args.size c.args.count rows fn (Scanned_to m) c.args.parts.now c.requires.tiled c.requires.came 0 c.index-parts-0.result (omega arith) c.index-parts-0.is in
+    let at = rows_at_is rows c.args.parts.now 0 c.index-parts-0.result (omega arith) c.index-parts-0.is in
+    let o : Made _ = record { words = c.append.new.self; handed = c.index-parts-0.result.handed } in
+    let e : rows c.append.new.self ≡ rows c.index-parts-0.result.words = search rules in
+    carried_first rows m c.args.parts.now c.args.carries.now c.requires.links fn (bound c.args.size c.args.count 1) c.index-parts-0.result o at e (omega arith) (subst (λ i. Came_to rows fn (Scanned_to m) i (bound c.args.size c.args.count 1) c.index-parts-0.result) (bound_none c.args.size c.args.count) p)
 
 pub loop-j-preserved : goal.loop-j-preserved
 loop-j-preserved g c =
@@ -30,11 +30,11 @@ loop-j-preserved g c =
     let n = c.requires.long.1 in
     let lt = c.loop-j-test.true in
     let s : suc j ≡ j + 1 = omega arith in
-    let whole = c.index-whole.result in
-    let p = part_at c.args.size c.args.count rows fn (Scanned_to m) c.args.parts.now c.requires.tiled c.requires.came (j + 1) whole (omega arith) c.index-whole.is in
+    let whole = c.index-parts-j.result in
+    let p = part_at c.args.size c.args.count rows fn (Scanned_to m) c.args.parts.now c.requires.tiled c.requires.came (j + 1) whole (omega arith) c.index-parts-j.is in
     let some = scan_some rows fn m (bound c.args.size c.args.count (j + 1)) (bound c.args.size c.args.count (j + 1 + 1)) whole (chunk_some c.args.size c.args.count (length c.args.parts.now) (j + 1) (omega arith) c.requires.tiled) p in
-    let at = rows_at_is rows c.args.parts.now (j + 1) whole (omega arith) c.index-whole.is in
-    let carry = rows_at_is rows c.args.carries.now j c.index-carry.result (omega arith) c.index-carry.is in
+    let at = rows_at_is rows c.args.parts.now (j + 1) whole (omega arith) c.index-parts-j.is in
+    let carry = rows_at_is rows c.args.carries.now j c.index-carries-j.result (omega arith) c.index-carries-j.is in
     let gave = carried_at rows m c.args.parts.now c.args.carries.now c.args.carried.now j c.index-carried-j.result lt c.index-carried-j.is c.requires.carried in
     let old : Made _ = record { words = c.loop-j.words; handed = c.loop-j.handed } in
     let new : Made _ = record { words = c.append-in-Gave.new.self; handed = c.saturating_add-handed.result } in
@@ -42,7 +42,7 @@ loop-j-preserved g c =
     let a1 = c.saturating_add.ensures in
     let a2 = c.saturating_add-in-Gave.ensures in
     let a3 = c.saturating_add-handed.ensures in
-    let h = handed_at_is c.args.carries.now j c.index-carry.result (omega arith) c.index-carry.is in
+    let h = handed_at_is c.args.carries.now j c.index-carries-j.result (omega arith) c.index-carries-j.is in
     let given : Carry_gives rows m (rows_at rows c.args.carries.now j) (rows whole.words) _ = subst (λ ws. Carry_gives rows m (rows_at rows c.args.carries.now j) ws c.index-carried-j.result) at gave in
     let step = carried_step rows m c.args.parts.now c.args.carries.now c.requires.links fn (bound c.args.size c.args.count (j + 1)) (bound c.args.size c.args.count (j + 1 + 1)) j (bound_up c.args.size c.args.count (j + 1) 1) (omega arith) old whole c.in-Gave.more new (ap (rows_at rows c.args.parts.now) s ∙ at) some e (rw c.in-Gave.is at given) (omega arith) c.loop-j.invariant p in
     subst (λ k. Came_to rows fn (Scan_carry rows m c.args.carries.now k) 0 (bound c.args.size c.args.count (j + 1 + 1)) new) s step

@@ -4,15 +4,16 @@ use std::sync::atomic::AtomicBool;
 use std::sync::atomic::Ordering::SeqCst;
 use std::thread;
 
-const LOOKS: u64 = 268435456;
+/// A third of a second and more.
+const LOOKS: u64 = 268_435_456;
 
 /// Holds chunk `held` until chunk `awaited` has come, and tells whether it came.
 #[derive(Drop)]
 pub struct Holding {
-    pub held: u64,
-    pub awaited: u64,
-    pub came: AtomicBool,
-    pub met: AtomicBool,
+    held: u64,
+    awaited: u64,
+    came: AtomicBool,
+    met: AtomicBool,
 }
 
 impl Gate for Holding {
@@ -34,11 +35,18 @@ impl Gate for Holding {
     }
 }
 
-pub fn holding(held: u64, awaited: u64) -> Holding {
-    Holding {
-        held,
-        awaited,
-        came: AtomicBool::new(false),
-        met: AtomicBool::new(false),
+impl Holding {
+    pub fn until(held: u64, awaited: u64) -> Holding {
+        Holding {
+            held,
+            awaited,
+            came: AtomicBool::new(false),
+            met: AtomicBool::new(false),
+        }
+    }
+
+    /// Whether the chunk that was waited for came while the other was held.
+    pub fn met(&self) -> bool {
+        self.met.load(SeqCst)
     }
 }
