@@ -3,7 +3,7 @@
 ghost use Rattle.std.specs.Prelude.{◌≡◌, ◌*◌, ◌+◌, ◌≤◌, ◌<◌, ◌%◌, ◌^◌, nat_lt, if◌then◌else◌, [], ◌∷◌, length, IfOk};
 ghost use Rattle.phase_model.specs.Tables.{pair};
 
-use crate::gates::Holding;
+use crate::gates::{Holding, MANY};
 use chunk_work::{Gate, OpenGate, Puts, SharedTable, Task, in_chunks, pairs_in_chunks};
 use fut_scalar::{List, NoMemory};
 use pair_table::{Operation, PairTable};
@@ -27,7 +27,7 @@ impl Task<u64> for Threes {
 
 #[test]
 fn two_workers_meet(rt: HostRuntime) -> Result<(), Fail> {
-    let gate = Holding::until(0, 1);
+    let gate = Holding::until(0, 1, MANY);
     let outcomes = in_chunks(&rt, rt.alloc(), &Threes, 2, 2, &gate)?;
     assert!(rt; gate.met());
     assert!(rt; outcomes.len() == 2 && outcomes[0] == 0 && outcomes[1] == 3);
@@ -36,7 +36,7 @@ fn two_workers_meet(rt: HostRuntime) -> Result<(), Fail> {
 
 #[test]
 fn the_third_chunk_comes_while_the_second_is_held(rt: HostRuntime) -> Result<(), Fail> {
-    let gate = Holding::until(1, 2);
+    let gate = Holding::until(1, 2, MANY);
     let outcomes = in_chunks(&rt, rt.alloc(), &Threes, 3, 2, &gate)?;
     assert!(rt; gate.met());
     assert!(rt; outcomes.len() == 3 && outcomes[1] == 3 && outcomes[2] == 6);
@@ -45,7 +45,7 @@ fn the_third_chunk_comes_while_the_second_is_held(rt: HostRuntime) -> Result<(),
 
 #[test]
 fn one_worker_goes_in_order(rt: HostRuntime) -> Result<(), Fail> {
-    let gate = Holding::until(0, 1);
+    let gate = Holding::until(0, 1, 1000);
     let outcomes = in_chunks(&rt, rt.alloc(), &Threes, 2, 1, &gate)?;
     assert!(rt; !gate.met());
     assert!(rt; outcomes.len() == 2 && outcomes[0] == 0 && outcomes[1] == 3);
@@ -77,7 +77,13 @@ impl Puts<u64> for Written {
 
     ghost keeps = { λ w k. k ≡ w.word };
 
-    fn put<S, P: SharedTable<S>>(self, _alloc: Global, table: &P, seat: &mut S, places: u64) -> u64 {
+    fn put<S, P: SharedTable<S>>(
+        self,
+        _alloc: Global,
+        table: &P,
+        seat: &mut S,
+        places: u64,
+    ) -> u64 {
         let Written { place, word } = self;
         if place < places {
             table.step(seat, place, word);
@@ -123,7 +129,9 @@ fn raced<R: Threads + Sync, G: Gate>(
     let (table, seat) = PairTable::open(alloc, operation, words, u64::from(workers))?;
     let places = old.len() as u64;
     let task = Numbers { apart };
-    let (seat, kept) = pairs_in_chunks(rt, alloc, &table, seat, places, &task, chunks, workers, gate)?;
+    let (seat, kept) = pairs_in_chunks(
+        rt, alloc, &table, seat, places, &task, chunks, workers, gate,
+    )?;
     Ok((table.close(seat), kept.len() as u64))
 }
 
@@ -152,7 +160,16 @@ fn a_place_that_is_none_is_left_out(rt: HostRuntime) -> Result<(), Fail> {
 
 #[test]
 fn an_empty_job_puts_nothing(rt: HostRuntime) -> Result<(), Fail> {
-    let (words, kept) = raced(&rt, rt.alloc(), Operation::Store, &[7, 8], 0, 0, 64, &OpenGate)?;
+    let (words, kept) = raced(
+        &rt,
+        rt.alloc(),
+        Operation::Store,
+        &[7, 8],
+        0,
+        0,
+        64,
+        &OpenGate,
+    )?;
     assert!(rt; words.as_slice() == [7, 8].as_slice() && kept == 0);
     Ok(())
 }
@@ -160,10 +177,10 @@ fn an_empty_job_puts_nothing(rt: HostRuntime) -> Result<(), Fail> {
 // Chunks 0 and 1 store at one place, and chunk 2 comes when the one that is not held has stored.
 #[test]
 fn the_chunk_that_is_held_stores_last(rt: HostRuntime) -> Result<(), Fail> {
-    let first = Holding::until(0, 2);
+    let first = Holding::until(0, 2, MANY);
     let (words, _) = raced(&rt, rt.alloc(), Operation::Store, &[9, 9], 2, 3, 2, &first)?;
     assert!(rt; first.met() && words.as_slice() == [1, 3].as_slice());
-    let second = Holding::until(1, 2);
+    let second = Holding::until(1, 2, MANY);
     let (words, _) = raced(&rt, rt.alloc(), Operation::Store, &[9, 9], 2, 3, 2, &second)?;
     assert!(rt; second.met() && words.as_slice() == [2, 3].as_slice());
     Ok(())

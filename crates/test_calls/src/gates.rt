@@ -4,14 +4,15 @@ use std::sync::atomic::AtomicBool;
 use std::sync::atomic::Ordering::SeqCst;
 use std::thread;
 
-/// A third of a second and more.
-const LOOKS: u64 = 268_435_456;
+/// So many looks take a third of a second and more.
+pub const MANY: u64 = 268_435_456;
 
-/// Holds chunk `held` until chunk `awaited` has come, and tells whether it came.
+/// Holds chunk `held` until chunk `awaited` has come, or for so many looks, and tells whether it came.
 #[derive(Drop)]
 pub struct Holding {
     held: u64,
     awaited: u64,
+    looks: u64,
     came: AtomicBool,
     met: AtomicBool,
 }
@@ -22,7 +23,7 @@ impl Gate for Holding {
             self.came.store(true, SeqCst);
         }
         if chunk == self.held {
-            for look in 0..LOOKS {
+            for look in 0..self.looks {
                 if look % 1024 == 0 {
                     thread::yield_now();
                 }
@@ -36,10 +37,11 @@ impl Gate for Holding {
 }
 
 impl Holding {
-    pub fn until(held: u64, awaited: u64) -> Holding {
+    pub fn until(held: u64, awaited: u64, looks: u64) -> Holding {
         Holding {
             held,
             awaited,
+            looks,
             came: AtomicBool::new(false),
             met: AtomicBool::new(false),
         }

@@ -77,7 +77,8 @@ impl<'a, A, W: Rows<A>, O: OperatorCode<A, W>> Task<Applied<W>> for CarryTask<'a
     fn run(&self, alloc: Global, chunk: u64) -> Result<Applied<W>, NoMemory> {
         let carry = &self.carries[chunk as usize];
         let part = &self.parts[chunk as usize + 1];
-        self.op.carry(alloc, &carry.words, &part.words)
+        let carried = self.op.carry(alloc, &carry.words, &part.words)?;
+        Ok(carried)
     }
 }
 

@@ -84,28 +84,22 @@ pub fn scan_phase<
         let words = code.none(alloc, 0)?;
         return Ok(Chunk::Came(Made { words, handed: 0 }));
     }
-    let behind = carries_of(alloc, code, op, parts.as_slice(), options.chunk, count)?;
+    let whole = parts.as_slice();
+    let behind = carries_of(alloc, code, op, whole, options.chunk, count)?;
     let carries = match behind {
         Carries::Broke(fault) => return Ok(Chunk::Failed(fault)),
         Carries::All(carries) => carries,
     };
+    let into = carries.as_slice();
     let chunks = carries.len() as u64;
     let workers = workers_for(options.workers, options.chunk, chunks, count);
     let task = CarryTask {
         op,
-        parts: parts.as_slice(),
-        carries: carries.as_slice(),
+        parts: whole,
+        carries: into,
         of: PhantomData,
     };
     let carried = in_chunks(rt, alloc, &task, chunks, workers, &OpenGate)?;
-    with_carries(
-        alloc,
-        code,
-        op,
-        parts.as_slice(),
-        carries.as_slice(),
-        carried.as_slice(),
-        options.chunk,
-        count,
-    )
+    let with = carried.as_slice();
+    with_carries(alloc, code, op, whole, into, with, options.chunk, count)
 }

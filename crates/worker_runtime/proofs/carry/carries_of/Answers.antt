@@ -46,12 +46,12 @@ loop-k-preserved g c =
     let lt = c.loop-k-test.true in
     let items : c.push-in-Gave.new.self.items ≡ c.loop-k.carries.items ++ c.in-Gave.made ∷ [] = search rules in
     let at = rows_at_is g.W.Rows.rows c.args.parts.now k c.index-parts-k.result (omega arith) c.index-parts-k.is in
-    let here = rows_at_is g.W.Rows.rows c.loop-k.carries.items (k - 1) c.index-carry.result (omega arith) (search rules) in
+    let here = rows_at_is g.W.Rows.rows c.loop-k.carries.items (k - 1) c.index-carry.result.now (omega arith) (search rules) in
     let last = c.in_ok-last.ensures in
     record {
       low = omega arith;
       long = search rules;
-      links = links_next g.W.Rows.rows m c.args.parts.now c.loop-k.carries.items c.push-in-Gave.new.self.items c.in-Gave.made (k - 1) k (g.W.Rows.rows c.index-carry.result.words) (g.W.Rows.rows c.in_ok-last.last) items long (omega arith) here (last.0, last.1, at ∙ last.2, last.3) (rw c.in-Gave.is at c.in_ok-made.ensures) i.links;
+      links = links_next g.W.Rows.rows m c.args.parts.now c.loop-k.carries.items c.push-in-Gave.new.self.items c.in-Gave.made (k - 1) k (g.W.Rows.rows c.index-carry.result.now.words) (g.W.Rows.rows c.in_ok-last.last) items long (omega arith) here (last.0, last.1, at ∙ last.2, last.3) (rw c.in-Gave.is at c.in_ok-made.ensures) i.links;
     }
 
 pub returns-in-Broke : goal.returns-in-Broke
@@ -64,9 +64,9 @@ returns-in-Broke g c =
     let k = c.loop-k.k in
     let lt = c.loop-k-test.true in
     let at = rows_at_is g.W.Rows.rows c.args.parts.now k c.index-parts-k.result (omega arith) c.index-parts-k.is in
-    let here = rows_at_is g.W.Rows.rows c.loop-k.carries.items (k - 1) c.index-carry.result (omega arith) (search rules) in
+    let here = rows_at_is g.W.Rows.rows c.loop-k.carries.items (k - 1) c.index-carry.result.now (omega arith) (search rules) in
     let last = c.in_ok-last.ensures in
     let w : StageFault = record { stage = c.stage_count.result; element = k * c.args.size; report = c.in-Broke.report } in
     let y : suc (k - 1) ≡ k = omega arith in
     scan_fault g.W.Rows.rows m c.args.parts.now c.loop-k.carries.items i.links fn c.args.size c.args.count c.requires.tiled c.requires.came (omega arith) (k - 1) (omega arith) (omega arith) w c.stage_count.ensures
-    (λ v e. last_fails g.W.Rows.rows m (rows_at g.W.Rows.rows c.args.parts.now (suc (k - 1))) (g.W.Rows.rows c.in_ok-last.last) (g.W.Rows.rows c.index-carry.result.words) c.in-Broke.report (rw c.in-Broke.is at c.in_ok-made.ensures) (last.0, last.1, subst (λ n. rows_at g.W.Rows.rows c.args.parts.now n ≡ last.0 ++ last.1 ∷ []) (sym y) (at ∙ last.2), last.3) v (sym here ∙ e))
+    (λ v e. last_fails g.W.Rows.rows m (rows_at g.W.Rows.rows c.args.parts.now (suc (k - 1))) (g.W.Rows.rows c.in_ok-last.last) (g.W.Rows.rows c.index-carry.result.now.words) c.in-Broke.report (rw c.in-Broke.is at c.in_ok-made.ensures) (last.0, last.1, subst (λ n. rows_at g.W.Rows.rows c.args.parts.now n ≡ last.0 ++ last.1 ∷ []) (sym y) (at ∙ last.2), last.3) v (sym here ∙ e))

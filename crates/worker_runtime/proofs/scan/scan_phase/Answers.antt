@@ -1,6 +1,9 @@
-use Rattle.std.proofs.Common.{rules, ◌≡◌, length, refl, sym, subst}
+use Rattle.std.proofs.Common.{rules, ◌≡◌, ℕ, ◌+◌, length, refl, sym, subst}
 use Rattle.worker_runtime.specs.declared.outcome.Made.{Made}
-use Rattle.worker_runtime.specs.Ranges.{Went, Came_to, Scanned_to, Beginning_fails}
+use Rattle.worker_runtime.specs.Ranges.{Went, Came_to, Scanned_to, Beginning_fails, Carry_gives}
+use Rattle.chunk_work.specs.Runs.{InOrder}
+use Rattle.worker_runtime.specs.declared.outcome.Applied.{Applied}
+use Rattle.worker_runtime.specs.Carries.{rows_at}
 use Rattle.worker_runtime.specs.Phases.{Is_scan}
 use Rattle.worker_runtime.proofs.Joined.{when_ok}
 use Rattle.worker_runtime.proofs.Sifting.{tiled_none}
@@ -25,7 +28,12 @@ pub returns-in-Broke : goal.returns-in-Broke
 returns-in-Broke g c = is_scan_failed g.W.Rows.rows (g.C.RangeCode.function c.args.code.now) (g.O.OperatorCode.monoid c.args.op.now) c.args.count c.in-Broke.fault (rw c.in-Broke.is at c.in_ok-behind.ensures)
 
 pub with_carries-requires-clause-carried : goal.with_carries-requires-clause-carried
-with_carries-requires-clause-carried g c = c.in_ok-carried.ensures.1
+with_carries-requires-clause-carried g c =
+    let rows = g.W.Rows.rows in
+    let m = g.O.OperatorCode.monoid c.args.op.now in
+    let ran : ℕ → Applied _ → Type 0 = λ k o. Carry_gives rows m (rows_at rows c.as_slice-into.result.now k) (rows_at rows c.as_slice-whole.result.now (k + 1)) o in
+    let items : c.as_slice-with.result.now ≡ c.in_ok-carried.carried.items = search rules in
+    subst (InOrder ran 0) (sym items) c.in_ok-carried.ensures.1
 
 pub returns : goal.returns
 returns g c =
