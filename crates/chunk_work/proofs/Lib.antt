@@ -1,3 +1,4 @@
-pub mod Chunks
-pub mod Ordered
-pub mod Putting
+mod Chunks
+mod Ordered
+mod Putting
+mod Whole

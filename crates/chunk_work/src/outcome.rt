@@ -1,8 +1,25 @@
-//! What a worker has done.
+//! Where a worker starts, and what it has done.
+use chunk_draw::DrawSeat;
 
-/// A chunk's number and what came of it.
+/// Where a worker starts: its number, its seat at the drawing, and its seat at the table.
 #[derive(Drop)]
-pub struct Done<O> {
+pub struct Post<S> {
+    pub number: u32,
+    pub draws: DrawSeat,
+    pub puts: S,
+}
+
+/// A chunk's number and what is kept of its outcome.
+#[derive(Drop)]
+pub struct Done<K> {
     pub chunk: u64,
-    pub outcome: O,
+    pub kept: K,
+}
+
+/// What one worker or several have done, and their seats.
+#[derive(Drop)]
+pub struct Share<S, K> {
+    pub draws: DrawSeat,
+    pub puts: S,
+    pub dones: Vec<Done<K>>,
 }

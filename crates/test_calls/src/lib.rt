@@ -1,9 +1,13 @@
-//! Calls that are tried in code, since no row of `worked` can say them: real files behind the adapters, the objects in
-//! memory that never fail, copies of values, and tables on which workers race.
+//! Calls that are tried in code, since no row of `test_rows` can say them: real files behind the adapters, the objects in
+//! memory that never fail, copies of values, tables on which workers race, and chunks that they draw.
 #![tactic(auto)]
 
 #[cfg(test)]
+mod chunks;
+#[cfg(test)]
 mod files;
+#[cfg(test)]
+mod gates;
 #[cfg(test)]
 mod memory;
 #[cfg(test)]
