@@ -1,4 +1,3 @@
-mod Chunks
-mod Ordered
-mod Putting
-mod Whole
+pub mod Chunks
+pub mod Ordered
+pub mod Putting

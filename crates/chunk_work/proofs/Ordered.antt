@@ -7,8 +7,8 @@ use Rattle.phase_model.specs.declared.Pair.{Pair}
 use Rattle.phase_model.proofs.Permutes.{follows, flat_map_permutes}
 use Rattle.phase_model.proofs.Ranges.{range_below}
 use Rattle.chunk_work.specs.declared.outcome.Done.{Done}
-use Rattle.chunk_work.specs.Runs.{Accounts, InOrder, chunk_of, placed, kept_at}
-use Rattle.chunk_work.proofs.Chunks.{EachRan, whole}
+use Rattle.chunk_work.specs.Runs.{EachRan, Accounts, InOrder, chunk_of, placed, outcome_at}
+use Rattle.chunk_work.proofs.Chunks.{whole}
 use Rattle.chunk_work.specs.Puts.{EachPut, EachKept, AllPut}
 
 first : {B : Type 0} (x y : B) (xs ys : List B) → x ∷ xs ≡ y ∷ ys → x ≡ y
@@ -95,7 +95,7 @@ module _ {O K : Type 0} (ran : ℕ → O → Type 0) (keeps : O → K → Type 0
     entries : List (Entry O K)
     good : All Good entries
     numbers : map (λ e. e.number) entries ≡ map chunk_of dones
-    kept : map (λ e. e.kept) entries ≡ map (λ d. d.kept) dones
+    kept : map (λ e. e.kept) entries ≡ map (λ d. d.outcome) dones
     pairs : flat_map (λ e. e.pairs) entries ≡ ps
 
   all_more : (e : Entry O K) (es : List (Entry O K)) → Good e → All Good es → All Good (e ∷ es)
@@ -107,12 +107,12 @@ module _ {O K : Type 0} (ran : ℕ → O → Type 0) (keeps : O → K → Type 0
   entries_of (d ∷ ds) ps h =
       let more = entries_of ds h.1 h.5 in
       let p = h.4 in
-      let e : Entry O K = record { number = d.chunk; kept = d.kept; outcome = p.outcome; pairs = h.0 } in
+      let e : Entry O K = record { number = d.chunk; kept = d.outcome; outcome = p.outcome; pairs = h.0 } in
       record {
         entries = e ∷ more.entries;
         good = all_more e more.entries (h.3, p.ran_it, p.kept_it, p.pairs_are) more.good;
         numbers = ap (λ l. d.chunk ∷ l) more.numbers;
-        kept = ap (λ l. d.kept ∷ l) more.kept;
+        kept = ap (λ l. d.outcome ∷ l) more.kept;
         pairs = ap (λ l. h.0 ++ l) more.pairs ∙ sym h.2;
       }
 
@@ -133,13 +133,13 @@ module _ {O K : Type 0} (ran : ℕ → O → Type 0) (keeps : O → K → Type 0
   number_at (z ∷ zs) j (suc n) e zero d lt = let is : z.number ≡ j = first z.number j (map (λ y. y.number) zs) (range_with_len (j + 1) n) e in omega arith
   number_at (z ∷ zs) j (suc n) e (suc i) d lt = let q = number_at zs (j + 1) n (rest z.number j (map (λ y. y.number) zs) (range_with_len (j + 1) n) e) i d (omega arith) in omega arith
 
-  each_done : (P : Entry O K → Type 0) (es : List (Entry O K)) (ds : List (Done K)) → map (λ e. e.number) es ≡ map chunk_of ds → map (λ e. e.kept) es ≡ map (λ d. d.kept) ds → All P es → All (λ d. (e : Entry O K) × P e × (e.number ≡ d.chunk) × (e.kept ≡ d.kept)) ds
+  each_done : (P : Entry O K → Type 0) (es : List (Entry O K)) (ds : List (Done K)) → map (λ e. e.number) es ≡ map chunk_of ds → map (λ e. e.kept) es ≡ map (λ d. d.outcome) ds → All P es → All (λ d. (e : Entry O K) × P e × (e.number ≡ d.chunk) × (e.kept ≡ d.outcome)) ds
   each_done P [] [] a b h k d lt = absurd (omega arith)
   each_done P [] (d ∷ ds) a b h k x lt = cc
   each_done P (e ∷ es) [] a b h k x lt = cc
-  each_done P (e ∷ es) (d ∷ ds) a b h zero x lt = (e, h 0 e (omega arith), first e.number d.chunk (map (λ y. y.number) es) (map chunk_of ds) a, first e.kept d.kept (map (λ y. y.kept) es) (map (λ y. y.kept) ds) b)
+  each_done P (e ∷ es) (d ∷ ds) a b h zero x lt = (e, h 0 e (omega arith), first e.number d.chunk (map (λ y. y.number) es) (map chunk_of ds) a, first e.kept d.outcome (map (λ y. y.kept) es) (map (λ y. y.outcome) ds) b)
   each_done P (e ∷ es) (d ∷ ds) a b h (suc k) x lt =
-      each_done P es ds (rest e.number d.chunk (map (λ y. y.number) es) (map chunk_of ds) a) (rest e.kept d.kept (map (λ y. y.kept) es) (map (λ y. y.kept) ds) b) (λ i y l. h (suc i) y (omega arith)) k x (omega arith)
+      each_done P es ds (rest e.number d.chunk (map (λ y. y.number) es) (map chunk_of ds) a) (rest e.kept d.outcome (map (λ y. y.kept) es) (map (λ y. y.outcome) ds) b) (λ i y l. h (suc i) y (omega arith)) k x (omega arith)
 
   module _ (zs : List (Entry O K)) (numbers : map (λ e. e.number) zs ≡ range_with_len 0 chunks) (good : All Good zs) where
     abbrev In : Entry O K → Type 0
@@ -178,7 +178,7 @@ module _ {O K : Type 0} (ran : ℕ → O → Type 0) (keeps : O → K → Type 0
   flat_pairs (z ∷ zs) h = ap (λ l. l ++ flat_map pairs_of (map (λ e. e.outcome) zs)) (sym (h 0 z (omega arith)).3) ∙ ap (λ l. z.pairs ++ l) (flat_pairs zs (λ k d lt. h (suc k) d (omega arith)))
 
   pub all_put : (dones : List (Done K)) (ps : List Pair) (drawn over : List ℕ) → EachPut ran keeps pairs_of chunks dones ps → Accounts chunks dones drawn → All (λ n. chunks ≤ n) over → IsPermutation (range_with_len 0 chunks ++ over) drawn
-      → AllPut ran keeps pairs_of chunks (flat_map kept_at (fold placed (replicate chunks None) dones)) ps
+      → AllPut ran keeps pairs_of chunks (flat_map outcome_at (fold placed (replicate chunks None) dones)) ps
   all_put dones ps drawn over h acc past p =
       let es = entries_of dones ps h in
       let ns : List ℕ = map (λ e. e.number) es.entries in
@@ -197,7 +197,7 @@ module _ {O K : Type 0} (ran : ℕ → O → Type 0) (keeps : O → K → Type 0
       record {
         outcomes = map (λ e. e.outcome) zs;
         ran_all = line;
-        kept_are = kept_line zs z.2 good zs 0 (flat_map kept_at (fold placed (replicate chunks None) dones)) (λ j d lt. (let q : 0 + j ≡ j = omega arith in ap (λ a. get_or zs a d) q)) (omega arith) (kept.0 ∙ sym long) kept.1;
+        kept_are = kept_line zs z.2 good zs 0 (flat_map outcome_at (fold placed (replicate chunks None) dones)) (λ j d lt. (let q : 0 + j ≡ j = omega arith in ap (λ a. get_or zs a d) q)) (omega arith) (kept.0 ∙ sym long) kept.1;
         pairs_once = subst (λ l. IsPermutation l ps) (sym (flat_pairs zs good)) (subst (λ l. IsPermutation (flat_map (λ e. e.pairs) zs) l) es.pairs (flat_map_permutes (λ e. e.pairs) zs es.entries (IsPermutation-sym _ _ z.1)));
       }
     where

@@ -31,4 +31,4 @@ pub record PutOf {O K : Type 0} (ran : ℕ → O → Type 0) (keeps : O → K �
 -- each is of one of the chunks, and the pairs are those of their outcomes, one after the other
 abbrev pub EachPut : {O K : Type 0} → (ℕ → O → Type 0) → (O → K → Type 0) → (O → List Pair) → ℕ → List (Done K) → List Pair → Type 0
 EachPut ran keeps pairs_of chunks [] ps = ps ≡ []
-EachPut ran keeps pairs_of chunks (d ∷ ds) ps = (qs : List Pair) × (rs : List Pair) × (ps ≡ qs ++ rs) × (d.chunk < chunks) × PutOf ran keeps pairs_of d.chunk d.kept qs × EachPut ran keeps pairs_of chunks ds rs
+EachPut ran keeps pairs_of chunks (d ∷ ds) ps = (qs : List Pair) × (rs : List Pair) × (ps ≡ qs ++ rs) × (d.chunk < chunks) × PutOf ran keeps pairs_of d.chunk d.outcome qs × EachPut ran keeps pairs_of chunks ds rs

@@ -1,9 +1,9 @@
 //! Runs a task for each chunk of a job on workers, which draw the chunks.
 //!
-//! [`in_chunks`] gives the outcomes of all chunks in the order of the chunks. [`pairs_in_chunks`] puts the pairs of all chunks
-//! into a shared table besides, and gives what is kept of the outcomes. What they promise holds for every number of workers,
-//! whichever chunks each of them draws and however their steps fall. Threads are started in one place (`work.rt`, `at_once`).
-//! That more than one thread runs is no promise of theirs: tests in `test_calls` show it.
+//! Threads are started in two calls alone. [`in_chunks`] gives the outcomes of all chunks in the order of the chunks.
+//! [`pairs_in_chunks`] puts the pairs of all chunks into a shared table besides, and gives what is kept of the outcomes.
+//! What they promise holds for every number of workers, whichever chunks each of them draws and however their steps fall.
+//! That more than one thread runs is no promise of theirs: the tests of `tried_phases` show it.
 #![tactic(auto)]
 
 ghost use Rattle.std.specs.Prelude.{◌≡◌, ℕ, ◌+◌, List, [], ◌∷◌, ◌++◌, ◌<◌, ◌≤◌, IfOk, length};
@@ -11,17 +11,17 @@ ghost use Rattle.phase_model.specs.declared.Pair.{Pair};
 ghost use Rattle.phase_model.specs.Tables.{pair};
 
 mod outcome;
-mod outcomes;
 mod pairs;
-mod sorted;
+mod pairs_work;
+mod runs;
 mod tables;
 mod work;
 mod workers;
 
 use fut_scalar::NoMemory;
-pub use outcome::{Done, Post, Share};
-pub use outcomes::in_chunks;
+pub use outcome::Done;
 pub use pairs::pairs_in_chunks;
+pub use runs::in_chunks;
 use std::alloc::Global;
 pub use workers::{MOST_WORKERS, workers_for};
 
@@ -79,8 +79,7 @@ pub trait SharedTable<S> {
 
     /// The seat has the parts and the pairs of both.
     fn join(&self, seat: &mut S, other: S)
-        requires own { is_of self.now seat.old × is_of self.now other }
-        requires parts { parts seat.old + parts other ≤ 64 }
+        requires { is_of self.now seat.old × is_of self.now other }
         ensures { is_of self.now seat.new × (parts seat.new ≡ parts seat.old + parts other) × (pairs seat.new ≡ pairs seat.old ++ pairs other) };
 }
 

@@ -1,10 +1,10 @@
 //! The pairs of all chunks, put by workers.
-ghost use Rattle.std.specs.Prelude.{◌≡◌, ℕ, ◌*◌, ◌<◌, ◌≤◌, [], IfOk, length};
-ghost use Rattle.chunk_work.specs.Puts.{AllPut};
+ghost use Rattle.std.specs.Prelude.{◌≡◌, ℕ, ◌+◌, ◌-◌, ◌*◌, ◌<◌, ◌≤◌, ◌++◌, [], true, false, IfOk, All, length};
+ghost use Rattle.chunk_work.specs.Puts.{AllPut, EachPut};
 
-use crate::sorted::sorted;
-use crate::work::at_once;
-use crate::{Gate, Post, Puts, Share, SharedTable, Task};
+use crate::pairs_work::pairs_all;
+use crate::runs::sorted;
+use crate::{Gate, Puts, SharedTable, Task};
 use chunk_draw::Draw;
 use fut_scalar::NoMemory;
 use std::alloc::Global;
@@ -38,25 +38,11 @@ pub fn pairs_in_chunks<
     ensures seat { IfOk result (λ r. P.is_of table.now r.0 × (P.parts r.0 ≡ workers)) }
     ensures put { IfOk result (λ r. AllPut (T.ran task.now) O.keeps (O.pairs_of places) chunks r.1.items (P.pairs r.0)) }
 {
-    let (draw, draws) = Draw::open(alloc, chunks, u64::from(workers))?;
-    let post = Post {
-        number: 0,
-        draws,
-        puts: mine,
-    };
-    let all = at_once(
-        rt,
-        alloc,
-        &draw,
-        table,
-        places,
-        task,
-        gate,
-        post,
-        workers - 1,
+    let (draw, seat) = Draw::open(alloc, chunks, u64::from(workers))?;
+    let (seat, mine, dones) = pairs_all(
+        rt, alloc, &draw, seat, table, mine, places, task, workers, gate,
     )?;
-    let Share { draws, puts, dones } = all;
-    draw.finish(draws);
+    draw.finish(seat);
     let kept = sorted(alloc, dones, chunks)?;
-    Ok((puts, kept))
+    Ok((mine, kept))
 }

@@ -1,6 +1,6 @@
 use Rattle.std.proofs.Common.{◌≡◌, fold, replicate, None, length}
 use Rattle.chunk_work.specs.Runs.{placed}
-use Rattle.chunk_work.proofs.sorted.by_chunk.Given as goal
+use Rattle.chunk_work.proofs.runs.by_chunk.Given as goal
 
 abbrev pub invariant-loop-done : goal.invariant-loop-done
 invariant-loop-done g l = record {

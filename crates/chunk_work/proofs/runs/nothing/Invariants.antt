@@ -1,5 +1,5 @@
 use Rattle.std.proofs.Common.{◌≡◌, replicate, None}
-use Rattle.chunk_work.proofs.sorted.nothing.Given as goal
+use Rattle.chunk_work.proofs.runs.nothing.Given as goal
 
 abbrev pub invariant-loop-i : goal.invariant-loop-i
 invariant-loop-i g l = l.places.items ≡ replicate l._i None
