@@ -2,8 +2,8 @@
 ghost use Rattle.std.specs.Prelude.{flat_map, map, OnOk, OnErr};
 ghost use Rattle.fut_io.specs.Outside.{Took, TookPart};
 ghost use Rattle.futhark_status.specs.Report.{line_in, piece_bytes};
-ghost use Rattle.std.specs.Prelude.{◌∷◌, ◌≡◌, []};
-ghost use Rattle.futhark_status.specs.Status.{beginning, bytes_of, joined, Clashing, newline, path_at, Placed};
+ghost use Rattle.std.specs.Prelude.{◌∷◌, ◌≡◌, [], codes, decimal};
+ghost use Rattle.futhark_status.specs.Status.{beginning, bytes_of, joined, newline, path_at, Placed};
 
 use crate::line::Line;
 use fut_io::{Failed, Sink, write_all};
@@ -116,9 +116,14 @@ fn write_around<'a, E: Sink>(
 }
 
 /// Writes what is said of a size that is another one than is wanted.
-fn write_clash<E: Sink>(err: &mut E, param: u64, have: u64, want: i64) -> Result<(), Failed>
-    ensures ok { OnOk result (Took (E.seen err.old) (E.seen err.new) (bytes_of (Clashing param have want))) }
-    ensures failed { OnErr result (TookPart (E.seen err.old) (E.seen err.new) (bytes_of (Clashing param have want))) }
+fn write_clash<'a, E: Sink>(
+    err: &mut E,
+    param: u64,
+    have: u64,
+    want: Piece<'a>,
+) -> Result<(), Failed>
+    ensures ok { OnOk result (Took (E.seen err.old) (E.seen err.new) (joined (beginning ∷ codes "input: size of parameter " ∷ decimal param ∷ codes ": have " ∷ decimal have ∷ codes ", want " ∷ piece_bytes want.entry ∷ newline ∷ []))) }
+    ensures failed { OnErr result (TookPart (E.seen err.old) (E.seen err.new) (joined (beginning ∷ codes "input: size of parameter " ∷ decimal param ∷ codes ": have " ∷ decimal have ∷ codes ", want " ∷ piece_bytes want.entry ∷ newline ∷ []))) }
 {
     write_pieces(
         err,
@@ -129,7 +134,7 @@ fn write_clash<E: Sink>(err: &mut E, param: u64, have: u64, want: i64) -> Result
             Piece::Text(b": have "),
             Piece::Number(have),
             Piece::Text(b", want "),
-            Piece::Signed(want),
+            want,
             Piece::Text(b"\n"),
         ],
     )
@@ -153,7 +158,7 @@ pub fn write_line<'a, E: Sink>(err: &mut E, line: Line<'a>) -> Result<(), Failed
         Line::Counted(before, number, behind) => {
             write_around(err, before, Piece::Number(number), behind)
         }
-        Line::Clashing { param, have, want } => write_clash(err, param, have, want),
+        Line::Clashing { param, have, want } => write_clash(err, param, have, Piece::Signed(want)),
         Line::Named(before, name, behind) => write_around(err, before, Piece::Text(name), behind),
         Line::Placed(path, place, before, name, behind) => {
             write_placed(err, path, place, before, name, behind)

@@ -17,7 +17,11 @@ fn is_copied(alloc: Global, words: &[u64]) -> Result<bool, NoMemory> {
     let array = array_of(alloc, &[2, 2], words)?;
     let copy = copy_value(alloc, &array)?;
     let is_bool = copy.shape.elem == ScalarType::Bool;
-    Ok(is_bool && copy.shape.sizes.as_slice() == &[2, 2] && copy.words.as_slice() == words)
+    Ok(
+        is_bool
+            && copy.shape.sizes.as_slice() == [2u64, 2].as_slice()
+            && copy.words.as_slice() == words,
+    )
 }
 
 #[test]
