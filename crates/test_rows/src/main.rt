@@ -99,7 +99,7 @@ fn main(rt: HostRuntime) -> io::Result<ExitCode> {
         all_hold = check_file(&rt, name.as_str()) && all_hold;
     }
     if !is_used {
-        println!(rt; "usage: worked FILE.rows ..")?;
+        println!(rt; "usage: test_rows FILE.rows ..")?;
     }
     Ok(if is_used && all_hold {
         ExitCode::SUCCESS
