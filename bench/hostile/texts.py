@@ -88,6 +88,18 @@ texts["tuple_compared"] = main(f"let r=(x{rows(999, ',x')})" + rows(1000, " let 
 for name, value in {"calls": "1+f~ x", "ifs": "if x==@ then 1 else f~ x", "loops": "loop x for i<1i64 do f~ x"}.items():
     texts[f"{name}_nearly_too_deep"] = "def f0 (x:i64)=x " + rows(490, f"def f@ (x:i64)={value} ") + main("f490 x")
 
+# arrays: long, wide, many, growing past the greatest weight, of rows with many parts, and functions of primitives in one another
+texts["array_literal"] = main(f"([x{rows(300000, ',x')}])[0]")
+texts["arrays_in_a_chain"] = main("let a=iota 3" + rows(20000, " let a=map (+x) a") + " in a[0]")
+texts["array_doubled"] = main("length (loop a=[x] for i<40i64 do concat a a)")
+texts["array_of_a_doubled_tuple"] = main(rows(18, doubled) + "in length [x18]", parameter="x0")
+texts["branches_of_a_doubled_tuple"] = main(rows(18, doubled) + "in length [if x0==1 then x18 else x18]", parameter="x0")
+texts["largest_array"] = main("length (replicate 33554432 x)")
+texts["array_too_large"] = main("length (replicate 33554433 x)")
+texts["rows_too_large"] = main("length (map (\\i->map (\\j->iota 1000) (iota 1000)) (iota 100))")
+texts["maps_in_one_another"] = "def f0 (x:i64)=x " + rows(300, "def f@ (x:i64)=(map f~ [x])[0] ") + main("f300 x")
+texts["reductions_in_one_another"] = "def f0 (x:i64)=x " + rows(300, "def f@ (x:i64)=reduce (\\a b->f~ (a+b)) 0 [x] ") + main("f300 x")
+
 # each bracket as deep as it may be, and deeper
 for deep in 190, 201, 100000:
     for name, head, before, inside, behind, end in [

@@ -1,4 +1,4 @@
-//! Expressions of a source text, with their names resolved and their sugar opened. `module_scopes/specs/Resolve.antt` is
+//! Expressions of a source text, with their names resolved and their sugar opened. `elab_scopes/specs/Resolve.antt` is
 //! the definition, `fut_flat/specs/Sources.antt` says which sugar a tree has.
 #![tactic(auto)]
 

@@ -5,6 +5,7 @@ pub mod Told
 pub mod Terms
 pub mod Sizes
 pub mod Programs
+pub mod Answers
 pub mod Filled
 pub mod Parts
 pub mod OnceTerms

@@ -141,8 +141,10 @@ pub fn accept<'a>(
         Err(ParseErr::Memory) => return Err(Refused::Memory),
         Err(err) => return Err(Refused::Parse(err)),
     };
-    if let Some(at) = first_unbuilt(tokens) {
-        return Err(Refused::NotBuilt { at });
+    match first_unbuilt(alloc, tokens) {
+        Ok(None) => {}
+        Ok(Some(at)) => return Err(Refused::NotBuilt { at }),
+        Err(_) => return Err(Refused::Memory),
     }
     let flat = match resolved(alloc, bump, prelude, program) {
         Ok(flat) => flat,

@@ -1,11 +1,16 @@
--- Small blocks, by computation: what the definitions say of types, numbers, order, reports and turns.
-use Rattle.std.proofs.Common.{◌≡◌, ℕ, [], ◌∷◌, true, false, refl, arith}
+-- Small blocks, by computation: what the definitions say of numbers, order, reports and turns.
+use Rattle.std.proofs.Common.{◌≡◌, ℕ, List, [], ◌∷◌, map, true, false, refl, arith}
 use Rattle.fut_scalar.specs.declared.operator.BinOp.TheVariants as binary
 use Rattle.fut_scalar.specs.declared.place.Place.{Place}
 use Rattle.fut_scalar.specs.declared.report.FailKind.TheVariants as kind
 use Rattle.fut_scalar.specs.declared.scalar.IntType.TheVariants.{I8, U8}
+use Rattle.fut_scalar.specs.declared.scalar.Scalar.{Scalar}
 use Rattle.fut_scalar.specs.declared.scalar.Scalar.TheVariants as scalar
 use Rattle.fut_scalar.specs.declared.scalar.ScalarType.TheVariants as sort
+use Rattle.fut_value.specs.Data.{Datum, Scalar_datum, Tuple_datum, Record_datum, Array_datum, Scalar_shape, datums, no_named, named_and, shape_of, words, array_words, weight, heaviest, same_sizes}
+use Rattle.fut_flat.specs.declared.prim.Primitive.TheVariants as prim
+use Rattle.fut_meaning.specs.Arrays.{Make_array, made, array}
+use Rattle.fut_meaning.specs.Jobs.{job}
 use Rattle.fut_arithmetic.specs.Operations.{result_of}
 use Rattle.fut_meaning.specs.Operations.{report}
 use Rattle.fut_meaning.specs.Operators.{binary_result}
@@ -13,19 +18,19 @@ use Rattle.fut_meaning.specs.Outcomes.{Val, Fail, Wrong, exact, goes_on, stops}
 use Rattle.fut_blocks.specs.declared.block.Atom.{Atom}
 use Rattle.fut_blocks.specs.declared.block.Atom.TheVariants as atom
 use Rattle.fut_blocks.specs.declared.block.Operation.TheVariants as operation
-use Rattle.fut_blocks.specs.Plain.{Operate, If, For, While, Body, Give, Let}
-use Rattle.fut_blocks.specs.Meaning.{Component, operated, body_means}
-use Rattle.fut_blocks.specs.Typed.{Sort, Body_typed}
+use Rattle.fut_blocks.specs.Plain.{Action, Operate, Make, Job, If, For, Over, While, Body, Give, Let, Record_with, Part_at, Replace_at, Fields_at}
+use Rattle.fut_blocks.specs.Records.{reads}
+use Rattle.fut_blocks.specs.Meaning.{Component, Names, operated, act_means, body_means}
 use Rattle.fut_blocks.specs.Numbered.{Body_numbered}
 
 here : Place
 here = record { file = 0; line = 1; column = 1 }
 
-abbrev word : ℕ → Component
-word n = scalar.Int U8 n
+abbrev number : ℕ → Scalar
+number n = scalar.Int U8 n
 
-abbrev words : Sort
-words = sort.Int U8
+abbrev word : ℕ → Component
+word n = Scalar_datum (number n)
 
 -- loop p1 = 9 for n2 < x0 do if p1 < n2 then p1 / n2 else p1 / n2
 abbrev turn : Body
@@ -37,30 +42,7 @@ turn =
     (Give (atom.Name 6 ∷ [])))
 
 abbrev whole : Body
-whole = Let (7 ∷ []) (For (1 ∷ []) (atom.Constant (word 9) ∷ []) 2 (atom.Name 0) turn) (Give (atom.Name 7 ∷ []))
-
-is_typed : Body_typed ((0, words) ∷ []) whole (words ∷ [])
-unfolding Body_typed
-is_typed = (
-  words ∷ [],
-  (
-    (refl, tt),
-    U8,
-    refl,
-    _,
-    refl,
-    (
-      sort.Bool ∷ [],
-      (words, refl, refl, tt, refl),
-      _,
-      refl,
-      (words ∷ [], (refl, (words ∷ [], (words, refl, refl, tt, refl), _, refl, (refl, tt)), (words ∷ [], (words, refl, refl, tt, refl), _, refl, (refl, tt))), _, refl, (refl, tt)),
-    ),
-  ),
-  _,
-  refl,
-  (refl, tt),
-)
+whole = Let (7 ∷ []) (For (1 ∷ []) (atom.Constant (number 9) ∷ []) 2 (atom.Name 0) turn) (Give (atom.Name 7 ∷ []))
 
 is_numbered : Body_numbered 1 whole 8
 unfolding Body_numbered
@@ -84,13 +66,13 @@ is_numbered = (
 )
 
 abbrev c : ℕ → Atom
-c n = atom.Constant (word n)
+c n = atom.Constant (number n)
 
 sums_wrap : operated [] (operation.Binary binary.Add here (c 250) (c 10)) ≡ Val (word 4 ∷ [])
 unfolding operated binary_result result_of
 sums_wrap = refl
 
-constants_are_cut : operated [] (operation.Convert words (c 300)) ≡ Val (word 44 ∷ [])
+constants_are_cut : operated [] (operation.Convert (sort.Int U8) (c 300)) ≡ Val (word 44 ∷ [])
 unfolding operated
 constants_are_cut = refl
 
@@ -115,14 +97,14 @@ unfolding operated
 assertions_give_nothing = refl
 
 -- both parameters get their values at once
-abbrev swap : Component → Body
+abbrev swap : Scalar → Body
 swap n = Let (5 ∷ 6 ∷ []) (For (1 ∷ 2 ∷ []) (c 1 ∷ c 2 ∷ []) 3 (atom.Constant n) (Give (atom.Name 2 ∷ atom.Name 1 ∷ []))) (Give (atom.Name 5 ∷ atom.Name 6 ∷ []))
 
-one_turn_swaps : body_means 0 (swap (word 1)) [] (Val (word 2 ∷ word 1 ∷ [])) 0
+one_turn_swaps : body_means false 0 (swap (number 1)) [] (Val (word 2 ∷ word 1 ∷ [])) 0
 unfolding body_means
 one_turn_swaps = goes_on {f = 0} {g = 0} (goes_on {f = 0} {g = 0} (goes_on {f = 0} {g = 0} exact (goes_on {f = 0} {g = 0} exact (goes_on {f = 0} {g = 0} (goes_on {f = 0} {g = 0} exact exact) exact))) exact) exact
 
-a_count_below_0_takes_no_turn : body_means 0 (swap (scalar.Int I8 255)) [] (Val (word 1 ∷ word 2 ∷ [])) 0
+a_count_below_0_takes_no_turn : body_means false 0 (swap (scalar.Int I8 255)) [] (Val (word 1 ∷ word 2 ∷ [])) 0
 unfolding body_means
 a_count_below_0_takes_no_turn = goes_on {f = 0} {g = 0} (goes_on {f = 0} {g = 0} (goes_on {f = 0} {g = 0} exact (goes_on {f = 0} {g = 0} exact exact)) exact) exact
 
@@ -130,11 +112,83 @@ a_count_below_0_takes_no_turn = goes_on {f = 0} {g = 0} (goes_on {f = 0} {g = 0}
 abbrev forever : Body
 forever = Let [] (While here [] [] (Give (atom.Constant (scalar.Bool true) ∷ [])) (Give [])) (Give [])
 
-no_turn_is_left : body_means 0 forever [] (Fail (report kind.Turns here)) 0
+no_turn_is_left : body_means false 0 forever [] (Fail (report kind.Turns here)) 0
 unfolding body_means
 no_turn_is_left = stops (stops (goes_on {f = 0} {g = 0} exact (goes_on {f = 0} {g = 0} (goes_on {f = 0} {g = 0} exact (goes_on {f = 0} {g = 0} exact exact)) exact)))
 
 -- a name is seen below its step alone
-names_of_a_branch_end : body_means 0 (Let [] (If (atom.Constant (scalar.Bool true)) (Let (1 ∷ []) (Operate (operation.Convert words (c 7))) (Give [])) (Give [])) (Give (atom.Name 1 ∷ []))) [] Wrong 0
+names_of_a_branch_end : body_means false 0 (Let [] (If (atom.Constant (scalar.Bool true)) (Let (1 ∷ []) (Operate (operation.Convert (sort.Int U8) (c 7))) (Give [])) (Give [])) (Give (atom.Name 1 ∷ []))) [] Wrong 0
 unfolding body_means operated
 names_of_a_branch_end = goes_on {f = 0} {g = 0} (goes_on {f = 0} {g = 0} (goes_on {f = 0} {g = 0} exact (goes_on {f = 0} {g = 0} (goes_on {f = 0} {g = 0} exact exact) exact)) exact) exact
+
+-- ---- arrays
+
+abbrev row : List ℕ → Datum
+row ns = Array_datum (Scalar_shape (sort.Int U8)) (datums (map word ns))
+
+arrays_count_their_words : act_means false 0 (Make Make_array here (c 1 ∷ c 2 ∷ [])) [] (Val (row (1 ∷ 2 ∷ []) ∷ [])) 2
+unfolding act_means made array shape_of words array_words weight heaviest same_sizes
+arrays_count_their_words = goes_on {f = 0} {g = 2} exact (goes_on {f = 0} {g = 2} exact exact)
+
+rows_have_the_same_sizes : act_means false 0 (Make Make_array here (atom.Name 0 ∷ atom.Name 1 ∷ [])) ((0, row (1 ∷ [])) ∷ (1, row []) ∷ []) (Fail (report kind.Size here)) 0
+unfolding act_means made array shape_of words array_words weight heaviest same_sizes
+rows_have_the_same_sizes = goes_on {f = 0} {g = 0} exact (stops exact)
+
+-- 12 / each row, whose function is a block that sees the names outside
+abbrev divisions : Action
+divisions = Job prim.Map here (atom.Name 0 ∷ []) (2 ∷ []) (Let (3 ∷ []) (Operate (operation.Binary binary.Div here (atom.Name 1) (atom.Name 2))) (Give (atom.Name 3 ∷ [])))
+
+abbrev with_rows : List ℕ → Names Component
+with_rows ns = (1, word 12) ∷ (0, row ns) ∷ []
+
+maps_apply_their_block : act_means false 0 divisions (with_rows (3 ∷ 4 ∷ [])) (Val (row (4 ∷ 3 ∷ []) ∷ [])) 2
+unfolding act_means body_means operated binary_result result_of job array shape_of words array_words weight heaviest same_sizes
+maps_apply_their_block =
+    goes_on {f = 0} {g = 2} exact (goes_on {f = 0} {g = 2} exact (goes_on {f = 2} {g = 0} (goes_on {f = 0} {g = 2}
+    (goes_on {f = 0} {g = 0} (goes_on {f = 0} {g = 0} (goes_on {f = 0} {g = 0} exact (goes_on {f = 0} {g = 0} (goes_on {f = 0} {g = 0} exact exact) exact)) exact) (goes_on {f = 0} {g = 0} (goes_on {f = 0} {g = 0} (goes_on {f = 0} {g = 0} (goes_on {f = 0} {g = 0} exact (goes_on {f = 0} {g = 0} (goes_on {f = 0} {g = 0} exact exact) exact)) exact) (goes_on {f = 0} {g = 0} exact exact)) exact))
+    (goes_on {f = 0} {g = 2} exact exact)) exact))
+
+-- the rows are not looked at behind the first that fails
+the_first_row_fails : act_means false 0 divisions (with_rows (0 ∷ 4 ∷ [])) (Fail (report kind.Division here)) 0
+unfolding act_means body_means operated binary_result result_of job
+the_first_row_fails =
+    goes_on {f = 0} {g = 0} exact (goes_on {f = 0} {g = 0} exact (stops (stops (stops (stops (goes_on {f = 0} {g = 0} exact (stops (stops exact))))))))
+
+-- the sum of all rows
+abbrev sum : Action
+sum = Over (1 ∷ []) (c 0 ∷ []) 2 (atom.Name 0) (Let (3 ∷ []) (Operate (operation.Binary binary.Add here (atom.Name 1) (atom.Name 2))) (Give (atom.Name 3 ∷ [])))
+
+a_turn_for_each_row : act_means false 0 sum ((0, row (4 ∷ 5 ∷ [])) ∷ []) (Val (word 9 ∷ [])) 0
+unfolding act_means body_means operated binary_result result_of
+a_turn_for_each_row = goes_on {f = 0} {g = 0} exact (goes_on {f = 0} {g = 0} exact (goes_on {f = 0} {g = 0} (goes_on {f = 0} {g = 0} exact (goes_on {f = 0} {g = 0} (goes_on {f = 0} {g = 0} exact exact) exact)) (goes_on {f = 0} {g = 0} (goes_on {f = 0} {g = 0} exact (goes_on {f = 0} {g = 0} (goes_on {f = 0} {g = 0} exact exact) exact)) exact)))
+
+-- ---- tuples and records
+
+tuples_come_apart : operated ((0, Tuple_datum (datums (word 1 ∷ row [] ∷ []))) ∷ []) (operation.Parts (atom.Name 0)) ≡ Val (word 1 ∷ row [] ∷ [])
+unfolding operated
+tuples_come_apart = refl
+
+abbrev a : List ℕ
+a = 97 ∷ []
+
+abbrev b : List ℕ
+b = 98 ∷ []
+
+abbrev record_of : Datum → Datum → Datum
+record_of d e = Record_datum (named_and a d (named_and b e no_named))
+
+records_are_made : reads (Record_with (a ∷ b ∷ [])) (word 1 ∷ word 2 ∷ []) ≡ Val (record_of (word 1) (word 2) ∷ [])
+unfolding reads
+records_are_made = refl
+
+fields_are_found : reads (Part_at b) (record_of (word 1) (word 2) ∷ []) ≡ Val (word 2 ∷ [])
+unfolding reads
+fields_are_found = refl
+
+one_field_is_replaced : reads (Replace_at a) (record_of (word 1) (word 2) ∷ word 3 ∷ []) ≡ Val (record_of (word 3) (word 2) ∷ [])
+unfolding reads
+one_field_is_replaced = refl
+
+fields_come_in_the_order_of_the_pattern : reads (Fields_at (b ∷ a ∷ [])) (record_of (word 1) (word 2) ∷ []) ≡ Val (word 2 ∷ word 1 ∷ [])
+unfolding reads
+fields_come_in_the_order_of_the_pattern = refl

@@ -2,17 +2,31 @@
 use Rattle.std.proofs.Common.{◌≡◌, ℕ, List, map, sym, ap, ◌∙◌, Bor}
 use Rattle.fut_scalar.specs.declared.place.Place.{Place}
 use Rattle.fut_blocks.specs.declared.block.Atom.{Atom}
+use Rattle.fut_flat.specs.declared.prim.Primitive.{Primitive}
+use Rattle.fut_blocks.specs.declared.block.Making.{Making}
 use Rattle.fut_blocks.specs.declared.block.Operation.{Operation}
 use Rattle.fut_blocks.specs.declared.block.Act.{Act, fold-roll-Act}
 use Rattle.fut_blocks.specs.declared.block.Act.TheOpen as open_act
 use Rattle.fut_blocks.specs.declared.block.Act.TheVariants as act
 use Rattle.fut_blocks.specs.declared.block.Block.{Block, Block-F, roll-Block, out-Block, out-roll-Block, fold_out-Block}
 use Rattle.fut_blocks.specs.declared.block.Step.{Step, Step-F, roll-Step, out-roll-Step, fold_out-Step}
-use Rattle.fut_blocks.specs.Plain.{Action, Operate, If, For, While, Body, lets, act_form, block_form, step_form, action_of, body_of, binding_of}
+use Rattle.fut_blocks.specs.Plain.{Action, Operate, Job, If, For, Over, While, Body, lets, making_form, act_form, block_form, step_form, action_of, body_of, binding_of}
 
 pub action_of-Operate : (o : Operation) → action_of (act.Operate o) ≡ Operate o
 unfolding action_of act_form
 action_of-Operate o = ap action_of (sym (act.rolls-Operate o)) ∙ fold-roll-Act Action Body (List ℕ × Action) act_form block_form step_form (open_act.Operate o)
+
+pub action_of-Make : (m : Making) (at : Place) (us : Bor (List Atom)) → action_of (act.Make m at us) ≡ making_form m at us.now
+unfolding action_of act_form
+action_of-Make m at us = ap action_of (sym (act.rolls-Make m at us)) ∙ fold-roll-Act Action Body (List ℕ × Action) act_form block_form step_form (open_act.Make m at us)
+
+pub action_of-Primitive : (p : Primitive) (at : Place) (us : Bor (List Atom)) (xs : Bor (List ℕ)) (b : Bor Block) → action_of (act.Primitive p at us xs b) ≡ Job p at us.now xs.now (body_of b.now)
+unfolding action_of body_of act_form
+action_of-Primitive p at us xs b = ap action_of (sym (act.rolls-Primitive p at us xs b)) ∙ fold-roll-Act Action Body (List ℕ × Action) act_form block_form step_form (open_act.Primitive p at us xs b)
+
+pub action_of-ForEach : (xs : Bor (List ℕ)) (us : Bor (List Atom)) (x : ℕ) (r : Atom) (b : Bor Block) → action_of (act.ForEach xs us x r b) ≡ Over xs.now us.now x r (body_of b.now)
+unfolding action_of body_of act_form
+action_of-ForEach xs us x r b = ap action_of (sym (act.rolls-ForEach xs us x r b)) ∙ fold-roll-Act Action Body (List ℕ × Action) act_form block_form step_form (open_act.ForEach xs us x r b)
 
 pub action_of-If : (c : Atom) (a b : Bor Block) → action_of (act.If c a b) ≡ If c (body_of a.now) (body_of b.now)
 unfolding action_of body_of act_form
@@ -41,6 +55,6 @@ body_of-made r = body_of-parts (roll-Block r) ∙ ap (λ (z : Block-F Act Block 
 pub binding_of-made : (r : Step-F Act Block Step) → binding_of (roll-Step r) ≡ (r.names.now, action_of r.act)
 binding_of-made r = binding_of-parts (roll-Step r) ∙ ap (λ (z : Step-F Act Block Step). (z.names.now, action_of z.act)) (out-roll-Step r)
 
-pub ruleset made = (action_of-Operate, action_of-If, action_of-For, action_of-While, body_of-made, binding_of-made)
+pub ruleset made = (action_of-Operate, action_of-Make, action_of-Primitive, action_of-If, action_of-For, action_of-ForEach, action_of-While, body_of-made, binding_of-made)
 
-pub ruleset blocks = (action_of-Operate, action_of-If, action_of-For, action_of-While, body_of-parts, binding_of-parts)
+pub ruleset blocks = (action_of-Operate, action_of-Make, action_of-Primitive, action_of-If, action_of-For, action_of-ForEach, action_of-While, body_of-parts, binding_of-parts)

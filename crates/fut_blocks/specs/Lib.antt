@@ -1,6 +1,6 @@
 pub mod Plain
+pub mod Records
 pub mod Meaning
-pub mod Typed
 pub mod Numbered
 pub mod Programs
 pub mod Claims

@@ -1,5 +1,7 @@
 // Blocks of steps.
-use fut_scalar::{BinOp, Place, Scalar, ScalarType, UnOp};
+use fut_ast::End;
+use fut_flat::{Part, Primitive};
+use fut_scalar::{BinOp, DataType, Place, Scalar, ScalarType, UnOp};
 
 /// What needs no step: a name, by its number, or a constant. Of an integer's bits the lowest count, as many as its type has.
 #[derive(Clone, Copy)]
@@ -16,14 +18,42 @@ pub enum Operation {
     Convert(ScalarType, Atom),
     /// The condition has to hold. It gives nothing.
     Assert(Place, Atom),
+    /// All parts of a tuple.
+    Parts(Atom),
+}
+
+/// What is made of parts, or read of one: a tuple, an array or a record of them, a part, an update or a replaced field, or a range.
+#[derive(Clone, Copy)]
+pub enum Making<'a> {
+    Tuple,
+    Array,
+    Index(&'a [Part]),
+    Update,
+    Range { stepped: bool, end: End },
+    /// A record of parts, with the names of its fields in their order.
+    Record(&'a [&'a str]),
+    /// A part of a tuple, or a field of a record.
+    Part(&'a str),
+    /// A record with another value for a field.
+    Replace(&'a str),
+    /// Fields of a record, which get a name each.
+    Fields(&'a [&'a str]),
 }
 
 /// What a step does. A loop begins with first values for its parameters, and each turn of its body gives the next ones.
-/// The acts of arrays, and the loop over an array, come with arrays.
 #[cycle(block)]
 #[derive(Clone, Copy)]
 pub enum Act<'a> {
     Operate(Operation),
+    Make(Making<'a>, Place, &'a [Atom]),
+    /// A primitive on arrays with its data, and its function: the parameters and the body, which gives one component.
+    Primitive {
+        primitive: Primitive,
+        place: Place,
+        data: &'a [Atom],
+        params: &'a [u32],
+        body: &'a Block<'a>,
+    },
     If(Atom, &'a Block<'a>, &'a Block<'a>),
     /// As many turns as `count` says. The index counts them from 0.
     For {
@@ -31,6 +61,14 @@ pub enum Act<'a> {
         first: &'a [Atom],
         index: u32,
         count: Atom,
+        body: &'a Block<'a>,
+    },
+    /// A turn for each row.
+    ForEach {
+        params: &'a [u32],
+        first: &'a [Atom],
+        row: u32,
+        rows: Atom,
         body: &'a Block<'a>,
     },
     /// Turns while the test holds. It reports at the place where the budget of turns is used up.
@@ -63,7 +101,7 @@ pub struct Block<'a> {
 #[derive(Clone, Copy)]
 pub struct Program<'a> {
     pub params: &'a [u32],
-    pub types: &'a [ScalarType],
+    pub types: &'a [DataType],
     pub body: Block<'a>,
     pub names: u32,
 }

@@ -1,4 +1,5 @@
 pub mod Tells
+pub mod Holding
 pub mod Reading
 pub mod Scalars
 pub mod Operations
@@ -6,4 +7,11 @@ pub mod Storing
 pub mod Steps
 pub mod Loops
 pub mod Acts
+pub mod Applying
+pub mod Rowing
+pub mod Folding
+pub mod Jobs
+pub mod Makings
+pub mod Recording
 pub mod Whole
+pub mod SameData

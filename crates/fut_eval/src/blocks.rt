@@ -1,26 +1,38 @@
 // Runs of blocks, acts and loops.
-ghost use Rattle.fut_blocks.specs.Plain.{action_of, binding_of, body_of};
-ghost use Rattle.fut_eval.specs.Runs.{Act_runs, Body_runs, For_runs, Step_runs, Test_runs, Turn_runs, While_runs};
+ghost use Rattle.std.specs.Prelude.{◌≡◌, false, length};
+ghost use Rattle.fut_value.specs.Data.{Unmet_shape};
+ghost use Rattle.fut_meaning.specs.Jobs.{job};
+ghost use Rattle.fut_blocks.specs.Plain.{Job, action_of, binding_of, body_of};
+ghost use Rattle.array_data.specs.Held.{as_held, held, held_all, rows_in};
+ghost use Rattle.fut_eval.specs.Primitives.{Applied_runs, Each_runs, Fold_runs, Job_runs, Next_runs, Scan_runs, as_built};
+ghost use Rattle.fut_eval.specs.Runs.{Act_runs, Body_runs, For_runs, Over_runs, Step_runs, Test_runs, Turn_runs, While_runs};
 
-use crate::names::{bind, name, pop_truth, push_all, take};
+use crate::make::make;
+use crate::names::{bind, name, pop_one, pop_truth, push, push_all, read, read_data, take};
 use crate::operate::{operate, truth_at, turns_at};
-use crate::stop::Stop;
-use fut_blocks::{Act, Block, Step};
+use array_data::{
+    Built, Data, Finish, Plan, Stop, array, copy, count, finish_rows, plan_of, put_row, row,
+    row_depth, row_form,
+};
+use fut_blocks::{Act, Atom, Block, Step};
+use fut_flat::Primitive;
 use fut_scalar::{FailKind, IntType, Place, Report, Scalar};
+use std::alloc::Global;
 
 /// Runs a block, and puts its results on the stack.
 #[tactic(auto, using(crate::proofs::Steps::all_steps))]
 #[cycle(blocks)]
 pub fn run_block(
+    alloc: Global,
     block: &Block,
     turns: u64,
-    table: &mut [Scalar],
-    stack: &mut Vec<Scalar>,
+    table: &mut [Data],
+    stack: &mut Vec<Data>,
 ) -> Result<(), Stop>
-    ensures { Body_runs turns (body_of block.now) table.old table.new stack.old.items stack.new.items result }
+    ensures { Body_runs turns (body_of block.now) (held_all table.old) (held_all table.new) (held_all stack.old.items) (held_all stack.new.items) result }
 {
     for step in block.steps {
-        run_step(step, turns, table, stack)?;
+        run_step(alloc, step, turns, table, stack)?;
     }
     push_all(block.results, table, stack)
 }
@@ -29,31 +41,64 @@ pub fn run_block(
 #[tactic(auto, using(crate::proofs::Steps::one_step))]
 #[cycle(blocks)]
 fn run_step(
+    alloc: Global,
     step: &Step,
     turns: u64,
-    table: &mut [Scalar],
-    stack: &mut Vec<Scalar>,
+    table: &mut [Data],
+    stack: &mut Vec<Data>,
 ) -> Result<(), Stop>
-    ensures { Step_runs turns (binding_of step.now) table.old table.new stack.old.items stack.new.items result }
+    ensures { Step_runs turns (binding_of step.now) (held_all table.old) (held_all table.new) (held_all stack.old.items) (held_all stack.new.items) result }
 {
     let mark = stack.len();
-    run_act(&step.act, turns, table, stack)?;
+    run_act(alloc, &step.act, step.names, turns, table, stack)?;
     take(step.names, mark, table, stack)
 }
 
-/// Runs an act, and puts what it gives on the stack.
+/// Runs an act, and puts what it gives on the stack, for names of its own.
 #[tactic(auto, using(crate::proofs::Acts::act_rules))]
 #[cycle(blocks)]
-fn run_act(act: &Act, turns: u64, table: &mut [Scalar], stack: &mut Vec<Scalar>) -> Result<(), Stop>
-    ensures { Act_runs turns (action_of act.now) table.old table.new stack.old.items stack.new.items result }
+fn run_act(
+    alloc: Global,
+    act: &Act,
+    own: &[u32],
+    turns: u64,
+    table: &mut [Data],
+    stack: &mut Vec<Data>,
+) -> Result<(), Stop>
+    ensures { Act_runs turns (action_of act.now) (held_all table.old) (held_all table.new) (held_all stack.old.items) (held_all stack.new.items) result }
 {
     match act {
         Act::Operate(operation) => operate(*operation, table, stack),
+        Act::Make(making, place, atoms) => make(alloc, *making, *place, atoms, own, table, stack),
+        Act::Primitive {
+            primitive,
+            place,
+            data,
+            params,
+            body,
+        } => run_primitive(
+            alloc, *primitive, *place, data, params, body, turns, table, stack,
+        ),
+        Act::ForEach {
+            params,
+            first,
+            row: element,
+            rows,
+            body,
+        } => {
+            let mark = stack.len();
+            push_all(first, table, stack)?;
+            let rows = read(table, *rows)?;
+            let n = count(&rows)?;
+            run_over(
+                alloc, body, params, *element, &rows, n, mark, turns, table, stack,
+            )
+        }
         Act::If(condition, yes, no) => {
             if truth_at(table, *condition)? {
-                run_block(yes, turns, table, stack)
+                run_block(alloc, yes, turns, table, stack)
             } else {
-                run_block(no, turns, table, stack)
+                run_block(alloc, no, turns, table, stack)
             }
         }
         Act::For {
@@ -66,7 +111,9 @@ fn run_act(act: &Act, turns: u64, table: &mut [Scalar], stack: &mut Vec<Scalar>)
             let mark = stack.len();
             push_all(first, table, stack)?;
             let (ty, count) = turns_at(table, *count)?;
-            run_for(body, params, *index, ty, count, mark, turns, table, stack)
+            run_for(
+                alloc, body, params, *index, ty, count, mark, turns, table, stack,
+            )
         }
         Act::While {
             place,
@@ -77,15 +124,212 @@ fn run_act(act: &Act, turns: u64, table: &mut [Scalar], stack: &mut Vec<Scalar>)
         } => {
             let mark = stack.len();
             push_all(first, table, stack)?;
-            run_while(test, body, params, *place, mark, turns, table, stack)
+            run_while(alloc, test, body, params, *place, mark, turns, table, stack)
         }
     }
+}
+
+/// Runs a primitive on arrays.
+#[tactic(auto, using(crate::proofs::Jobs::acts))]
+#[cycle(blocks)]
+fn run_primitive(
+    alloc: Global,
+    primitive: Primitive,
+    place: Place,
+    atoms: &[Atom],
+    params: &[u32],
+    body: &Block,
+    turns: u64,
+    table: &mut [Data],
+    stack: &mut Vec<Data>,
+) -> Result<(), Stop>
+    ensures { Act_runs turns (Job primitive place atoms.now params.now (body_of body.now)) (held_all table.old) (held_all table.new) (held_all stack.old.items) (held_all stack.new.items) result }
+{
+    let args = read_data(alloc, atoms, table)?;
+    run_job(
+        alloc,
+        primitive,
+        place,
+        args.as_slice(),
+        params,
+        body,
+        turns,
+        table,
+        stack,
+    )
+}
+
+/// Runs a primitive on its data, and puts its result on the stack.
+#[tactic(auto, using(crate::proofs::Jobs::jobs))]
+#[cycle(blocks)]
+fn run_job(
+    alloc: Global,
+    primitive: Primitive,
+    place: Place,
+    args: &[Data],
+    params: &[u32],
+    body: &Block,
+    turns: u64,
+    table: &mut [Data],
+    stack: &mut Vec<Data>,
+) -> Result<(), Stop>
+    ensures { Job_runs turns (body_of body.now) params.now (job false Unmet_shape primitive place (held_all args.now)) (held_all table.old) (held_all table.new) (held_all stack.old.items) (held_all stack.new.items) result }
+{
+    match plan_of(alloc, primitive, place, args)? {
+        Plan::Done(value) => push(stack, value),
+        Plan::Each(finish, n) => {
+            let built = run_each(alloc, finish, args, n, params, body, turns, table, stack)?;
+            let value = finish_rows(alloc, finish, place, args, built)?;
+            push(stack, value)
+        }
+        Plan::Reduce => {
+            if args.len() != 2 {
+                return Err(Stop::Memory);
+            }
+            let value = run_fold(alloc, &args[0], &args[1], params, body, turns, table, stack)?;
+            push(stack, value)
+        }
+        Plan::Scan => {
+            if args.len() != 2 {
+                return Err(Stop::Memory);
+            }
+            let built = run_scan(alloc, &args[0], &args[1], params, body, turns, table, stack)?;
+            let form = row_form(alloc, &args[1])?;
+            let value = array(alloc, place, &form, row_depth(&args[1]), built)?;
+            push(stack, value)
+        }
+    }
+}
+
+/// Applies a function to the arguments that lie on the stack from the mark on.
+#[tactic(auto, using(crate::proofs::Applying::applying))]
+#[cycle(blocks)]
+fn apply(
+    alloc: Global,
+    params: &[u32],
+    body: &Block,
+    mark: usize,
+    turns: u64,
+    table: &mut [Data],
+    stack: &mut Vec<Data>,
+) -> Result<Data, Stop>
+    ensures { Applied_runs turns (body_of body.now) params.now mark (held_all table.old) (held_all table.new) (held_all stack.old.items) (held_all stack.new.items) (as_held result) }
+{
+    take(params, mark, table, stack)?;
+    run_block(alloc, body, turns, table, stack)?;
+    pop_one(mark, stack)
+}
+
+/// Applies a function to each of so many rows.
+#[tactic(auto, using(crate::proofs::Rowing::each_row))]
+#[cycle(blocks)]
+fn run_each(
+    alloc: Global,
+    finish: Finish,
+    args: &[Data],
+    n: usize,
+    params: &[u32],
+    body: &Block,
+    turns: u64,
+    table: &mut [Data],
+    stack: &mut Vec<Data>,
+) -> Result<Built, Stop>
+    ensures { Each_runs turns (body_of body.now) params.now finish (held_all args.now) n (held_all table.old) (held_all table.new) (held_all stack.old.items) (held_all stack.new.items) (as_built result) }
+{
+    let mut built = Built::new(alloc);
+    for i in 0..n {
+        let mark = stack.len();
+        put_row(finish, args, i, stack)?;
+        let value = apply(alloc, params, body, mark, turns, table, stack)?;
+        built.push(value)?;
+    }
+    Ok(built)
+}
+
+/// One step of a fold. The first element stands for itself.
+#[tactic(auto, using(crate::proofs::Applying::next_steps))]
+#[cycle(blocks)]
+fn fold_next(
+    alloc: Global,
+    i: usize,
+    sofar: Data,
+    next: Data,
+    params: &[u32],
+    body: &Block,
+    turns: u64,
+    table: &mut [Data],
+    stack: &mut Vec<Data>,
+) -> Result<Data, Stop>
+    ensures { Next_runs turns (body_of body.now) params.now i (held sofar) (held next) (held_all table.old) (held_all table.new) (held_all stack.old.items) (held_all stack.new.items) (as_held result) }
+{
+    if i == 0 {
+        return Ok(next);
+    }
+    let mark = stack.len();
+    push(stack, sofar)?;
+    push(stack, next)?;
+    apply(alloc, params, body, mark, turns, table, stack)
+}
+
+/// Folds the rows of an array with an operator from the left. Without rows it is the neutral element.
+#[tactic(auto, using(crate::proofs::Folding::folds))]
+#[cycle(blocks)]
+fn run_fold(
+    alloc: Global,
+    neutral: &Data,
+    rows: &Data,
+    params: &[u32],
+    body: &Block,
+    turns: u64,
+    table: &mut [Data],
+    stack: &mut Vec<Data>,
+) -> Result<Data, Stop>
+    ensures { Fold_runs turns (body_of body.now) params.now (held neutral.now) (held rows.now) (held_all table.old) (held_all table.new) (held_all stack.old.items) (held_all stack.new.items) (as_held result) }
+{
+    let Ok(n) = count(rows) else {
+        return Err(Stop::Memory);
+    };
+    let mut sofar = copy(neutral)?;
+    for i in 0..n {
+        let next = row(rows, i)?;
+        sofar = fold_next(alloc, i, sofar, next, params, body, turns, table, stack)?;
+    }
+    Ok(sofar)
+}
+
+/// Folds the rows of an array with an operator from the left, and gives what each prefix comes to.
+#[tactic(auto, using(crate::proofs::Folding::scans))]
+#[cycle(blocks)]
+fn run_scan(
+    alloc: Global,
+    neutral: &Data,
+    rows: &Data,
+    params: &[u32],
+    body: &Block,
+    turns: u64,
+    table: &mut [Data],
+    stack: &mut Vec<Data>,
+) -> Result<Built, Stop>
+    ensures { Scan_runs turns (body_of body.now) params.now (held neutral.now) (held rows.now) (held_all table.old) (held_all table.new) (held_all stack.old.items) (held_all stack.new.items) (as_built result) }
+{
+    let Ok(n) = count(rows) else {
+        return Err(Stop::Memory);
+    };
+    let mut built = Built::new(alloc);
+    let mut sofar = copy(neutral)?;
+    for i in 0..n {
+        let next = row(rows, i)?;
+        sofar = fold_next(alloc, i, sofar, next, params, body, turns, table, stack)?;
+        built.push(copy(&sofar)?)?;
+    }
+    Ok(built)
 }
 
 /// Takes the turns of a counted loop, whose values lie on the stack from the mark on.
 #[tactic(auto, using(crate::proofs::Loops::counted))]
 #[cycle(blocks)]
 fn run_for(
+    alloc: Global,
     body: &Block,
     params: &[u32],
     index: u32,
@@ -93,54 +337,93 @@ fn run_for(
     count: u64,
     mark: usize,
     turns: u64,
-    table: &mut [Scalar],
-    stack: &mut Vec<Scalar>,
+    table: &mut [Data],
+    stack: &mut Vec<Data>,
 ) -> Result<(), Stop>
-    ensures { For_runs turns (body_of body.now) params.now index ty count mark table.old table.new stack.old.items stack.new.items result }
+    ensures { For_runs turns (body_of body.now) params.now index ty count mark (held_all table.old) (held_all table.new) (held_all stack.old.items) (held_all stack.new.items) result }
 {
     for turn in 0..count {
-        run_turn(body, params, index, ty, turn, mark, turns, table, stack)?;
+        let index_value = Data::Scalar(Scalar::Int { ty, bits: turn });
+        run_turn(
+            alloc,
+            body,
+            params,
+            index,
+            index_value,
+            mark,
+            turns,
+            table,
+            stack,
+        )?;
     }
     Ok(())
 }
 
-/// Takes a turn of a counted loop.
+/// Takes a turn for each of so many rows, with the values of the loop on the stack from the mark on.
+#[tactic(auto, using(crate::proofs::Loops::over_rows))]
+#[cycle(blocks)]
+fn run_over(
+    alloc: Global,
+    body: &Block,
+    params: &[u32],
+    element: u32,
+    rows: &Data,
+    n: usize,
+    mark: usize,
+    turns: u64,
+    table: &mut [Data],
+    stack: &mut Vec<Data>,
+) -> Result<(), Stop>
+    requires { n ≡ length (rows_in (held rows.now)) }
+    ensures { Over_runs turns (body_of body.now) params.now element (held rows.now) mark (held_all table.old) (held_all table.new) (held_all stack.old.items) (held_all stack.new.items) result }
+{
+    for i in 0..n {
+        let next = row(rows, i)?;
+        run_turn(
+            alloc, body, params, element, next, mark, turns, table, stack,
+        )?;
+    }
+    Ok(())
+}
+
+/// Takes a turn of a loop over indices or rows.
 #[tactic(auto, using(crate::proofs::Loops::one_turn))]
 #[cycle(blocks)]
 fn run_turn(
+    alloc: Global,
     body: &Block,
     params: &[u32],
     index: u32,
-    ty: IntType,
-    turn: u64,
+    value: Data,
     mark: usize,
     turns: u64,
-    table: &mut [Scalar],
-    stack: &mut Vec<Scalar>,
+    table: &mut [Data],
+    stack: &mut Vec<Data>,
 ) -> Result<(), Stop>
-    ensures { Turn_runs turns (body_of body.now) params.now index ty turn mark table.old table.new stack.old.items stack.new.items result }
+    ensures { Turn_runs turns (body_of body.now) params.now index (held value) mark (held_all table.old) (held_all table.new) (held_all stack.old.items) (held_all stack.new.items) result }
 {
     take(params, mark, table, stack)?;
-    name(index, Scalar::Int { ty, bits: turn }, table)?;
-    run_block(body, turns, table, stack)
+    name(index, value, table)?;
+    run_block(alloc, body, turns, table, stack)
 }
 
 /// Whether a loop goes on, with the values on the stack from the mark on.
 #[tactic(auto, using(crate::proofs::Loops::one_test))]
 #[cycle(blocks)]
 fn run_test(
+    alloc: Global,
     test: &Block,
     params: &[u32],
     mark: usize,
     turns: u64,
-    table: &mut [Scalar],
-    stack: &mut Vec<Scalar>,
+    table: &mut [Data],
+    stack: &mut Vec<Data>,
 ) -> Result<bool, Stop>
-    ensures { Test_runs turns (body_of test.now) params.now mark table.old table.new stack.old.items stack.new.items result }
+    ensures { Test_runs turns (body_of test.now) params.now mark (held_all table.old) (held_all table.new) (held_all stack.old.items) (held_all stack.new.items) result }
 {
     let top = stack.len();
     bind(params, mark, table, stack)?;
-    run_block(test, turns, table, stack)?;
+    run_block(alloc, test, turns, table, stack)?;
     pop_truth(top, stack)
 }
 
@@ -148,25 +431,26 @@ fn run_test(
 #[tactic(auto, using(crate::proofs::Loops::uncounted))]
 #[cycle(blocks)]
 fn run_while(
+    alloc: Global,
     test: &Block,
     body: &Block,
     params: &[u32],
     place: Place,
     mark: usize,
     turns: u64,
-    table: &mut [Scalar],
-    stack: &mut Vec<Scalar>,
+    table: &mut [Data],
+    stack: &mut Vec<Data>,
 ) -> Result<(), Stop>
-    ensures { While_runs turns (body_of test.now) (body_of body.now) params.now place mark table.old table.new stack.old.items stack.new.items result }
+    ensures { While_runs turns (body_of test.now) (body_of body.now) params.now place mark (held_all table.old) (held_all table.new) (held_all stack.old.items) (held_all stack.new.items) result }
 {
     for _ in 0..turns {
-        if !run_test(test, params, mark, turns, table, stack)? {
+        if !run_test(alloc, test, params, mark, turns, table, stack)? {
             return Ok(());
         }
         stack.truncate(mark);
-        run_block(body, turns, table, stack)?;
+        run_block(alloc, body, turns, table, stack)?;
     }
-    if run_test(test, params, mark, turns, table, stack)? {
+    if run_test(alloc, test, params, mark, turns, table, stack)? {
         Err(Stop::Failed(Report {
             kind: FailKind::Turns,
             place,

@@ -6,9 +6,12 @@
 #![tactic(auto)]
 
 mod blocks;
+mod equality;
+mod make;
 mod names;
 mod operate;
 mod program;
-mod stop;
+mod records;
 
+pub use array_data::Data;
 pub use program::{EvalErr, eval};

@@ -1,37 +1,51 @@
 // The table of names, and the stack of values that have no names yet.
 ghost use Rattle.std.specs.Prelude.{IfOk};
 ghost use Rattle.fut_scalar.specs.Integers.{FitsType};
-ghost use Rattle.fut_eval.specs.Answers.{Reads, Pushed, Stored, Named, Pops, Takes, Binds, Fitted, Reads_all};
+ghost use Rattle.fut_eval.specs.Answers.{Reads, Pushed, Stored, Named, Pops, Pops_one, Takes, Binds, Reads_all, Reads_data, as_all_held};
+ghost use Rattle.array_data.specs.Held.{held, held_all, as_held};
+ghost use Rattle.fut_eval.specs.Answers.{as_scalar};
 
 use crate::operate::truth;
-use crate::stop::Stop;
-use fut_arithmetic::decode_word;
+use array_data::{Data, Stop, copy, fitted};
 use fut_blocks::Atom;
-use fut_scalar::{Scalar, ScalarType};
-
-/// The scalar of the lowest bits, as many as the type has.
-#[tactic(auto, using(crate::proofs::Reading::fitted_word))]
-pub fn fitted(scalar: Scalar) -> Scalar
-    ensures value { Fitted scalar result }
-    ensures fits { FitsType result }
-{
-    match scalar {
-        Scalar::Int { ty, bits } => decode_word(ScalarType::Int(ty), bits),
-        Scalar::Bool(b) => Scalar::Bool(b),
-    }
-}
+use fut_scalar::{List, Scalar};
+use std::alloc::Global;
 
 /// The value of an atom.
 #[tactic(auto, using(crate::proofs::Reading::readings))]
-pub fn read(table: &[Scalar], atom: Atom) -> Result<Scalar, Stop>
-    ensures value { Reads table.now atom result }
+pub fn read(table: &[Data], atom: Atom) -> Result<Data, Stop>
+    ensures { Reads (held_all table.now) atom (as_held result) }
+{
+    match atom {
+        Atom::Name(name) => {
+            let at = name as usize;
+            if at < table.len() {
+                copy(&table[at])
+            } else {
+                Err(Stop::Stuck)
+            }
+        }
+        Atom::Constant(scalar) => Ok(Data::Scalar(scalar)),
+    }
+}
+
+/// The value of an atom that is a scalar.
+#[tactic(auto, using(crate::proofs::Reading::scalar_readings))]
+pub fn scalar_at(table: &[Data], atom: Atom) -> Result<Scalar, Stop>
+    ensures value { Reads (held_all table.now) atom (as_scalar result) }
     ensures fits { IfOk result FitsType }
 {
     match atom {
         Atom::Name(name) => {
             let at = name as usize;
             if at < table.len() {
-                Ok(fitted(table[at]))
+                match &table[at] {
+                    Data::Scalar(scalar) => Ok(fitted(*scalar)),
+                    Data::Words(_, _) => Err(Stop::Memory),
+                    Data::Rows(_, _, _) => Err(Stop::Memory),
+                    Data::Tuple(_, _) => Err(Stop::Memory),
+                    Data::Record(_, _, _) => Err(Stop::Memory),
+                }
             } else {
                 Err(Stop::Stuck)
             }
@@ -42,8 +56,8 @@ pub fn read(table: &[Scalar], atom: Atom) -> Result<Scalar, Stop>
 
 /// Puts a value on the stack.
 #[tactic(auto, using(crate::proofs::Reading::pushes))]
-pub fn push(stack: &mut Vec<Scalar>, value: Scalar) -> Result<(), Stop>
-    ensures { Pushed value stack.old.items stack.new.items result }
+pub fn push(stack: &mut Vec<Data>, value: Data) -> Result<(), Stop>
+    ensures { Pushed (held value) (held_all stack.old.items) (held_all stack.new.items) result }
 {
     match stack.push(value) {
         Ok(()) => Ok(()),
@@ -53,8 +67,8 @@ pub fn push(stack: &mut Vec<Scalar>, value: Scalar) -> Result<(), Stop>
 
 /// Puts the values of atoms on the stack.
 #[tactic(auto, using(crate::proofs::Reading::lists))]
-pub fn push_all(atoms: &[Atom], table: &[Scalar], stack: &mut Vec<Scalar>) -> Result<(), Stop>
-    ensures { Reads_all table.now atoms.now stack.old.items stack.new.items result }
+pub fn push_all(atoms: &[Atom], table: &[Data], stack: &mut Vec<Data>) -> Result<(), Stop>
+    ensures { Reads_all (held_all table.now) atoms.now (held_all stack.old.items) (held_all stack.new.items) result }
 {
     for atom in atoms {
         let value = read(table, *atom)?;
@@ -63,10 +77,20 @@ pub fn push_all(atoms: &[Atom], table: &[Scalar], stack: &mut Vec<Scalar>) -> Re
     Ok(())
 }
 
+/// The values of atoms.
+#[tactic(auto, using(crate::proofs::Reading::data_lists))]
+pub fn read_data(alloc: Global, atoms: &[Atom], table: &[Data]) -> Result<List<Data>, Stop>
+    ensures { Reads_data (held_all table.now) atoms.now (as_all_held result) }
+{
+    let mut values = Vec::new(alloc);
+    push_all(atoms, table, &mut values)?;
+    Ok(List::from_vec(values))
+}
+
 /// Gives each name its value, where there are as many of both.
 #[tactic(auto, using(crate::proofs::Storing::storing))]
-pub fn store(names: &[u32], table: &mut [Scalar], values: &[Scalar]) -> Result<(), Stop>
-    ensures { Stored names.now values.now table.old table.new result }
+pub fn store(names: &[u32], table: &mut [Data], values: &[Data]) -> Result<(), Stop>
+    ensures { Stored names.now (held_all values.now) (held_all table.old) (held_all table.new) result }
 {
     if names.len() != values.len() {
         return Err(Stop::Stuck);
@@ -76,15 +100,15 @@ pub fn store(names: &[u32], table: &mut [Scalar], values: &[Scalar]) -> Result<(
         if at >= table.len() {
             return Err(Stop::Stuck);
         }
-        table[at] = values[i];
+        table[at] = copy(&values[i])?;
     }
     Ok(())
 }
 
 /// Gives names the values that lie on the stack from the mark on, and leaves them there.
 #[tactic(auto, using(crate::proofs::Storing::binding))]
-pub fn bind(names: &[u32], mark: usize, table: &mut [Scalar], stack: &[Scalar]) -> Result<(), Stop>
-    ensures { Binds names.now mark table.old table.new stack.now result }
+pub fn bind(names: &[u32], mark: usize, table: &mut [Data], stack: &[Data]) -> Result<(), Stop>
+    ensures { Binds names.now mark (held_all table.old) (held_all table.new) (held_all stack.now) result }
 {
     if mark > stack.len() {
         return Err(Stop::Stuck);
@@ -97,10 +121,10 @@ pub fn bind(names: &[u32], mark: usize, table: &mut [Scalar], stack: &[Scalar]) 
 pub fn take(
     names: &[u32],
     mark: usize,
-    table: &mut [Scalar],
-    stack: &mut Vec<Scalar>,
+    table: &mut [Data],
+    stack: &mut Vec<Data>,
 ) -> Result<(), Stop>
-    ensures { Takes names.now mark table.old table.new stack.old.items stack.new.items result }
+    ensures { Takes names.now mark (held_all table.old) (held_all table.new) (held_all stack.old.items) (held_all stack.new.items) result }
 {
     bind(names, mark, table, stack)?;
     stack.truncate(mark);
@@ -109,8 +133,8 @@ pub fn take(
 
 /// Gives a name its value.
 #[tactic(auto, using(crate::proofs::Storing::naming))]
-pub fn name(at: u32, value: Scalar, table: &mut [Scalar]) -> Result<(), Stop>
-    ensures { Named at value table.old table.new result }
+pub fn name(at: u32, value: Data, table: &mut [Data]) -> Result<(), Stop>
+    ensures { Named at (held value) (held_all table.old) (held_all table.new) result }
 {
     let at = at as usize;
     if at >= table.len() {
@@ -122,14 +146,29 @@ pub fn name(at: u32, value: Scalar, table: &mut [Scalar]) -> Result<(), Stop>
 
 /// Takes off the one value that lies on the stack from the mark on, and tells whether it holds.
 #[tactic(auto, using(crate::proofs::Storing::popping))]
-pub fn pop_truth(mark: usize, stack: &mut Vec<Scalar>) -> Result<bool, Stop>
-    ensures { Pops mark stack.old.items stack.new.items result }
+pub fn pop_truth(mark: usize, stack: &mut Vec<Data>) -> Result<bool, Stop>
+    ensures { Pops mark (held_all stack.old.items) (held_all stack.new.items) result }
 {
     if mark >= stack.len() || stack.len() - mark > 1 {
         return Err(Stop::Stuck);
     }
     match stack.pop() {
-        Some(value) => truth(value),
+        Some(Data::Scalar(value)) => truth(value),
+        Some(_) => Err(Stop::Memory),
+        None => Err(Stop::Stuck),
+    }
+}
+
+/// Takes off the one value that lies on the stack from the mark on.
+#[tactic(auto, using(crate::proofs::Storing::popping_one))]
+pub fn pop_one(mark: usize, stack: &mut Vec<Data>) -> Result<Data, Stop>
+    ensures { Pops_one mark (held_all stack.old.items) (held_all stack.new.items) (as_held result) }
+{
+    if mark >= stack.len() || stack.len() - mark > 1 {
+        return Err(Stop::Stuck);
+    }
+    match stack.pop() {
+        Some(value) => Ok(value),
         None => Err(Stop::Stuck),
     }
 }

@@ -5,36 +5,19 @@ ghost use Rattle.fut_arithmetic.specs.Types.{IsDefined, type_of};
 ghost use Rattle.fut_meaning.specs.Accessors.{count_of, or_wrong, truth_of_scalar, turns_of_scalar};
 ghost use Rattle.fut_meaning.specs.Operations.{reported};
 ghost use Rattle.fut_meaning.specs.Operators.{binary_result, unary_result};
+ghost use Rattle.array_data.specs.Held.{held_all};
 ghost use Rattle.fut_eval.specs.Answers.{Tells, Operates, Truth_at, Turns_at};
 
-use crate::names::{push, read};
-use crate::stop::Stop;
-use fut_arithmetic::{binop, convert, unop};
+use crate::equality::compare;
+use crate::names::{push, read, scalar_at};
+use array_data::{Data, Stop, operation, put_parts};
+use fut_arithmetic::{convert, unop};
 use fut_blocks::{Atom, Operation};
-use fut_scalar::{BinOp, FailKind, IntType, Place, Report, Scalar, UnOp, fail_kind};
-
-/// The operation on two scalars of a type on which it is defined; its fault is reported at the place.
-#[tactic(auto, using(crate::proofs::Scalars::binaries))]
-fn checked(op: BinOp, at: Place, a: Scalar, b: Scalar) -> Result<Scalar, Stop>
-    requires defined { IsDefined op (type_of a) }
-    requires one_type { type_of b ≡ type_of a }
-    requires left_fits { FitsType a }
-    requires right_fits { FitsType b }
-    ensures value { Tells (reported at (binary_result op a b)) result }
-    ensures fits { IfOk result FitsType }
-{
-    match binop(op, a, b) {
-        Ok(value) => Ok(value),
-        Err(fault) => Err(Stop::Failed(Report {
-            kind: fail_kind(fault),
-            place: at,
-        })),
-    }
-}
+use fut_scalar::{BinOp, FailKind, IntType, Place, Report, Scalar, UnOp};
 
 /// The operation on two scalars.
 #[tactic(auto, using(crate::proofs::Scalars::binaries))]
-fn binary(op: BinOp, at: Place, a: Scalar, b: Scalar) -> Result<Scalar, Stop>
+pub fn binary(op: BinOp, at: Place, a: Scalar, b: Scalar) -> Result<Scalar, Stop>
     requires left_fits { FitsType a }
     requires right_fits { FitsType b }
     ensures value { Tells (reported at (binary_result op a b)) result }
@@ -43,13 +26,13 @@ fn binary(op: BinOp, at: Place, a: Scalar, b: Scalar) -> Result<Scalar, Stop>
     match (a, b) {
         (Scalar::Int { ty, bits: _ }, Scalar::Int { ty: other, bits: _ }) => {
             if ty == other {
-                checked(op, at, a, b)
+                operation(op, at, a, b)
             } else {
                 Err(Stop::Stuck)
             }
         }
         (Scalar::Bool(_), Scalar::Bool(_)) => match op {
-            BinOp::Eq | BinOp::Ne => checked(op, at, a, b),
+            BinOp::Eq | BinOp::Ne => operation(op, at, a, b),
             _ => Err(Stop::Stuck),
         },
         _ => Err(Stop::Stuck),
@@ -121,43 +104,45 @@ fn turns_of(a: Scalar) -> Result<(IntType, u64), Stop>
 
 /// Whether the truth value of an atom holds.
 #[tactic(auto, using(crate::proofs::Operations::atoms_told))]
-pub fn truth_at(table: &[Scalar], atom: Atom) -> Result<bool, Stop>
-    ensures { Truth_at table.now atom result }
+pub fn truth_at(table: &[Data], atom: Atom) -> Result<bool, Stop>
+    ensures { Truth_at (held_all table.now) atom result }
 {
-    let value = read(table, atom)?;
+    let value = scalar_at(table, atom)?;
     truth(value)
 }
 
 /// The type of an atom's integer, and how many turns it says.
 #[tactic(auto, using(crate::proofs::Operations::atoms_told))]
-pub fn turns_at(table: &[Scalar], atom: Atom) -> Result<(IntType, u64), Stop>
-    ensures value { Turns_at table.now atom result }
+pub fn turns_at(table: &[Data], atom: Atom) -> Result<(IntType, u64), Stop>
+    ensures value { Turns_at (held_all table.now) atom result }
     ensures fits { IfOk result (λ c. c.1 < 2 ^ width_of c.0) }
 {
-    let value = read(table, atom)?;
+    let value = scalar_at(table, atom)?;
     turns_of(value)
 }
 
 /// Puts on the stack what an operation gives.
 #[tactic(auto, using(crate::proofs::Operations::operations))]
-pub fn operate(operation: Operation, table: &[Scalar], stack: &mut Vec<Scalar>) -> Result<(), Stop>
-    ensures { Operates table.now operation stack.old.items stack.new.items result }
+pub fn operate(operation: Operation, table: &[Data], stack: &mut Vec<Data>) -> Result<(), Stop>
+    ensures { Operates (held_all table.now) operation (held_all stack.old.items) (held_all stack.new.items) result }
 {
     match operation {
         Operation::Binary(op, at, a, b) => {
-            let left = read(table, a)?;
-            let right = read(table, b)?;
+            let Ok(left) = scalar_at(table, a) else {
+                return compare(op, at, a, b, table, stack);
+            };
+            let right = scalar_at(table, b)?;
             let value = binary(op, at, left, right)?;
-            push(stack, value)
+            push(stack, Data::Scalar(value))
         }
         Operation::Unary(op, a) => {
-            let operand = read(table, a)?;
+            let operand = scalar_at(table, a)?;
             let value = unary(op, operand)?;
-            push(stack, value)
+            push(stack, Data::Scalar(value))
         }
         Operation::Convert(to, a) => {
-            let operand = read(table, a)?;
-            push(stack, convert(to, operand))
+            let operand = scalar_at(table, a)?;
+            push(stack, Data::Scalar(convert(to, operand)))
         }
         Operation::Assert(at, a) => {
             if truth_at(table, a)? {
@@ -168,6 +153,10 @@ pub fn operate(operation: Operation, table: &[Scalar], stack: &mut Vec<Scalar>) 
                     place: at,
                 }))
             }
+        }
+        Operation::Parts(a) => {
+            let whole = read(table, a)?;
+            put_parts(&whole, stack)
         }
     }
 }

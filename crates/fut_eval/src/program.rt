@@ -1,13 +1,14 @@
 // The public call.
-ghost use Rattle.std.specs.Prelude.{◌≡◌, All, IfOk, vec_len};
-ghost use Rattle.fut_scalar.specs.Integers.{FitsType};
+ghost use Rattle.std.specs.Prelude.{◌≡◌, IfOk, vec_len};
+ghost use Rattle.array_data.specs.Held.{held_all};
+ghost use Rattle.std.specs.Prelude.{true};
 ghost use Rattle.fut_blocks.specs.Programs.{NeverWrong, Rising};
 ghost use Rattle.fut_eval.specs.Evaluates.{Evaluates};
 ghost use Rattle.fut_eval.specs.Runs.{Program_runs};
 
 use crate::blocks::run_block;
 use crate::names::store;
-use crate::stop::Stop;
+use array_data::{Data, Stop};
 use fut_blocks::Program;
 use fut_scalar::{List, NoMemory, Report, Scalar};
 use std::alloc::Global;
@@ -21,12 +22,12 @@ pub enum EvalErr {
 }
 
 /// A table for so many names.
-pub fn table_of(alloc: Global, names: u32) -> Result<Vec<Scalar>, NoMemory>
+pub fn table_of(alloc: Global, names: u32) -> Result<Vec<Data>, NoMemory>
     ensures { IfOk result (λ table. vec_len table ≡ names) }
 {
     let mut table = Vec::new(alloc);
     for _ in 0..names {
-        table.push(Scalar::Bool(false))?;
+        table.push(Data::Scalar(Scalar::Bool(false)))?;
     }
     Ok(table)
 }
@@ -34,16 +35,17 @@ pub fn table_of(alloc: Global, names: u32) -> Result<Vec<Scalar>, NoMemory>
 /// Runs a program, and puts its results on the stack.
 #[tactic(auto, using(crate::proofs::Whole::whole_run))]
 pub fn run(
+    alloc: Global,
     program: &Program,
-    args: &[Scalar],
+    args: &[Data],
     turns: u64,
-    table: &mut [Scalar],
-    stack: &mut Vec<Scalar>,
+    table: &mut [Data],
+    stack: &mut Vec<Data>,
 ) -> Result<(), Stop>
-    ensures { Program_runs turns program.now args.now table.old table.new stack.old.items stack.new.items result }
+    ensures { Program_runs turns program.now (held_all args.now) (held_all table.old) (held_all table.new) (held_all stack.old.items) (held_all stack.new.items) result }
 {
     store(program.params, table, args)?;
-    run_block(&program.body, turns, table, stack)
+    run_block(alloc, &program.body, turns, table, stack)
 }
 
 /// The results of a program for arguments on which it never goes wrong.
@@ -54,19 +56,25 @@ pub fn run(
 pub fn eval(
     alloc: Global,
     program: &Program,
-    args: &[Scalar],
+    args: &[Data],
     turns: u64,
-) -> Result<List<Scalar>, EvalErr>
+) -> Result<List<Data>, EvalErr>
     requires rising { Rising program.now }
-    requires arguments { All FitsType args.now }
-    requires never_wrong { NeverWrong turns program.now args.now }
-    ensures { Evaluates turns program.now args.now result }
+    requires never_wrong { NeverWrong true turns program.now (held_all args.now) }
+    ensures { Evaluates turns program.now (held_all args.now) result }
 {
     let Ok(mut table) = table_of(alloc, program.names) else {
         return Err(EvalErr::Memory);
     };
     let mut stack = Vec::new(alloc);
-    match run(program, args, turns, table.as_mut_slice(), &mut stack) {
+    match run(
+        alloc,
+        program,
+        args,
+        turns,
+        table.as_mut_slice(),
+        &mut stack,
+    ) {
         Ok(()) => Ok(List::from_vec(stack)),
         Err(Stop::Failed(report)) => Err(EvalErr::Failed(report)),
         Err(Stop::Memory) => Err(EvalErr::Memory),

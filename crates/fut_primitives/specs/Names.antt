@@ -5,6 +5,7 @@ use Rattle.fut_scalar.specs.declared.scalar.ScalarType.{ScalarType}
 use Rattle.fut_scalar.specs.declared.scalar.ScalarType.TheVariants as scalar
 use Rattle.fut_scalar.specs.declared.scalar.IntType.{IntType}
 use Rattle.fut_flat.specs.declared.prim.Primitive.{Primitive}
+use Rattle.fut_flat.specs.declared.prim.Folding.TheVariants as folding
 use Rattle.fut_flat.specs.declared.prim.Primitive.TheVariants as prim
 use Rattle.fut_primitives.specs.Table.{name, scalar_name}
 use Rattle.fut_primitives.specs.declared.names.TheConstants.{ARRAY_PRIMITIVES, SCALAR_TYPES}
@@ -24,7 +25,7 @@ scalar_of x = first_named scalar_name SCALAR_TYPES x
 
 -- the members of an integer type that are no conversions
 abbrev pub integer_members : IntType → List Primitive
-integer_members t = prim.Min t ∷ prim.Max t ∷ prim.Abs t ∷ prim.Popc t ∷ prim.Lowest t ∷ prim.Highest t ∷ prim.NumBits t ∷ []
+integer_members t = prim.Min t ∷ prim.Max t ∷ prim.Abs t ∷ prim.Popc t ∷ prim.Lowest t ∷ prim.Highest t ∷ prim.NumBits t ∷ prim.Fold folding.Sum t ∷ prim.Fold folding.Product t ∷ prim.Fold folding.Minimum t ∷ prim.Fold folding.Maximum t ∷ []
 
 abbrev pub other_member : ScalarType → List ℕ → Option Primitive
 other_member (scalar.Int t) x = first_named name (integer_members t) x

@@ -5,6 +5,7 @@ use Rattle.fut_scalar.specs.declared.scalar.IntType.TheVariants as int
 use Rattle.fut_scalar.specs.declared.scalar.ScalarType.{ScalarType}
 use Rattle.fut_scalar.specs.declared.scalar.ScalarType.TheVariants as scalar
 use Rattle.fut_flat.specs.declared.prim.Primitive.{Primitive}
+use Rattle.fut_flat.specs.declared.prim.Folding.TheVariants as folding
 use Rattle.fut_flat.specs.declared.prim.Primitive.TheVariants as prim
 use Rattle.fut_primitives.specs.Written.{Written, ◌⇒◌, ⟦◌⟧◌, *◌, ◌∶◌, pair, triple, a, b, c, d, e, f, t, u, bool, i32, i64, n, m, k, unknown, parameters}
 
@@ -72,6 +73,10 @@ table (prim.Popc own) = codes "popc" ⦂ t ⇒ i32
 table (prim.Lowest own) = codes "lowest" ⦂ t
 table (prim.Highest own) = codes "highest" ⦂ t
 table (prim.NumBits own) = codes "num_bits" ⦂ i32
+table (prim.Fold folding.Sum own) = codes "sum" ⦂ ⟦ n ⟧ t ⇒ t
+table (prim.Fold folding.Product own) = codes "product" ⦂ ⟦ n ⟧ t ⇒ t
+table (prim.Fold folding.Minimum own) = codes "minimum" ⦂ ⟦ n ⟧ t ⇒ t
+table (prim.Fold folding.Maximum own) = codes "maximum" ⦂ ⟦ n ⟧ t ⇒ t
 
 abbrev pub name : Primitive → List ℕ
 name p = (table p).name
@@ -96,6 +101,7 @@ own_of (prim.Popc t) = scalar.Int t
 own_of (prim.Lowest t) = scalar.Int t
 own_of (prim.Highest t) = scalar.Int t
 own_of (prim.NumBits t) = scalar.Int t
+own_of (prim.Fold f t) = scalar.Int t
 own_of p = scalar.Bool
 
 abbrev pub from_of : Primitive → ScalarType

@@ -5,7 +5,7 @@ ghost use Rattle.fut_primitives.specs.Names.{primitive_of, first_named, integer_
 ghost use Rattle.fut_primitives.specs.Table.{name, scalar_name};
 
 use crate::table::{line_of, scalar_name};
-use fut_flat::Primitive;
+use fut_flat::{Folding, Primitive};
 use fut_scalar::{IntType, ScalarType};
 
 /// The primitives that are no members: they work on arrays.
@@ -129,6 +129,10 @@ fn integer_member(ty: IntType, word: &str) -> Option<Primitive>
         Primitive::Lowest(ty),
         Primitive::Highest(ty),
         Primitive::NumBits(ty),
+        Primitive::Fold(Folding::Sum, ty),
+        Primitive::Fold(Folding::Product, ty),
+        Primitive::Fold(Folding::Minimum, ty),
+        Primitive::Fold(Folding::Maximum, ty),
     ];
     first_primitive(&members, word)
 }

@@ -4,7 +4,7 @@ ghost use Rattle.fut_primitives.specs.Table.{from_of, name, own_of, parameters_o
 ghost use Rattle.fut_primitives.specs.Written.{written_of};
 
 use crate::written::{Letter, Size, Written};
-use fut_flat::Primitive;
+use fut_flat::{Folding, Primitive};
 use fut_scalar::{IntType, ScalarType};
 
 /// What the table says of a primitive.
@@ -185,6 +185,14 @@ const HIGHEST: Line = line!("highest": t);
 
 const NUM_BITS: Line = line!("num_bits": i32);
 
+const SUM: Line = line!("sum": [n]t -> t);
+
+const PRODUCT: Line = line!("product": [n]t -> t);
+
+const MINIMUM: Line = line!("minimum": [n]t -> t);
+
+const MAXIMUM: Line = line!("maximum": [n]t -> t);
+
 // `t.u`
 const CONVERSION: Line = line!("": u -> t);
 
@@ -258,6 +266,10 @@ pub fn line_of(primitive: Primitive) -> Line
         Primitive::Lowest(_) => LOWEST,
         Primitive::Highest(_) => HIGHEST,
         Primitive::NumBits(_) => NUM_BITS,
+        Primitive::Fold(Folding::Sum, _) => SUM,
+        Primitive::Fold(Folding::Product, _) => PRODUCT,
+        Primitive::Fold(Folding::Minimum, _) => MINIMUM,
+        Primitive::Fold(Folding::Maximum, _) => MAXIMUM,
     }
 }
 
@@ -285,7 +297,8 @@ pub fn scalars_of(primitive: Primitive) -> Scalars
         | Primitive::Popc(ty)
         | Primitive::Lowest(ty)
         | Primitive::Highest(ty)
-        | Primitive::NumBits(ty) => Scalars {
+        | Primitive::NumBits(ty)
+        | Primitive::Fold(_, ty) => Scalars {
             own: ScalarType::Int(ty),
             ..plain
         },

@@ -3,6 +3,7 @@ use Rattle.std.proofs.Common.{◌≡◌, refl}
 use Rattle.fut_scalar.specs.declared.scalar.IntType.{IntType}
 use Rattle.fut_scalar.specs.declared.scalar.ScalarType.{ScalarType}
 use Rattle.fut_scalar.specs.declared.scalar.ScalarType.TheVariants as scalar
+use Rattle.fut_flat.specs.declared.prim.Folding.TheVariants as folding
 use Rattle.fut_flat.specs.declared.prim.Primitive.TheVariants as prim
 use Rattle.fut_types.specs.Types.{Ty, Var, scalar_ty, fun_ty}
 use Rattle.fut_typing.specs.Primitives.{array_ty, pair_ty, triple_ty, bool_ty, i32_ty, i64_ty, prim_type}
@@ -157,3 +158,15 @@ type_of_highest t = refl
 
 type_of_num_bits : (t : IntType) → prim_type (prim.NumBits t) ≡ i32_ty
 type_of_num_bits t = refl
+
+type_of_sum : (t : IntType) → prim_type (prim.Fold folding.Sum t) ≡ array_ty (scalar_ty (scalar.Int t)) ⇒ scalar_ty (scalar.Int t)
+type_of_sum t = refl
+
+type_of_product : (t : IntType) → prim_type (prim.Fold folding.Product t) ≡ array_ty (scalar_ty (scalar.Int t)) ⇒ scalar_ty (scalar.Int t)
+type_of_product t = refl
+
+type_of_minimum : (t : IntType) → prim_type (prim.Fold folding.Minimum t) ≡ array_ty (scalar_ty (scalar.Int t)) ⇒ scalar_ty (scalar.Int t)
+type_of_minimum t = refl
+
+type_of_maximum : (t : IntType) → prim_type (prim.Fold folding.Maximum t) ≡ array_ty (scalar_ty (scalar.Int t)) ⇒ scalar_ty (scalar.Int t)
+type_of_maximum t = refl

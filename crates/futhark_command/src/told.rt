@@ -29,7 +29,7 @@ The exit status, and for each but 0 a line on standard error:
    3  FILE is no program, or one of a part of Futhark that is not built yet
    4  a name of the program is not bound, bound twice, or no member of a module
    5  the program has no type
-   8  there is no such entry point, or it takes or gives other than scalars
+   8  there is no such entry point, or it takes or gives other than scalars and their arrays
    9  FILE has over 4194304 bytes or nests over 200 deep, its functions unfolded
       have over 1048576 nodes or nest over 1000 deep, or the input has over
       67108864 bytes

@@ -1,7 +1,10 @@
 -- A row of a run in which no fault rose agrees with all that the run comes to.
-use Rattle.std.proofs.Common.{◌≡◌, ◌≤◌, ◌<◌, ℕ, List, length, refl, sym, ap, subst, ◌∙◌, arith, inl, inr, ◌⊎◌}
+use Rattle.std.proofs.Common.{◌≡◌, ◌≤◌, ◌<◌, ℕ, List, length, map, true, refl, sym, ap, subst, ◌∙◌, arith, inl, inr, ◌⊎◌}
 use Rattle.std.specs.Prelude.{Option, None, Some, IfSome, Result, Ok, Err}
-use Rattle.fut_scalar.specs.declared.scalar.Scalar.{Scalar}
+use Rattle.fut_value.specs.Data.{Datum}
+use Rattle.fut_value.specs.Values.{datum_of}
+use Rattle.fut_value.specs.declared.value.Value.{Value}
+use Rattle.fut_meaning.specs.Answers.{Answer, Gives, Fails}
 use Rattle.fut_token.specs.declared.token.Token.{Token}
 use Rattle.fut_io.specs.Outside.{Loaded}
 use Rattle.fut_lexer.specs.declared.lexer.LexErr.{LexErr}
@@ -24,7 +27,7 @@ use Rattle.front.proofs.Entering.{has_entry, has_no_entry}
 use Rattle.command_words.specs.CommandLine.{Command, command_of}
 use Rattle.command_words.specs.declared.words.Action.{Action}
 use Rattle.command_words.specs.declared.words.Action.TheVariants.{Run, Check}
-use Rattle.value_text.specs.Reading.{Reads, Refuses}
+use Rattle.value_text.specs.Arguments.{Reads, Refuses}
 use Rattle.value_text.specs.declared.reading.TextErr.{TextErr}
 use Rattle.value_text.specs.declared.reading.TextErr.TheVariants as text
 use Rattle.futhark_status.specs.declared.status.EntryErr.{EntryErr}
@@ -36,7 +39,8 @@ use Rattle.futhark_status.specs.declared.status.Status.{Status}
 use Rattle.futhark_status.specs.declared.status.Status.TheVariants.{Done, Usage, LoadFault, Text, Names, Types, Entry, Limit, ReadFault, Input, Failure, Turns, WriteFault, Memory}
 use Rattle.futhark_core.specs.Acceptance.{Source, Unlexed, UnacceptedTokens, LexedUnaccepted}
 use Rattle.futhark_core.specs.Entering.{NotEntered}
-use Rattle.futhark_core.specs.Meaning.{Entered, IsEntered, Outcome, Gives, Fails, Allows, Alone, Answers}
+use Rattle.futhark_core.specs.Inputs.{wanted}
+use Rattle.futhark_core.specs.Meaning.{Entered, IsEntered, Allows, Lawfully_allows, Alone, Answers}
 use Rattle.futhark_core.specs.Row.{Outside, Streams, RunRow, TextRow, NamesRow, TypesRow, LoadRow, FrontRow, Started, InputRow, ActionRow, ProgramRow, CheckRow, status_for}
 use Rattle.futhark_core.specs.Comes.{Accepted, Acted, Agrees, AskedRun, Done_with, Argued, Built, Comes, Commanded, Complete, Came, Ending, Entering, FileHeld, IsLimit, Lacks, Named, NoFault, Onward, Parsed, ParserRefusal, Ran, Tells, Then, Told, Tokenized, Typed, Unread, refusal_of}
 use Rattle.futhark_core.proofs.Reading.{types_of_reading}
@@ -66,9 +70,9 @@ module _ (source : Source) (name : List ℕ) (turns : ℕ) (resolved : resolve_p
         go (Err status) (inr p) on = absurd (p.1 source refl e is)
 
     -- the files allow this outcome for what the input reads as
-    ran_as : (left : List ℕ) (asked : AskedRun) → asked ≡ record { flat = flat; name = name; turns = turns; input = left } → (status : Status) (outcome : Outcome) (values : List Scalar) → Reads e.params left values → Allows source e turns values outcome → Tells outcome status ⊎ IsLimit status → Agrees status (Ok (Ran asked))
-    ran_as left asked same status outcome values reads allows tells = subst (λ z. Agrees status (Ok (Ran z))) (sym same)
-        (outcome, record { source = source; flat = refl; files = resolved; entered = e; is_entered = is; arguments = values; reads = reads; allows = allows }, tells)
+    ran_as : (left : List ℕ) (asked : AskedRun) → asked ≡ record { flat = flat; name = name; turns = turns; input = left } → (status : Status) (outcome : Answer) (values : List Value) → Reads (wanted e.params) left values → (words : ℕ) → Allows source e turns (map datum_of values) true outcome words → Tells outcome status ⊎ IsLimit status → Agrees status (Ok (Ran asked))
+    ran_as left asked same status outcome values reads words allows tells = subst (λ z. Agrees status (Ok (Ran z))) (sym same)
+        (outcome, record { source = source; flat = refl; files = resolved; entered = e; is_entered = is; arguments = values; reads = reads; words = words; allows = allows }, tells)
 
     -- a limit of the program agrees with each end behind the entry
     past_limit : (status : Status) → IsLimit status → Answers source e turns → (left : Option (List ℕ)) (end : Result Ending Status) → Argued flat name turns left end → Agrees status end
@@ -76,8 +80,8 @@ module _ (source : Source) (name : List ℕ) (turns : ℕ) (resolved : resolve_p
     past_limit status past answers (Some left) (Ok Told) p = absurd p
     past_limit status past answers (Some left) (Ok (Ran asked)) p =
         let read = p.2 source refl e is in
-        let some = answers read.0 (types_of_reading e.params left read.0 read.1) in
-        ran_as left asked p.0 status some.0 read.0 read.1 some.1 (inr past)
+        let some = answers (map datum_of read.0) (types_of_reading e.params left read.0 read.1) in
+        ran_as left asked p.0 status some.0 read.0 read.1 some.1 some.2 (inr past)
     past_limit status past answers (Some left) (Ok (Came outcome)) p = inr past
     past_limit status past answers (Some left) (Ok (Unread st)) p = inr past
     past_limit status past answers (Some left) (Err st) p = absurd p
@@ -93,7 +97,7 @@ module _ (source : Source) (name : List ℕ) (turns : ℕ) (resolved : resolve_p
     too_long (Some left) long (Err st) p = absurd p
 
     -- the input is refused
-    refused_input : (err : TextErr) (bytes : List ℕ) (left : Option (List ℕ)) → IfSome left (λ left. bytes ≡ left) → length bytes ≤ 67108864 → Refuses e.params bytes err → (end : Result Ending Status) → Argued flat name turns left end → Agrees (Input err) end
+    refused_input : (err : TextErr) (bytes : List ℕ) (left : Option (List ℕ)) → IfSome left (λ left. bytes ≡ left) → length bytes ≤ 67108864 → Refuses (wanted e.params) bytes err → (end : Result Ending Status) → Argued flat name turns left end → Agrees (Input err) end
     refused_input err bytes None all short refuses end p = absurd p
     refused_input err bytes (Some left) all short refuses (Ok Told) p = absurd p
     refused_input err bytes (Some left) all short refuses (Ok (Ran asked)) p =
@@ -105,22 +109,22 @@ module _ (source : Source) (name : List ℕ) (turns : ℕ) (resolved : resolve_p
         let own = rw all at refuses in let other = p.2 source refl e is in let same : p.0 ≡ err = cc in inl (ap Input (sym same) ∙ sym p.3)
     refused_input err bytes (Some left) all short refuses (Err st) p = absurd p
 
-    -- the program came to this outcome, and the files allow no other
-    ran_to : (status : Status) (outcome : Outcome) → Tells outcome status → (bytes : List ℕ) (values : List Scalar) → Allows source e turns values outcome → Alone source e turns values outcome → (left : Option (List ℕ)) → IfSome left (λ left. bytes ≡ left) → length bytes ≤ 67108864 → Reads e.params bytes values → (end : Result Ending Status) → Argued flat name turns left end → Agrees status end
-    ran_to status outcome tells bytes values allows alone None all short reads end p = absurd p
-    ran_to status outcome tells bytes values allows alone (Some left) all short reads (Ok Told) p = absurd p
-    ran_to status outcome tells bytes values allows alone (Some left) all short reads (Ok (Ran asked)) p =
-        let own = rw all at reads in ran_as left asked p.0 status outcome values own allows (inl tells)
-    ran_to status outcome tells bytes values allows alone (Some left) all short reads (Ok (Came other)) p =
+    -- the program came to this answer, and the files lawfully allow no other
+    ran_to : (status : Status) (outcome : Answer) → Tells outcome status → (bytes : List ℕ) (values : List Value) (words : ℕ) → Allows source e turns (map datum_of values) true outcome words → Alone source e turns (map datum_of values) outcome → (left : Option (List ℕ)) → IfSome left (λ left. bytes ≡ left) → length bytes ≤ 67108864 → Reads (wanted e.params) bytes values → (end : Result Ending Status) → Argued flat name turns left end → Agrees status end
+    ran_to status outcome tells bytes values words allows alone None all short reads end p = absurd p
+    ran_to status outcome tells bytes values words allows alone (Some left) all short reads (Ok Told) p = absurd p
+    ran_to status outcome tells bytes values words allows alone (Some left) all short reads (Ok (Ran asked)) p =
+        let own = rw all at reads in ran_as left asked p.0 status outcome values own words allows (inl tells)
+    ran_to status outcome tells bytes values words allows alone (Some left) all short reads (Ok (Came other)) p =
         let own = rw all at reads in
         let read = p.1 source refl resolved e is in
         let same_reading = read.1 in
         let same : read.0 ≡ values = cc in
-        inl (subst (λ z. Tells z status) (sym (alone other (subst (λ z. Allows source e turns z other) same read.2))) tells)
-    ran_to status outcome tells bytes values allows alone (Some left) all short reads (Ok (Unread st)) (inl p) = let l = ap length all in let many = p.0 in absurd (omega arith)
-    ran_to status outcome tells bytes values allows alone (Some left) all short reads (Ok (Unread st)) (inr p) =
+        inl (subst (λ z. Tells z status) (sym (alone other (subst (λ z. Lawfully_allows source e turns (map datum_of z) other) same read.2))) tells)
+    ran_to status outcome tells bytes values words allows alone (Some left) all short reads (Ok (Unread st)) (inl p) = let l = ap length all in let many = p.0 in absurd (omega arith)
+    ran_to status outcome tells bytes values words allows alone (Some left) all short reads (Ok (Unread st)) (inr p) =
         let own = rw all at reads in let other = p.2 source refl e is in absurd cc
-    ran_to status outcome tells bytes values allows alone (Some left) all short reads (Err st) p = absurd p
+    ran_to status outcome tells bytes values words allows alone (Some left) all short reads (Err st) p = absurd p
 
   -- no entry
   unentered : (err : EntryErr) → NotEntered source name err → (left : Option (List ℕ)) (end : Result Ending Status) → Then (Entering flat name) (λ entered. Argued entered name turns left) end → Agrees (Entry err name) end
@@ -369,7 +373,7 @@ module _ (words : List (List ℕ)) (old new : Outside) (quiet : NoFault old new)
       ran : (status : Status) → ProgramRow status asked source before behind → Ends status ⊎ (status ≡ Memory)
       ran Done row =
           let c = row.comes in
-          inl (entered Done c.entered c.ready.entered (ran_to source entry asked.turns resolved c.entered c.ready.entered Done (Gives row.components) refl c.bytes c.arguments c.allows c.alone old.input.left c.read.all c.short c.reads))
+          inl (entered Done c.entered c.ready.entered (ran_to source entry asked.turns resolved c.entered c.ready.entered Done (Gives row.result) refl c.bytes c.arguments c.words c.allows c.alone old.input.left c.read.all c.short c.reads))
       ran (Entry err name) row =
           inl (done Run is_run (Entry err name) (λ end run. subst (λ n. Agrees (Entry err n) end) (sym row.name_is) (unentered source entry asked.turns resolved err row.not_entered old.input.left end run)))
       ran (Limit limit.Nodes) row = inl (entered (Limit limit.Nodes) row.entered row.is_entered (past_limit source entry asked.turns resolved row.entered row.is_entered (Limit limit.Nodes) (inl refl) row.answers old.input.left))
@@ -379,10 +383,10 @@ module _ (words : List (List ℕ)) (old new : Outside) (quiet : NoFault old new)
       ran (Input err) row = inl (unread err row)
       ran (Failure report path) row =
           let c = row.1.comes in
-          inl (entered (Failure report path) c.entered c.ready.entered (ran_to source entry asked.turns resolved c.entered c.ready.entered (Failure report path) (Fails report) (path, inl refl) c.bytes c.arguments c.allows c.alone old.input.left c.read.all c.short c.reads))
+          inl (entered (Failure report path) c.entered c.ready.entered (ran_to source entry asked.turns resolved c.entered c.ready.entered (Failure report path) (Fails report) (path, inl refl) c.bytes c.arguments c.words c.allows c.alone old.input.left c.read.all c.short c.reads))
       ran (Turns report path) row =
           let c = row.1.comes in
-          inl (entered (Turns report path) c.entered c.ready.entered (ran_to source entry asked.turns resolved c.entered c.ready.entered (Turns report path) (Fails report) (path, inr refl) c.bytes c.arguments c.allows c.alone old.input.left c.read.all c.short c.reads))
+          inl (entered (Turns report path) c.entered c.ready.entered (ran_to source entry asked.turns resolved c.entered c.ready.entered (Turns report path) (Fails report) (path, inr refl) c.bytes c.arguments c.words c.allows c.alone old.input.left c.read.all c.short c.reads))
       ran WriteFault row = absurd (quiet.out row.out.faults)
       ran Memory row = inr refl
       ran (Usage word) row = absurd row

@@ -5,3 +5,4 @@ pub mod RowLaws
 pub mod Settling
 pub mod Reading
 pub mod Completing
+pub mod Opening

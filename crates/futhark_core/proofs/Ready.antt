@@ -1,18 +1,16 @@
 -- A prepared program is one that the row speaks of: its entry is typed, and what its blocks allow, the source allows.
 use Rattle.std.proofs.Common.{◌≡◌, ◌<◌, inl, inr, ℕ, List, [], ◌∷◌, Bool, true, false, length, refl, sym, ap, ◌∙◌, subst, arith}
 use Rattle.std.proofs.lemmas.Option.{get_or_from_slice_get, slice_get_within}
-use Rattle.std.proofs.lemmas.List.{length-map}
 use Rattle.std.specs.Prelude.{Ok, Err, slice_index_or}
 use Rattle.fut_scalar.specs.declared.place.BindId.{BindId}
-use Rattle.fut_scalar.specs.declared.scalar.Scalar.{Scalar}
-use Rattle.fut_scalar.specs.declared.scalar.ScalarType.{ScalarType}
-use Rattle.fut_arithmetic.specs.Types.{type_of}
+use Rattle.fut_scalar.specs.declared.sizes.DataType.{DataType}
+use Rattle.fut_value.specs.Data.{Datum, datums}
 use Rattle.fut_flat.specs.declared.program.Flat.{Flat}
 use Rattle.fut_flat.specs.declared.prim.Ref.{Ref}
 use Rattle.fut_meaning.specs.Datums.{as_values}
 use Rattle.fut_ast.specs.declared.module.Program.{Program as SourceProgram}
 use Rattle.fut_blocks.specs.declared.block.Program.{Program}
-use Rattle.fut_blocks.specs.Programs.{Program_means, Rising, AreOf}
+use Rattle.fut_blocks.specs.Programs.{Rising}
 use Rattle.elab_scopes.specs.Programs.{resolve_program}
 use Rattle.module_elab.specs.Elaborated.{program_of as flat_of}
 use Rattle.fut_scalar.specs.declared.scalar.IntType.{IntType}
@@ -45,23 +43,26 @@ use Rattle.fut_meaning.specs.Measures.{Measures}
 use Rattle.fut_flat.specs.Erased.{parameters}
 use Rattle.fut_flat.specs.declared.program.Definition.{Definition}
 use Rattle.fut_typing.specs.Free.{has_types}
-use Rattle.unfolded_runs.specs.Results.{scalar_datums}
-use Rattle.unfolded_runs.specs.Allowed.{Allows_some}
+use Rattle.fut_meaning.specs.Answers.{Answer}
+use Rattle.unfolded_runs.specs.Results.{Are_arguments}
 use Rattle.unfolded_runs.proofs.Runs.{run_is, some_allowed}
 use Rattle.futhark_core.specs.Acceptance.{Source}
 use Rattle.futhark_core.specs.Entering.{IsOutside, NotEntered}
-use Rattle.futhark_core.specs.Meaning.{Entered, IsTypedAs, IsEntered, Outcome, Gives, Fails, Allows, Answers}
+use Rattle.futhark_core.specs.Meaning.{Entered, IsTypedAs, IsEntered, Answers}
 use Rattle.futhark_core.specs.Row.{Streams, IsReady, ProgramRow}
-use Rattle.futhark_core.specs.Private.Stages.{Never_wrong_for, Runs_for, IsUnentered, unprepared, in_blocks}
+use Rattle.futhark_core.specs.Private.Stages.{Never_wrong_for, Runs_for, IsUnentered, unprepared}
 
-scalars_split : (cs : List Scalar) → All_split (scalars (length cs)) (as_values {P = Ref} {B = BindId} {S = Unit {0}} (scalar_datums cs)) cs []
-scalars_split [] = split_none
-scalars_split (c ∷ cs) = split_more split_scalar (scalars_split cs)
+data_split : (ds : List Datum) → All_split (scalars (length ds)) (as_values {P = Ref} {B = BindId} {S = Unit {0}} (datums ds)) ds []
+data_split [] = split_none
+data_split (d ∷ ds) = split_more (split_scalar refl) (data_split ds)
 
-lengths : (cs : List Scalar) (ss : List ScalarType) → AreOf ss cs → length cs ≡ length ss
-lengths cs ss e = sym (length-map cs type_of) ∙ ap length e
+lengths : (ds : List Datum) (ts : List DataType) → Are_arguments ts ds → length ds ≡ length ts
+lengths [] [] a = refl
+lengths [] (t ∷ ts) a = absurd a
+lengths (d ∷ ds) [] a = absurd a
+lengths (d ∷ ds) (t ∷ ts) a = let h = lengths ds ts a.1 in omega (arith, h)
 
-module _ {flat : Flat} {inference : Inference} {integers : List IntType} {number : BindId} {params : List ScalarType} {tuple : Bool} {results : List ScalarType} (told : Told_by (Typed_by flat inference integers) inference) (usable : Is_usable flat inference number params tuple results) where
+module _ {flat : Flat} {inference : Inference} {integers : List IntType} {number : BindId} {params : List DataType} {tuple : Bool} {results : List DataType} (told : Told_by (Typed_by flat inference integers) inference) (usable : Is_usable flat inference number params tuple results) where
   abbrev pub entered : Entered
   entered = record { number = number.0; params = params; tuple = tuple; results = results; integer_at = integer_at integers }
 
@@ -87,16 +88,12 @@ module _ {flat : Flat} {inference : Inference} {integers : List IntType} {number
     entry = used;
   })
 
-  -- the files allow some outcome for all arguments of its types
-  some_outcome : (files : List SourceProgram) (turns : ℕ) → resolve_program files ≡ Ok (flat_of flat) → Answers (record { files = files; flat = flat }) entered turns
-  some_outcome files turns resolved arguments of = outcome (some_allowed told usable turns arguments of files resolved)
-    where
-      outcome : Allows_some files (flat_of flat) (integer_at integers) turns number.0 arguments tuple results → (o : Outcome) × Allows (record { files = files; flat = flat }) entered turns arguments o
-      outcome (inl (vs, allows, are)) = (Gives vs, (allows, are))
-      outcome (inr (r, allows)) = (Fails r, allows)
+  -- the files allow some answer for all arguments of its types
+  some_answer : (files : List SourceProgram) (turns : ℕ) → resolve_program files ≡ Ok (flat_of flat) → Answers (record { files = files; flat = flat }) entered turns
+  some_answer files turns resolved arguments of = let a = some_allowed told usable true turns arguments of files resolved in (a.0, a.1, (a.3, a.2))
 
   answers : (source : Source) → source.flat ≡ flat → resolve_program source.files ≡ Ok (flat_of source.flat) → (turns : ℕ) → Answers source entered turns
-  answers source e resolved turns = subst (λ (f : Flat). Answers (record { files = source.files; flat = f }) entered turns) (sym e) (some_outcome source.files turns (resolved ∙ ap (λ f. Ok (flat_of f)) e))
+  answers source e resolved turns = subst (λ (f : Flat). Answers (record { files = source.files; flat = f }) entered turns) (sym e) (some_answer source.files turns (resolved ∙ ap (λ f. Ok (flat_of f)) e))
 
   -- a limit is passed, or memory ran out
   pub unready : (asked : Command) (source : Source) (old : Streams) → source.flat ≡ flat → resolve_program source.files ≡ Ok (flat_of source.flat) → ((e : Entered) → e.number ≡ number.0 → IsTypedAs source e → IsEntered source asked.entry e) → (err : PrepareErr) → Is_past flat number params err → ProgramRow (unprepared err) asked source old old
@@ -110,8 +107,8 @@ module _ {flat : Flat} {inference : Inference} {integers : List IntType} {number
     abbrev is_run : Is_run flat inference integers number params tuple results (scalars (length params)) pr.blocks.shape p
     is_run = record { typed = told; usable = usable; unfolds = pr.blocks.unfolds }
 
-    runs : (turns : ℕ) (arguments : List Scalar) → AreOf params arguments → Runs_as flat integers number tuple results p turns arguments
-    runs turns arguments of = run_is is_run turns arguments of (subst (λ n. All_split (scalars n) (as_values (scalar_datums arguments)) arguments []) (lengths arguments params of) (scalars_split arguments))
+    runs : (turns : ℕ) (arguments : List Datum) → Are_arguments params arguments → Runs_as flat integers number tuple results p true turns arguments
+    runs turns arguments of = run_is is_run true turns arguments of (subst (λ n. All_split (scalars n) (as_values (datums arguments)) arguments []) (lengths arguments params of) (data_split arguments))
 
     pub rising : Rising p
     rising = names_rise (integer_at integers) _ number (scalars (length params)) pr.blocks.shape p pr.blocks.unfolds
@@ -119,15 +116,10 @@ module _ {flat : Flat} {inference : Inference} {integers : List IntType} {number
     pub never_wrong_for : (turns : ℕ) → Never_wrong_for params turns p
     never_wrong_for turns arguments of = (runs turns arguments of).never_wrong
 
-    comes : (files : List SourceProgram) (turns : ℕ) → resolve_program files ≡ Ok (flat_of flat) → (arguments : List Scalar) → AreOf params arguments → (outcome : Outcome) → Allows (record { files = files; flat = flat }) entered turns arguments outcome → (f : ℕ) × Program_means turns p arguments (in_blocks outcome) f
-    comes files turns resolved arguments of (Gives vs) a = (runs turns arguments of).results_come files resolved vs a.0
-    comes files turns resolved arguments of (Fails r) a = (runs turns arguments of).reports_come files resolved r a
-
     pub runs_for : (source : Source) → source.flat ≡ flat → resolve_program source.files ≡ Ok (flat_of source.flat) → (turns : ℕ) → Runs_for source entered turns p
     runs_for source e resolved turns = subst (λ (f : Flat). Runs_for (record { files = source.files; flat = f }) entered turns p) (sym e) (record {
-      gives = λ arguments of vs f x. (runs turns arguments of).gives source.files (resolved ∙ ap (λ f. Ok (flat_of f)) e) vs f x;
-      fails = λ arguments of r f x. (runs turns arguments of).fails source.files (resolved ∙ ap (λ f. Ok (flat_of f)) e) r f x;
-      comes = comes source.files turns (resolved ∙ ap (λ f. Ok (flat_of f)) e);
+      gives = λ arguments of vs f x. let g = (runs turns arguments of).gives source.files (resolved ∙ ap (λ f. Ok (flat_of f)) e) vs f x in (g.0, g.1, (g.3, g.2));
+      fails = λ arguments of r f x. ((runs turns arguments of).fails source.files (resolved ∙ ap (λ f. Ok (flat_of f)) e) r f x, tt);
     })
 
     pub is_ready : (asked : Command) (source : Source) → source.flat ≡ flat → resolve_program source.files ≡ Ok (flat_of source.flat) → ((e : Entered) → e.number ≡ number.0 → IsTypedAs source e → IsEntered source asked.entry e) → IsReady asked source entered

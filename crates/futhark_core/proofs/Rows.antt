@@ -1,38 +1,41 @@
 -- The rows of a run that is ready, from what its stages answered.
-use Rattle.std.proofs.Common.{◌≡◌, ◌≤◌, inr, ℕ, List, map, length, All, refl, sym, ap, ◌∙◌}
+use Rattle.std.proofs.Common.{◌≡◌, ◌≤◌, inr, ℕ, List, Bool, map, length, true, refl, sym, ap, subst, ◌∙◌}
 use Rattle.std.specs.Prelude.{Ok, Err}
-use Rattle.fut_io.specs.Outside.{AllRead}
-use Rattle.fut_scalar.specs.Integers.{FitsType}
+use Rattle.fut_io.specs.Outside.{AllRead, Took, TookPart}
 use Rattle.fut_scalar.specs.declared.report.FailKind.{FailKind}
 use Rattle.fut_scalar.specs.declared.report.FailKind.TheVariants as fail
 use Rattle.fut_scalar.specs.declared.report.Report.{Report}
-use Rattle.fut_scalar.specs.declared.scalar.Scalar.{Scalar}
-use Rattle.fut_scalar.specs.declared.scalar.ScalarType.{ScalarType}
-use Rattle.fut_arithmetic.specs.Types.{type_of}
+use Rattle.fut_scalar.specs.declared.sizes.DataType.{DataType}
+use Rattle.fut_value.specs.Data.{Datum}
+use Rattle.fut_value.specs.Values.{datum_of}
+use Rattle.fut_value.specs.declared.value.Value.{Value}
 use Rattle.fut_blocks.specs.declared.block.Program.{Program}
 use Rattle.fut_blocks.specs.Programs.{Program_means}
-use Rattle.fut_blocks.proofs.OneOutcome.{one_outcome}
+use Rattle.fut_meaning.specs.Answers.{Answer, Gives, Fails}
+use Rattle.elab_laws.proofs.Answers.{lawful_files_have_one_answer}
 use Rattle.fut_meaning.specs.Outcomes.{Val, Fail}
+use Rattle.array_data.specs.Held.{held_all}
+use Rattle.array_data.specs.declared.data.Data.{Data}
+use Rattle.data_values.specs.Met.{each_met}
 use Rattle.fut_eval.specs.Evaluates.{Evaluates, came_to, failed, no_memory}
 use Rattle.fut_eval.specs.declared.program.EvalErr.{EvalErr}
 use Rattle.fut_eval.specs.declared.program.EvalErr.TheVariants as eval
-use Rattle.value_text.specs.Reading.{Reads, Explains}
+use Rattle.value_text.specs.Arguments.{Reads, Explains}
+use Rattle.value_text.specs.Printing.{data_output}
 use Rattle.value_text.specs.declared.reading.TextErr.{TextErr}
 use Rattle.value_text.specs.declared.reading.TextErr.TheVariants as text
 use Rattle.command_words.specs.CommandLine.{Command}
 use Rattle.futhark_core.specs.Acceptance.{Source}
-use Rattle.futhark_core.specs.Meaning.{Entered, Outcome, Gives, Fails, Alone}
-use Rattle.futhark_core.specs.Private.Stages.{Runs_for, kind_status, failed_status, input_status, in_blocks}
+use Rattle.module_elab.specs.Elaborated.{program_of as flat_of}
+use Rattle.unfolded_runs.specs.Results.{Are_arguments, components_of, opened}
+use Rattle.futhark_status.specs.declared.status.Status.TheVariants.{Done, WriteFault}
+use Rattle.futhark_core.specs.Inputs.{wanted}
+use Rattle.futhark_core.specs.Meaning.{Entered, Allows, Alone}
+use Rattle.futhark_core.specs.Private.Stages.{Runs_for, kind_status, failed_status, input_status}
 use Rattle.futhark_core.specs.Row.{Streams, IsReady, ProgramRow, ComesTo, most_input}
 
-same_outcome : (x y : Outcome) → in_blocks x ≡ in_blocks y → x ≡ y
-same_outcome (Gives vs) (Gives ws) h = ap Gives (let z : Val vs ≡ Val ws = h in cc)
-same_outcome (Gives vs) (Fails r) h = absurd (let z : Val vs ≡ Fail r = h in cc)
-same_outcome (Fails r) (Gives ws) h = absurd (let z : Fail r ≡ Val ws = h in cc)
-same_outcome (Fails r) (Fails k) h = ap Fails (let z : Fail r ≡ Fail k = h in cc)
-
-module _ (asked : Command) (source : Source) (e : Entered) (ready : IsReady asked source e) (old new : Streams) (params : List ScalarType) (same : e.params ≡ params) where
-  pub unread : (err : TextErr) (bytes : List ℕ) → AllRead old.input new.input bytes → length bytes ≤ most_input → Explains params bytes err → new.out ≡ old.out → ProgramRow (input_status err) asked source old new
+module _ (asked : Command) (source : Source) (e : Entered) (ready : IsReady asked source e) (old new : Streams) (params : List DataType) (same : e.params ≡ params) where
+  pub unread : (err : TextErr) (bytes : List ℕ) → AllRead old.input new.input bytes → length bytes ≤ most_input → Explains (wanted params) bytes err → new.out ≡ old.out → ProgramRow (input_status err) asked source old new
   unread text.Memory bytes read short x out = (out, inr (e, ready))
   unread (text.BadText at) bytes read short x out = record { entered = e; ready = ready; bytes = bytes; read = read; short = short; refuses = rw same x; out = out }
   unread (text.WrongType at) bytes read short x out = record { entered = e; ready = ready; bytes = bytes; read = read; short = short; refuses = rw same x; out = out }
@@ -43,12 +46,17 @@ module _ (asked : Command) (source : Source) (e : Entered) (ready : IsReady aske
   unread (text.Missing param) bytes read short x out = record { entered = e; ready = ready; bytes = bytes; read = read; short = short; refuses = rw same x; out = out }
   unread (text.Extra at) bytes read short x out = record { entered = e; ready = ready; bytes = bytes; read = read; short = short; refuses = rw same x; out = out }
 
-  module _ (p : Program) (runs : Runs_for source e asked.turns p) (bytes : List ℕ) (read : AllRead old.input new.input bytes) (short : length bytes ≤ most_input) (arguments : List Scalar) (reads : Reads params bytes arguments) (typed : map type_of arguments ≡ params) where
-    -- blocks have one outcome, and so have the files
-    alone : (outcome : Outcome) (f : ℕ) → Program_means asked.turns p arguments (in_blocks outcome) f → Alone source e asked.turns arguments outcome
-    alone outcome f m other a =
-        let c = runs.comes arguments (typed ∙ sym same) other a in
-        same_outcome other outcome (one_outcome asked.turns p arguments (in_blocks other) (in_blocks outcome) c.0 f c.1 m)
+  module _ (p : Program) (runs : Runs_for source e asked.turns p) (bytes : List ℕ) (read : AllRead old.input new.input bytes) (short : length bytes ≤ most_input) (arguments : List Value) (reads : Reads (wanted params) bytes arguments) (typed : Are_arguments params (map datum_of arguments)) where
+    abbrev pub given : List Datum
+    given = map datum_of arguments
+
+    of : Are_arguments e.params given
+    of = rw same typed
+
+    -- where files lawfully allow an answer, it is the one that is allowed
+    alone : (answer : Answer) (words : ℕ) → Allows source e asked.turns given true answer words → Alone source e asked.turns given answer
+    alone answer words allows other lawful =
+        sym (lawful_files_have_one_answer source.files (flat_of source.flat) e.integer_at asked.turns e.number given other answer lawful.0 words true lawful.1 allows.0)
 
     by_kind : (kind : FailKind) (report : Report) (path : List ℕ) → report.kind ≡ kind → ComesTo asked source old.input new.input (Fails report) → path ≡ asked.file → new.out ≡ old.out → ProgramRow (kind_status kind report path) asked source old new
     by_kind fail.Division report path k c is out = ((λ t. absurd (let z : fail.Division ≡ fail.Turns = sym k ∙ t in cc)), record { path_is = is; comes = c; out = out })
@@ -60,13 +68,31 @@ module _ (asked : Command) (source : Source) (e : Entered) (ready : IsReady aske
     by_kind fail.TooLarge report path k c is out = ((λ t. absurd (let z : fail.TooLarge ≡ fail.Turns = sym k ∙ t in cc)), record { path_is = is; comes = c; out = out })
     by_kind fail.Turns report path k c is out = (k, record { path_is = is; comes = c; out = out })
 
-    pub unevaluated : (err : EvalErr) (path : List ℕ) → Evaluates asked.turns p arguments (Err err) → path ≡ asked.file → new.out ≡ old.out → ProgramRow (failed_status err path) asked source old new
+    pub unevaluated : (err : EvalErr) (path : List ℕ) → Evaluates asked.turns p given (Err err) → path ≡ asked.file → new.out ≡ old.out → ProgramRow (failed_status err path) asked source old new
     unevaluated (eval.Failed report) path (failed f m) is out =
-        by_kind report.kind report path refl (record { entered = e; ready = ready; bytes = bytes; read = read; short = short; arguments = arguments; reads = rw same reads; allows = runs.fails arguments (typed ∙ sym same) report f m; alone = alone (Fails report) f m }) is out
+        by_kind report.kind report path refl (record { entered = e; ready = ready; bytes = bytes; read = read; short = short; arguments = arguments; reads = rw same reads; words = f; allows = runs.fails given of report f m; alone = alone (Fails report) f (runs.fails given of report f m) }) is out
     unevaluated eval.Memory path no_memory is out = (out, inr (e, ready))
 
-    pub results : (vs : List Scalar) → Evaluates asked.turns p arguments (Ok vs) → ComesTo asked source old.input new.input (Gives vs)
-    results vs (came_to f m fits) = record { entered = e; ready = ready; bytes = bytes; read = read; short = short; arguments = arguments; reads = rw same reads; allows = runs.gives arguments (typed ∙ sym same) vs f m; alone = alone (Gives vs) f m }
+    -- the components that are given, opened, are those of a result that the files allow
+    allowed : (vs : List Data) → Evaluates asked.turns p given (Ok vs) → (result : Datum) × (opened e.tuple (held_all vs) ≡ components_of e.tuple result) × (words : ℕ) × Allows source e asked.turns given true (Gives result) words
+    allowed vs (came_to f m) = let r = runs.gives given of (held_all vs) f m in (r.0, r.1, f, r.2)
 
-pub fitting : {turns : ℕ} {p : Program} {arguments vs : List Scalar} → Evaluates turns p arguments (Ok vs) → All FitsType vs
-fitting (came_to f m fits) = fits
+    -- the text of components that are given is the text of a result that the files allow
+    module _ (tuple : Bool) (types : List DataType) (same_tuple : e.tuple ≡ tuple) (same_types : e.results ≡ types) (vs : List Data) (gave : Evaluates asked.turns p given (Ok vs)) (items : List ℕ) (text : items ≡ data_output (each_met types (opened tuple (held_all vs)))) where
+      abbrev result : Datum
+      result = (allowed vs gave).0
+
+      abbrev came : ComesTo asked source old.input new.input (Gives result)
+      came = record { entered = e; ready = ready; bytes = bytes; read = read; short = short; arguments = arguments; reads = rw same reads; words = (allowed vs gave).2; allows = (allowed vs gave).3; alone = alone (Gives result) (allowed vs gave).2 (allowed vs gave).3 }
+
+      text_is : items ≡ data_output (each_met e.results (components_of e.tuple result))
+      text_is =
+          text ∙ ap (λ z. data_output (each_met z (opened tuple (held_all vs)))) (sym same_types)
+          ∙ ap (λ z. data_output (each_met e.results (opened z (held_all vs)))) (sym same_tuple)
+          ∙ ap (λ z. data_output (each_met e.results z)) (allowed vs gave).1
+
+      pub done : Took old.out new.out items → ProgramRow Done asked source old new
+      done out = record { result = result; comes = came; out = subst (Took old.out new.out) text_is out }
+
+      pub unwritten : TookPart old.out new.out items → ProgramRow WriteFault asked source old new
+      unwritten out = record { result = result; comes = came; out = subst (TookPart old.out new.out) text_is out }

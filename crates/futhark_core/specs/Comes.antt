@@ -2,9 +2,11 @@
 --
 -- A run goes by stages, one after another. Each gives something to the next, or ends the run with a status. What is said of
 -- types holds for some way to number names and records, and so for each; an entry has one type, whatever typing shows it.
-use Rattle.std.specs.Prelude.{◌≡◌, ◌≤◌, ◌<◌, ◌⊎◌, ℕ, List, length, Option, Some, None, Result, Ok, Err}
+use Rattle.std.specs.Prelude.{◌≡◌, ◌≤◌, ◌<◌, ◌⊎◌, ℕ, List, length, map, true, Option, Some, None, Result, Ok, Err}
 use Rattle.fut_scalar.specs.declared.place.Place.{Place}
-use Rattle.fut_scalar.specs.declared.scalar.Scalar.{Scalar}
+use Rattle.fut_value.specs.Values.{datum_of}
+use Rattle.fut_value.specs.declared.value.Value.{Value}
+use Rattle.fut_meaning.specs.Answers.{Answer, Gives, Fails}
 use Rattle.fut_token.specs.declared.token.Token.{Token}
 use Rattle.fut_io.specs.Counts.{Rose}
 use Rattle.fut_io.specs.Outside.{file_at}
@@ -31,7 +33,7 @@ use Rattle.typed_programs.specs.declared.typed.TypeErr.TheVariants as types
 use Rattle.command_words.specs.CommandLine.{Command, command_of}
 use Rattle.command_words.specs.declared.words.Action.{Action}
 use Rattle.command_words.specs.declared.words.Action.TheVariants.{Run, Check}
-use Rattle.value_text.specs.Reading.{Reads, Refuses}
+use Rattle.value_text.specs.Arguments.{Reads, Refuses}
 use Rattle.value_text.specs.declared.reading.TextErr.{TextErr}
 use Rattle.futhark_status.specs.declared.status.EntryErr.TheVariants.{NoEntry, OutsideProfile}
 use Rattle.futhark_status.specs.declared.status.LimitKind.TheVariants as limit
@@ -40,7 +42,8 @@ use Rattle.futhark_status.specs.declared.status.Status.{Status}
 use Rattle.futhark_status.specs.declared.status.Status.TheVariants.{Done, Usage, Entry, Limit, Input, Failure, Turns, Memory}
 use Rattle.futhark_core.specs.Acceptance.{Source}
 use Rattle.futhark_core.specs.Entering.{IsOutside}
-use Rattle.futhark_core.specs.Meaning.{Entered, IsEntered, Outcome, Gives, Fails, Allows}
+use Rattle.futhark_core.specs.Inputs.{wanted}
+use Rattle.futhark_core.specs.Meaning.{Entered, IsEntered, Allows, Lawfully_allows}
 use Rattle.futhark_core.specs.Row.{Outside, most_input, status_for}
 
 -- what a stage comes to: something for the next one, or the status that ends the run
@@ -129,12 +132,12 @@ pub record AskedRun : Type 0 where
   pub turns : ℕ
   pub input : List ℕ
 
--- how a run ends whose source is accepted and has its entry: it tells so, this was run, it comes to an outcome, or its input is
--- refused with a status
+-- how a run ends whose source is accepted and has its entry: it tells so, this was run, it comes to the answer that is lawfully
+-- allowed, or its input is refused with a status
 pub data Ending : Type 0 where
   Told : Ending
   Ran : AskedRun → Ending
-  Came : Outcome → Ending
+  Came : Answer → Ending
   Unread : Status → Ending
 
 -- this holds of the entry of this name, which is one definition, of one type
@@ -151,14 +154,14 @@ Entering flat name (Ok same) = ((at : ℕ) × HasEntry flat name at) × ((source
 Entering flat name (Err status) = (HasNoEntry flat name × (status ≡ Entry NoEntry name))
     ⊎ (((at : ℕ) × HasEntry flat name at) × Of_entries flat name (λ e. ⊥) × (status ≡ Entry OutsideProfile name))
 
--- the told input reads as arguments, for which the files allow this outcome, or is too long or refused
+-- the told input reads as arguments, for which the files lawfully allow this answer, or is too long or refused
 abbrev pub Argued : FlatProgram → Name → ℕ → Option (List ℕ) → Stage Ending
 Argued flat name turns None end = ⊥
 Argued flat name turns (Some bytes) (Ok Told) = ⊥
-Argued flat name turns (Some bytes) (Ok (Ran asked)) = (asked ≡ record { flat = flat; name = name; turns = turns; input = bytes }) × (length bytes ≤ most_input) × Of_entries flat name (λ e. (values : List Scalar) × Reads e.params bytes values)
-Argued flat name turns (Some bytes) (Ok (Came outcome)) = (length bytes ≤ most_input) × Of_sources flat name (λ source e. (values : List Scalar) × Reads e.params bytes values × Allows source e turns values outcome)
+Argued flat name turns (Some bytes) (Ok (Ran asked)) = (asked ≡ record { flat = flat; name = name; turns = turns; input = bytes }) × (length bytes ≤ most_input) × Of_entries flat name (λ e. (values : List Value) × Reads (wanted e.params) bytes values)
+Argued flat name turns (Some bytes) (Ok (Came answer)) = (length bytes ≤ most_input) × Of_sources flat name (λ source e. (values : List Value) × Reads (wanted e.params) bytes values × Lawfully_allows source e turns (map datum_of values) answer)
 Argued flat name turns (Some bytes) (Ok (Unread status)) = ((most_input < length bytes) × (status ≡ Limit limit.InputBytes))
-    ⊎ ((err : TextErr) × (length bytes ≤ most_input) × Of_entries flat name (λ e. Refuses e.params bytes err) × (status ≡ Input err))
+    ⊎ ((err : TextErr) × (length bytes ≤ most_input) × Of_entries flat name (λ e. Refuses (wanted e.params) bytes err) × (status ≡ Input err))
 Argued flat name turns (Some bytes) (Err status) = ⊥
 
 -- an accepted program is run on the input, or is told to be accepted
@@ -188,21 +191,22 @@ pub record NoFault (old new : Outside) : Type 0 where
 abbrev pub IsLimit : Status → Type 0
 IsLimit status = (status ≡ Limit limit.Nodes) ⊎ (status ≡ Limit limit.Depth)
 
--- the status tells of this outcome
-abbrev pub Tells : Outcome → Status → Type 0
-Tells (Gives components) status = status ≡ Done
+-- the status tells of this answer
+abbrev pub Tells : Answer → Status → Type 0
+Tells (Gives result) status = status ≡ Done
 Tells (Fails report) status = (path : Name) × ((status ≡ Failure report path) ⊎ (status ≡ Turns report path))
 
--- the files allow this outcome for the arguments that the input reads as
-pub record AllowedFor (asked : AskedRun) (outcome : Outcome) : Type 0 where
+-- the files allow this answer for the arguments that the input reads as
+pub record AllowedFor (asked : AskedRun) (answer : Answer) : Type 0 where
   pub source : Source
   pub flat : flat_of source.flat ≡ asked.flat
   pub files : resolve_program source.files ≡ Ok asked.flat
   pub entered : Entered
   pub is_entered : IsEntered source asked.name entered
-  pub arguments : List Scalar
-  pub reads : Reads entered.params asked.input arguments
-  pub allows : Allows source entered asked.turns arguments outcome
+  pub arguments : List Value
+  pub reads : Reads (wanted entered.params) asked.input arguments
+  pub words : ℕ
+  pub allows : Allows source entered asked.turns (map datum_of arguments) true answer words
 
 -- both say the same of types, perhaps at other places
 abbrev pub AlikeTypes : TypeErr → TypeErr → Type 0
@@ -218,8 +222,8 @@ Alike status end = ((file : Name) × ParserRefusal file status × ParserRefusal 
 
 abbrev pub Agrees : Status → Result Ending Status → Type 0
 Agrees status (Ok Told) = status ≡ Done
-Agrees status (Ok (Ran asked)) = (outcome : Outcome) × AllowedFor asked outcome × (Tells outcome status ⊎ IsLimit status)
-Agrees status (Ok (Came outcome)) = Tells outcome status ⊎ IsLimit status
+Agrees status (Ok (Ran asked)) = (answer : Answer) × AllowedFor asked answer × (Tells answer status ⊎ IsLimit status)
+Agrees status (Ok (Came answer)) = Tells answer status ⊎ IsLimit status
 Agrees status (Ok (Unread end)) = (status ≡ end) ⊎ IsLimit status
 Agrees status (Err end) = (status ≡ end) ⊎ Alike status end
 

@@ -1,4 +1,5 @@
 pub mod Acceptance
+pub mod Inputs
 pub mod Meaning
 pub mod Entering
 pub mod Row

@@ -1,9 +1,7 @@
 -- From which definition of an accepted source a run begins, and what the source means from there.
-use Rattle.std.specs.Prelude.{◌≡◌, ℕ, List, Bool, false}
-use Rattle.fut_scalar.specs.declared.report.Report.{Report}
+use Rattle.std.specs.Prelude.{◌≡◌, ℕ, List, [], ◌∷◌, Bool, true, false, map}
 use Rattle.fut_scalar.specs.declared.scalar.IntType.{IntType}
-use Rattle.fut_scalar.specs.declared.scalar.Scalar.{Scalar}
-use Rattle.fut_scalar.specs.declared.scalar.ScalarType.{ScalarType}
+use Rattle.fut_scalar.specs.declared.sizes.DataType.{DataType}
 use Rattle.fut_ast.specs.Sorts.{Text}
 use Rattle.fut_flat.specs.Erased.{parameters}
 use Rattle.fut_types.specs.declared.Kind.TheVariants as kind
@@ -15,21 +13,24 @@ use Rattle.fut_typing.specs.Program.{program_of, Program_typed}
 use Rattle.fut_typing.specs.Answers.{Typing_is}
 use Rattle.fut_typing.specs.Exact.{scope_behind}
 use Rattle.fut_meaning.specs.Flats.{FlatTop, flat_tops, named_terms}
-use Rattle.fut_blocks.specs.Programs.{AreOf}
+use Rattle.fut_value.specs.Data.{Datum}
+use Rattle.fut_meaning.specs.Answers.{Answer}
+use Rattle.elab_laws.specs.Answers.{Files_allow, Files_lawfully_allow}
 use Rattle.module_elab.specs.Elaborated.{program_of as flat_of}
 use Rattle.type_soundness.specs.Programs.{Definitions_told}
 use Rattle.typed_programs.specs.EntryTypes.{Has_entry_type}
 use Rattle.front.specs.EntryNameEntries.{Begins_at}
-use Rattle.unfolded_runs.specs.Allowed.{Allows_result, Allows_report}
+use Rattle.unfolded_runs.specs.Claims.{Answer_is_of}
+use Rattle.unfolded_runs.specs.Results.{Are_arguments}
 use Rattle.futhark_core.specs.Acceptance.{Source}
 
--- the definition that a run begins from: its number, the scalar types that it takes and gives, and the types of all integers
+-- the definition that a run begins from: its number, the types of the data that it takes and gives, and the types of all integers
 -- that are written without one
 pub record Entered : Type 0 where
   pub number : ℕ
-  pub params : List ScalarType
+  pub params : List DataType
   pub tuple : Bool
-  pub results : List ScalarType
+  pub results : List DataType
   pub integer_at : ℕ → IntType
 
 -- In the principal typing of the source with its defaults, where names are numbered in some way, it is used at the type that
@@ -54,22 +55,22 @@ pub record IsEntered (source : Source) (name : Text) (e : Entered) : Type 0 wher
 
 -- ---- what it means
 
-pub data Outcome : Type 0 where
-  Gives : List Scalar → Outcome
-  Fails : Report → Outcome
+-- for these arguments, with this budget of turns for each `while`, making so many words; tight where the trees of its reductions
+-- have few neutral leaves
+abbrev pub Allows : Source → Entered → ℕ → List Datum → (tight : Bool) → Answer → (words : ℕ) → Type 0
+Allows source e turns arguments tight answer words = Files_allow source.files (flat_of source.flat) e.integer_at turns e.number arguments tight answer words × Answer_is_of e.tuple e.results answer
 
--- for these arguments, with this budget of turns for each `while`
-abbrev pub Allows : Source → Entered → ℕ → List Scalar → Outcome → Type 0
-Allows source e turns arguments (Gives components) = Allows_result source.files (flat_of source.flat) e.integer_at turns e.number arguments e.tuple components × AreOf e.results components
-Allows source e turns arguments (Fails report) = Allows_report source.files (flat_of source.flat) e.integer_at turns e.number arguments report
+-- with lawful operators alone, and no place that a scatter names twice
+abbrev pub Lawfully_allows : Source → Entered → ℕ → List Datum → Answer → Type 0
+Lawfully_allows source e turns arguments answer = (words : ℕ) × Files_lawfully_allow source.files (flat_of source.flat) e.integer_at turns e.number arguments answer words
 
--- and no other
-abbrev pub Alone : Source → Entered → ℕ → List Scalar → Outcome → Type 0
-Alone source e turns arguments outcome = (other : Outcome) → Allows source e turns arguments other → other ≡ outcome
+-- where the files lawfully allow an answer, it is this one
+abbrev pub Alone : Source → Entered → ℕ → List Datum → Answer → Type 0
+Alone source e turns arguments answer = (other : Answer) → Lawfully_allows source e turns arguments other → other ≡ answer
 
--- for all arguments of the types of its parameters they allow some outcome
+-- for all arguments of the types of its parameters they allow some answer
 abbrev pub Answers : Source → Entered → ℕ → Type 0
-Answers source e turns = (arguments : List Scalar) → AreOf e.params arguments → (outcome : Outcome) × Allows source e turns arguments outcome
+Answers source e turns = (arguments : List Datum) → Are_arguments e.params arguments → (answer : Answer) × (words : ℕ) × Allows source e turns arguments true answer words
 
 abbrev pub tops_of : Source → List FlatTop
 tops_of source = flat_tops 0 (named_terms source.flat)

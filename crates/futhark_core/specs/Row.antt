@@ -1,20 +1,25 @@
 -- What each status of a run says of its words and of the outside before and after it.
-use Rattle.std.specs.Prelude.{◌≡◌, ◌≤◌, ◌⊎◌, ℕ, List, length, codes, Ok, Err}
+use Rattle.std.specs.Prelude.{◌≡◌, ◌≤◌, ◌⊎◌, ℕ, List, length, map, codes, true, Ok, Err}
 use Rattle.fut_io.specs.Counts.{Rose}
 use Rattle.fut_io.specs.Outside.{LoaderSeen, SourceSeen, SinkSeen, AllRead, ReadPart, ReadPast, Took, TookPart}
 use Rattle.fut_scalar.specs.declared.place.Place.{Place}
 use Rattle.fut_scalar.specs.declared.report.FailKind.TheVariants as fail
 use Rattle.fut_scalar.specs.declared.report.Report.{Report}
-use Rattle.fut_scalar.specs.declared.scalar.Scalar.{Scalar}
 use Rattle.fut_parser.specs.declared.programs.ParseErr.TheVariants as parse
+use Rattle.fut_value.specs.Data.{Datum}
+use Rattle.fut_value.specs.Values.{datum_of}
+use Rattle.fut_value.specs.declared.value.Value.{Value}
+use Rattle.fut_meaning.specs.Answers.{Answer, Gives, Fails}
 use Rattle.fut_meaning.specs.declared.measured.Measured.{Measured}
 use Rattle.fut_meaning.specs.declared.measured.MeasureErr.{MeasureErr}
 use Rattle.fut_meaning.specs.declared.measured.MeasureErr.TheVariants as measure
 use Rattle.fut_meaning.specs.Measures.{Measures}
-use Rattle.value_text.specs.Printing.{output_of}
-use Rattle.value_text.specs.Reading.{Reads, Refuses}
+use Rattle.data_values.specs.Met.{each_met}
+use Rattle.value_text.specs.Printing.{data_output}
+use Rattle.value_text.specs.Arguments.{Reads, Refuses}
 use Rattle.value_text.specs.declared.reading.TextErr.{TextErr}
 use Rattle.value_text.specs.declared.reading.TextErr.TheVariants as text
+use Rattle.unfolded_runs.specs.Results.{components_of}
 use Rattle.command_words.specs.CommandLine.{Command, command_of}
 use Rattle.command_words.specs.declared.words.Action.{Action}
 use Rattle.command_words.specs.declared.words.Action.TheVariants.{Run, Check}
@@ -26,7 +31,8 @@ use Rattle.futhark_status.specs.declared.status.Status.{Status}
 use Rattle.futhark_status.specs.declared.status.Status.TheVariants.{Done, Usage, LoadFault, Text, Names, Types, Entry, Limit, ReadFault, Input, Failure, Turns, WriteFault, Memory}
 use Rattle.futhark_core.specs.Acceptance.{Source, AcceptedFile, UnacceptedFile}
 use Rattle.futhark_core.specs.Entering.{NotEntered}
-use Rattle.futhark_core.specs.Meaning.{Entered, IsEntered, Outcome, Gives, Fails, Allows, Alone, Answers, tops_of}
+use Rattle.futhark_core.specs.Inputs.{wanted}
+use Rattle.futhark_core.specs.Meaning.{Entered, IsEntered, Allows, Alone, Answers, tops_of}
 
 -- what a run meets outside
 pub record Outside : Type 0 where
@@ -138,36 +144,38 @@ pub record UnreadInput (asked : Command) (source : Source) (old new : Streams) (
   pub bytes : List ℕ
   pub read : AllRead old.input new.input bytes
   pub short : length bytes ≤ most_input
-  pub refuses : Refuses entered.params bytes err
+  pub refuses : Refuses (wanted entered.params) bytes err
   pub out : new.out ≡ old.out
 
 abbrev pub InputRow : Command → Source → Streams → Streams → TextErr → Type 0
 InputRow asked source old new text.Memory = ⊥
 InputRow asked source old new err = UnreadInput asked source old new err
 
--- the whole input was read, it reads as arguments, and the files allow this outcome for them and no other
-pub record ComesTo (asked : Command) (source : Source) (old new : SourceSeen) (outcome : Outcome) : Type 0 where
+-- The whole input was read, it reads as arguments, and the files allow this answer for them, making so many words; where they
+-- lawfully allow one, it is this.
+pub record ComesTo (asked : Command) (source : Source) (old new : SourceSeen) (answer : Answer) : Type 0 where
   pub entered : Entered
   pub ready : IsReady asked source entered
   pub bytes : List ℕ
   pub read : AllRead old new bytes
   pub short : length bytes ≤ most_input
-  pub arguments : List Scalar
-  pub reads : Reads entered.params bytes arguments
-  pub allows : Allows source entered asked.turns arguments outcome
-  pub alone : Alone source entered asked.turns arguments outcome
+  pub arguments : List Value
+  pub reads : Reads (wanted entered.params) bytes arguments
+  pub words : ℕ
+  pub allows : Allows source entered asked.turns (map datum_of arguments) true answer words
+  pub alone : Alone source entered asked.turns (map datum_of arguments) answer
 
 -- out grew by exactly the lines of a result that the files allow
 pub record DoneRow (asked : Command) (source : Source) (old new : Streams) : Type 0 where
-  pub components : List Scalar
-  pub comes : ComesTo asked source old.input new.input (Gives components)
-  pub out : Took old.out new.out (output_of components)
+  pub result : Datum
+  pub comes : ComesTo asked source old.input new.input (Gives result)
+  pub out : Took old.out new.out (data_output (each_met comes.entered.results (components_of comes.entered.tuple result)))
 
 -- out has failed, and grew by a prefix of them
 pub record WriteFaultRow (asked : Command) (source : Source) (old new : Streams) : Type 0 where
-  pub components : List Scalar
-  pub comes : ComesTo asked source old.input new.input (Gives components)
-  pub out : TookPart old.out new.out (output_of components)
+  pub result : Datum
+  pub comes : ComesTo asked source old.input new.input (Gives result)
+  pub out : TookPart old.out new.out (data_output (each_met comes.entered.results (components_of comes.entered.tuple result)))
 
 -- the files allow this failure, in the named file or the prelude
 pub record FailureRow (asked : Command) (source : Source) (old new : Streams) (report : Report) (path : List ℕ) : Type 0 where

@@ -7,5 +7,6 @@ mod file;
 mod program;
 mod run;
 mod statuses;
+mod values;
 
 pub use run::run_futhark;

@@ -12,37 +12,36 @@ ghost use Rattle.futhark_core.specs.Private.Stages.{IsUnentered, Never_wrong_for
 ghost use Rattle.futhark_core.specs.Row.{ActionRow, CheckRow, IsReady, ProgramRow};
 
 use crate::statuses::{failed_status, input_status};
+use crate::values::{print_result, read_data};
 use bumpalo::Bump;
 use command_words::{Action, Command};
 use front::{Accepted, entry_at};
 use fut_blocks::Program;
 use fut_eval::eval;
 use fut_io::{ReadErr, Sink, Source, read_all, write_all};
-use fut_scalar::{BindId, Name, ScalarType};
+use fut_scalar::{BindId, Name};
 use futhark_status::{EntryErr, LimitKind, Status};
 use std::alloc::Global;
 use typed_programs::{EntryType, EntryTypeErr, entry_type};
 use unfolded_runs::{PrepareErr, prepare};
-use value_text::{print_scalars, read_scalars};
 
 /// The most bytes of the input.
 const MOST_INPUT_BYTES: u64 = 67_108_864;
 
 /// The run of a program that is ready.
-#[tactic(auto, using(crate::proofs::Rows::fitting))]
 fn run_ready<S: Source, K: Sink>(
     alloc: Global,
     command: &Command<'_>,
     program: &Program<'_>,
-    params: &[ScalarType],
+    entry: &EntryType,
     path: Name,
     input: &mut S,
     out: &mut K,
 ) -> Status
     requires path { path ≡ command.now.file.now }
     requires rising { Rising program.now }
-    requires never_wrong { Never_wrong_for params.now command.now.turns program.now }
-    ensures { (source : TheSource) (e : Entered) → e.params ≡ params.now → IsReady (command_in command.now) source e → Runs_for source e command.now.turns program.now → ProgramRow result (command_in command.now) source
+    requires never_wrong { Never_wrong_for entry.now.params command.now.turns program.now }
+    ensures { (source : TheSource) (e : Entered) → e.params ≡ entry.now.params → e.tuple ≡ entry.now.tuple → e.results ≡ entry.now.results → IsReady (command_in command.now) source e → Runs_for source e command.now.turns program.now → ProgramRow result (command_in command.now) source
         (record { input = S.seen input.old; out = K.seen out.old })
         (record { input = S.seen input.new; out = K.seen out.new }) }
 {
@@ -54,7 +53,7 @@ fn run_ready<S: Source, K: Sink>(
         },
         Err(ReadErr::Memory) => return Status::Memory,
     };
-    let arguments = match read_scalars(alloc, params, bytes.as_slice()) {
+    let arguments = match read_data(alloc, entry.params.as_slice(), bytes.as_slice()) {
         Ok(arguments) => arguments,
         Err(err) => return input_status(err),
     };
@@ -62,7 +61,12 @@ fn run_ready<S: Source, K: Sink>(
         Ok(results) => results,
         Err(err) => return failed_status(err, path),
     };
-    let Ok(text) = print_scalars(alloc, results.as_slice()) else {
+    let Ok(text) = print_result(
+        alloc,
+        entry.tuple,
+        entry.results.as_slice(),
+        results.as_slice(),
+    ) else {
         return Status::Memory;
     };
     match write_all(out, &text) {
@@ -108,7 +112,7 @@ fn run_entered<'a, S: Source, K: Sink>(
 {
     let params = entry.params.as_slice();
     match prepare(bump, accepted, number, params) {
-        Ok(program) => run_ready(alloc, command, &program, params, path, input, out),
+        Ok(program) => run_ready(alloc, command, &program, entry, path, input, out),
         Err(err) => unprepared(err),
     }
 }

@@ -1,8 +1,8 @@
 //! Elaboration: the flat program of a set of source files.
 //!
-//! [`elaborate`] answers just what the definition of `module_scopes` (`specs/Programs.antt`) says: each definition with its
+//! [`elaborate`] answers just what the definition of `elab_scopes` (`specs/Programs.antt`) says: each definition with its
 //! names resolved, what is bound numbered from 0 in reading order, or the first refusal in order of text. That what is
-//! answered means what the files mean is the law of `module_meaning`, `elaborated_means_the_same`: its premise,
+//! answered means what the files mean is the law of `elab_laws`, `elaborated_means_the_same`: its premise,
 //! `resolve_program ps ≡ Ok flat`, is the clause `program` here.
 #![tactic(auto)]
 

@@ -1,6 +1,6 @@
 //! The nodes of expressions that the parser makes, with what is written short, and what stands next where one does.
 //!
-//! The calls here are those that `fut_atoms` and `fut_expressions` stand on: each makes just the node that the grammar of
+//! The calls here are those that `parse_atoms` and `parse_exps` stand on: each makes just the node that the grammar of
 //! `fut_ast` gives its production, or tells what the next tokens are.
 #![tactic(auto)]
 

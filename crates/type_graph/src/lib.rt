@@ -1,27 +1,23 @@
-//! Types as a graph of numbered nodes, and unification on it.
+//! Types as a graph of numbered nodes: unification on it, the types that it gives, and what a program's nodes are asked for.
 //!
-//! A node is free, a link to a node of a smaller number, made by a head of a row of nodes, or open: then it has certain
-//! named parts, and what it is made by is not known yet. `solve` brings about that nodes are equal, have a kind, or have a
-//! named part, and keeps all solutions (`specs/Graph.antt`).
+//! A node is free, a link to a node of a smaller number, made by a head of a row of nodes, or open: then it has certain named
+//! parts, and what it is made by is not known yet. Every node has a kind and a level: the depth of nested generalised
+//! definitions at which its type is fixed (`specs/State.antt`). A type parameter that the program writes is a head without
+//! parts. What is said of solutions holds however type parameters are read; a refusal says that there is none where each
+//! stands for itself.
 //!
-//! Every node has a kind and a level: the depth of nested generalised definitions at which its type is fixed
-//! (`specs/State.antt`). A type parameter that the program writes is a head without parts. What is said of solutions holds
-//! however type parameters are read; a refusal says that there is none where each stands for itself.
+//! [`solve`] brings about that nodes are equal, have a kind, or have a named part, and keeps all solutions
+//! (`specs/Graph.antt`). Roots are found by links that are halved on the way. A kind rises at most four times and a level
+//! falls at most once a depth. A part that is asked of an open node costs the number of its distinct labels, of a record the
+//! logarithm of that of its fields.
 //!
-//! Roots are found by links that are halved on the way. A kind rises at most four times and a level falls at most once a
-//! depth. A part that is asked of an open node costs the number of its distinct labels, of a record the logarithm of that
-//! of its fields.
+//! [`resolve`] gives the types of a solved graph, where it settles: a node's type is read from its form, down to the free and
+//! the open nodes, which are the variables of the types (`specs/Resolving.antt`). Each node has a type unless one is a part of
+//! itself, and then the types are principal: each solution is an instance of them ([`settled_types_are_principal`]).
 //!
-//! The types that a solved graph gives its nodes.
-//!
-//! A node's type is read from its form, down to the free nodes, which are the variables of the types (`specs/Resolving.antt`).
-//! Each node has a type unless one is a part of itself, and then the types are principal: each solution is an instance of them.
-//! A node that is open stands for itself, as a variable with named parts.
-//!
-//! What a program's nodes are asked for, put into a graph.
-//!
-//! The program's nodes stand first, up to a base; a claim may add nodes of its own behind them. Contracts speak of the types
-//! of the program's nodes alone: which of them can be carried on to all nodes (`specs/Claims.antt`).
+//! Inference asks by the calls of `claims.rt`. The program's nodes stand first, up to a base; a claim may add nodes of its own
+//! behind them. Contracts speak of the types of the program's nodes alone: which of them can be carried on to all nodes
+//! (`specs/Claims.antt`).
 #![tactic(auto)]
 
 ghost use Rattle.std.specs.Prelude.{◌≡◌, ◌<◌, OnOk, IfErr, length};

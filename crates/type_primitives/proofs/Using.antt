@@ -2,6 +2,7 @@
 use Rattle.std.proofs.Common.{◌≡◌, ℕ, zero, suc, ◌+◌, ◌≤◌, ◌<◌, true, nat_lt, List, [], ◌∷◌, refl, sym, ◌∙◌, ap, subst, arith}
 use Rattle.std.proofs.lemmas.Bool.{ltb-true}
 use mathlib.Core.Logic.{inl, inr}
+use Rattle.fut_flat.specs.declared.prim.Folding.TheVariants as folding
 use Rattle.fut_flat.specs.declared.prim.Primitive.{Primitive}
 use Rattle.fut_flat.specs.declared.prim.Primitive.TheVariants as prim
 use Rattle.fut_primitives.specs.declared.written.Letter.{Letter}
@@ -27,11 +28,19 @@ use Rattle.type_primitives.proofs.Asking.{number_small, types, Stand, asked_to, 
 -- the type that typing has for a primitive is the written one without sizes and stars
 prim_plain : (p : Primitive) → prim_type p ≡ plain_type (own_of p) (from_of p) (written p)
 prim_plain prim.Map = refl
+prim_plain (prim.Fold folding.Sum i) = refl
+prim_plain (prim.Fold folding.Product i) = refl
+prim_plain (prim.Fold folding.Minimum i) = refl
+prim_plain (prim.Fold folding.Maximum i) = refl
 prim_plain p = refl
 
 -- no type of a primitive is large
 few_here : (p : Primitive) → nat_lt (nodes (written p)) 64 ≡ true
 few_here prim.Map = refl
+few_here (prim.Fold folding.Sum i) = refl
+few_here (prim.Fold folding.Product i) = refl
+few_here (prim.Fold folding.Minimum i) = refl
+few_here (prim.Fold folding.Maximum i) = refl
 few_here p = refl
 
 pub few_nodes : (p : Primitive) → nodes (written p) < 64

@@ -1,19 +1,15 @@
-//! The rules of operations and forms, put into a graph of types.
+//! The rules of operations, forms and records, put into a graph of types.
 //!
-//! A rule is a few demands on the types of the program's nodes (`specs/Demands.antt`); the rules themselves are those of
-//! the definition of typing.
+//! A rule is a few demands on the types of the program's nodes (`specs/Demands.antt`); the rules themselves are those of the
+//! definition of typing (`fut_typing`), and each call's contract says that what it asks of the graph is what its rule says.
+//! Where a rule speaks of types that no node of the program has, as of the rows of an array of arrays, nodes of its own stand
+//! for them behind those of the program, and types can be found for them (`specs/Own.antt`).
 //!
-//! The rules that have types of their own, put into a graph of types.
+//! The rule of records speaks of numbers: a table gives each name of a field a number, and each set of names the number of a
+//! record, as they are met. It only grows, so what it says holds of every numbering that goes on from it
+//! (`specs/Labels.antt`), and [`a_table_goes_on_to_names`] says that there is one.
 //!
-//! A rule may speak of types that no node of the program has, as the rows of an array of arrays. Nodes of its own stand
-//! for them, behind those of the program; contracts say that types can be found for them (`specs/Own.antt`).
-//!
-//! The rule of records, put into a graph of types.
-//!
-//! The labels and records of a program, counted as they are met.
-//!
-//! A table gives each name of a field a number, and each set of names the number of a record. It only grows, so what it
-//! says holds of every numbering that goes on from it (`specs/Labels.antt`).
+//! Begin at [`Demand`] and [`put`], then `operations.rt` and `rows.rt`; for records at [`Labels`] and [`fields`].
 #![tactic(auto)]
 
 mod demand;

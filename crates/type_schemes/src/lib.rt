@@ -1,19 +1,12 @@
-//! The types of definitions that may be used at several types.
+//! The types of definitions that may be used at several types: copied once where a definition ends, and used.
 //!
-//! When a definition ends, its type is copied once, part by part, into a store: what is of the definition's depth or below is
-//! shared with the graph. A use copies the parts anew. What is shared stays shared, so a copy has the size of the graph and
-//! not of the tree.
+//! A copy goes part by part into a store. What lies at the depth outside the definition or below is shared with the graph, and
+//! what is shared in the graph stays shared in the copy, so a copy has the size of the graph and not of the tree. A use makes
+//! a free node for each part of the copy and asks of them what the parts say; it costs the size of the copy.
 //!
-//! The uses of definitions.
-//!
-//! A use of a definition makes a free node for each part of the copy of its type, and asks of them what the parts say. It
-//! costs the size of the copy.
-//!
-//! What typing says of a definition that has been put into a graph whole, and of its uses.
-//!
-//! Where a definition ends, its typing has been asked for, however the type parameters that it writes are read. Then it is
-//! generalised where none of their types is fixed by what stands around it, and it is not where one is; and where its type has
-//! been copied, its uses are the instances of the copy (`specs/Uses.antt`).
+//! The theorem is [`instances_are_exact`]: the instances of a copy are exactly the types that the definition may have while
+//! all outside it keeps its type. [`definitions_are_generalised`] ties it to the definition of typing (`specs/Uses.antt`).
+//! Begin at [`scheme`], which makes a copy (`specs/Schemes.antt`), and [`instance`], which uses it (`specs/Instances.antt`).
 #![tactic(auto)]
 
 ghost use Rattle.std.specs.Prelude.{◌≡◌, ◌<◌, ◌≤◌, ◌+◌, ◌++◌, ◌∷◌, [], ◌↔◌, length, true, false, IsTrue, OnOk, IfOk, IfErr};

@@ -1,13 +1,12 @@
-//! What inference works on: the graph of types, the templates of definitions, and what each name stands for.
+//! What inference works on while a program is gone over, and what it does where a definition begins and ends.
 //!
-//! A name is entered where it is bound and taken back behind its scope, in the order in which a program is gone over.
-//! `specs/Scopes.antt` says what is known where a part of a program is gone over, and what is known behind it.
+//! [`Inference`] holds the graph of types, the templates of definitions, and what each name stands for. A name is entered
+//! where it is bound and taken back behind its scope; `specs/Scopes.antt` says what is known where a part of a program is gone
+//! over, and what is known behind it. A pattern enters its names (`patterns.rt`).
 //!
-//! Definitions: their parameters, and how they are generalised.
-//!
-//! A type parameter gets a node of its own where its definition begins. Where the definition ends, none of these nodes may be
-//! fixed by what stands around it; then the definition's type is copied, and its uses are the instances of the copy
-//! (`specs/Definitions.antt`).
+//! A definition's type parameters get a node each where it begins ([`enter_parameters`]). Where it ends ([`generalise`]), none
+//! of these nodes may be fixed by what stands around it; then the definition's type is copied, and its uses are the instances
+//! of the copy (`specs/Definitions.antt`).
 #![tactic(auto)]
 
 mod ending;

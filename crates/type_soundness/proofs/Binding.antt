@@ -15,7 +15,7 @@ use Rattle.fut_typing.specs.Names.{Names, AreNames, IsRecord, Parts_named}
 use Rattle.fut_typing.specs.Scopes.{Uses, Scope, with_uses, the_one}
 use Rattle.fut_typing.specs.Patterns.{pattern_types, with_pattern, with_patterns, Pattern_typed, Patterns_typed}
 use Rattle.fut_meaning.specs.Outcomes.{Out, Val, Fail, Wrong, and_then}
-use Rattle.fut_meaning.specs.Values.{Scalar_value, Tuple_value, Record_value, Closure, Primitive_value, no_value, value_and, bind, listed}
+use Rattle.fut_meaning.specs.Values.{Array_value, Scalar_value, Tuple_value, Record_value, Closure, Primitive_value, no_value, value_and, bind, listed}
 use Rattle.fut_meaning.specs.Accessors.{or_wrong, record_parts, bound, all_bound}
 use Rattle.fut_meaning.specs.Flats.{FlatValue, FlatTops, FlatEnv, FlatMode, flat_look}
 use Rattle.fut_meaning.specs.Claims.{HasOut}
@@ -72,6 +72,7 @@ module _ (N : Names) (integer_at : ℕ → IntType) (M : FlatMode) (budget : ℕ
           inside (Tuple_value vs) n ts h k = absurd h
           inside (Closure ps e lo env) n ts h k = absurd h
           inside (Primitive_value p at vs) n ts h k = absurd h
+          inside (Array_value row ds) n ts h k = absurd h
 
       pub tuple_fits : (ts : Tys) (v : FlatValue) → Fits N integer_at M budget total (Made head.Tuple ts) tops v → (vs : FlatValues) × (v ≡ Tuple_value vs) × All_fit N integer_at M budget total ts tops vs
       unfolding Fits
@@ -80,6 +81,7 @@ module _ (N : Names) (integer_at : ℕ → IntType) (M : FlatMode) (budget : ℕ
       tuple_fits ts (Record_value fs) h = absurd h.1
       tuple_fits ts (Closure ps e lo env) h = absurd h.1
       tuple_fits ts (Primitive_value p at vs) h = absurd h.1
+      tuple_fits ts (Array_value row ds) h = absurd h.1
 
       module _ (places : Kind) where
         mutual

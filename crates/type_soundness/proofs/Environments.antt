@@ -9,7 +9,7 @@ use Rattle.fut_typing.specs.Scopes.{Scope, with_type, with_sizes}
 use Rattle.fut_typing.specs.Patterns.{with_parameters}
 use Rattle.fut_typing.proofs.Local.{AllLocal, Agree}
 use Rattle.fut_meaning.specs.Outcomes.{Val}
-use Rattle.fut_meaning.specs.Values.{base, bind}
+use Rattle.fut_meaning.specs.Values.{base, bind, entered}
 use Rattle.fut_meaning.specs.Flats.{FlatValue, FlatTops, FlatEnv, FlatMode, flat_look}
 use Rattle.type_soundness.specs.Fits.{Grows}
 use Rattle.type_soundness.specs.Environments.{Env_fits}
@@ -19,6 +19,7 @@ use Rattle.type_soundness.proofs.Growing.{fits_grow}
 look_grows : (tops tops' : FlatTops) → Grows tops tops' → (env : FlatEnv) (b : ℕ) (v : FlatValue) → flat_look tops env b ≡ Val v → flat_look tops' env b ≡ Val v
 unfolding flat_look
 look_grows tops tops' g (base u) b v e = g b v e
+look_grows tops tops' g (entered q w env) b v e = look_grows tops tops' g env b v e
 look_grows tops tops' g (bind x w env) b v e = known (nat_eq x.0 b) (look_grows tops tops' g env b v) e
   where
     known : (c : Bool) → (flat_look tops env b ≡ Val v → flat_look tops' env b ≡ Val v) → cond c (Val w) (flat_look tops env b) ≡ Val v → cond c (Val w) (flat_look tops' env b) ≡ Val v
@@ -28,6 +29,11 @@ look_grows tops tops' g (bind x w env) b v e = known (nat_eq x.0 b) (look_grows 
 module _ (N : Names) (integer_at : ℕ → IntType) (M : FlatMode) (budget : ℕ) (total : Bool) (P : ℕ → Type 0) (K : Kinds) where
   pub env_grows : (tops tops' : FlatTops) → Grows tops tops' → (scope : Scope) (a : Sub) (env : FlatEnv) → Env_fits N integer_at M budget total tops P scope K a env → Env_fits N integer_at M budget total tops' P scope K a env
   env_grows tops tops' g scope a env h b p t u = let r = h b p t u in (r.0, look_grows tops tops' g env b r.0 r.1, fits_grow N integer_at M budget total t tops tops' g r.0 r.2)
+
+  -- what was entered is no name
+  pub env_entered : (tops : FlatTops) (q : ℕ) (v : FlatValue) (scope : Scope) (a : Sub) (env : FlatEnv) → Env_fits N integer_at M budget total tops P scope K a env → Env_fits N integer_at M budget total tops P scope K a (entered q v env)
+  unfolding flat_look
+  env_entered tops q v scope a env h = h
 
   -- types of other numbers do not matter
   pub env_moves : (tops : FlatTops) (scope : Scope) (lo : ℕ) (a a' : Sub) (env : FlatEnv) → AllLocal (λ n. n < lo) scope → Agree (λ n. n < lo) a' a → Env_fits N integer_at M budget total tops P scope K a env → Env_fits N integer_at M budget total tops P scope K a' env

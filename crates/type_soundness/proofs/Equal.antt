@@ -18,7 +18,7 @@ use Rattle.fut_types.proofs.TyLaws.{rank_made, least_more}
 use Rattle.fut_typing.specs.Names.{Names, AreNames}
 use Rattle.fut_typing.proofs.Members.{In, in_list}
 use Rattle.fut_meaning.specs.Outcomes.{Out, Wrong, and_then}
-use Rattle.fut_meaning.specs.Values.{Scalar_value, Tuple_value, Record_value, Closure, Primitive_value, no_value, value_and, no_field, field_and, field}
+use Rattle.fut_meaning.specs.Values.{Array_value, Scalar_value, Tuple_value, Record_value, Closure, Primitive_value, no_value, value_and, no_field, field_and, field}
 use Rattle.fut_meaning.specs.Operators.{by_kind, binary_result}
 use Rattle.fut_meaning.specs.Operations.{truth_result, equal_scalars, both_hold, equal, all_equal, fields_equal}
 use Rattle.fut_meaning.specs.Accessors.{or_wrong}
@@ -77,10 +77,12 @@ module _ (N : Names) (are : AreNames N) (integer_at : ℕ → IntType) (M : Flat
   on_scalars s (Scalar_value c) (Record_value fs) h k = absurd k
   on_scalars s (Scalar_value c) (Closure ps e lo env) h k = absurd k
   on_scalars s (Scalar_value c) (Primitive_value p at vs) h k = absurd k
+  on_scalars s (Scalar_value c) (Array_value row ds) h k = absurd k
   on_scalars s (Tuple_value vs) w h k = absurd h
   on_scalars s (Record_value fs) w h k = absurd h
   on_scalars s (Closure ps e lo env) w h k = absurd h
   on_scalars s (Primitive_value p at vs) w h k = absurd h
+  on_scalars s (Array_value row ds) w h k = absurd h
 
   -- the values of one field in two records
   abbrev Pair : ℕ → FlatFields → FlatFields → Type 0
@@ -103,16 +105,18 @@ module _ (N : Names) (are : AreNames N) (integer_at : ℕ → IntType) (M : Flat
     pub equal_fits : (t : Ty) (v w : FlatValue) → HasKind K kind.Equal t → Fits N integer_at M budget total t tops v → Fits N integer_at M budget total t tops w → HasOut Any_truth (equal v w)
     equal_fits (Var n) v w k h g = absurd h
     equal_fits (Made (head.Scalar s) ts) v w k h g = on_scalars s v w h g
-    equal_fits (Made head.Array ts) v w k h g = absurd h
+    equal_fits (Made head.Array ts) v w k h g = absurd (let p : 2 ≤ 1 = below_kind K kind.Equal head.Array ts k in omega arith)
     equal_fits (Made head.Tuple ts) (Tuple_value vs) (Tuple_value ws) k h g = all_equal_fits ts vs ws (parts_kind head.Tuple ts k) h.1 g.1
     equal_fits (Made head.Tuple ts) (Tuple_value vs) (Scalar_value s) k h g = absurd g.1
     equal_fits (Made head.Tuple ts) (Tuple_value vs) (Record_value fs) k h g = absurd g.1
     equal_fits (Made head.Tuple ts) (Tuple_value vs) (Closure ps e lo env) k h g = absurd g.1
     equal_fits (Made head.Tuple ts) (Tuple_value vs) (Primitive_value p at ws) k h g = absurd g.1
+    equal_fits (Made head.Tuple ts) (Tuple_value vs) (Array_value row ds) k h g = absurd g.1
     equal_fits (Made head.Tuple ts) (Scalar_value s) w k h g = absurd h.1
     equal_fits (Made head.Tuple ts) (Record_value fs) w k h g = absurd h.1
     equal_fits (Made head.Tuple ts) (Closure ps e lo env) w k h g = absurd h.1
     equal_fits (Made head.Tuple ts) (Primitive_value p at vs) w k h g = absurd h.1
+    equal_fits (Made head.Tuple ts) (Array_value row ds) w k h g = absurd h.1
     equal_fits (Made (head.Record n) ts) (Record_value fs) (Record_value gs) k h g =
         record_pairs (N.shapes.fields n) fs gs (λ s i. in_list (N.shapes.fields n) (N.label s) ((h.0.same s).0 i)) (one_order fs gs h.0.ordered g.0.ordered (λ s i. (g.0.same s).1 ((h.0.same s).0 i)) (λ s i. (h.0.same s).1 ((g.0.same s).0 i)))
         h.0.ordered g.0.ordered (fields_equal_fits (N.shapes.fields n) ts fs gs (parts_kind (head.Record n) ts k) h.1 g.1)
@@ -120,10 +124,12 @@ module _ (N : Names) (are : AreNames N) (integer_at : ℕ → IntType) (M : Flat
     equal_fits (Made (head.Record n) ts) (Record_value fs) (Tuple_value ws) k h g = absurd g
     equal_fits (Made (head.Record n) ts) (Record_value fs) (Closure ps e lo env) k h g = absurd g
     equal_fits (Made (head.Record n) ts) (Record_value fs) (Primitive_value p at ws) k h g = absurd g
+    equal_fits (Made (head.Record n) ts) (Record_value fs) (Array_value row ds) k h g = absurd g
     equal_fits (Made (head.Record n) ts) (Scalar_value s) w k h g = absurd h
     equal_fits (Made (head.Record n) ts) (Tuple_value vs) w k h g = absurd h
     equal_fits (Made (head.Record n) ts) (Closure ps e lo env) w k h g = absurd h
     equal_fits (Made (head.Record n) ts) (Primitive_value p at vs) w k h g = absurd h
+    equal_fits (Made (head.Record n) ts) (Array_value row ds) w k h g = absurd h
     equal_fits (Made head.Fun ts) v w k h g = absurd (let p : 2 ≤ 0 = below_kind K kind.Equal head.Fun ts k in omega arith)
     equal_fits (Made (head.Rigid n d) ts) v w k h g = absurd h
     equal_fits (Made (head.Abstract n d) ts) v w k h g = absurd h

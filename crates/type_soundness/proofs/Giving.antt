@@ -1,8 +1,10 @@
 -- Primitives: each takes so many parameters, data or functions of so much data, and gives data.
 use Rattle.std.proofs.Common.{◌≡◌, true, false, ℕ, zero, suc, ◌+◌, ◌≤◌, min, refl, sym, ◌∙◌, arith, List, [], ◌∷◌, length, nat_lt, lt-ltb, le-ltb}
 use Rattle.fut_scalar.specs.declared.scalar.ScalarType.TheVariants as types
+use Rattle.fut_scalar.specs.declared.scalar.IntType.{IntType}
 use Rattle.fut_scalar.specs.declared.scalar.IntType.TheVariants as int
 use Rattle.fut_flat.specs.declared.prim.Primitive.{Primitive}
+use Rattle.fut_flat.specs.declared.prim.Folding.TheVariants as folding
 use Rattle.fut_flat.specs.declared.prim.Primitive.TheVariants as prim
 use Rattle.fut_flat.specs.Erased.{FlatTerm}
 use Rattle.fut_types.specs.declared.Kind.TheVariants as kind
@@ -149,6 +151,9 @@ module _ (N : Names) (K : Kinds) where
     sizes : HasKind K kind.Data (array_ty i64_ty)
     sizes = array_data K i64_ty size
 
+    numbers : (t : IntType) → HasKind K kind.Data (array_ty (scalar_ty (types.Int t)))
+    numbers t = array_data K (scalar_ty (types.Int t)) (scalar_data K (types.Int t))
+
     truth : HasKind K kind.Data bool_ty
     truth = scalar_data K types.Bool
 
@@ -212,3 +217,7 @@ module _ (N : Names) (K : Kinds) where
     prim_known (prim.Lowest t) tops = kind_data N K (scalar_ty (types.Int t)) tops (scalar_data K (types.Int t))
     prim_known (prim.Highest t) tops = kind_data N K (scalar_ty (types.Int t)) tops (scalar_data K (types.Int t))
     prim_known (prim.NumBits t) tops = kind_data N K (scalar_ty (types.Int int.I32)) tops (scalar_data K (types.Int int.I32))
+    prim_known (prim.Fold folding.Sum t) tops = primitive_knows (prim.Fold folding.Sum t) _ _ _ tops known_none (data_one (numbers t) (gives_data (scalar_data K (types.Int t)))) none_given
+    prim_known (prim.Fold folding.Product t) tops = primitive_knows (prim.Fold folding.Product t) _ _ _ tops known_none (data_one (numbers t) (gives_data (scalar_data K (types.Int t)))) none_given
+    prim_known (prim.Fold folding.Minimum t) tops = primitive_knows (prim.Fold folding.Minimum t) _ _ _ tops known_none (data_one (numbers t) (gives_data (scalar_data K (types.Int t)))) none_given
+    prim_known (prim.Fold folding.Maximum t) tops = primitive_knows (prim.Fold folding.Maximum t) _ _ _ tops known_none (data_one (numbers t) (gives_data (scalar_data K (types.Int t)))) none_given

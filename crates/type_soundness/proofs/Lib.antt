@@ -10,6 +10,16 @@ pub mod Replacing
 pub mod Operating
 pub mod Environments
 pub mod Using
+pub mod DataFits
+pub mod LikeLaws
+pub mod Making
+pub mod Applying
+pub mod Jobs
+pub mod DataPrimitives
+pub mod FunctionPrimitives
+pub mod Makings
+pub mod Uses
+pub mod Operated
 pub mod Literals
 pub mod Running
 pub mod Programs

@@ -14,7 +14,7 @@ use Rattle.fut_types.specs.declared.Kind.{Kind}
 use Rattle.fut_types.specs.declared.Kind.TheVariants as kind
 use Rattle.fut_types.specs.declared.Head.TheVariants as head
 use Rattle.fut_types.specs.Types.{Ty, Made, Tys, none, more, Kinds, HasKind, scalar_ty}
-use Rattle.fut_typing.specs.Names.{Names, AreNames, count}
+use Rattle.fut_typing.specs.Names.{Names, AreNames, count, Spells}
 use Rattle.fut_typing.specs.Rules.{Operator, Rule}
 use Rattle.fut_meaning.specs.Outcomes.{Val, Fail, and_then}
 use Rattle.fut_meaning.specs.Values.{Scalar_value, Tuple_value, values}
@@ -24,13 +24,21 @@ use Rattle.fut_meaning.specs.Accessors.{truth_of}
 use Rattle.fut_meaning.specs.Claims.{HasOut}
 use Rattle.fut_meaning.specs.Flats.{FlatValue, FlatTops, FlatMode}
 use Rattle.type_soundness.specs.Fits.{widest, Fits, All_fit}
-use Rattle.type_soundness.specs.Meant.{Operation_meant}
 use Rattle.type_soundness.proofs.Binding.{has_then, Each_fits}
 use Rattle.type_soundness.proofs.Scalars.{integers_fit, negates, complements, fits_scalar, scalar_inside, bool_value}
 use Rattle.fut_meaning.proofs.Safe.{Any_truth}
 use Rattle.type_soundness.proofs.Equal.{equal_fits}
 use Rattle.type_soundness.proofs.Records.{record_made}
 use Rattle.type_soundness.proofs.Replacing.{project_fits, replace_fits}
+
+-- neither an array nor a part of one is made; a field that is replaced has a name, and no number
+abbrev pub Makes_no_array : Operation Ref BindId → Type 0
+Makes_no_array Array_of = ⊥
+Makes_no_array (Index ps) = ⊥
+Makes_no_array Update = ⊥
+Makes_no_array (Range stepped end) = ⊥
+Makes_no_array (Replace f) = (n : ℕ) → Spells f n → ⊥
+Makes_no_array o = Unit {0}
 
 -- an integer without a suffix has the type that is told
 abbrev pub Told : IntType → Operation Ref BindId → Ty → Type 0
@@ -101,14 +109,14 @@ module _ (N : Names) (are : AreNames N) (integer_at : ℕ → IntType) (M : Flat
   literal t i n e = same_fits t (scalar_ty (types.Int i)) _ e (fits_scalar N integer_at M budget total tops K (types.Int i) none (integer i (pos n)) refl)
 
   abbrev Operates : Operation Ref BindId → Type 0
-  Operates o = (i : IntType) (at : Place) (t u : Ty) (ts : Tys) (vs : List FlatValue) → Operation_meant o → Rule N places K o t u ts → Told i o t → count ts < widest → Each ts vs → HasOut (Of t) (operate i o at vs)
+  Operates o = (i : IntType) (at : Place) (t u : Ty) (ts : Tys) (vs : List FlatValue) → Makes_no_array o → Rule N places K o t u ts → Told i o t → count ts < widest → Each ts vs → HasOut (Of t) (operate i o at vs)
 
-  no_parts : (o : Operation Ref BindId) → ((i : IntType) (at : Place) (t u : Ty) → Operation_meant o → Rule N places K o t u none → Told i o t → HasOut (Of t) (operate i o at [])) → ((t u x : Ty) (ts : Tys) → Rule N places K o t u (more x ts) → ⊥) → Operates o
+  no_parts : (o : Operation Ref BindId) → ((i : IntType) (at : Place) (t u : Ty) → Makes_no_array o → Rule N places K o t u none → Told i o t → HasOut (Of t) (operate i o at [])) → ((t u x : Ty) (ts : Tys) → Rule N places K o t u (more x ts) → ⊥) → Operates o
   no_parts o here more-none i at t u none [] m r l lt h = here i at t u m r l
   no_parts o here more-none i at t u none (v ∷ vs) m r l lt h = absurd h
   no_parts o here more-none i at t u (more x ts) vs m r l lt h = absurd (more-none t u x ts r)
 
-  one_part : (o : Operation Ref BindId) → ((t u : Ty) → Rule N places K o t u none → ⊥) → ((i : IntType) (at : Place) (t u x : Ty) (v : FlatValue) → Operation_meant o → Rule N places K o t u (more x none) → Of x v → HasOut (Of t) (operate i o at (v ∷ [])))
+  one_part : (o : Operation Ref BindId) → ((t u : Ty) → Rule N places K o t u none → ⊥) → ((i : IntType) (at : Place) (t u x : Ty) (v : FlatValue) → Makes_no_array o → Rule N places K o t u (more x none) → Of x v → HasOut (Of t) (operate i o at (v ∷ [])))
       → ((t u x y : Ty) (ts : Tys) → Rule N places K o t u (more x (more y ts)) → ⊥) → Operates o
   one_part o fewer here further i at t u none vs m r l lt h = absurd (fewer t u r)
   one_part o fewer here further i at t u (more x none) [] m r l lt h = absurd h
@@ -117,7 +125,7 @@ module _ (N : Names) (are : AreNames N) (integer_at : ℕ → IntType) (M : Flat
   one_part o fewer here further i at t u (more x (more y ts)) vs m r l lt h = absurd (further t u x y ts r)
 
   two_parts : (o : Operation Ref BindId) → ((t u : Ty) → Rule N places K o t u none → ⊥) → ((t u x : Ty) → Rule N places K o t u (more x none) → ⊥)
-      → ((i : IntType) (at : Place) (t u x y : Ty) (v w : FlatValue) → Operation_meant o → Rule N places K o t u (more x (more y none)) → Of x v → Of y w → HasOut (Of t) (operate i o at (v ∷ w ∷ [])))
+      → ((i : IntType) (at : Place) (t u x y : Ty) (v w : FlatValue) → Makes_no_array o → Rule N places K o t u (more x (more y none)) → Of x v → Of y w → HasOut (Of t) (operate i o at (v ∷ w ∷ [])))
       → ((t u x y z : Ty) (ts : Tys) → Rule N places K o t u (more x (more y (more z ts))) → ⊥) → Operates o
   two_parts o no-one one-one here further i at t u none vs m r l lt h = absurd (no-one t u r)
   two_parts o no-one one-one here further i at t u (more x none) vs m r l lt h = absurd (one-one t u x r)

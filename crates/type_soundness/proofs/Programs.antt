@@ -12,7 +12,8 @@ use Rattle.fut_flat.specs.Terms.{Use, Strict, Lambda, Apply, Let, If, Loop, Term
 use Rattle.fut_flat.specs.Numbers.{numbers}
 use Rattle.fut_flat.specs.Erased.{FlatTerm, FlatTurns, parameters, term_of}
 use Rattle.fut_types.specs.declared.Kind.{Kind}
-use Rattle.fut_types.specs.Types.{Ty, Tys, none, more, Sub, Kinds}
+use Rattle.fut_types.specs.declared.Kind.TheVariants as kind
+use Rattle.fut_types.specs.Types.{Ty, Tys, none, more, Sub, Kinds, level}
 use Rattle.fut_typing.specs.Names.{Names, AreNames}
 use Rattle.fut_typing.specs.Scopes.{Uses, Scope, nothing, with_uses}
 use Rattle.fut_typing.specs.Patterns.{arrows}
@@ -39,6 +40,7 @@ use Rattle.type_soundness.proofs.Environments.{env_moves, env_types}
 use Rattle.type_soundness.proofs.Using.{function_fits}
 use Rattle.type_soundness.proofs.Literals.{literal_kept}
 use Rattle.type_soundness.proofs.Running.{running}
+use Rattle.type_soundness.proofs.Jobs.{Is_free}
 
 pub or_left : (x y : Bool) → x ≡ true → (x || y) ≡ true
 or_left true y e = refl
@@ -83,7 +85,7 @@ module _ (P : ℕ → Type 0) where
 
     turn_uses_of : (t : FlatTurns) (bs cs : List BindId) → Turns_meant (λ k. Unit {0}) t → ((k : ℕ) → turns_have_use (λ ds r. is_flat_use tt ds r k) bs cs t ≡ true → P k) → Turns_meant P t
     turn_uses_of (Counted i n) bs cs m h = uses_of n bs m h
-    turn_uses_of (Over p e) bs cs m h = absurd m
+    turn_uses_of (Over p e) bs cs m h = uses_of e bs m h
     turn_uses_of (While c) bs cs m h = uses_of c cs m h
 
 -- the definitions that are left, from a number on
@@ -94,7 +96,7 @@ tops_of lo ds = flat_tops lo (map (λ (d : Definition). (d.bind, term_of d.value
 abbrev pub Reached : BindId → ℕ → List Definition → ℕ → Type 0
 Reached entry lo ds k = is_reached is_flat_use entry.0 (tops_of lo ds) k ≡ true
 
-module _ (N : Names) (are : AreNames N) (places : Kind) (K : Kinds) (a : Sub) (integer_at : ℕ → IntType) (M : FlatMode) (budget : ℕ) (total : Bool) (entry : BindId) where
+module _ (N : Names) (are : AreNames N) (places : Kind) (K : Kinds) (a : Sub) (integer_at : ℕ → IntType) (M : FlatMode) (budget : ℕ) (total : Bool) (free : Is_free M budget total) (wide : level kind.Data ≤ level places) (entry : BindId) where
   abbrev In_tops : FlatTops → (ℕ → Type 0) → Scope → Type 0
   In_tops tops P scope = Env_fits N integer_at M budget total tops P scope K a (base tt)
 
@@ -114,7 +116,7 @@ module _ (N : Names) (are : AreNames N) (places : Kind) (K : Kinds) (a : Sub) (i
     value_runs P tops c other outside literals typed sizes meant told small h =
         correct_as (Fits N integer_at M budget total (other (lo + 1)) tops) (Fits N integer_at M budget total (other lo) tops) _
         (subst (λ n. Correct total (Fits N integer_at M budget total (other (lo + 1)) tops) (Ever (lang integer_at tops) M budget (Evaluate (base tt) n value))) (let z : lo + 1 ≡ 1 + lo = omega arith in z)
-        (running N are integer_at M budget total P places K value (lo + 1) _ other tops (base tt) (local_parameters (λ n. n < lo + 1) (parameters d.heads.now) c scope (all_local_more (λ n. n < lo) (λ n. n < lo + 1) scope (λ n p. omega (arith, p)) all)) typed.0.1 meant (λ m l. literals m l ∙ told m l) (omega (arith, small))
+        (running N are integer_at M budget total P places K free wide value (lo + 1) _ other tops (base tt) (local_parameters (λ n. n < lo + 1) (parameters d.heads.now) c scope (all_local_more (λ n. n < lo) (λ n. n < lo + 1) scope (λ n p. omega (arith, p)) all)) typed.0.1 meant (λ m l. literals m l ∙ told m l) (omega (arith, small))
         (env_types N integer_at M budget total P K tops [] (parameters d.heads.now) c scope other (base tt) sizes (env_moves N integer_at M budget total P K tops scope lo a other (base tt) all outside h))))
         (λ w k. subst (λ t. Fits N integer_at M budget total t tops w) (sym typed.1) k)
 
@@ -199,16 +201,20 @@ module _ (N : Names) (are : AreNames N) (places : Kind) (K : Kinds) (a : Sub) (i
   applied_fit (more t ts) u (v ∷ vs) tops f h k =
       correct_then (Fits N integer_at M budget total (arrows ts u) tops) (Result_fits N integer_at M budget total u) _ _ (function_fits N integer_at M budget total K tops t (arrows ts u) f h tops (grows_self tops) v (k.0 tops)) (λ g r. applied_fit ts u vs tops g r k.1)
 
+plain_free : (tight : Bool) (budget : ℕ) (total : Bool) → Is_free (plain tight) budget total
+unfolding plain
+plain_free tight budget total = record { reports = refl; operators = λ t L k f any ne xs. tt; writes = λ t ws. tt }
+
 module _ (N : Names) (are : AreNames N) (places : Kind) (K : Kinds) (a : Sub) (integer_at : ℕ → IntType) (tight : Bool) (budget : ℕ) (total : Bool) (flat : Flat) (is : Is_typed N places K a integer_at flat) (entry : BindId) (ts : Tys) (u : Ty) (vs : List FlatValue) where
   correct : (scope_behind N places (program_of flat) 0 nothing).uses entry.0 K a (arrows ts u) → Arguments_fit N integer_at (plain tight) budget total ts vs → Correct total (Result_fits N integer_at (plain tight) budget total u) (Flat_means integer_at (plain tight) budget (named_terms flat) entry vs)
   unfolding flat_look
   correct used fit =
-      correct_then (Ends N are places K a integer_at (plain tight) budget total entry flat.definitions.now 0 nothing) (Result_fits N integer_at (plain tight) budget total u) (evaluated (flat_names integer_at) (plain tight) budget entry.0 (tops_of 0 flat.definitions.now) []) _
-      (evaluated_fit N are places K a integer_at (plain tight) budget total entry flat.definitions.now 0 nothing [] (λ b K x y t same h. absurd h) is.typed is.meant is.told is.once (let s = is.small in omega (arith, s)) (λ k v e. absurd (let z : Wrong ≡ Val v = e in cc)) (λ b p t h. absurd h))
+      correct_then (Ends N are places K a integer_at (plain tight) budget total (plain_free tight budget total) is.holds_data entry flat.definitions.now 0 nothing) (Result_fits N integer_at (plain tight) budget total u) (evaluated (flat_names integer_at) (plain tight) budget entry.0 (tops_of 0 flat.definitions.now) []) _
+      (evaluated_fit N are places K a integer_at (plain tight) budget total (plain_free tight budget total) is.holds_data entry flat.definitions.now 0 nothing [] (λ b K x y t same h. absurd h) is.typed is.meant is.told is.once (let s = is.small in omega (arith, s)) (λ k v e. absurd (let z : Wrong ≡ Val v = e in cc)) (λ b p t h. absurd h))
       (λ tops h. let r = h entry.0 (eq-eqb entry.0 entry.0 refl) (arrows ts u) used in
       correct_then (Fits N integer_at (plain tight) budget total (arrows ts u) tops) (Result_fits N integer_at (plain tight) budget total u) (the (top tops entry.0)) _
       (correct_exact (Fits N integer_at (plain tight) budget total (arrows ts u) tops) 0 (top tops entry.0) (subst (λ o. HasOut (Fits N integer_at (plain tight) budget total (arrows ts u) tops) o) (sym r.1) r.2))
-      (λ f k. applied_fit N are places K a integer_at (plain tight) budget total entry ts u vs tops f k fit))
+      (λ f k. applied_fit N are places K a integer_at (plain tight) budget total (plain_free tight budget total) is.holds_data entry ts u vs tops f k fit))
 
 pub never_wrong : Never_wrong
 never_wrong N are places K a integer_at tight budget flat is entry ts u vs used fit = (correct N are places K a integer_at tight budget false flat is entry ts u vs used fit).safe

@@ -11,7 +11,7 @@ use Rattle.fut_types.specs.Shapes.{place, part_at, part_named, HasPart}
 use Rattle.fut_types.proofs.ShapeLaws.{one_part}
 use Rattle.fut_typing.specs.Names.{Names, AreNames, Spells, count}
 use Rattle.fut_meaning.specs.Outcomes.{Val, and_then}
-use Rattle.fut_meaning.specs.Values.{Scalar_value, Tuple_value, Record_value, Closure, Primitive_value, no_field, field_and, field, replaced}
+use Rattle.fut_meaning.specs.Values.{Array_value, Scalar_value, Tuple_value, Record_value, Closure, Primitive_value, no_field, field_and, field, replaced}
 use Rattle.fut_meaning.specs.Accessors.{or_wrong, part, fields_of}
 use Rattle.fut_meaning.specs.Claims.{HasOut}
 use Rattle.fut_meaning.specs.Flats.{FlatValue, FlatTops, FlatMode}
@@ -104,18 +104,20 @@ module _ (N : Names) (are : AreNames N) (integer_at : ℕ → IntType) (M : Flat
   unfolding Fits part_named place part_at
   project_fits f t (Var n) v h k = absurd k
   project_fits f t (Made (head.Scalar s) ts) v h k = absurd (let z : None ≡ Some t = h in cc)
-  project_fits f t (Made head.Array ts) v h k = absurd k
+  project_fits f t (Made head.Array ts) v h k = absurd (let z : None ≡ Some t = h in cc)
   project_fits f t (Made head.Tuple ts) (Tuple_value vs) h k = part_fits N integer_at M budget total tops are f ts t vs h k.0 k.1
   project_fits f t (Made head.Tuple ts) (Scalar_value s) h k = absurd k.1
   project_fits f t (Made head.Tuple ts) (Record_value fs) h k = absurd k.1
   project_fits f t (Made head.Tuple ts) (Closure ps e lo env) h k = absurd k.1
   project_fits f t (Made head.Tuple ts) (Primitive_value p at vs) h k = absurd k.1
+  project_fits f t (Made head.Tuple ts) (Array_value row ds) h k = absurd k.1
   project_fits f t (Made (head.Record n) ts) (Record_value fs) h k =
       let r = field_fits N integer_at M budget total are f t tops n ts fs h k.1 in subst (λ o. HasOut (Fits N integer_at M budget total t tops) (or_wrong o)) (sym r.1) r.2
   project_fits f t (Made (head.Record n) ts) (Scalar_value s) h k = absurd k
   project_fits f t (Made (head.Record n) ts) (Tuple_value vs) h k = absurd k
   project_fits f t (Made (head.Record n) ts) (Closure ps e lo env) h k = absurd k
   project_fits f t (Made (head.Record n) ts) (Primitive_value p at vs) h k = absurd k
+  project_fits f t (Made (head.Record n) ts) (Array_value row ds) h k = absurd k
   project_fits f t (Made head.Fun ts) v h k = absurd (let z : None ≡ Some t = h in cc)
   project_fits f t (Made (head.Rigid n d) ts) v h k = absurd k
   project_fits f t (Made (head.Abstract n d) ts) v h k = absurd k
@@ -126,13 +128,14 @@ module _ (N : Names) (are : AreNames N) (integer_at : ℕ → IntType) (M : Flat
   unfolding Fits part_named place part_at
   replace_fits f (Var n) x v w lacks h k g = absurd k
   replace_fits f (Made (head.Scalar s) ts) x v w lacks h k g = absurd (let z : None ≡ Some x = h in cc)
-  replace_fits f (Made head.Array ts) x v w lacks h k g = absurd k
+  replace_fits f (Made head.Array ts) x v w lacks h k g = absurd (let z : None ≡ Some x = h in cc)
   replace_fits f (Made head.Tuple ts) x v w lacks h k g = absurd (no_number N are f x ts lacks h)
   replace_fits f (Made (head.Record n) ts) x (Record_value fs) w lacks h k g = record_replaced f n ts x fs w h k g
   replace_fits f (Made (head.Record n) ts) x (Scalar_value s) w lacks h k g = absurd k
   replace_fits f (Made (head.Record n) ts) x (Tuple_value vs) w lacks h k g = absurd k
   replace_fits f (Made (head.Record n) ts) x (Closure ps e lo env) w lacks h k g = absurd k
   replace_fits f (Made (head.Record n) ts) x (Primitive_value p at vs) w lacks h k g = absurd k
+  replace_fits f (Made (head.Record n) ts) x (Array_value row ds) w lacks h k g = absurd k
   replace_fits f (Made head.Fun ts) x v w lacks h k g = absurd (let z : None ≡ Some x = h in cc)
   replace_fits f (Made (head.Rigid n d) ts) x v w lacks h k g = absurd k
   replace_fits f (Made (head.Abstract n d) ts) x v w lacks h k g = absurd k

@@ -25,12 +25,12 @@ use Rattle.fut_meaning.specs.Knowns.{Known, Data, Known_tuple, Known_record, Kno
 use Rattle.fut_meaning.proofs.Walk.{some_same}
 use Rattle.type_soundness.specs.Fits.{widest}
 use Rattle.type_soundness.specs.Knows.{Each_field, Knows, All_know, All_data, Keyed}
-use Rattle.type_soundness.specs.Walkable.{Operation_walkable}
+use Rattle.type_soundness.specs.Meant.{Operation_meant}
 use Rattle.type_soundness.specs.Walks.{All_hold_data}
 use Rattle.type_soundness.proofs.Ordering.{eq_here, eq_other}
 use Rattle.type_soundness.proofs.Decimals.{no_number, spelled, one_number, part_low}
 use Rattle.type_soundness.proofs.Records.{Named, label_named, covers, long_map, labels_apart, placed_label}
-use Rattle.type_soundness.proofs.Knowing.{keyed_from, parts_found, only_data, all_only, kind_data, kind_only, tuple_known, field_known, record_known}
+use Rattle.type_soundness.proofs.Knowing.{keyed_from, parts_found, only_data, all_only, kind_data, tuple_known, field_known, record_known}
 
 -- ---- kinds
 module _ (K : Kinds) where
@@ -271,7 +271,7 @@ module _ (N : Names) (are : AreNames N) (tops : Seen) where
     all_two x y s s' h g = (h, (g, tt))
 
     abbrev Of : Operation Ref BindId → Type 0
-    Of o = (t u : Ty) (ts : Tys) (ss : Knowns) → Operation_walkable o (count ts) → Rule N kind.Data K o t u ts → count ts < widest → All_know N ts tops ss → Gives o ss t
+    Of o = (t u : Ty) (ts : Tys) (ss : Knowns) → Operation_meant o (count ts) → Rule N kind.Data K o t u ts → count ts < widest → All_know N ts tops ss → Gives o ss t
 
     one_part : (o : Operation Ref BindId) → ((t u : Ty) → Rule N kind.Data K o t u none → ⊥) → ((t u x : Ty) (s : Known) → Rule N kind.Data K o t u (more x none) → Knows N x tops s → Gives o (known_and s known_none) t)
         → ((t u x y : Ty) (ts : Tys) → Rule N kind.Data K o t u (more x (more y ts)) → ⊥) → Of o
@@ -283,7 +283,7 @@ module _ (N : Names) (are : AreNames N) (tops : Seen) where
     one_part o fewer here further t u (more x (more y ts)) ss w r lt h = absurd (further t u x y ts r)
 
     two_parts : (o : Operation Ref BindId) → ((t u : Ty) → Rule N kind.Data K o t u none → ⊥) → ((t u x : Ty) → Rule N kind.Data K o t u (more x none) → ⊥)
-        → ((t u x y : Ty) (s s' : Known) → Operation_walkable o 2 → Rule N kind.Data K o t u (more x (more y none)) → Knows N x tops s → Knows N y tops s' → Gives o (known_and s (known_and s' known_none)) t)
+        → ((t u x y : Ty) (s s' : Known) → Operation_meant o 2 → Rule N kind.Data K o t u (more x (more y none)) → Knows N x tops s → Knows N y tops s' → Gives o (known_and s (known_and s' known_none)) t)
         → ((t u x y z : Ty) (ts : Tys) → Rule N kind.Data K o t u (more x (more y (more z ts))) → ⊥) → Of o
     unfolding All_know
     two_parts o no-one one-one here further t u none ss w r lt h = absurd (no-one t u r)
@@ -294,7 +294,7 @@ module _ (N : Names) (are : AreNames N) (tops : Seen) where
     two_parts o no-one one-one here further t u (more x (more y none)) (known_and s (known_and s' (known_and s'' ss))) w r lt h = absurd h.1.1
     two_parts o no-one one-one here further t u (more x (more y (more z ts))) ss w r lt h = absurd (further t u x y z ts r)
 
-    index_data : (ps : List Part) (x : Ty) (t : Ty) → Operation_walkable (Index ps) 0 → Indexed N kind.Data K ps x t → HasKind K kind.Data x
+    index_data : (ps : List Part) (x : Ty) (t : Ty) → Operation_meant (Index ps) 0 → Indexed N kind.Data K ps x t → HasKind K kind.Data x
     index_data [] x t w r = absurd w
     index_data (p ∷ ps) x t w r = same_data K x (array_ty r.0) r.2.0 (array_data K r.0 r.2.1)
 

@@ -13,7 +13,7 @@ use Rattle.fut_flat.specs.Erased.{FlatTerm, FlatPattern, FlatTurns}
 use Rattle.fut_types.specs.declared.Kind.{Kind}
 use Rattle.fut_types.specs.declared.Kind.TheVariants as kind
 use Rattle.fut_types.specs.declared.Head.TheVariants as head
-use Rattle.fut_types.specs.Types.{Ty, Made, Tys, none, more, Sub, Kinds, HasKind}
+use Rattle.fut_types.specs.Types.{Ty, Made, Tys, none, more, Sub, Kinds, HasKind, level}
 use Rattle.fut_typing.specs.Names.{Names, AreNames, count}
 use Rattle.fut_typing.specs.Primitives.{bool_ty}
 use Rattle.fut_typing.specs.Scopes.{Scope, with_uses, with_sizes, the_one}
@@ -25,24 +25,33 @@ use Rattle.fut_typing.proofs.Ranges.{numbers_some}
 use Rattle.fut_typing.proofs.Local.{AllLocal, all_local_more, local_sizes, local_parameters, local_ones, local_all_ones, local_turns}
 use Rattle.fut_typing.proofs.Cong.{within_no}
 use Rattle.fut_typing.proofs.Locals.{body_local}
-use Rattle.fut_meaning.specs.Outcomes.{Val, Fail, Wrong, Rel, gives, the, Then, each_of, turns}
+use Rattle.fut_meaning.specs.Outcomes.{Val, Fail, Wrong, and_then, Rel, gives, the, Then, each_of, turns}
 use Rattle.fut_meaning.specs.Values.{Scalar_value, Closure, bind, Evaluate, Call}
 use Rattle.fut_meaning.specs.Accessors.{truth_of, turns_of, bound}
-use Rattle.fut_meaning.specs.Meaning.{placed, counts, under, looped, step, Ever}
+use Rattle.fut_meaning.specs.Datums.{as_value, datum_of}
+use Rattle.fut_meaning.specs.Arrays.{rows_of}
+use Rattle.fut_meaning.specs.Meaning.{entering, row_told, Of_literal, placed, counts, under, looped, step, Ever}
 use Rattle.fut_meaning.specs.Claims.{HasOut, Safe, Correct}
 use Rattle.fut_meaning.specs.Flats.{FlatValue, FlatTops, FlatEnv, FlatMode, flat_names}
 use Rattle.fut_meaning.proofs.Correct.{correct_exact, correct_then, correct_as, correct_choose, correct_turns, correct_while}
 use Rattle.fut_meaning.proofs.Safe.{Any_truth, Every}
 use Rattle.type_soundness.specs.Fits.{Grows, lang, widest, Fits}
-use Rattle.type_soundness.specs.Meant.{Has_parameter, No_sizes, Meant, All_meant, Turns_meant, Literal_here, Literal, A_literal, Turn_literal, Literals_told}
+use Rattle.type_soundness.specs.Meant.{how_many, Has_parameter, No_sizes, Meant, All_meant, Turns_meant, Literal_here, Literal, A_literal, Turn_literal, Literals_told}
 use Rattle.type_soundness.specs.Environments.{Env_fits}
 use Rattle.type_soundness.proofs.Growing.{grows_self, grows_more}
 use Rattle.type_soundness.proofs.Binding.{Each_fits, env_bind, bound_fits}
 use Rattle.type_soundness.proofs.Scalars.{integer_fits, bool_value, scalar_inside, fits_scalar}
-use Rattle.type_soundness.proofs.Operating.{Told, operate_fits}
-use Rattle.type_soundness.proofs.Environments.{env_grows, env_moves, env_sizes, env_types}
-use Rattle.type_soundness.proofs.Using.{opened, fits_function, function_fits, use_fits}
+use Rattle.type_soundness.proofs.Operating.{Told}
+use Rattle.type_soundness.proofs.Operated.{operation_fits}
+use Rattle.type_soundness.proofs.Making.{Rows_fit, rows_fit, row_data}
+use Rattle.type_soundness.proofs.Makings.{array_has}
+use Rattle.type_soundness.proofs.Jobs.{Is_free}
+use Rattle.type_soundness.proofs.DataFits.{fits_data}
+use Rattle.type_soundness.proofs.Uses.{use_fits}
+use Rattle.type_soundness.proofs.Environments.{env_entered, env_grows, env_moves, env_sizes, env_types}
+use Rattle.type_soundness.proofs.Using.{opened, fits_function, function_fits}
 use Rattle.type_soundness.proofs.Literals.{literal_kept}
+use Rattle.type_soundness.proofs.Walking.{as_many}
 
 told : (i : IntType) (o : Operation Ref BindId) (a : Sub) (lo : ℕ) (integer_at : ℕ → IntType) → ((m : ℕ) → Literal_here o lo m → a m ≡ Made (head.Scalar (types.Int (integer_at m))) none) → Told (integer_at lo) o (a lo)
 told i (Integer n None) a lo integer_at h = h lo refl
@@ -56,7 +65,7 @@ any_number : (xs : List ℕ) → Every (λ j. Unit {0}) xs
 any_number [] = tt
 any_number (x ∷ xs) = (tt, any_number xs)
 
-module _ (N : Names) (are : AreNames N) (integer_at : ℕ → IntType) (M : FlatMode) (budget : ℕ) (total : Bool) (P : ℕ → Type 0) (places : Kind) (K : Kinds) where
+module _ (N : Names) (are : AreNames N) (integer_at : ℕ → IntType) (M : FlatMode) (budget : ℕ) (total : Bool) (P : ℕ → Type 0) (places : Kind) (K : Kinds) (free : Is_free M budget total) (wide : level kind.Data ≤ level places) where
   abbrev At : FlatTops → Ty → FlatValue → Type 0
   At tops t v = Fits N integer_at M budget total t tops v
 
@@ -92,14 +101,14 @@ module _ (N : Names) (are : AreNames N) (integer_at : ℕ → IntType) (M : Flat
   closure_fits (pattern_and p no_pattern) has lo at e inside scope a tops env typed body h =
       fits_function N integer_at M budget total K tops (a lo) (a at) (Closure (pattern_and p no_pattern) e at env) (λ tops' g v k.
       opened N integer_at M budget total K tops' (At tops' (a at)) (Call (Closure (pattern_and p no_pattern) e at env) v)
-      (correct_then (In_scope tops' (with_pattern the_one p lo scope) a) (At tops' (a at)) (the (bound p v env)) (λ x. Gives tops' x at e)
-      (correct_exact (In_scope tops' (with_pattern the_one p lo scope) a) 0 (bound p v env) (bound_fits N integer_at M budget total tops' P K a are places p lo inside scope v env typed.0 k (env_grows N integer_at M budget total P K tops tops' g scope a env h)))
+      (correct_then (In_scope tops' (with_pattern the_one p lo scope) a) (At tops' (a at)) (the (bound p v (entering (pattern_and p no_pattern) at v env))) (λ x. Gives tops' x at e)
+      (correct_exact (In_scope tops' (with_pattern the_one p lo scope) a) 0 (bound p v (entering (pattern_and p no_pattern) at v env)) (bound_fits N integer_at M budget total tops' P K a are places p lo inside scope v (entering (pattern_and p no_pattern) at v env) typed.0 k (env_entered N integer_at M budget total P K tops' _ v scope a env (env_grows N integer_at M budget total P K tops tops' g scope a env h))))
       (λ x w. body tops' g x w)))
   closure_fits (pattern_and p (pattern_and q ps)) has lo at e inside scope a tops env typed body h =
       fits_function N integer_at M budget total K tops (a lo) (arrows (pattern_types a (pattern_and q ps) (lo + pattern_numbers p)) (a at)) (Closure (pattern_and p (pattern_and q ps)) e at env) (λ tops' g v k.
       opened N integer_at M budget total K tops' (At tops' (arrows (pattern_types a (pattern_and q ps) (lo + pattern_numbers p)) (a at))) (Call (Closure (pattern_and p (pattern_and q ps)) e at env) v)
-      (correct_then (In_scope tops' (with_pattern the_one p lo scope) a) (At tops' (arrows (pattern_types a (pattern_and q ps) (lo + pattern_numbers p)) (a at))) (the (bound p v env)) (λ x. gives 0 (Closure (pattern_and q ps) e at x))
-      (correct_exact (In_scope tops' (with_pattern the_one p lo scope) a) 0 (bound p v env) (bound_fits N integer_at M budget total tops' P K a are places p lo inside scope v env typed.0 k (env_grows N integer_at M budget total P K tops tops' g scope a env h)))
+      (correct_then (In_scope tops' (with_pattern the_one p lo scope) a) (At tops' (arrows (pattern_types a (pattern_and q ps) (lo + pattern_numbers p)) (a at))) (the (bound p v (entering (pattern_and p (pattern_and q ps)) at v env))) (λ x. gives 0 (Closure (pattern_and q ps) e at x))
+      (correct_exact (In_scope tops' (with_pattern the_one p lo scope) a) 0 (bound p v (entering (pattern_and p (pattern_and q ps)) at v env)) (bound_fits N integer_at M budget total tops' P K a are places p lo inside scope v (entering (pattern_and p (pattern_and q ps)) at v env) typed.0 k (env_entered N integer_at M budget total P K tops' _ v scope a env (env_grows N integer_at M budget total P K tops tops' g scope a env h))))
       (λ x w. correct_exact (At tops' (arrows (pattern_types a (pattern_and q ps) (lo + pattern_numbers p)) (a at))) 0 (Val (Closure (pattern_and q ps) e at x))
       (closure_fits (pattern_and q ps) tt (lo + pattern_numbers p) at e (with_pattern the_one p lo inside) (with_pattern the_one p lo scope) a tops' x typed.1 (λ tops'' g' env' k'. body tops'' (grows_more tops tops' tops'' g g') env' k') w))))
 
@@ -204,7 +213,7 @@ module _ (N : Names) (are : AreNames N) (integer_at : ℕ → IntType) (M : Flat
   -- what says how many turns there are; the condition of a while sees what the loop carries
   abbrev Turns_run : FlatTops → FlatTurns → ℕ → Scope → Scope → Sub → FlatEnv → Type 0
   Turns_run tops (Counted i n) at scope inside a env = Correct total (At tops (a (1 + at))) (Gives tops env (1 + at) n)
-  Turns_run tops (Over q e) at scope inside a env = Unit {0}
+  Turns_run tops (Over q e) at scope inside a env = Correct total (At tops (a (at + pattern_numbers q))) (Gives tops env (at + pattern_numbers q) e)
   Turns_run tops (While c) at scope inside a env = (x : FlatEnv) → In_scope tops inside a x → Correct total (At tops (a at)) (Gives tops x at c)
 
   loop_runs : (p : FlatPattern) (mark : Place) (turns : FlatTurns) (body : FlatTerm) (outer inside scope : Scope) (lo at : ℕ) (a : Sub) (tops : FlatTops) (env : FlatEnv) (v : FlatValue) → Pattern_typed N places K a p lo inside → In_scope tops scope a env
@@ -216,7 +225,21 @@ module _ (N : Names) (are : AreNames N) (integer_at : ℕ → IntType) (M : Flat
       correct_then (At tops (a (1 + at))) (At tops (a lo)) (Gives tops env (1 + at) n) _ runs
       (λ c r. correct_then (Of_type (a at)) (At tops (a lo)) (the (turns_of c)) _ (correct_exact (Of_type (a at)) 0 (turns_of c) (turns_fit tops (a at) c t.2 (fits_as tops (a (1 + at)) (a at) c (sym t.1) r)))
       (λ d s. counted_turns p inside scope lo at (at + (1 + numbers n)) i d body a tops env v typed h s rest k))
-  loop_runs p mark (Over q e) body outer inside scope lo at a tops env v typed h meant t k runs rest = absurd meant
+  loop_runs p mark (Over q e) body outer inside scope lo at a tops env v typed h meant t k runs rest =
+      let x : Ty = a (at + pattern_numbers q) in
+      let kx : HasKind K kind.Data x = array_has N are integer_at M budget total tops K places wide x (a at) t.1 in
+      correct_then (At tops x) (At tops (a lo)) (Gives tops env (at + pattern_numbers q) e) _ runs
+      (λ w r. let d = fits_data N are integer_at M budget total tops K x w kx r in
+      correct_then (Rows_fit N are integer_at M budget total tops K (a at)) (At tops (a lo)) (the (and_then (datum_of w) rows_of)) _
+      (correct_exact (Rows_fit N are integer_at M budget total tops K (a at)) 0 (and_then (datum_of w) rows_of) (subst (λ o. HasOut (Rows_fit N are integer_at M budget total tops K (a at)) (and_then o rows_of)) (sym d.1)
+      (rows_fit N are integer_at M budget total tops K (a at) d.0 (subst (λ y. Fits N integer_at M budget total y tops (as_value d.0)) t.1.0 (subst (λ y. At tops x y) d.2 r)))))
+      (λ rs s. correct_turns (λ y. At tops (a at) (as_value y)) (At tops (a lo)) _
+      (λ y w b c. correct_then (In_scope tops (with_pattern the_one p lo scope) a) (At tops (a lo)) (the (bound p w env)) _
+      (correct_exact (In_scope tops (with_pattern the_one p lo scope) a) 0 (bound p w env) (bound_fits N integer_at M budget total tops P K a are places p lo inside scope w env typed c h))
+      (λ z i. correct_then (In_scope tops (with_pattern the_one q at (with_pattern the_one p lo scope)) a) (At tops (a lo)) (the (bound q (as_value y) z)) _
+      (correct_exact (In_scope tops (with_pattern the_one q at (with_pattern the_one p lo scope)) a) 0 (bound q (as_value y) z) (bound_fits N integer_at M budget total tops P K a are places q at (with_pattern the_one p lo scope) (with_pattern the_one p lo scope) (as_value y) z t.0.0 b i))
+      rest))
+      rs.1 v (row_data N are integer_at M budget total tops K (a at) rs.0 rs.1 s) k))
   loop_runs p mark (While c) body outer inside scope lo at a tops env v typed h meant t k runs rest =
       correct_while (At tops (a lo)) budget _ _ _
       (λ w q. correct_then (At tops (a at)) Any_truth (Then (the (bound p w env)) (λ x. Gives tops x at c)) (λ b. the (truth_of b)) (under_runs p inside scope lo a tops env typed h (a at) at c w scope (λ x. x) q (λ x r. runs x r))
@@ -236,12 +259,12 @@ module _ (N : Names) (are : AreNames N) (integer_at : ℕ → IntType) (M : Flat
 
     pub running : (t : FlatTerm) → Runs t
     running (Use r at k) = λ lo scope a tops env all typed meant lits small h.
-        evaluates tops (At tops (a lo)) env lo (Use r at k) (correct_exact (At tops (a lo)) 0 _ (use_fits N integer_at M budget total K tops P places scope a r (a lo) at env meant typed h))
+        evaluates tops (At tops (a lo)) env lo (Use r at k) (correct_exact (At tops (a lo)) 0 _ (use_fits N are integer_at M budget total free places wide K tops P scope a r (a lo) at env meant typed h))
     running (Strict o mark ts) = λ lo scope a tops env all typed meant lits small h.
         evaluates tops (At tops (a lo)) env lo (Strict o mark ts) (correct_then (Each_fits N integer_at M budget total (term_types a ts (lo + own_numbers o)) tops) (At tops (a lo)) (each_of (λ t. Gives tops env t.0 t.1) (placed (lo + own_numbers o) ts)) _
         (all_running ts (lo + own_numbers o) scope a tops env (further lo (lo + own_numbers o) scope (omega arith) all) typed.0 meant.1 (λ m l. lits m (inr l)) (omega (arith, small)) h)
-        (λ vs w. correct_exact (At tops (a lo)) 0 _ (operate_fits N are integer_at M budget total tops places K o (integer_at lo) mark (a lo) (a (operand o lo)) (term_types a ts (lo + own_numbers o)) vs meant.0 typed.1 (told (integer_at lo) o a lo integer_at (λ m l. lits m (inl l)))
-        (let c = count_terms a ts (lo + own_numbers o) in omega (arith, c, small)) w)))
+        (λ vs w. operation_fits N are integer_at M budget total tops K places wide M.misfit free.reports (row_told (lang integer_at tops) (Of_literal env lo)) o (how_many ts) (integer_at lo) mark (a lo) (a (operand o lo)) (term_types a ts (lo + own_numbers o)) vs meant.0 (as_many a ts (lo + own_numbers o)) typed.1 (told (integer_at lo) o a lo integer_at (λ m l. lits m (inl l)))
+        (let c = count_terms a ts (lo + own_numbers o) in omega (arith, c, small)) w))
     running (Lambda ps e) = λ lo scope a tops env all typed meant lits small h.
         let at : ℕ = 1 + lo + all_pattern_numbers ps in
         evaluates tops (At tops (a lo)) env lo (Lambda ps e) (correct_exact (At tops (a lo)) 0 (Val (Closure ps e at env)) (fits_as tops _ (a lo) (Closure ps e at env) (sym typed.1)
@@ -298,7 +321,7 @@ module _ (N : Names) (are : AreNames N) (integer_at : ℕ → IntType) (M : Flat
     turns_running : (turns : FlatTurns) (outer inside : Scope) (at : ℕ) (a : Sub) (tops : FlatTops) (env : FlatEnv) → AllLocal (λ n. n < at) outer → AllLocal (λ n. n < at) inside → Turns_typed N places turns at outer inside K a → Turns_meant P turns
         → ((m : ℕ) → Turn_literal turns at m → a m ≡ Made (head.Scalar (types.Int (integer_at m))) none) → at + turn_numbers turns < widest → In_scope tops outer a env → Turns_run tops turns at outer inside a env
     turns_running (Counted i n) outer inside at a tops env all alli typed meant lits small h = running n (1 + at) outer a tops env (further at (1 + at) outer (omega arith) all) typed.0 meant lits (omega (arith, small)) h
-    turns_running (Over q e) outer inside at a tops env all alli typed meant lits small h = tt
+    turns_running (Over q e) outer inside at a tops env all alli typed meant lits small h = running e (at + pattern_numbers q) outer a tops env (further at (at + pattern_numbers q) outer (omega arith) all) typed.0.1 meant lits (omega (arith, small)) h
     turns_running (While c) outer inside at a tops env all alli typed meant lits small h = λ x r. running c at inside a tops x alli typed.0 meant lits small r
 
     all_running : (ts : Terms Ref BindId) → All_run ts

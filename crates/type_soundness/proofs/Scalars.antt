@@ -22,7 +22,7 @@ use Rattle.fut_types.proofs.TyLaws.{rank_made}
 use Rattle.fut_typing.specs.Names.{Names}
 use Rattle.fut_typing.specs.Rules.{Operator}
 use Rattle.fut_meaning.specs.Outcomes.{Val}
-use Rattle.fut_meaning.specs.Values.{Scalar_value, Tuple_value, Record_value, Closure, Primitive_value}
+use Rattle.fut_meaning.specs.Values.{Array_value, Scalar_value, Tuple_value, Record_value, Closure, Primitive_value}
 use Rattle.fut_meaning.specs.Operators.{by_kind, is_same_type, type_number, binary_result, unary_result}
 use Rattle.fut_meaning.specs.Operations.{reported, on_scalars, on_scalar}
 use Rattle.fut_meaning.specs.Flats.{FlatValue, FlatTops, FlatMode}
@@ -90,13 +90,14 @@ module _ (N : Names) (integer_at : ℕ → IntType) (M : FlatMode) (budget : ℕ
   scalar_integer i ts (Record_value fs) h = absurd h
   scalar_integer i ts (Closure ps e lo env) h = absurd h
   scalar_integer i ts (Primitive_value p at vs) h = absurd h
+  scalar_integer i ts (Array_value row ds) h = absurd h
 
   pub integer_fits : (t : Ty) (v : FlatValue) → HasKind K kind.Integer t → Fits N integer_at M budget total t tops v → Integer_value t v
   unfolding Fits
   integer_fits (Var n) v k h = absurd h
   integer_fits (Made (head.Scalar (types.Int i)) ts) v k h = scalar_integer i ts v h
   integer_fits (Made (head.Scalar types.Bool) ts) v k h = absurd (let p : 4 ≤ 3 = below_kind K kind.Integer (head.Scalar types.Bool) ts k in omega arith)
-  integer_fits (Made head.Array ts) v k h = absurd h
+  integer_fits (Made head.Array ts) v k h = absurd (let p : 4 ≤ 1 = below_kind K kind.Integer head.Array ts k in omega arith)
   integer_fits (Made head.Tuple ts) v k h = absurd (let p : 4 ≤ 2 = below_kind K kind.Integer head.Tuple ts k in omega arith)
   integer_fits (Made (head.Record n) ts) v k h = absurd (let p : 4 ≤ 2 = below_kind K kind.Integer (head.Record n) ts k in omega arith)
   integer_fits (Made head.Fun ts) v k h = absurd (let p : 4 ≤ 0 = below_kind K kind.Integer head.Fun ts k in omega arith)
@@ -110,6 +111,7 @@ module _ (N : Names) (integer_at : ℕ → IntType) (M : FlatMode) (budget : ℕ
   int_value i (Record_value fs) h = absurd h
   int_value i (Closure ps e lo env) h = absurd h
   int_value i (Primitive_value p at vs) h = absurd h
+  int_value i (Array_value row ds) h = absurd h
 
   pub bool_value : (v : FlatValue) → On_scalar (Is_scalar types.Bool) v → (b : Bool) × (v ≡ Scalar_value (scalar.Bool b))
   bool_value (Scalar_value (scalar.Bool b)) h = (b, refl)
@@ -118,6 +120,7 @@ module _ (N : Names) (integer_at : ℕ → IntType) (M : FlatMode) (budget : ℕ
   bool_value (Record_value fs) h = absurd h
   bool_value (Closure ps e lo env) h = absurd h
   bool_value (Primitive_value p at vs) h = absurd h
+  bool_value (Array_value row ds) h = absurd h
 
   -- integers or truth values
   abbrev pub Scalar_of : Ty → FlatValue → Type 0
@@ -129,12 +132,13 @@ module _ (N : Names) (integer_at : ℕ → IntType) (M : FlatMode) (budget : ℕ
   made_scalar s ts (Record_value fs) h = absurd h
   made_scalar s ts (Closure ps e lo env) h = absurd h
   made_scalar s ts (Primitive_value p at vs) h = absurd h
+  made_scalar s ts (Array_value row ds) h = absurd h
 
   pub scalar_fits : (t : Ty) (v : FlatValue) → HasKind K kind.Scalar t → Fits N integer_at M budget total t tops v → Scalar_of t v
   unfolding Fits
   scalar_fits (Var n) v k h = absurd h
   scalar_fits (Made (head.Scalar s) ts) v k h = made_scalar s ts v h
-  scalar_fits (Made head.Array ts) v k h = absurd h
+  scalar_fits (Made head.Array ts) v k h = absurd (let p : 3 ≤ 1 = below_kind K kind.Scalar head.Array ts k in omega arith)
   scalar_fits (Made head.Tuple ts) v k h = absurd (let p : 3 ≤ 2 = below_kind K kind.Scalar head.Tuple ts k in omega arith)
   scalar_fits (Made (head.Record n) ts) v k h = absurd (let p : 3 ≤ 2 = below_kind K kind.Scalar (head.Record n) ts k in omega arith)
   scalar_fits (Made head.Fun ts) v k h = absurd (let p : 3 ≤ 0 = below_kind K kind.Scalar head.Fun ts k in omega arith)

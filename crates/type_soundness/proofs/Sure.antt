@@ -24,7 +24,7 @@ use Rattle.fut_meaning.proofs.Walk.{some_same, none_some}
 use Rattle.type_soundness.specs.Fits.{widest}
 use Rattle.type_soundness.specs.Meant.{Has_parameter, No_sizes}
 use Rattle.type_soundness.specs.Knows.{Learns, Never_lost, Runs_well, Knows, Names_known}
-use Rattle.type_soundness.specs.Walkable.{Operation_walkable, Walkable, All_walkable, Turns_walkable}
+use Rattle.type_soundness.specs.Meant.{Operation_meant, Meant, All_meant, Turns_meant}
 use Rattle.type_soundness.proofs.Running.{count_terms}
 use Rattle.type_soundness.proofs.Knowing.{learns_more, kind_data}
 use Rattle.type_soundness.proofs.Seeing.{names_learn, names_move, names_sizes, names_types, name_known, Binds, data_known, pattern_known}
@@ -101,10 +101,10 @@ module _ (N : Names) (are : AreNames N) (P : ℕ → Type 0) (K : Kinds) where
   function_bound (b ∷ bs) p s lo w scope a tops sc named each h = absurd named
 
   abbrev Sure : FlatTerm → Type 1
-  Sure t = (lo : ℕ) (scope : Scope) (a : Sub) (tops sc : Seen) → AllLocal (λ n. n < lo) scope → Typed N kind.Data t lo scope K a → Walkable P t → lo + numbers t < widest → In_scope tops scope a sc → At tops sc t (a lo)
+  Sure t = (lo : ℕ) (scope : Scope) (a : Sub) (tops sc : Seen) → AllLocal (λ n. n < lo) scope → Typed N kind.Data t lo scope K a → Meant P t → lo + numbers t < widest → In_scope tops scope a sc → At tops sc t (a lo)
 
   abbrev Sure_row : FlatTerm → Type 1
-  Sure_row t = (lo : ℕ) (scope : Scope) (a : Sub) (tops sc : Seen) → AllLocal (λ n. n < lo) scope → Typed N kind.Data t lo scope K a → Walkable P t → lo + numbers t < widest → In_scope tops scope a sc → Row_walks N are P K tops sc t (a lo)
+  Sure_row t = (lo : ℕ) (scope : Scope) (a : Sub) (tops sc : Seen) → AllLocal (λ n. n < lo) scope → Typed N kind.Data t lo scope K a → Meant P t → lo + numbers t < widest → In_scope tops scope a sc → Row_walks N are P K tops sc t (a lo)
 
   module _ (b : FlatBinding) (v : FlatTerm) (sure : Sure v) (lo : ℕ) (scope : Scope) (a : Sub) (tops sc : Seen) where
     abbrev begins : ℕ
@@ -114,13 +114,13 @@ module _ (N : Names) (are : AreNames N) (P : ℕ → Type 0) (K : Kinds) where
     whole = let_scheme N kind.Data b v lo scope (Typed N kind.Data v (1 + lo + pattern_numbers b.pattern))
 
     -- the value, where these types are chosen for the parameters, in a typing that is as a is outside
-    value_sure : (c other : Sub) → ((n : ℕ) → n < 1 + lo → other n ≡ a n) → AllLocal (λ n. n < lo) scope → whole.typed c K other → No_sizes b.sizes b.parameters → Walkable P v → begins + numbers v < widest → In_scope tops scope a sc → At tops sc v (other (1 + lo))
+    value_sure : (c other : Sub) → ((n : ℕ) → n < 1 + lo → other n ≡ a n) → AllLocal (λ n. n < lo) scope → whole.typed c K other → No_sizes b.sizes b.parameters → Meant P v → begins + numbers v < widest → In_scope tops scope a sc → At tops sc v (other (1 + lo))
     value_sure c other outside all typed sizes walkable small h =
         walks_as N are P K tops sc v (other begins) (other (1 + lo)) (sym typed.1)
         (sure begins (with_parameters b.parameters c scope) other tops sc (local_parameters (λ n. n < begins) b.parameters c scope (all_local_more (λ n. n < lo) (λ n. n < begins) scope (λ n p. omega (arith, p)) all)) typed.0.1 walkable small
         (names_types N P K tops b.sizes b.parameters c scope other sc sizes (names_move N P K tops scope lo a other sc all (λ n p. outside n (omega (arith, p))) h)))
 
-    let_sure : AllLocal (λ n. n < lo) scope → (f : Bool) → b.is_function ≡ f → Let_typed N kind.Data b.is_function (Function_name b.sizes b.pattern) whole K a → No_sizes b.sizes b.parameters → Walkable P v → begins + numbers v < widest → In_scope tops scope a sc
+    let_sure : AllLocal (λ n. n < lo) scope → (f : Bool) → b.is_function ≡ f → Let_typed N kind.Data b.is_function (Function_name b.sizes b.pattern) whole K a → No_sizes b.sizes b.parameters → Meant P v → begins + numbers v < widest → In_scope tops scope a sc
         → Let_binds N are P K tops sc a b v (with_let N kind.Data b lo scope whole)
     let_sure all true e typed sizes walkable small h =
         let g : Let_typed N kind.Data true (Function_name b.sizes b.pattern) whole K a = subst (λ f. Let_typed N kind.Data f (Function_name b.sizes b.pattern) whole K a) e typed in (
@@ -138,7 +138,7 @@ module _ (N : Names) (are : AreNames N) (P : ℕ → Type 0) (K : Kinds) where
         )
 
   -- a let, as a term and in a row, from what is behind it
-  let_both : (b : FlatBinding) (v e : FlatTerm) → Sure v → Sure e → Sure_row e → (lo : ℕ) (scope : Scope) (a : Sub) (tops sc : Seen) → AllLocal (λ n. n < lo) scope → Typed N kind.Data (Let b v e) lo scope K a → Walkable P (Let b v e) → lo + numbers (Let b v e) < widest
+  let_both : (b : FlatBinding) (v e : FlatTerm) → Sure v → Sure e → Sure_row e → (lo : ℕ) (scope : Scope) (a : Sub) (tops sc : Seen) → AllLocal (λ n. n < lo) scope → Typed N kind.Data (Let b v e) lo scope K a → Meant P (Let b v e) → lo + numbers (Let b v e) < widest
       → In_scope tops scope a sc → At tops sc (Let b v e) (a lo) × Row_walks N are P K tops sc (Let b v e) (a lo)
   let_both b v e sure body rest lo scope a tops sc all typed walkable small h =
       let at_e : ℕ = 1 + lo + pattern_numbers b.pattern + numbers v in
@@ -150,10 +150,10 @@ module _ (N : Names) (are : AreNames N) (P : ℕ → Type 0) (K : Kinds) where
       (λ inner r. subst (Row_walks N are P K tops inner e) (sym typed.1) (rest at_e (with_let N kind.Data b lo scope s) a tops inner local typed.0.1 walkable.2 (omega (arith, small)) r))
 
   abbrev Sure_all : Terms Ref BindId → Type 1
-  Sure_all ts = (lo : ℕ) (scope : Scope) (a : Sub) (tops sc : Seen) → AllLocal (λ n. n < lo) scope → All_typed N kind.Data ts lo scope K a → All_walkable P ts → lo + all_numbers ts < widest → In_scope tops scope a sc → All_walk N are P K tops sc ts (term_types a ts lo)
+  Sure_all ts = (lo : ℕ) (scope : Scope) (a : Sub) (tops sc : Seen) → AllLocal (λ n. n < lo) scope → All_typed N kind.Data ts lo scope K a → All_meant P ts → lo + all_numbers ts < widest → In_scope tops scope a sc → All_walk N are P K tops sc ts (term_types a ts lo)
 
   abbrev Sure_turns : FlatTurns → Type 1
-  Sure_turns turns = (at : ℕ) (outer inside : Scope) (a : Sub) (tops sc carried : Seen) → AllLocal (λ n. n < at) outer → AllLocal (λ n. n < at) inside → Turns_typed N kind.Data turns at outer inside K a → Turns_walkable P turns → at + turn_numbers turns < widest
+  Sure_turns turns = (at : ℕ) (outer inside : Scope) (a : Sub) (tops sc carried : Seen) → AllLocal (λ n. n < at) outer → AllLocal (λ n. n < at) inside → Turns_typed N kind.Data turns at outer inside K a → Turns_meant P turns → at + turn_numbers turns < widest
       → In_scope tops outer a sc → In_scope tops inside a carried → Turns_walk N are P K tops sc carried turns × In_scope tops (with_turns turns at inside) a (turn_names N are P K carried turns)
 
   abbrev Both : FlatTerm → Type 1
@@ -170,7 +170,7 @@ module _ (N : Names) (are : AreNames N) (P : ℕ → Type 0) (K : Kinds) where
         let w = all_surely ts (lo + own_numbers o) scope a tops sc (further lo (lo + own_numbers o) scope (omega arith) all) typed.0 walkable.1 (omega (arith, small)) h in
         let c = count_terms a ts (lo + own_numbers o) in
         let g = operation_gives N are tops K o (a lo) (a (operand o lo)) (term_types a ts (lo + own_numbers o)) in
-        let fit : Operation_walkable o (count (term_types a ts (lo + own_numbers o))) = subst (Operation_walkable o) (sym (as_many a ts (lo + own_numbers o))) walkable.0 in
+        let fit : Operation_meant o (count (term_types a ts (lo + own_numbers o))) = subst (Operation_meant o) (sym (as_many a ts (lo + own_numbers o))) walkable.0 in
         (strict_lost N are P K tops sc o mark ts us (a lo) w (λ ss k. g ss fit typed.1 (omega (arith, c, small)) k), strict_known N are P K tops sc o mark ts us (a lo) w (λ ss k. g ss fit typed.1 (omega (arith, c, small)) k)) in
         (f, λ lo scope a tops sc all typed walkable small h. body_walks N are P K tops sc (Strict o mark ts) (a lo) refl (f lo scope a tops sc all typed walkable small h))
     surely (Lambda ps e) =

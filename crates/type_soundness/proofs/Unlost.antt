@@ -28,10 +28,10 @@ use Rattle.fut_meaning.proofs.Names.{found_here, found_on}
 use Rattle.fut_meaning.proofs.Walk.{some_same, none_some}
 use Rattle.type_soundness.specs.Fits.{widest}
 use Rattle.type_soundness.specs.Meant.{No_sizes}
-use Rattle.type_soundness.specs.Programs.{None_has, One_each}
+use Rattle.type_soundness.specs.Programs.{Definitions_meant, None_has, One_each}
 use Rattle.type_soundness.specs.Knows.{Learns, Knows, Names_known}
-use Rattle.type_soundness.specs.Walkable.{Use_walkable, Walkable, All_walkable, Turns_walkable}
-use Rattle.type_soundness.specs.Walks.{Definitions_walkable, All_hold_data, Walks_never_lost}
+use Rattle.type_soundness.specs.Meant.{Use_meant, Meant, All_meant, Turns_meant}
+use Rattle.type_soundness.specs.Walks.{All_hold_data, Walks_never_lost}
 use Rattle.type_soundness.proofs.Knowing.{knows_learn}
 use Rattle.type_soundness.proofs.Seeing.{names_move, names_types}
 use Rattle.type_soundness.proofs.Giving.{Takes, takes_data, takes_function, never_stuck, function_inside}
@@ -44,13 +44,13 @@ module _ (P : ℕ → Type 0) where
   abbrev Used_in : List BindId → FlatTerm → Type 0
   Used_in bs t = (k : ℕ) → has_use (λ cs r. is_flat_use tt cs r k) bs t ≡ true → P k
 
-  use_of : (r : Ref) (bs : List BindId) → Use_walkable (λ k. Unit {0}) r → ((k : ℕ) → is_flat_use tt bs r k ≡ true → P k) → Use_walkable P r
+  use_of : (r : Ref) (bs : List BindId) → Use_meant (λ k. Unit {0}) r → ((k : ℕ) → is_flat_use tt bs r k ≡ true → P k) → Use_meant P r
   use_of (ref.Bound b) bs m h = h b.0 (eq-eqb b.0 b.0 refl)
   use_of (ref.Prim p) bs m h = tt
   use_of (ref.Scalar s) bs m h = tt
 
   mutual
-    uses_of : (t : FlatTerm) (bs : List BindId) → Walkable (λ k. Unit {0}) t → Used_in bs t → Walkable P t
+    uses_of : (t : FlatTerm) (bs : List BindId) → Meant (λ k. Unit {0}) t → Used_in bs t → Meant P t
     uses_of (Use r at k) bs m h = use_of r bs m h
     uses_of (Strict o mark ts) bs m h = (m.0, all_uses_of ts bs m.1 h)
     uses_of (Lambda ps e) bs m h = (m.0, uses_of e (all_names_of ps bs) m.1 h)
@@ -64,11 +64,11 @@ module _ (P : ℕ → Type 0) where
       uses_of body (names_of_turns turns (names_of p bs)) m.3 (λ k u. h k (or_right _ _ (or_right _ _ u))),
     )
 
-    all_uses_of : (ts : Terms Ref BindId) (bs : List BindId) → All_walkable (λ k. Unit {0}) ts → ((k : ℕ) → have_use (λ cs r. is_flat_use tt cs r k) bs ts ≡ true → P k) → All_walkable P ts
+    all_uses_of : (ts : Terms Ref BindId) (bs : List BindId) → All_meant (λ k. Unit {0}) ts → ((k : ℕ) → have_use (λ cs r. is_flat_use tt cs r k) bs ts ≡ true → P k) → All_meant P ts
     all_uses_of no_term bs m h = tt
     all_uses_of (term_and t ts) bs m h = (uses_of t bs m.0 (λ k u. h k (or_left _ _ u)), all_uses_of ts bs m.1 (λ k u. h k (or_right _ _ u)))
 
-    turn_uses_of : (t : FlatTurns) (bs cs : List BindId) → Turns_walkable (λ k. Unit {0}) t → ((k : ℕ) → turns_have_use (λ ds r. is_flat_use tt ds r k) bs cs t ≡ true → P k) → Turns_walkable P t
+    turn_uses_of : (t : FlatTurns) (bs cs : List BindId) → Turns_meant (λ k. Unit {0}) t → ((k : ℕ) → turns_have_use (λ ds r. is_flat_use tt ds r k) bs cs t ≡ true → P k) → Turns_meant P t
     turn_uses_of (Counted i n) bs cs m h = uses_of n bs m h
     turn_uses_of (Over p e) bs cs m h = uses_of e bs m h
     turn_uses_of (While c) bs cs m h = uses_of c cs m h
@@ -91,7 +91,7 @@ module _ (N : Names) (are : AreNames N) (K : Kinds) (a : Sub) (entry : BindId) w
     abbrev newer : Known → Seen → Seen
     newer s tops = known_as (record { 0 = d.bind.0 }) s tops
 
-    value_walks : (P : ℕ → Type 0) (tops : Seen) (c other : Sub) → ((n : ℕ) → n < lo → other n ≡ a n) → whole.typed c K other → No_sizes [] (parameters d.heads.now) → Walkable P value → lo + (1 + numbers value) < widest → In_tops tops P scope
+    value_walks : (P : ℕ → Type 0) (tops : Seen) (c other : Sub) → ((n : ℕ) → n < lo → other n ≡ a n) → whole.typed c K other → No_sizes [] (parameters d.heads.now) → Meant P value → lo + (1 + numbers value) < widest → In_tops tops P scope
         → Walks N are P K tops empty value (other lo)
     value_walks P tops c other outside typed sizes walkable small h =
         walks_as N are P K tops empty value (other (lo + 1)) (other lo) (sym typed.1)
@@ -99,7 +99,7 @@ module _ (N : Names) (are : AreNames N) (K : Kinds) (a : Sub) (entry : BindId) w
         (names_types N P K tops [] (parameters d.heads.now) c scope other empty sizes (names_move N P K tops scope lo a other empty all outside h)))
 
     -- what is known of its value is known by each type of its uses
-    each_use : (P : ℕ → Type 0) (tops : Seen) → No_sizes [] (parameters d.heads.now) → Walkable P value → lo + (1 + numbers value) < widest → In_tops tops P scope → (s : Known) (m n : ℕ) → Visits tops empty value s m n → (t : Ty) → Reused kind.Data whole lo K a t → Knows N t tops s
+    each_use : (P : ℕ → Type 0) (tops : Seen) → No_sizes [] (parameters d.heads.now) → Meant P value → lo + (1 + numbers value) < widest → In_tops tops P scope → (s : Known) (m n : ℕ) → Visits tops empty value s m n → (t : Ty) → Reused kind.Data whole lo K a t → Knows N t tops s
     each_use P tops sizes walkable small h s m n v t u = let x = u.2.0 in
         subst (λ z. Knows N z tops s) (sym u.2.1) ((value_walks P tops u.0 x.other (λ n p. x.outside n (inl p)) x.typed sizes walkable small h).1 s m n v)
 
@@ -137,7 +137,7 @@ module _ (N : Names) (are : AreNames N) (K : Kinds) (a : Sub) (entry : BindId) w
   record Ready (ds : List Definition) (lo : ℕ) (scope : Scope) (tops : Seen) : Type 0 where
     all : AllLocal (λ n. n < lo) scope
     typed : Definitions_typed N kind.Data (map defined ds) lo scope K a
-    walkable : Definitions_walkable (map defined ds)
+    walkable : Definitions_meant (map defined ds)
     once : One_each ds
     small : lo + program_numbers (map defined ds) < widest
     left : Left tops ds
@@ -152,7 +152,7 @@ module _ (N : Names) (are : AreNames N) (K : Kinds) (a : Sub) (entry : BindId) w
   abbrev is_next : Definition → List Definition → ℕ → Bool → Type 0
   is_next d ds lo b = is_reached is_flat_use entry.0 (tops_of (after d lo) ds) d.bind.0 ≡ b
 
-  reached_walkable : (d : Definition) (ds : List Definition) (lo : ℕ) (scope : Scope) (tops : Seen) → Ready (d ∷ ds) lo scope tops → is_next d ds lo true → Walkable (Reached entry lo (d ∷ ds)) (term_of d.value.now)
+  reached_walkable : (d : Definition) (ds : List Definition) (lo : ℕ) (scope : Scope) (tops : Seen) → Ready (d ∷ ds) lo scope tops → is_next d ds lo true → Meant (Reached entry lo (d ∷ ds)) (term_of d.value.now)
   unfolding flat_tops
   reached_walkable d ds lo scope tops r e = uses_of (Reached entry lo (d ∷ ds)) (term_of d.value.now) [] r.walkable.1 (λ k u. or_left _ _ (both _ _ e u))
 

@@ -1,5 +1,5 @@
--- Uses of names and of primitives.
-use Rattle.std.proofs.Common.{ℕ, arith, refl, sym, subst, [], ◌∷◌, Bool}
+-- Uses of the primitives on scalars.
+use Rattle.std.proofs.Common.{ℕ, arith, refl, [], ◌∷◌, Bool}
 use Rattle.fut_scalar.specs.declared.operator.BinOp.TheVariants as op
 use Rattle.fut_scalar.specs.declared.operator.UnOp.TheVariants as one
 use Rattle.fut_scalar.specs.declared.place.BindId.{BindId}
@@ -11,28 +11,20 @@ use Rattle.fut_scalar.specs.declared.scalar.Scalar.TheVariants as scalar
 use Rattle.fut_scalar.specs.declared.scalar.ScalarType.{ScalarType}
 use Rattle.fut_scalar.specs.declared.scalar.ScalarType.TheVariants as types
 use Rattle.fut_arithmetic.specs.Conversions.{converted}
-use Rattle.fut_flat.specs.declared.prim.Primitive.{Primitive}
 use Rattle.fut_flat.specs.declared.prim.Primitive.TheVariants as prim
 use Rattle.fut_flat.specs.declared.prim.Ref.{Ref}
-use Rattle.fut_flat.specs.declared.prim.Ref.TheVariants as ref
-use Rattle.fut_types.specs.declared.Kind.{Kind}
 use Rattle.fut_types.specs.declared.Kind.TheVariants as kind
-use Rattle.fut_types.specs.Types.{Ty, none, Sub, Kinds, HasKind, rank, least, scalar_ty, fun_ty, applied, all_applied}
+use Rattle.fut_types.specs.Types.{Ty, none, Kinds, HasKind, rank, least, scalar_ty, fun_ty}
 use Rattle.fut_typing.specs.Names.{Names}
-use Rattle.fut_typing.specs.Primitives.{prim_type}
-use Rattle.fut_typing.specs.Scopes.{Scope, Used}
 use Rattle.fut_meaning.specs.Outcomes.{Val}
-use Rattle.fut_meaning.specs.Values.{Scalar_value, Tuple_value, Record_value, Closure, Primitive_value, no_value, value_and, Call, Task}
-use Rattle.fut_meaning.specs.Operators.{lowest, highest}
-use Rattle.fut_meaning.specs.Operations.{primitive_use, primitive}
+use Rattle.fut_meaning.specs.Values.{Array_value, Scalar_value, Tuple_value, Record_value, Closure, Primitive_value, no_value, value_and, Call, Task}
+use Rattle.fut_meaning.specs.Operations.{primitive}
 use Rattle.fut_meaning.specs.Meaning.{Ever, step}
 use Rattle.fut_meaning.specs.Claims.{HasOut, Correct}
-use Rattle.fut_meaning.specs.Flats.{FlatValue, FlatTops, FlatEnv, FlatMode, flat_named}
+use Rattle.fut_meaning.specs.Flats.{FlatValue, FlatTops, FlatMode}
 use Rattle.fut_meaning.proofs.Ever.{open_up, close}
 use Rattle.fut_meaning.proofs.Correct.{correct_exact}
 use Rattle.type_soundness.specs.Fits.{Is_scalar, On_scalar, Grows, lang, Fits}
-use Rattle.type_soundness.specs.Meant.{Primitive_meant, Use_meant}
-use Rattle.type_soundness.specs.Environments.{Env_fits}
 use Rattle.type_soundness.proofs.Growing.{fits_grow}
 use Rattle.type_soundness.proofs.Scalars.{integers_fit, integer_fit, fits_scalar, scalar_inside}
 
@@ -69,6 +61,7 @@ module _ (N : Names) (integer_at : ℕ → IntType) (M : FlatMode) (budget : ℕ
   converted_fits tops to from at (Record_value fs) h = absurd h
   converted_fits tops to from at (Closure ps e lo env) h = absurd h
   converted_fits tops to from at (Primitive_value p place vs) h = absurd h
+  converted_fits tops to from at (Array_value row ds) h = absurd h
 
   abbrev At : FlatTops → Ty → FlatValue → Type 0
   At tops t v = Fits N integer_at M budget total t tops v
@@ -76,17 +69,17 @@ module _ (N : Names) (integer_at : ℕ → IntType) (M : FlatMode) (budget : ℕ
   int_ty : IntType → Ty
   int_ty i = scalar_ty (types.Int i)
 
-  convert_used : (tops : FlatTops) (to from : ScalarType) (at : Place) → At tops (fun_ty (scalar_ty from) (scalar_ty to)) (Primitive_value (prim.Convert to from) at no_value)
+  pub convert_used : (tops : FlatTops) (to from : ScalarType) (at : Place) → At tops (fun_ty (scalar_ty from) (scalar_ty to)) (Primitive_value (prim.Convert to from) at no_value)
   convert_used tops to from at = fits_function tops (scalar_ty from) (scalar_ty to) _ (λ tops' g v h.
       opened tops' (At tops' (scalar_ty to)) (Call _ v) (correct_exact (At tops' (scalar_ty to)) 0 (primitive (prim.Convert to from) at (v ∷ [])) (converted_fits tops' to from at v (scalar_inside N integer_at M budget total tops' K from none v h))))
 
-  abs_used : (tops : FlatTops) (i : IntType) (at : Place) → At tops (fun_ty (scalar_ty (types.Int i)) (scalar_ty (types.Int i))) (Primitive_value (prim.Abs i) at no_value)
+  pub abs_used : (tops : FlatTops) (i : IntType) (at : Place) → At tops (fun_ty (scalar_ty (types.Int i)) (scalar_ty (types.Int i))) (Primitive_value (prim.Abs i) at no_value)
   unfolding primitive
   abs_used tops i at = fits_function tops (scalar_ty (types.Int i)) (scalar_ty (types.Int i)) _ (λ tops' g v h.
       opened tops' (At tops' (scalar_ty (types.Int i))) (Call _ v) (correct_exact (At tops' (scalar_ty (types.Int i))) 0 (primitive (prim.Abs i) at (v ∷ []))
       (integer_fit N integer_at M budget total tops' K one.Abs i (scalar_ty (types.Int i)) none v (scalar_inside N integer_at M budget total tops' K (types.Int i) none v h) refl)))
 
-  popc_used : (tops : FlatTops) (i : IntType) (at : Place) → At tops (fun_ty (scalar_ty (types.Int i)) (scalar_ty (types.Int int.I32))) (Primitive_value (prim.Popc i) at no_value)
+  pub popc_used : (tops : FlatTops) (i : IntType) (at : Place) → At tops (fun_ty (scalar_ty (types.Int i)) (scalar_ty (types.Int int.I32))) (Primitive_value (prim.Popc i) at no_value)
   unfolding primitive
   popc_used tops i at = fits_function tops (scalar_ty (types.Int i)) (scalar_ty (types.Int int.I32)) _ (λ tops' g v h.
       opened tops' (At tops' (scalar_ty (types.Int int.I32))) (Call _ v) (correct_exact (At tops' (scalar_ty (types.Int int.I32))) 0 (primitive (prim.Popc i) at (v ∷ []))
@@ -96,7 +89,7 @@ module _ (N : Names) (integer_at : ℕ → IntType) (M : FlatMode) (budget : ℕ
   unfolding rank least
   integer_kind i = omega arith
 
-  min_used : (tops : FlatTops) (i : IntType) (at : Place) → At tops (fun_ty (scalar_ty (types.Int i)) (fun_ty (scalar_ty (types.Int i)) (scalar_ty (types.Int i)))) (Primitive_value (prim.Min i) at no_value)
+  pub min_used : (tops : FlatTops) (i : IntType) (at : Place) → At tops (fun_ty (scalar_ty (types.Int i)) (fun_ty (scalar_ty (types.Int i)) (scalar_ty (types.Int i)))) (Primitive_value (prim.Min i) at no_value)
   unfolding primitive
   min_used tops i at = fits_function tops (scalar_ty (types.Int i)) (fun_ty (scalar_ty (types.Int i)) (scalar_ty (types.Int i))) _ (λ tops' g v h.
       opened tops' (At tops' (fun_ty (scalar_ty (types.Int i)) (scalar_ty (types.Int i)))) (Call _ v) (correct_exact (At tops' (fun_ty (scalar_ty (types.Int i)) (scalar_ty (types.Int i)))) 0 (Val (Primitive_value (prim.Min i) at (value_and v no_value)))
@@ -104,7 +97,7 @@ module _ (N : Names) (integer_at : ℕ → IntType) (M : FlatMode) (budget : ℕ
       opened tops'' (At tops'' (scalar_ty (types.Int i))) (Call _ w) (correct_exact (At tops'' (scalar_ty (types.Int i))) 0 (primitive (prim.Min i) at (v ∷ w ∷ []))
       (integers_fit N integer_at M budget total tops'' K op.Min at (scalar_ty (types.Int i)) (scalar_ty (types.Int i)) v w (refl, integer_kind i) (integer_kind i) (fits_grow N integer_at M budget total (scalar_ty (types.Int i)) tops' tops'' g' v h) k))))))
 
-  max_used : (tops : FlatTops) (i : IntType) (at : Place) → At tops (fun_ty (scalar_ty (types.Int i)) (fun_ty (scalar_ty (types.Int i)) (scalar_ty (types.Int i)))) (Primitive_value (prim.Max i) at no_value)
+  pub max_used : (tops : FlatTops) (i : IntType) (at : Place) → At tops (fun_ty (scalar_ty (types.Int i)) (fun_ty (scalar_ty (types.Int i)) (scalar_ty (types.Int i)))) (Primitive_value (prim.Max i) at no_value)
   unfolding primitive
   max_used tops i at = fits_function tops (scalar_ty (types.Int i)) (fun_ty (scalar_ty (types.Int i)) (scalar_ty (types.Int i))) _ (λ tops' g v h.
       opened tops' (At tops' (fun_ty (scalar_ty (types.Int i)) (scalar_ty (types.Int i)))) (Call _ v) (correct_exact (At tops' (fun_ty (scalar_ty (types.Int i)) (scalar_ty (types.Int i)))) 0 (Val (Primitive_value (prim.Max i) at (value_and v no_value)))
@@ -112,23 +105,5 @@ module _ (N : Names) (integer_at : ℕ → IntType) (M : FlatMode) (budget : ℕ
       opened tops'' (At tops'' (scalar_ty (types.Int i))) (Call _ w) (correct_exact (At tops'' (scalar_ty (types.Int i))) 0 (primitive (prim.Max i) at (v ∷ w ∷ []))
       (integers_fit N integer_at M budget total tops'' K op.Max at (scalar_ty (types.Int i)) (scalar_ty (types.Int i)) v w (refl, integer_kind i) (integer_kind i) (fits_grow N integer_at M budget total (scalar_ty (types.Int i)) tops' tops'' g' v h) k))))))
 
-  number_used : (tops : FlatTops) (i : IntType) (n : ℕ) → At tops (scalar_ty (types.Int i)) (Scalar_value (scalar.Int i n))
+  pub number_used : (tops : FlatTops) (i : IntType) (n : ℕ) → At tops (scalar_ty (types.Int i)) (Scalar_value (scalar.Int i n))
   number_used tops i n = fits_scalar N integer_at M budget total tops K (types.Int i) none (scalar.Int i n) refl
-
-  primitive_fits : (tops : FlatTops) (p : Primitive) → Primitive_meant p → (given : Sub) (at : Place) → At tops (applied given (prim_type p)) (primitive_use p at)
-  unfolding applied all_applied
-  primitive_fits tops (prim.Convert to from) m given at = convert_used tops to from at
-  primitive_fits tops (prim.Min i) m given at = min_used tops i at
-  primitive_fits tops (prim.Max i) m given at = max_used tops i at
-  primitive_fits tops (prim.Abs i) m given at = abs_used tops i at
-  primitive_fits tops (prim.Popc i) m given at = popc_used tops i at
-  primitive_fits tops (prim.Lowest i) m given at = number_used tops i (lowest i)
-  primitive_fits tops (prim.Highest i) m given at = number_used tops i (highest i)
-  primitive_fits tops (prim.NumBits i) m given at = number_used tops int.I32 _
-  primitive_fits tops p m given at = absurd m
-
-  -- a use of a name
-  pub use_fits : (tops : FlatTops) (P : ℕ → Type 0) (places : Kind) (scope : Scope) (a : Sub) (r : Ref) (t : Ty) (at : Place) (env : FlatEnv) → Use_meant P r → Used places scope K a r t → Env_fits N integer_at M budget total tops P scope K a env → HasOut (At tops t) (flat_named tops env r at)
-  use_fits tops P places scope a (ref.Bound b) t at env m u h = let r = h b.0 m t u in subst (λ o. HasOut (At tops t) o) (sym r.1) r.2
-  use_fits tops P places scope a (ref.Prim p) t at env m u h = subst (λ y. At tops y (primitive_use p at)) (sym u.2) (primitive_fits tops p m u.0 at)
-  use_fits tops P places scope a (ref.Scalar s) t at env m u h = absurd u

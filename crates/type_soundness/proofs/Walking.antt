@@ -19,7 +19,7 @@ use Rattle.fut_meaning.specs.Walk.{is_assertion, is_let, Visits, v_use, v_strict
 use Rattle.fut_meaning.specs.Comes.{Inside_all, in_here, in_rest, Inside_row, in_value, in_next, in_row_body, Inside_turns, in_counted, in_over, in_while, in_part, in_function, in_argument, in_body_run, in_lets, in_condition, in_guarded, in_if, in_then, in_else, in_first, in_turns, in_loop_body, comes_here, comes_in_declared, comes_on, Stuck_row, no_pattern_here, no_pattern_later, Stuck_turns, no_count, no_rows, no_condition, no_name, no_result, no_run, no_row, asserted_function, if_function, then_function, else_function, first_function, no_turns, body_function}
 use Rattle.fut_meaning.proofs.Walk.{some_same, none_some, opposite}
 use Rattle.type_soundness.specs.Knows.{Never_lost, Runs_well, Knows, All_know, Names_known}
-use Rattle.type_soundness.specs.Walkable.{how_many, Use_walkable}
+use Rattle.type_soundness.specs.Meant.{how_many, Use_meant}
 use Rattle.type_soundness.proofs.Knowing.{is_no_data, kind_data, kind_only}
 use Rattle.type_soundness.proofs.Seeing.{Binds}
 use Rattle.type_soundness.proofs.Resulting.{scalar_data, Gives}
@@ -44,7 +44,7 @@ module _ (N : Names) (are : AreNames N) (P : ℕ → Type 0) (K : Kinds) where
   walks_as tops sc e t u same w = subst (Walks tops sc e) same w
 
   -- ---- names
-  pub use_knows : (tops sc : Seen) (scope : Scope) (a : Sub) (r : Ref) (t : Ty) → Use_walkable P r → Used kind.Data scope K a r t → In_scope tops scope a sc → (s : Known) × (known_use tops sc r ≡ Some s) × Knows N t tops s
+  pub use_knows : (tops sc : Seen) (scope : Scope) (a : Sub) (r : Ref) (t : Ty) → Use_meant P r → Used kind.Data scope K a r t → In_scope tops scope a sc → (s : Known) × (known_use tops sc r ≡ Some s) × Knows N t tops s
   unfolding known_use
   use_knows tops sc scope a (ref.Bound b) t m u h = h b.0 m t u
   use_knows tops sc scope a (ref.Prim p) t m u h = (known_primitive p, refl, subst (λ y. Knows N y tops (known_primitive p)) (sym u.2) (prim_known N K u.0 u.1 p tops))

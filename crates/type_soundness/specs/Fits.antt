@@ -1,6 +1,6 @@
--- Which values are of a type. A function is of a type where it takes each value of its parameter's type to an outcome of its
--- result's: to a value of that type or to a report, and never to what goes wrong; and so it stays where further definitions
--- are evaluated. A total function has some outcome for each.
+-- Which values are of a type. Each row of an array looks as the array says that its rows do. A function is of a type where it
+-- takes each value of its parameter's type to an outcome of its result's: to a value of that type or to a report, and never to
+-- what goes wrong; and so it stays where further definitions are evaluated. A total function has some outcome for each.
 use Rattle.std.specs.Prelude.{◌≡◌, ◌↔◌, ℕ, ◌<◌, List, [], ◌∷◌, Bool, true, Some}
 use Rattle.std.specs.List.{Contains}
 use mathlib.Core.Logic.{◌⊎◌}
@@ -16,11 +16,14 @@ use Rattle.fut_types.specs.declared.Head.TheVariants as head
 use Rattle.fut_types.specs.Types.{Ty, Var, Made, Tys, none, more}
 use Rattle.fut_typing.specs.Names.{Names, count}
 use Rattle.fut_meaning.specs.Outcomes.{Val}
-use Rattle.fut_meaning.specs.Values.{Scalar_value, Tuple_value, Record_value, Values, no_value, value_and, Fields, no_field, field_and, field, is_before, Call}
+use Rattle.fut_meaning.specs.Values.{Array_value, Scalar_value, Tuple_value, Record_value, Values, no_value, value_and, Fields, no_field, field_and, field, is_before, Call}
+use Rattle.fut_value.specs.Data.{Datums, Shape}
+use Rattle.fut_meaning.specs.Datums.{as_value}
 use Rattle.fut_meaning.specs.Meaning.{Lang, Ever}
 use Rattle.fut_meaning.specs.Programs.{top}
 use Rattle.fut_meaning.specs.Flats.{FlatValue, FlatTops, FlatMode, flat_names}
 use Rattle.fut_meaning.specs.Claims.{Correct}
+use Rattle.type_soundness.specs.Likeness.{All_datums, Like}
 
 abbrev pub FlatValues : Type 0
 FlatValues = Values Ref BindId (Unit {0})
@@ -49,6 +52,10 @@ On_tuple P v = ⊥
 abbrev pub On_record : (FlatFields → Type 0) → FlatValue → Type 0
 On_record P (Record_value fs) = P fs
 On_record P v = ⊥
+
+abbrev pub On_array : (Shape → Datums → Type 0) → FlatValue → Type 0
+On_array P (Array_value row ds) = P row ds
+On_array P v = ⊥
 
 abbrev pub No_value : FlatValues → Type 0
 No_value no_value = Unit {0}
@@ -89,7 +96,9 @@ module _ (N : Names) (integer_at : ℕ → IntType) (M : FlatMode) (budget : ℕ
     pub Fits : Ty → FlatTops → FlatValue → Type 0
     Fits (Var n) tops v = ⊥
     Fits (Made (head.Scalar s) ts) tops v = On_scalar (Is_scalar s) v
-    Fits (Made head.Array ts) tops v = ⊥
+    Fits (Made head.Array none) tops v = ⊥
+    Fits (Made head.Array (more t none)) tops v = On_array (λ row ds. All_datums (λ d. Fits t tops (as_value d) × Like row d) ds) v
+    Fits (Made head.Array (more t (more u ts))) tops v = ⊥
     Fits (Made head.Tuple ts) tops v = (count ts < widest) × On_tuple (All_fit ts tops) v
     Fits (Made (head.Record n) ts) tops v = On_record (λ fs. Are_keys N (N.shapes.fields n) fs × Fields_fit (N.shapes.fields n) ts tops fs) v
     Fits (Made head.Fun none) tops v = ⊥

@@ -1,13 +1,14 @@
 -- What is asked of a program, and what it promises: a typed program has an outcome, none is what goes wrong, and each value
 -- that it gives is of the type of its entry's result.
-use Rattle.std.specs.Prelude.{◌≡◌, ℕ, ◌+◌, ◌<◌, List, [], ◌∷◌, Bool, true, false}
+use Rattle.std.specs.Prelude.{◌≡◌, ℕ, ◌+◌, ◌<◌, ◌≤◌, List, [], ◌∷◌, Bool, true, false}
 use Rattle.fut_scalar.specs.declared.place.BindId.{BindId}
 use Rattle.fut_scalar.specs.declared.scalar.IntType.{IntType}
 use Rattle.fut_flat.specs.declared.program.Definition.{Definition}
 use Rattle.fut_flat.specs.declared.program.Flat.{Flat}
 use Rattle.fut_flat.specs.Numbers.{pattern_numbers, numbers}
 use Rattle.fut_types.specs.declared.Kind.{Kind}
-use Rattle.fut_types.specs.Types.{Ty, Tys, none, more, Sub, Kinds}
+use Rattle.fut_types.specs.declared.Kind.TheVariants as kind
+use Rattle.fut_types.specs.Types.{Ty, Tys, none, more, Sub, Kinds, level}
 use Rattle.fut_typing.specs.Names.{Names, AreNames}
 use Rattle.fut_typing.specs.Scopes.{nothing}
 use Rattle.fut_typing.specs.Patterns.{arrows}
@@ -40,6 +41,8 @@ One_each (d ∷ ds) = None_has d.bind.0 ds × One_each ds
 
 -- a typed program, of which the meaning knows all forms, and whose literals without suffix are told
 pub record Is_typed (N : Names) (places : Kind) (K : Kinds) (a : Sub) (integer_at : ℕ → IntType) (flat : Flat) : Type 0 where
+  -- arrays hold data
+  pub holds_data : level kind.Data ≤ level places
   pub typed : Program_typed N places (program_of flat) K a
   pub meant : Definitions_meant (program_of flat)
   pub told : Definitions_told integer_at a (program_of flat) 0

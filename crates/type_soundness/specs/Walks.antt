@@ -1,5 +1,5 @@
 -- What is asked of a program so that its walk is never lost, and the law.
-use Rattle.std.specs.Prelude.{◌<◌, List, [], ◌∷◌}
+use Rattle.std.specs.Prelude.{◌<◌}
 use Rattle.fut_scalar.specs.declared.place.BindId.{BindId}
 use Rattle.fut_flat.specs.declared.program.Flat.{Flat}
 use Rattle.fut_types.specs.declared.Kind.TheVariants as kind
@@ -7,18 +7,12 @@ use Rattle.fut_types.specs.Types.{Ty, Tys, none, more, Sub, Kinds, HasKind}
 use Rattle.fut_typing.specs.Names.{Names, AreNames, count}
 use Rattle.fut_typing.specs.Scopes.{nothing}
 use Rattle.fut_typing.specs.Patterns.{arrows}
-use Rattle.fut_typing.specs.Program.{Defined, program_of, program_numbers, Program_typed}
+use Rattle.fut_typing.specs.Program.{program_of, program_numbers, Program_typed}
 use Rattle.fut_typing.specs.Exact.{scope_behind}
 use Rattle.fut_meaning.specs.Flats.{flat_tops, named_terms}
 use Rattle.fut_meaning.specs.Comes.{Program_lost}
 use Rattle.type_soundness.specs.Fits.{widest}
-use Rattle.type_soundness.specs.Meant.{No_sizes}
-use Rattle.type_soundness.specs.Walkable.{Walkable}
-use Rattle.type_soundness.specs.Programs.{One_each}
-
-abbrev pub Definitions_walkable : List Defined → Type 0
-Definitions_walkable [] = Unit {0}
-Definitions_walkable (d ∷ ds) = No_sizes [] d.parameters × Walkable (λ k. Unit {0}) d.value × Definitions_walkable ds
+use Rattle.type_soundness.specs.Programs.{Definitions_meant, One_each}
 
 abbrev pub All_hold_data : Kinds → Tys → Type 0
 All_hold_data K none = Unit {0}
@@ -27,7 +21,7 @@ All_hold_data K (more t ts) = HasKind K kind.Data t × All_hold_data K ts
 -- a program that is typed with functions nowhere where data is asked for, of which the walk knows all forms
 pub record Is_walkable (N : Names) (K : Kinds) (a : Sub) (flat : Flat) : Type 0 where
   pub typed : Program_typed N kind.Data (program_of flat) K a
-  pub walkable : Definitions_walkable (program_of flat)
+  pub walkable : Definitions_meant (program_of flat)
   pub once : One_each flat.definitions.now
   pub small : program_numbers (program_of flat) < widest
 

@@ -1,9 +1,13 @@
 //! What typing promises of meaning: a typed program has an outcome, and never goes wrong.
 //!
 //! `specs/Fits.antt` says which values are of a type: a function is where it takes each value of its parameter's type to
-//! outcomes of its result's type. `specs/Programs.antt` says what is asked of a program, and the law. Arrays and sizes come
-//! later: of the forms that are there, `specs/Meant.antt` tells which the meaning knows. `specs/Knows.antt` says what is known of
-//! values of a type before a program runs, and `specs/Walks.antt` is the law that the walk through a typed program is never lost.
+//! outcomes of its result's type, and an array where each row is of the type of its elements and looks as the array says
+//! (`specs/Likeness.antt`). `specs/Programs.antt` says what is asked of a program, and the law. Sizes come later: `specs/Meant.antt`
+//! tells which terms the meaning and the walk know. `specs/Knows.antt` says what is known of values of a type before a program
+//! runs, and `specs/Walks.antt` is the law that the walk through a typed program is never lost.
+//!
+//! A primitive is one lemma in `proofs/DataPrimitives.antt` or `proofs/FunctionPrimitives.antt`, on what it does with data of its
+//! types, and one line in `proofs/Uses.antt`.
 #![tactic(auto)]
 
 ghost use Rattle.type_soundness.specs.Programs.{Has_outcome, Never_wrong};

@@ -1,5 +1,5 @@
 -- Forms are built where their parts are.
-use Rattle.std.proofs.Common.{◌≡◌, ℕ, zero, suc, ◌<◌, ◌≤◌, List, [], ◌∷◌, length, map, refl, sym, subst, arith, Bor}
+use Rattle.std.proofs.Common.{◌≡◌, ℕ, zero, suc, ◌<◌, ◌≤◌, List, [], ◌∷◌, length, map, refl, sym, ap, subst, arith, Bor}
 use Rattle.std.specs.List.{All}
 use Rattle.fut_scalar.specs.declared.place.BindId.{BindId}
 use Rattle.fut_scalar.specs.declared.place.Place.{Place}
@@ -12,16 +12,15 @@ use Rattle.fut_flat.specs.declared.exp.LoopForm.{LoopForm}
 use Rattle.fut_flat.specs.declared.exp.LoopForm.TheVariants as turns
 use Rattle.fut_flat.specs.declared.pat.Pat.{Pat}
 use Rattle.fut_flat.specs.declared.prim.Ref.{Ref}
+use Rattle.fut_flat.specs.declared.prim.Ref.TheVariants as ref
 use Rattle.fut_flat.specs.declared.program.Definition.{Definition}
-use Rattle.fut_flat.specs.Terms.{Operation, Integer, Truth, Tuple_of, Record_of, Array_of, Binary, Negate, Complement, Index, Project, Update, Replace, Ascribe, Coerce, Declared, Assert, Range, Parameter}
+use Rattle.fut_flat.specs.Terms.{Parameter}
 use Rattle.fut_flat.specs.Erased.{FlatTerm, Row, operation_of, pattern_of, patterns, parameters, terms, lets, term_of}
 use Rattle.fut_flat.proofs.ErasedForms.{row_of, turns_of, row_is, loop_is, term_use, term_strict, term_lambda, term_apply, term_lets, term_if, term_loop, turns_counted, turns_over, turns_while}
 use Rattle.fut_typing.specs.Program.{defined}
-use Rattle.type_soundness.specs.Meant.{Has_parameter, No_sizes, Operation_meant, Meant, All_meant}
-use Rattle.type_soundness.specs.Walkable.{Operation_walkable, Walkable, All_walkable, how_many}
+use Rattle.type_soundness.specs.Meant.{how_many, Has_parameter, No_sizes, Operation_meant, Use_meant, Meant, All_meant}
 use Rattle.type_soundness.specs.Programs.{Definitions_meant}
-use Rattle.type_soundness.specs.Walks.{Definitions_walkable}
-use Rattle.typed_programs.specs.Trees.{any, Use_built, Term_built, Turns_built, Act_built, Exp_built, Heads_built, Let_built, Loop_built, Loop_turns_built, Definition_built}
+use Rattle.typed_programs.specs.Trees.{any, Term_built, Turns_built, Act_built, Exp_built, Heads_built, Let_built, Loop_built, Loop_turns_built, Definition_built}
 
 -- the first of a list, and the others
 abbrev pub first_of : {X : Type 0} (P : X → Type 0) (x : X) (xs : List X) → All P (x ∷ xs) → P x
@@ -34,10 +33,16 @@ pub all_more : {X : Type 0} (P : X → Type 0) (x : X) (xs : List X) → P x →
 all_more P x xs h hs zero d lt = h
 all_more P x xs h hs (suc k) d lt = hs k d (omega arith)
 
-parts_built : (es : List Exp) → All Exp_built es → All_meant any (terms (map term_of es)) × All_walkable any (terms (map term_of es))
+parts_built : (es : List Exp) → All Exp_built es → All_meant any (terms (map term_of es))
 unfolding terms Exp_built
-parts_built [] h = (tt, tt)
-parts_built (e ∷ es) h = let r = parts_built es (others Exp_built e es h) in let x = first_of Exp_built e es h in ((x.0, r.0), (x.1, r.1))
+parts_built [] h = tt
+parts_built (e ∷ es) h = (first_of Exp_built e es h, parts_built es (others Exp_built e es h))
+
+-- as many parts as there are
+as_many : (es : List Exp) → how_many (terms (map term_of es)) ≡ length es
+unfolding terms
+as_many [] = refl
+as_many (e ∷ es) = ap suc (as_many es)
 
 row_built : (ls : List LetTree) (body : FlatTerm) → All Let_built ls → Term_built body → Term_built (lets (map row_of ls) body)
 unfolding lets Let_built Heads_built Exp_built
@@ -47,8 +52,7 @@ row_built (l ∷ ls) body h b =
     let x = first_of Let_built l ls h in
     let heads : No_sizes [] (parameters l.heads.now) = x.1 in
     let sized : No_sizes l.sizes.now (parameters l.heads.now) = subst (λ (bs : List BindId). No_sizes bs (parameters l.heads.now)) (sym x.0) heads in
-    subst (λ (row : Row). (No_sizes row.0.sizes row.0.parameters × Meant any row.1 × Meant any (lets (map row_of ls) body)) × (No_sizes row.0.sizes row.0.parameters × Walkable any row.1 × Walkable any (lets (map row_of ls) body)))
-    (sym (row_is l)) ((sized, x.2.0, r.0), (sized, x.2.1, r.1))
+    subst (λ (row : Row). No_sizes row.0.sizes row.0.parameters × Meant any row.1 × Meant any (lets (map row_of ls) body)) (sym (row_is l)) (sized, x.2, r)
 
 has_parameter : (ps : List Pat) → 0 < length ps → Has_parameter (patterns (map pattern_of ps))
 unfolding patterns
@@ -59,20 +63,25 @@ as_term : (e : Exp) (t : FlatTerm) → term_of e ≡ t → Term_built t → Exp_
 unfolding Exp_built
 as_term e t is h = subst Term_built (sym is) h
 
-pub built_use : (e : Exp) (r : Ref) (k : ℕ) → e.form ≡ form.Use r k → Use_built r → Exp_built e
-built_use e r k is h = as_term e _ (term_use e r k is) h
+pub built_use : (e : Exp) (r : Ref) (k : ℕ) → e.form ≡ form.Use r k → Exp_built e
+built_use e r k is = as_term e _ (term_use e r k is) (any_use r)
+  where
+    any_use : (r : Ref) → Use_meant any r
+    any_use (ref.Bound b) = tt
+    any_use (ref.Prim p) = tt
+    any_use (ref.Scalar s) = tt
 
-pub built_strict : (e : Exp) (a : Act) (mark : Place) (es : Bor (List Exp)) → e.form ≡ form.Strict a mark es → Act_built a → All Exp_built es.now → Exp_built e
+pub built_strict : (e : Exp) (a : Act) (mark : Place) (es : Bor (List Exp)) → e.form ≡ form.Strict a mark es → Act_built a (length es.now) → All Exp_built es.now → Exp_built e
 unfolding Act_built
-built_strict e a mark es is o h = let r = parts_built es.now h in as_term e _ (term_strict e a mark es is) ((o.0, r.0), (o.1 (how_many (terms (map term_of es.now))), r.1))
+built_strict e a mark es is o h = as_term e _ (term_strict e a mark es is) (subst (Operation_meant (operation_of a)) (sym (as_many es.now)) o, parts_built es.now h)
 
 pub built_lambda : (e : Exp) (ps : Bor (List Pat)) (b : Bor Exp) → e.form ≡ form.Lambda ps b → 0 < length ps.now → Exp_built b.now → Exp_built e
 unfolding Exp_built
-built_lambda e ps b is lt h = let p = has_parameter ps.now lt in as_term e _ (term_lambda e ps b is) ((p, h.0), (p, h.1))
+built_lambda e ps b is lt h = as_term e _ (term_lambda e ps b is) (has_parameter ps.now lt, h)
 
 pub built_apply : (e : Exp) (f x : Bor Exp) → e.form ≡ form.Apply f x → Exp_built f.now → Exp_built x.now → Exp_built e
 unfolding Exp_built
-built_apply e f x is h k = as_term e _ (term_apply e f x is) ((h.0, k.0), (h.1, k.1))
+built_apply e f x is h k = as_term e _ (term_apply e f x is) (h, k)
 
 pub built_lets : (e : Exp) (ls : Bor (List LetTree)) (b : Bor Exp) → e.form ≡ form.Lets ls b → All Let_built ls.now → Exp_built b.now → Exp_built e
 unfolding Exp_built
@@ -80,7 +89,7 @@ built_lets e ls b is h k = as_term e _ (term_lets e ls b is) (row_built ls.now (
 
 pub built_if : (e : Exp) (c a b : Bor Exp) → e.form ≡ form.If c a b → Exp_built c.now → Exp_built a.now → Exp_built b.now → Exp_built e
 unfolding Exp_built
-built_if e c a b is h k l = as_term e _ (term_if e c a b is) ((h.0, k.0, l.0), (h.1, k.1, l.1))
+built_if e c a b is h k l = as_term e _ (term_if e c a b is) (h, k, l)
 
 pub built_loop : (e : Exp) (l : Bor LoopTree) → e.form ≡ form.Loop l → Loop_built l.now → Exp_built e
 unfolding Loop_built
@@ -90,11 +99,15 @@ pub loop_built : (l : LoopTree) → l.sizes.now ≡ [] → Exp_built l.first →
 unfolding Loop_built Loop_turns_built Exp_built
 loop_built l none h k b =
     let sized : No_sizes l.sizes.now [] = subst (λ (bs : List BindId). No_sizes bs []) (sym none) tt in
-    subst Term_built (sym (loop_is l)) ((sized, h.0, k.0, b.0), (sized, h.1, k.1, b.1))
+    subst Term_built (sym (loop_is l)) (sized, h, k, b)
 
 pub built_counted : (t : LoopForm) (i : BindId) (n : Exp) → t ≡ turns.For i n → Exp_built n → Loop_turns_built t
 unfolding Loop_turns_built Exp_built
 built_counted t i n is h = subst (λ (s : LoopForm). Turns_built (turns_of s)) (sym is) (subst Turns_built (sym (turns_counted i n)) h)
+
+pub built_over : (t : LoopForm) (p : Pat) (x : Exp) → t ≡ turns.ForIn p x → Exp_built x → Loop_turns_built t
+unfolding Loop_turns_built Exp_built
+built_over t p x is h = subst (λ (s : LoopForm). Turns_built (turns_of s)) (sym is) (subst Turns_built (sym (turns_over p x)) h)
 
 pub built_while : (t : LoopForm) (c : Exp) → t ≡ turns.While c → Exp_built c → Loop_turns_built t
 unfolding Loop_turns_built Exp_built
@@ -102,10 +115,10 @@ built_while t c is h = subst (λ (s : LoopForm). Turns_built (turns_of s)) (sym 
 
 -- ---- and only there
 
-parts_were : (es : List Exp) → All_meant any (terms (map term_of es)) → All_walkable any (terms (map term_of es)) → All Exp_built es
+parts_were : (es : List Exp) → All_meant any (terms (map term_of es)) → All Exp_built es
 unfolding terms Exp_built
-parts_were [] m w = λ k d lt. absurd (omega arith)
-parts_were (e ∷ es) m w = all_more Exp_built e es (m.0, w.0) (parts_were es m.1 w.1)
+parts_were [] m = λ k d lt. absurd (omega arith)
+parts_were (e ∷ es) m = all_more Exp_built e es m.0 (parts_were es m.1)
 
 no_sizes_are : (bs : List BindId) (ps : List (Parameter BindId)) → No_sizes bs ps → (bs ≡ []) × No_sizes [] ps
 no_sizes_are [] ps h = (refl, h)
@@ -115,10 +128,10 @@ row_was : (ls : List LetTree) (body : FlatTerm) → Term_built (lets (map row_of
 unfolding lets Let_built Heads_built Exp_built
 row_was [] body h = ((λ k d lt. absurd (omega arith)), h)
 row_was (l ∷ ls) body h =
-    let x = subst (λ (row : Row). (No_sizes row.0.sizes row.0.parameters × Meant any row.1 × Meant any (lets (map row_of ls) body)) × (No_sizes row.0.sizes row.0.parameters × Walkable any row.1 × Walkable any (lets (map row_of ls) body))) (row_is l) h in
-    let sized = no_sizes_are l.sizes.now (parameters l.heads.now) x.0.0 in
-    let r = row_was ls body (x.0.2, x.1.2) in
-    (all_more Let_built l ls (sized.0, sized.1, (x.0.1, x.1.1)) r.0, r.1)
+    let x = subst (λ (row : Row). No_sizes row.0.sizes row.0.parameters × Meant any row.1 × Meant any (lets (map row_of ls) body)) (row_is l) h in
+    let sized = no_sizes_are l.sizes.now (parameters l.heads.now) x.0 in
+    let r = row_was ls body x.2 in
+    (all_more Let_built l ls (sized.0, sized.1, x.1) r.0, r.1)
 
 had_parameter : (ps : List Pat) → Has_parameter (patterns (map pattern_of ps)) → 0 < length ps
 unfolding patterns
@@ -132,40 +145,17 @@ was_term : (e : Exp) (t : FlatTerm) → term_of e ≡ t → Exp_built e → Term
 unfolding Exp_built
 was_term e t is h = subst Term_built is h
 
-pub was_use : (e : Exp) (r : Ref) (k : ℕ) → e.form ≡ form.Use r k → Exp_built e → Use_built r
-was_use e r k is h = was_term e _ (term_use e r k is) h
-
--- what the meaning knows, the walk knows, whatever parts there are
-any_count : (o : Operation Ref BindId) → Operation_meant o → (n : ℕ) → Operation_walkable o n
-any_count (Integer k suffix) h n = tt
-any_count (Truth b) h n = tt
-any_count Tuple_of h n = tt
-any_count (Record_of fs) h n = tt
-any_count Array_of h n = absurd h
-any_count (Binary op) h n = tt
-any_count Negate h n = tt
-any_count Complement h n = tt
-any_count (Index ps) h n = absurd h
-any_count (Project f) h n = tt
-any_count Update h n = absurd h
-any_count (Replace f) h n = h
-any_count (Ascribe u) h n = tt
-any_count (Coerce u) h n = tt
-any_count (Declared u) h n = tt
-any_count Assert h n = tt
-any_count (Range stepped end) h n = absurd h
-
-pub was_strict : (e : Exp) (a : Act) (mark : Place) (es : Bor (List Exp)) → e.form ≡ form.Strict a mark es → Exp_built e → Act_built a × All Exp_built es.now
+pub was_strict : (e : Exp) (a : Act) (mark : Place) (es : Bor (List Exp)) → e.form ≡ form.Strict a mark es → Exp_built e → Act_built a (length es.now) × All Exp_built es.now
 unfolding Act_built
-was_strict e a mark es is h = let x = was_term e _ (term_strict e a mark es is) h in ((x.0.0, λ n. any_count (operation_of a) x.0.0 n), parts_were es.now x.0.1 x.1.1)
+was_strict e a mark es is h = let x = was_term e _ (term_strict e a mark es is) h in (subst (Operation_meant (operation_of a)) (as_many es.now) x.0, parts_were es.now x.1)
 
 pub was_lambda : (e : Exp) (ps : Bor (List Pat)) (b : Bor Exp) → e.form ≡ form.Lambda ps b → Exp_built e → (0 < length ps.now) × Exp_built b.now
 unfolding Exp_built
-was_lambda e ps b is h = let x = was_term e _ (term_lambda e ps b is) h in (had_parameter ps.now x.0.0, (x.0.1, x.1.1))
+was_lambda e ps b is h = let x = was_term e _ (term_lambda e ps b is) h in (had_parameter ps.now x.0, x.1)
 
 pub was_apply : (e : Exp) (f x : Bor Exp) → e.form ≡ form.Apply f x → Exp_built e → Exp_built f.now × Exp_built x.now
 unfolding Exp_built
-was_apply e f x is h = let t = was_term e _ (term_apply e f x is) h in ((t.0.0, t.1.0), (t.0.1, t.1.1))
+was_apply e f x is h = was_term e _ (term_apply e f x is) h
 
 pub was_lets : (e : Exp) (ls : Bor (List LetTree)) (b : Bor Exp) → e.form ≡ form.Lets ls b → Exp_built e → All Let_built ls.now × Exp_built b.now
 unfolding Exp_built
@@ -173,7 +163,7 @@ was_lets e ls b is h = row_was ls.now (term_of b.now) (was_term e _ (term_lets e
 
 pub was_if : (e : Exp) (c a b : Bor Exp) → e.form ≡ form.If c a b → Exp_built e → Exp_built c.now × Exp_built a.now × Exp_built b.now
 unfolding Exp_built
-was_if e c a b is h = let x = was_term e _ (term_if e c a b is) h in ((x.0.0, x.1.0), (x.0.1, x.1.1), (x.0.2, x.1.2))
+was_if e c a b is h = was_term e _ (term_if e c a b is) h
 
 pub was_loop : (e : Exp) (l : Bor LoopTree) → e.form ≡ form.Loop l → Exp_built e → Loop_built l.now
 unfolding Loop_built
@@ -183,33 +173,28 @@ pub loop_was : (l : LoopTree) → Loop_built l → (l.sizes.now ≡ []) × Exp_b
 unfolding Loop_built Loop_turns_built Exp_built
 loop_was l h =
     let x = subst Term_built (loop_is l) h in
-    ((no_sizes_are l.sizes.now [] x.0.0).0, (x.0.1, x.1.1), (x.0.2, x.1.2), (x.0.3, x.1.3))
+    ((no_sizes_are l.sizes.now [] x.0).0, x.1, x.2, x.3)
 
 pub was_counted : (t : LoopForm) (i : BindId) (n : Exp) → t ≡ turns.For i n → Loop_turns_built t → Exp_built n
 unfolding Loop_turns_built Exp_built
 was_counted t i n is h = subst Turns_built (turns_counted i n) (subst (λ (s : LoopForm). Turns_built (turns_of s)) is h)
 
+pub was_over : (t : LoopForm) (p : Pat) (x : Exp) → t ≡ turns.ForIn p x → Loop_turns_built t → Exp_built x
+unfolding Loop_turns_built Exp_built
+was_over t p x is h = subst Turns_built (turns_over p x) (subst (λ (s : LoopForm). Turns_built (turns_of s)) is h)
+
 pub was_while : (t : LoopForm) (c : Exp) → t ≡ turns.While c → Loop_turns_built t → Exp_built c
 unfolding Loop_turns_built Exp_built
 was_while t c is h = subst Turns_built (turns_while c) (subst (λ (s : LoopForm). Turns_built (turns_of s)) is h)
-
-pub never_over : (t : LoopForm) (p : Pat) (a : Exp) → t ≡ turns.ForIn p a → Loop_turns_built t → ⊥
-unfolding Loop_turns_built
-never_over t p a is h = (subst Turns_built (turns_over p a) (subst (λ (s : LoopForm). Turns_built (turns_of s)) is h)).0
 
 -- ---- programs
 
 pub definitions_meant : (ds : List Definition) → All Definition_built ds → Definitions_meant (map defined ds)
 unfolding Definition_built Heads_built Exp_built
 definitions_meant [] h = tt
-definitions_meant (d ∷ ds) h = let x = first_of Definition_built d ds h in (x.0, x.1.0, definitions_meant ds (others Definition_built d ds h))
+definitions_meant (d ∷ ds) h = let x = first_of Definition_built d ds h in (x.0, x.1, definitions_meant ds (others Definition_built d ds h))
 
-pub definitions_walkable : (ds : List Definition) → All Definition_built ds → Definitions_walkable (map defined ds)
+pub definitions_were : (ds : List Definition) → Definitions_meant (map defined ds) → All Definition_built ds
 unfolding Definition_built Heads_built Exp_built
-definitions_walkable [] h = tt
-definitions_walkable (d ∷ ds) h = let x = first_of Definition_built d ds h in (x.0, x.1.1, definitions_walkable ds (others Definition_built d ds h))
-
-pub definitions_were : (ds : List Definition) → Definitions_meant (map defined ds) → Definitions_walkable (map defined ds) → All Definition_built ds
-unfolding Definition_built Heads_built Exp_built
-definitions_were [] m w = λ k d lt. absurd (omega arith)
-definitions_were (d ∷ ds) m w = all_more Definition_built d ds (m.0, (m.1, w.1)) (definitions_were ds m.2 w.2)
+definitions_were [] m = λ k d lt. absurd (omega arith)
+definitions_were (d ∷ ds) m = all_more Definition_built d ds (m.0, m.1) (definitions_were ds m.2)

@@ -1,5 +1,5 @@
 -- What the form of a node says of its type.
-use Rattle.std.proofs.Common.{◌≡◌, Bool, true, false, ℕ, zero, suc, ◌==◌, ◌≤◌, ◌<◌, List, min, refl, sym, ◌∙◌, ap, subst, arith, Some, None, Result, Ok, Err, IfOk, IfErr, if◌then◌else◌}
+use Rattle.std.proofs.Common.{◌≡◌, Bool, true, false, ℕ, zero, suc, ◌==◌, ◌≤◌, ◌<◌, min, refl, sym, ◌∙◌, ap, subst, arith, Some, None, Result, Ok, Err, IfOk, IfErr, if◌then◌else◌}
 use Rattle.std.proofs.lemmas.Bool.{eqb-true, eqb-false}
 use Rattle.std.proofs.Math.Nat.{min-le_left}
 use Rattle.fut_scalar.specs.declared.scalar.IntType.{IntType}

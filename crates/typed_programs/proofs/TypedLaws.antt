@@ -108,8 +108,8 @@ module _ (flat : Flat) (inference : Inference) (integers : List IntType) (built 
         types = has.types;
         typing = has.typing;
         comes = has.comes;
-        typed = record { typed = typed; meant = built.meant; told = definitions_told N K has.types integers (program_numbers ds) tells ds 0 nothing (omega arith) typed; once = once_each flat.definitions.now built.rising; small = small };
-        walkable = record { typed = typed; walkable = built.walkable; once = once_each flat.definitions.now built.rising; small = small };
+        typed = record { holds_data = omega arith; typed = typed; meant = built.meant; told = definitions_told N K has.types integers (program_numbers ds) tells ds 0 nothing (omega arith) typed; once = once_each flat.definitions.now built.rising; small = small };
+        walkable = record { typed = typed; walkable = built.meant; once = once_each flat.definitions.now built.rising; small = small };
       }
 
   pub program_typed : Infers (program_of flat) inference → Nodes_tell inference.nodes integers (length inference.nodes) → Told_by (Typed_by flat inference integers) inference

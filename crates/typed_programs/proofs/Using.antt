@@ -5,6 +5,7 @@ use mathlib.Core.Logic.{inl, inr}
 use Rattle.fut_scalar.specs.declared.place.BindId.{BindId}
 use Rattle.fut_scalar.specs.declared.scalar.IntType.{IntType}
 use Rattle.fut_scalar.specs.declared.scalar.IntType.TheVariants as int
+use Rattle.fut_scalar.specs.declared.sizes.DataType.{DataType}
 use Rattle.fut_scalar.specs.declared.scalar.ScalarType.{ScalarType}
 use Rattle.fut_scalar.specs.declared.scalar.ScalarType.TheVariants as scalar
 use Rattle.fut_flat.specs.declared.pat.Head.{Head}
@@ -34,7 +35,7 @@ use Rattle.type_infer.specs.Reading.{Reads, Comes_to, Generally, node_default}
 use Rattle.flat_numbers.specs.Listed.{AreHomes}
 use Rattle.type_soundness.specs.Meant.{No_sizes}
 use Rattle.type_soundness.specs.Programs.{Definitions_meant, None_has, One_each}
-use Rattle.typed_programs.specs.EntryTypes.{scalar_tys, Results_are, Has_entry_type, number_of}
+use Rattle.typed_programs.specs.EntryTypes.{array_ty, data_ty, data_tys, Results_are, Has_entry_type, number_of}
 use Rattle.typed_programs.specs.Entries.{Type_is, No_entry_type, May_be_used, Is_unwritten, Is_outside}
 use Rattle.typed_programs.proofs.EntryTypes.{parameters_data, results_data}
 use Rattle.typed_programs.proofs.TypedLaws.{typing_holds}
@@ -94,23 +95,31 @@ behind_counted (d ∷ ds) lo = let r = behind_counted ds (lo + (1 + numbers (ter
 
 -- ---- instances of types
 
--- a row of scalars, and a function of scalars, have no other instance
-scalars_stay : (by : Sub) (ss : List ScalarType) → all_applied by (scalar_tys ss) ≡ scalar_tys ss
-unfolding applied scalar_tys
-scalars_stay by [] = refl
-scalars_stay by (s ∷ ss) = ap (more (scalar_ty s)) (scalars_stay by ss)
+-- data of an entry, a row of such, and a function of it, have no other instance
+arrays_stay : (by : Sub) (r : ℕ) (s : ScalarType) → applied by (array_ty r (scalar_ty s)) ≡ array_ty r (scalar_ty s)
+unfolding applied
+arrays_stay by zero s = refl
+arrays_stay by (suc r) s = ap (λ t. Made head.Array (more t none)) (arrays_stay by r s)
 
-result_stays : (by : Sub) (tuple : Bool) (rs : List ScalarType) (u : Ty) → Results_are tuple rs u → applied by u ≡ u
+data_stays : (by : Sub) (t : DataType) → applied by (data_ty t) ≡ data_ty t
+data_stays by t = arrays_stay by t.rank t.elem
+
+row_stays : (by : Sub) (ss : List DataType) → all_applied by (data_tys ss) ≡ data_tys ss
+unfolding applied data_tys
+row_stays by [] = refl
+row_stays by (s ∷ ss) = λ i. more (data_stays by s i) (row_stays by ss i)
+
+result_stays : (by : Sub) (tuple : Bool) (rs : List DataType) (u : Ty) → Results_are tuple rs u → applied by u ≡ u
 unfolding applied
 result_stays by false [] u r = absurd r
-result_stays by false (s ∷ []) u r = ap (applied by) r ∙ sym r
+result_stays by false (s ∷ []) u r = ap (applied by) r ∙ data_stays by s ∙ sym r
 result_stays by false (s ∷ t ∷ rs) u r = absurd r
-result_stays by true rs u r = ap (applied by) r.1 ∙ ap (Made head.Tuple) (scalars_stay by rs) ∙ sym r.1
+result_stays by true rs u r = ap (applied by) r.1 ∙ ap (Made head.Tuple) (row_stays by rs) ∙ sym r.1
 
-entry_stays : (by : Sub) (ps : List ScalarType) (u : Ty) → applied by u ≡ u → applied by (arrows (scalar_tys ps) u) ≡ arrows (scalar_tys ps) u
-unfolding applied scalar_tys
+entry_stays : (by : Sub) (ps : List DataType) (u : Ty) → applied by u ≡ u → applied by (arrows (data_tys ps) u) ≡ arrows (data_tys ps) u
+unfolding applied data_tys
 entry_stays by [] u e = e
-entry_stays by (p ∷ ps) u e = ap (fun_ty (scalar_ty p)) (entry_stays by ps u e)
+entry_stays by (p ∷ ps) u e = λ i. fun_ty (data_stays by p i) (entry_stays by ps u e i)
 
 -- a type of which two instances are the same is that, if what both put is the same only where nothing is put
 mutual
@@ -187,25 +196,25 @@ module _ (flat : Flat) (inference : Inference) (at : ℕ) (lt : at < length flat
     from t i = subst (λ (w : Uses). w K a t) (sym (uses_at N kind.Data K a flat.definitions.now at other 0 nothing lt once)) ((scheme_of.uses t).1 i)
 
     -- its type has no other instance
-    one_type : (params : List ScalarType) (tuple : Bool) (results : List ScalarType) → Type_is (Generally inference.nodes) (number_of flat at) params tuple results → Has_entry_type uses K a params tuple results
+    one_type : (params : List DataType) (tuple : Bool) (results : List DataType) → Type_is (Generally inference.nodes) (number_of flat at) params tuple results → Has_entry_type uses K a params tuple results
     one_type params tuple results is =
         let r = is scheme_of.scheme.type scheme_of.shown in
-        let stays : (by : Sub) → applied by scheme_of.scheme.type ≡ arrows (scalar_tys params) r.0 = λ by. ap (applied by) r.2 ∙ entry_stays by params r.0 (result_stays by tuple results r.0 r.1) in record {
+        let stays : (by : Sub) → applied by scheme_of.scheme.type ≡ arrows (data_tys params) r.0 = λ by. ap (applied by) r.2 ∙ entry_stays by params r.0 (result_stays by tuple results r.0 r.1) in record {
           result = r.0;
           results_are = r.1;
-          used = from (arrows (scalar_tys params) r.0) ((λ v. all_put int.I32 (scheme_of.scheme.general v) v), puts_integers scheme_of.scheme K int.I32, sym (stays (λ v. all_put int.I32 (scheme_of.scheme.general v) v)));
+          used = from (arrows (data_tys params) r.0) ((λ v. all_put int.I32 (scheme_of.scheme.general v) v), puts_integers scheme_of.scheme K int.I32, sym (stays (λ v. all_put int.I32 (scheme_of.scheme.general v) v)));
           only = λ t u. let i = to t u in i.2 ∙ stays i.0;
         }
 
     -- a type of which each instance is one of an entry is that
-    not_one : No_entry_type (Generally inference.nodes) (number_of flat at) → (params : List ScalarType) (tuple : Bool) (results : List ScalarType) → Has_entry_type uses K a params tuple results → ⊥
+    not_one : No_entry_type (Generally inference.nodes) (number_of flat at) → (params : List DataType) (tuple : Bool) (results : List DataType) → Has_entry_type uses K a params tuple results → ⊥
     not_one deny params tuple results h =
         let put : IntType → Sub = λ t v. all_put t (scheme_of.scheme.general v) v in
-        let is : (t : IntType) → applied (put t) scheme_of.scheme.type ≡ arrows (scalar_tys params) h.result = λ t. h.only (applied (put t) scheme_of.scheme.type) (from (applied (put t) scheme_of.scheme.type) (put t, puts_integers scheme_of.scheme K t, refl)) in
+        let is : (t : IntType) → applied (put t) scheme_of.scheme.type ≡ arrows (data_tys params) h.result = λ t. h.only (applied (put t) scheme_of.scheme.type) (from (applied (put t) scheme_of.scheme.type) (put t, puts_integers scheme_of.scheme K t, refl)) in
         deny scheme_of.scheme.type scheme_of.shown params tuple results
         (h.result, h.results_are, sym (unmoved (put int.I32) (put int.U8) (λ v e. put_apart (scheme_of.scheme.general v) v e) scheme_of.scheme.type (is int.I32 ∙ sym (is int.U8))) ∙ is int.I32)
 
-  pub may_be_used : (params : List ScalarType) (tuple : Bool) (results : List ScalarType) → Type_is (Generally inference.nodes) (number_of flat at) params tuple results → May_be_used flat inference at params tuple results
+  pub may_be_used : (params : List DataType) (tuple : Bool) (results : List DataType) → Type_is (Generally inference.nodes) (number_of flat at) params tuple results → May_be_used flat inference at params tuple results
   may_be_used params tuple results is = record {
     entry = λ other N numbered K a typed shown. one_type other N numbered K a typed shown params tuple results is;
     takes_data = λ K. parameters_data K params;
@@ -216,7 +225,7 @@ module _ (flat : Flat) (inference : Inference) (at : ℕ) (lt : at < length flat
   none_outside deny = inr (λ other N numbered K a typed shown. not_one other N numbered K a typed shown deny)
 
   -- an entry's definition is not outside
-  pub not_outside : (params : List ScalarType) (tuple : Bool) (results : List ScalarType) → Type_is (Generally inference.nodes) (number_of flat at) params tuple results → Is_outside flat inference at → ⊥
+  pub not_outside : (params : List DataType) (tuple : Bool) (results : List DataType) → Type_is (Generally inference.nodes) (number_of flat at) params tuple results → Is_outside flat inference at → ⊥
   not_outside params tuple results is (inl types) = let some : Definition = some_definition flat.definitions.now at lt in let e : true ≡ false = sym (types some) ∙ plain some in cc
   not_outside params tuple results is (inr deny) =
       let some : Definition = some_definition flat.definitions.now at lt in

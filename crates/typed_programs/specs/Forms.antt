@@ -26,6 +26,11 @@ abbrev pub function_form : Form → Option ℕ
 function_form (form.Made head.Fun x n) = if n == 2 then Some x else None
 function_form f = None
 
+-- of an array, the node of its rows' type
+abbrev pub array_form : Form → Option ℕ
+array_form (form.Made head.Array x n) = if n == 1 then Some x else None
+array_form f = None
+
 -- of a tuple, the first node of its parts, and how many there are
 abbrev pub tuple_form : Form → Option (ℕ × ℕ)
 tuple_form (form.Made head.Tuple x n) = Some (x, n)

@@ -3,7 +3,7 @@ ghost use Rattle.std.specs.Prelude.{◌≡◌, [], true, false};
 ghost use Rattle.std.specs.List.{All};
 ghost use Rattle.typed_programs.specs.Trees.{Exp_built, Let_built, Loop_built, Loop_turns_built};
 
-use crate::operations::{act_is_built, heads_are_built, use_is_built};
+use crate::operations::{act_is_built, heads_are_built};
 use fut_flat::{Exp, Form, Let, Loop, LoopForm};
 use fut_scalar::BindId;
 
@@ -22,8 +22,8 @@ pub(crate) fn exp_is_built(exp: &Exp<'_>) -> bool
     ensures unbuilt { result ≡ false → Exp_built exp.now → ⊥ }
 {
     match exp.form {
-        Form::Use(used, _) => use_is_built(used),
-        Form::Strict { act, parts, .. } => act_is_built(act) && parts_are_built(parts),
+        Form::Use(_, _) => true,
+        Form::Strict { act, parts, .. } => act_is_built(act, parts.len()) && parts_are_built(parts),
         Form::Lambda(params, body) => params.len() > 0 && exp_is_built(body),
         Form::Apply(function, argument) => exp_is_built(function) && exp_is_built(argument),
         Form::Lets(lets, body) => lets_are_built(lets) && exp_is_built(body),
@@ -81,7 +81,7 @@ fn loop_is_built(turning: &Loop<'_>) -> bool
     turns_are_built(turning) && exp_is_built(&turning.body)
 }
 
-/// Whether what says how often a loop turns is built: all but going over an array.
+/// Whether what says how often a loop turns is built.
 #[cycle(term)]
 fn turns_are_built(turning: &Loop<'_>) -> bool
     ensures built { result ≡ true → Loop_turns_built turning.now.form }
@@ -89,7 +89,7 @@ fn turns_are_built(turning: &Loop<'_>) -> bool
 {
     match turning.form {
         LoopForm::For(_, bound) => exp_is_built(&bound),
-        LoopForm::ForIn(_, _) => false,
+        LoopForm::ForIn(_, array) => exp_is_built(&array),
         LoopForm::While(test) => exp_is_built(&test),
     }
 }

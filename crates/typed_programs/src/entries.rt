@@ -5,24 +5,25 @@ ghost use Rattle.type_graph.specs.Graph.{IsGraph};
 ghost use Rattle.type_infer.specs.Inferring.{Infers};
 ghost use Rattle.type_infer.specs.Reading.{Generally};
 ghost use Rattle.typed_programs.specs.Built.{Is_built};
-ghost use Rattle.typed_programs.specs.Entries.{Because, Is_outside, Is_unwritten, May_be_used, No_entry_type, No_function, No_results, No_scalar, No_scalars, Parameters_are, Pushed, Results_at, Row_is, Type_is};
+ghost use Rattle.typed_programs.specs.Entries.{Because, Is_outside, Is_unwritten, Levels_are, May_be_used, No_array, No_entry_type, No_function, No_results, No_data, No_row_of_data, Parameters_are, Pushed, Results_at, Row_is, Type_is};
 ghost use Rattle.typed_programs.specs.EntryTypes.{number_of};
 
-use crate::forms::{function_of, scalar_of, tuple_of};
+use crate::forms::{array_of, function_of, scalar_of, tuple_of};
 use flat_numbers::homes;
 use fut_flat::Flat;
-use fut_scalar::{List, ScalarType};
+use fut_scalar::{DataType, List};
 use std::alloc::Global;
 use type_infer::general_type_at;
 use type_scopes::Inference;
 
-/// A type from which a run may begin: parameters are scalars, and so is the result, or it is a tuple of two or more.
+/// A type from which a run may begin: each parameter is a scalar or an array of scalars, and so is the result, or it is a tuple
+/// of two or more of these.
 #[derive(Drop)]
 pub struct EntryType {
-    pub params: List<ScalarType>,
+    pub params: List<DataType>,
     /// Whether the result is a tuple; else there is one.
     pub tuple: bool,
-    pub results: List<ScalarType>,
+    pub results: List<DataType>,
 }
 
 /// Why a run may not begin at a definition.
@@ -33,20 +34,56 @@ pub enum EntryTypeErr {
     Memory,
 }
 
-/// Puts the scalar type of a node behind others. What is generalised has none, though i32 stands for it where its type is
-/// asked for.
-fn push_scalar(
+/// A node below so many levels of arrays.
+#[derive(Clone, Copy)]
+struct Below {
+    node: u32,
+    rank: u32,
+}
+
+/// The node below all levels of arrays that a node's type has.
+fn below_arrays(inference: &Inference<'_>, node: u32) -> Result<Below, EntryTypeErr>
+    requires graph { IsGraph inference.now.nodes }
+    requires node { node < length inference.now.nodes }
+    ensures within { IfOk result (λ below. below.node < length inference.now.nodes) }
+    ensures levels { IfOk result (λ below. Levels_are (Generally inference.now.nodes) node below.rank below.node) }
+    ensures last { IfOk result (λ below. No_array (Generally inference.now.nodes) below.node) }
+    ensures err { IfErr result (Because ⊥) }
+{
+    let mut below = Below { node, rank: 0 };
+    for _ in 0..inference.nodes.len() {
+        match array_of(general_type_at(inference, below.node)) {
+            Some(rows) => match below.rank.checked_add(1) {
+                Some(rank) => below = Below { node: rows, rank },
+                None => return Err(EntryTypeErr::Memory),
+            },
+            None => return Ok(below),
+        }
+    }
+    Err(EntryTypeErr::Memory)
+}
+
+/// Puts the type of a node behind others: a scalar, or an array of scalars. What is generalised has none, though i32 stands
+/// for it where its type is asked for.
+fn push_data(
     inference: &Inference<'_>,
     node: u32,
-    scalars: &mut List<ScalarType>,
+    types: &mut List<DataType>,
 ) -> Result<(), EntryTypeErr>
     requires graph { IsGraph inference.now.nodes }
     requires node { node < length inference.now.nodes }
-    ensures ok { OnOk result (Pushed (Generally inference.now.nodes) node scalars.old scalars.new) }
-    ensures err { IfErr result (Because (No_scalar (Generally inference.now.nodes) node)) }
+    ensures ok { OnOk result (Pushed (Generally inference.now.nodes) node types.old types.new) }
+    ensures err { IfErr result (Because (No_data (Generally inference.now.nodes) node)) }
 {
-    match scalar_of(general_type_at(inference, node)) {
-        Some(scalar) => match scalars.push(scalar) {
+    let below = match below_arrays(inference, node) {
+        Ok(below) => below,
+        Err(error) => return Err(error),
+    };
+    match scalar_of(general_type_at(inference, below.node)) {
+        Some(elem) => match types.push(DataType {
+            elem,
+            rank: below.rank,
+        }) {
             Ok(()) => Ok(()),
             Err(_) => Err(EntryTypeErr::Memory),
         },
@@ -58,7 +95,7 @@ fn push_scalar(
 fn params_of(
     inference: &Inference<'_>,
     number: u32,
-    params: &mut List<ScalarType>,
+    params: &mut List<DataType>,
 ) -> Result<u32, EntryTypeErr>
     requires graph { IsGraph inference.now.nodes }
     requires number { number < length inference.now.nodes }
@@ -71,7 +108,7 @@ fn params_of(
     let mut node = number;
     for _ in 0..inference.nodes.len() {
         match function_of(general_type_at(inference, node)) {
-            Some(first) => match push_scalar(inference, first, params) {
+            Some(first) => match push_data(inference, first, params) {
                 Ok(()) => node = first + 1,
                 Err(error) => return Err(error),
             },
@@ -81,21 +118,21 @@ fn params_of(
     Err(EntryTypeErr::Memory)
 }
 
-/// The scalar types of so many nodes in a row.
-fn scalars_of(
+/// The types of so many nodes in a row.
+fn row_of(
     inference: &Inference<'_>,
     first: u32,
     count: u32,
-    scalars: &mut List<ScalarType>,
+    types: &mut List<DataType>,
 ) -> Result<(), EntryTypeErr>
     requires graph { IsGraph inference.now.nodes }
     requires within { first + count ≤ length inference.now.nodes }
-    requires none { scalars.old ≡ [] }
-    ensures ok { OnOk result (Row_is (Generally inference.now.nodes) first count scalars.new) }
-    ensures err { IfErr result (Because (No_scalars (Generally inference.now.nodes) first count)) }
+    requires none { types.old ≡ [] }
+    ensures ok { OnOk result (Row_is (Generally inference.now.nodes) first count types.new) }
+    ensures err { IfErr result (Because (No_row_of_data (Generally inference.now.nodes) first count)) }
 {
     for at in 0..count {
-        match push_scalar(inference, first + at, scalars) {
+        match push_data(inference, first + at, types) {
             Ok(()) => {}
             Err(error) => return Err(error),
         }
@@ -103,11 +140,11 @@ fn scalars_of(
     Ok(())
 }
 
-/// The scalar types of a result, and whether it is a tuple.
+/// The types of a result, and whether it is a tuple.
 fn results_of(
     inference: &Inference<'_>,
     node: u32,
-    results: &mut List<ScalarType>,
+    results: &mut List<DataType>,
 ) -> Result<bool, EntryTypeErr>
     requires graph { IsGraph inference.now.nodes }
     requires node { node < length inference.now.nodes }
@@ -120,12 +157,12 @@ fn results_of(
             if count < 2 {
                 return Err(EntryTypeErr::Outside);
             }
-            match scalars_of(inference, first, count, results) {
+            match row_of(inference, first, count, results) {
                 Ok(()) => Ok(true),
                 Err(error) => Err(error),
             }
         }
-        None => match push_scalar(inference, node, results) {
+        None => match push_data(inference, node, results) {
             Ok(()) => Ok(false),
             Err(error) => Err(error),
         },

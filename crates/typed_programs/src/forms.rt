@@ -1,6 +1,6 @@
 // What the form of a node says of its type.
 ghost use Rattle.std.specs.Prelude.{◌≡◌};
-ghost use Rattle.typed_programs.specs.Forms.{function_form, integer_form, scalar_form, tuple_form};
+ghost use Rattle.typed_programs.specs.Forms.{array_form, function_form, integer_form, scalar_form, tuple_form};
 
 use fut_scalar::{IntType, ScalarType};
 use fut_types::{Head, Kind};
@@ -37,6 +37,16 @@ pub(crate) fn function_of(form: Form) -> Option<u32>
 {
     match form {
         Form::Made(Head::Fun, first, count) => { if count == 2 { Some(first) } else { None } }
+        _ => None,
+    }
+}
+
+/// Of an array, the node of its rows' type.
+pub(crate) fn array_of(form: Form) -> Option<u32>
+    ensures { result ≡ array_form form }
+{
+    match form {
+        Form::Made(Head::Array, first, count) => { if count == 1 { Some(first) } else { None } }
         _ => None,
     }
 }

@@ -1,15 +1,14 @@
-//! What is known of a program once it has been typed, as the laws of its meaning and of its walk ask for it.
+//! From a flat program to its types, and to all that the laws of its meaning and of its walk ask for.
 //!
-//! `specs/Typed.antt` says what that is; it is read off the graph that inference leaves. `specs/Entries.antt` says from which
-//! definitions a run may begin.
+//! [`typed_program`] answers the types of a program that has a typing to go on with, and what is known of it then
+//! (`specs/Known.antt`); of another it tells why it has none, and where that shows (`specs/Mistyped.antt`). [`is_built`] asks
+//! whether a program has only forms that are built; it stands behind a check of the tokens, which refuses each text of a form
+//! that is not built yet, and goes once all are.
 //!
-//! Whether a program has only forms that are built.
-//!
-//! It stands behind a check of the tokens, which refuses each text of a form that is not built yet, and goes once all are.
-//!
-//! The types of a program: whether it has a typing to go on with, and where it shows that it has none.
-//!
-//! What is known of a program that has one is told by `specs/Known.antt`, and why another has none by `specs/Mistyped.antt`.
+//! [`integer_types`] gives the type of each integer without a suffix, read off the graph that inference leaves. The program is
+//! then one of which the laws of its meaning speak: it never goes wrong, and its walk is never lost (`specs/Typed.antt`).
+//! [`entry_type`] tells the type of a definition from which a run may begin, exactly (`specs/Entries.antt`,
+//! `EntryTypes.antt`).
 #![tactic(auto)]
 
 mod built;

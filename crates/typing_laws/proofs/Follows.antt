@@ -9,6 +9,7 @@ use Rattle.fut_ast.specs.Sorts.{Text}
 use Rattle.fut_flat.specs.declared.act.Part.{Part}
 use Rattle.fut_flat.specs.declared.act.Part.TheVariants as part
 use Rattle.fut_flat.specs.declared.prim.Primitive.{Primitive as Prim}
+use Rattle.fut_flat.specs.declared.prim.Folding.TheVariants as folding
 use Rattle.fut_flat.specs.declared.prim.Primitive.TheVariants as prim
 use Rattle.fut_flat.specs.declared.prim.Ref.{Ref}
 use Rattle.fut_flat.specs.declared.prim.Ref.TheVariants as ref
@@ -165,6 +166,10 @@ module _ (turn : Turn) (I : Reading) where
   sent_prim given (prim.Lowest t) = refl
   sent_prim given (prim.Highest t) = refl
   sent_prim given (prim.NumBits t) = refl
+  sent_prim given (prim.Fold folding.Sum t) = refl
+  sent_prim given (prim.Fold folding.Product t) = refl
+  sent_prim given (prim.Fold folding.Minimum t) = refl
+  sent_prim given (prim.Fold folding.Maximum t) = refl
 
 module _ (M N : Names) (turn : Turn) (faithful : Faithful M N turn) (places : Kind) (K K' : Kinds) (I : Reading) (suited : Suited K K' I) where
   pub sent_kind : (k : Kind) (t : Ty) → HasKind K k t → HasKind K' k (sent turn I t)

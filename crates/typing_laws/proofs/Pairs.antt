@@ -7,6 +7,7 @@ use Rattle.fut_ast.specs.Sorts.{Text}
 use Rattle.fut_flat.specs.declared.act.Part.{Part}
 use Rattle.fut_flat.specs.declared.act.Part.TheVariants as part
 use Rattle.fut_flat.specs.declared.prim.Primitive.{Primitive as Prim}
+use Rattle.fut_flat.specs.declared.prim.Folding.TheVariants as folding
 use Rattle.fut_flat.specs.declared.prim.Primitive.TheVariants as prim
 use Rattle.fut_flat.specs.declared.prim.Ref.{Ref}
 use Rattle.fut_flat.specs.Terms.{Patterns, no_pattern, pattern_and, Parameter, Operation, Integer, Truth, Tuple_of, Record_of, Array_of, Binary, Negate, Complement, Index, Project, Update, Replace, Ascribe, Coerce, Declared, Assert, Range, Terms, no_term, term_and}
@@ -90,6 +91,10 @@ module _ (N : Names) (places : Kind) (ps : List (Parameter BindId)) (c : Sub) (F
   lift_prim g g' (prim.Lowest t) = refl
   lift_prim g g' (prim.Highest t) = refl
   lift_prim g g' (prim.NumBits t) = refl
+  lift_prim g g' (prim.Fold folding.Sum t) = refl
+  lift_prim g g' (prim.Fold folding.Product t) = refl
+  lift_prim g g' (prim.Fold folding.Minimum t) = refl
+  lift_prim g g' (prim.Fold folding.Maximum t) = refl
 
   module _ (a b : Sub) where
     pub lift_terms : (ts : Terms Ref BindId) (lo : ℕ) → term_types (two a b) ts lo ≡ lift_all (term_types a ts lo) (term_types b ts lo)

@@ -1,56 +1,27 @@
--- The tokens of forms that are not built: those of arrays, of sizes, of uniqueness and of modules.
-use Rattle.std.specs.Prelude.{ℕ, ◌+◌, ◌-◌, ◌==◌, Bool, true, false, ◌||◌, if◌then◌else◌, List, [], ◌∷◌, Option, Some, None}
+-- The tokens of forms that are not built: those of sizes, of updates and uniqueness, and of modules. Most are told by
+-- themselves. A bracket, a `*` and a size are told by what they stand in: an expression, the head of a lambda, or a type.
+use Rattle.std.specs.Prelude.{ℕ, ◌-◌, Bool, true, false, ◌||◌, if◌then◌else◌, List, [], ◌∷◌, ◌++◌, length, take, slice_get, Option, Some, None}
 use Rattle.std.specs.List.{list_any}
 use Rattle.std.specs.Str.{bytes_eq}
 use Rattle.fut_scalar.specs.declared.place.Place.{Place}
-use Rattle.fut_scalar.specs.declared.scalar.ScalarType.{ScalarType}
-use Rattle.fut_scalar.specs.declared.scalar.ScalarType.TheVariants as scalar
-use Rattle.fut_flat.specs.declared.prim.Primitive.{Primitive}
-use Rattle.fut_primitives.specs.Names.{primitive_of, scalar_of}
 use Rattle.fut_token.specs.declared.token.Token.{Token}
 use Rattle.fut_token.specs.declared.token.TokenKind.{TokenKind}
 use Rattle.fut_token.specs.declared.token.TokenKind.TheVariants as token
 use Rattle.fut_token.specs.declared.token.Fixed.TheVariants as fixed
-use Rattle.unbuilt_tokens.specs.declared.words.TheConstants.{ARRAY_DEFINITIONS, ARRAY_MEMBERS}
+use Rattle.unbuilt_tokens.specs.declared.words.TheConstants.{WRITING_PRIMITIVES}
 use Rattle.unbuilt_tokens.specs.declared.steps.Before.{Before}
-use Rattle.unbuilt_tokens.specs.declared.steps.Before.TheVariants.{IntegerType, Point, Other}
+use Rattle.unbuilt_tokens.specs.declared.steps.Before.TheVariants.{Atom, Point, Other}
+use Rattle.unbuilt_tokens.specs.declared.steps.Bracket.{Bracket}
 use Rattle.unbuilt_tokens.specs.declared.steps.Reading.{Reading}
 use Rattle.unbuilt_tokens.specs.declared.steps.Sign.{Sign}
 use Rattle.unbuilt_tokens.specs.declared.steps.Sign.TheVariants as sign
 use Rattle.unbuilt_tokens.specs.declared.steps.Within.{Within}
-use Rattle.unbuilt_tokens.specs.declared.steps.Within.TheVariants.{Term, Head, Typed, Turns}
-
--- ---- names
-
-abbrev pub is_primitive : Option Primitive → Bool
-is_primitive (Some p) = true
-is_primitive None = false
-
--- a primitive that works on arrays, or a definition of the prelude that does
-unfoldable pub is_unbuilt_name : List ℕ → Bool
-is_unbuilt_name name = is_primitive (primitive_of name) || list_any (λ word. bytes_eq word.now name) ARRAY_DEFINITIONS
-
-unfoldable pub is_unbuilt_member : List ℕ → Bool
-is_unbuilt_member name = list_any (λ word. bytes_eq word.now name) ARRAY_MEMBERS
-
-abbrev pub is_integer : Option ScalarType → Bool
-is_integer (Some (scalar.Int t)) = true
-is_integer (Some scalar.Bool) = false
-is_integer None = false
-
-unfoldable pub is_integer_type : List ℕ → Bool
-is_integer_type name = is_integer (scalar_of name)
+use Rattle.unbuilt_tokens.specs.declared.steps.Within.TheVariants.{Term, Begun, Named, Head, Typed, Inner}
 
 -- ---- what a token is to what it stands in
 
 abbrev pub sign_of : TokenKind → Sign
-sign_of (token.Fixed fixed.OpenBracket) = sign.Unbuilt
-sign_of (token.Fixed fixed.CloseBracket) = sign.Unbuilt
 sign_of (token.Fixed fixed.ColonGreater) = sign.Unbuilt
-sign_of (token.Fixed fixed.DotDot) = sign.Unbuilt
-sign_of (token.Fixed fixed.DotDotLess) = sign.Unbuilt
-sign_of (token.Fixed fixed.DotDotGreater) = sign.Unbuilt
-sign_of (token.Fixed fixed.DotDotDot) = sign.Unbuilt
 sign_of (token.Fixed fixed.KeyModule) = sign.Unbuilt
 sign_of (token.Fixed fixed.KeyOpen) = sign.Unbuilt
 sign_of (token.Fixed fixed.KeyLocal) = sign.Unbuilt
@@ -58,9 +29,12 @@ sign_of (token.Fixed fixed.KeyInclude) = sign.Unbuilt
 sign_of (token.Fixed fixed.KeyImport) = sign.Unbuilt
 sign_of (token.Fixed fixed.KeyType) = sign.Unbuilt
 sign_of (token.Fixed fixed.KeyVal) = sign.Unbuilt
+sign_of (token.Fixed fixed.KeyDef) = sign.Binder
+sign_of (token.Fixed fixed.KeyLet) = sign.Binder
+sign_of (token.Fixed fixed.KeyEntry) = sign.Binder
+sign_of (token.Fixed fixed.KeyLoop) = sign.Binder
+sign_of (token.Fixed fixed.KeyWith) = sign.Binder
 sign_of (token.Fixed fixed.Star) = sign.Star
-sign_of (token.Fixed fixed.KeyIn) = sign.In
-sign_of (token.Fixed fixed.KeyFor) = sign.For
 sign_of (token.Fixed fixed.Colon) = sign.Colon
 sign_of (token.Fixed fixed.Backslash) = sign.Backslash
 sign_of (token.Fixed fixed.Arrow) = sign.Arrow
@@ -68,96 +42,177 @@ sign_of (token.Fixed fixed.OpenParen) = sign.Open
 sign_of (token.Fixed fixed.OpenBrace) = sign.Open
 sign_of (token.Fixed fixed.CloseParen) = sign.Close
 sign_of (token.Fixed fixed.CloseBrace) = sign.Close
-sign_of (token.Fixed fixed.Less) = sign.Less
-sign_of (token.Fixed fixed.Dot) = sign.Part
-sign_of (token.Name name) = sign.Part
+sign_of (token.Fixed fixed.OpenBracket) = sign.OpenBracket
+sign_of (token.Fixed fixed.CloseBracket) = sign.CloseBracket
+sign_of (token.Fixed fixed.Dot) = sign.Point
+sign_of (token.Fixed fixed.KeyTrue) = sign.Atom
+sign_of (token.Fixed fixed.KeyFalse) = sign.Atom
+sign_of (token.Int value suffix) = sign.Atom
+sign_of (token.Field name) = sign.Atom
+sign_of (token.Name name) = sign.Name
+sign_of (token.TypeVar lift name) = sign.Variable
 sign_of kind = sign.Other
 
--- Behind a token of an expression. A `:` begins a type, a `\` the head of a lambda, and a `for` that of a loop.
-abbrev pub behind_term : Sign → Within
-behind_term sign.Colon = Typed 0
-behind_term sign.Backslash = Head 0
-behind_term sign.For = Turns
-behind_term s = Term
+-- ---- the token itself
 
--- in a lambda's head, which ends at the `->` outside brackets: its parameters and the type of its result have brackets
-abbrev pub behind_head : ℕ → Sign → Within
-behind_head depth sign.Open = Head (1 + depth)
-behind_head depth sign.Close = Head (depth - 1)
-behind_head depth sign.Arrow = if depth == 0 then Term else Head depth
-behind_head depth s = Head depth
+-- the two primitives that write into an array
+unfoldable pub is_unbuilt_name : List ℕ → Bool
+is_unbuilt_name name = list_any (λ word. bytes_eq word.now name) WRITING_PRIMITIVES
 
--- in a type, outside brackets: one that stands behind its `:` goes on with what types are made of, and else ends
-abbrev pub behind_short : Sign → Within
-behind_short sign.Open = Typed 1
-behind_short sign.Part = Typed 0
-behind_short sign.Arrow = Typed 0
-behind_short sign.Star = Typed 0
-behind_short s = behind_term s
+abbrev pub is_unbuilt_word : TokenKind → Bool
+is_unbuilt_word (token.Name name) = is_unbuilt_name name
+is_unbuilt_word kind = false
 
--- in a type, in brackets, to the last that closes
-abbrev pub behind_long : ℕ → Sign → Within
-behind_long depth sign.Open = Typed (1 + depth)
-behind_long depth sign.Close = Typed (depth - 1)
-behind_long depth s = Typed depth
+-- A `[` directly behind the word that begins a binding, an update or a loop, or behind the name that is bound there, is one of
+-- sizes or of an update. A `*` is an operator in expressions alone.
+abbrev pub is_unbuilt_sign : Within → Sign → Bool
+is_unbuilt_sign within sign.Unbuilt = true
+is_unbuilt_sign Begun sign.OpenBracket = true
+is_unbuilt_sign Named sign.OpenBracket = true
+is_unbuilt_sign Head sign.Star = true
+is_unbuilt_sign Typed sign.Star = true
+is_unbuilt_sign Inner sign.Star = true
+is_unbuilt_sign within s = false
 
-abbrev pub behind_turns : Sign → Within
-behind_turns sign.Less = Term
-behind_turns s = Turns
+-- directly behind the `[` of a type only a `]` is no size
+abbrev pub is_size : Bool → Sign → Bool
+is_size true sign.CloseBracket = false
+is_size true s = true
+is_size false s = false
 
-abbrev pub within_behind : Within → Sign → Within
-within_behind Term s = behind_term s
-within_behind (Head depth) s = behind_head depth s
-within_behind (Typed depth) s = if depth == 0 then behind_short s else behind_long depth s
-within_behind Turns s = behind_turns s
+unfoldable pub is_unbuilt : Reading → TokenKind → Bool
+is_unbuilt r kind = is_size r.in_size (sign_of kind) || is_unbuilt_sign r.within (sign_of kind) || is_unbuilt_word kind
 
--- ---- members
+-- ---- what stands behind it
 
--- a name of an integer type, and a point behind one
-abbrev pub before_behind : Before → TokenKind → Before
-before_behind b (token.Name name) = if is_integer_type name then IntegerType else Other
-before_behind IntegerType (token.Fixed fixed.Dot) = Point
-before_behind b kind = Other
+-- in an expression, or a part of a declaration that is neither a type nor one of the following
+abbrev pub behind_term : (in_index : Bool) → Sign → Within
+behind_term in_index sign.Binder = Begun
+behind_term true sign.Colon = Term
+behind_term false sign.Colon = Typed
+behind_term in_index sign.Backslash = Head
+behind_term in_index s = Term
+
+abbrev pub behind_begun : (in_index : Bool) → Sign → Within
+behind_begun in_index sign.Name = Named
+behind_begun in_index s = behind_term in_index s
+
+abbrev pub behind_named : (in_index : Bool) → Sign → Within
+behind_named in_index sign.Variable = Named
+behind_named in_index s = behind_term in_index s
+
+-- a lambda's head ends at the `->` outside brackets
+abbrev pub behind_head : Sign → Within
+behind_head sign.Arrow = Term
+behind_head sign.Open = Inner
+behind_head s = Head
+
+-- a type that stands behind its `:` goes on with what types are made of, and else ends
+abbrev pub behind_type : (in_index : Bool) → Sign → Within
+behind_type in_index sign.Name = Typed
+behind_type in_index sign.Point = Typed
+behind_type in_index sign.Variable = Typed
+behind_type in_index sign.Arrow = Typed
+behind_type in_index sign.Star = Typed
+behind_type in_index sign.OpenBracket = Typed
+behind_type in_index sign.CloseBracket = Typed
+behind_type in_index sign.Open = Inner
+behind_type in_index s = behind_term in_index s
+
+-- behind a token that closes no bracket
+abbrev pub within_behind : Within → (in_index : Bool) → Sign → Within
+within_behind Term in_index s = behind_term in_index s
+within_behind Begun in_index s = behind_begun in_index s
+within_behind Named in_index s = behind_named in_index s
+within_behind Head in_index s = behind_head s
+within_behind Typed in_index s = behind_type in_index s
+within_behind Inner in_index s = Inner
+
+abbrev pub is_type : Within → Bool
+is_type Head = true
+is_type Typed = true
+is_type Inner = true
+is_type within = false
+
+-- ---- brackets
+
+-- Whether a token opens a bracket, closes one, or neither. The brackets of a size in a type are not counted.
+abbrev pub opens : Within → Sign → Bool
+opens within sign.Open = true
+opens within sign.OpenBracket = if is_type within then false else true
+opens within s = false
+
+abbrev pub closes : (in_size : Bool) → Sign → Bool
+closes in_size sign.Close = true
+closes in_size sign.CloseBracket = if in_size then false else true
+closes in_size s = false
+
+-- the bracket of an index stands directly behind an atom, or behind the point of a section
+abbrev pub begins_index : Before → Bool → Sign → Bool
+begins_index Atom tight sign.OpenBracket = tight
+begins_index Point tight sign.OpenBracket = true
+begins_index before tight s = false
+
+-- what is gone on with behind the bracket
+abbrev pub outer : Within → Within
+outer Begun = Term
+outer Named = Term
+outer within = within
+
+abbrev pub before_behind : Sign → Before
+before_behind sign.Name = Atom
+before_behind sign.Atom = Atom
+before_behind sign.Close = Atom
+before_behind sign.CloseBracket = Atom
+before_behind sign.Point = Point
+before_behind s = Other
+
+-- the brackets that are open, the innermost last
+abbrev pub Brackets : Type 0
+Brackets = List Bracket
+
+abbrev pub innermost : Brackets → Option Bracket
+innermost brackets = slice_get brackets (length brackets - 1)
+
+abbrev pub is_in_index : Option Bracket → Bool
+is_in_index (Some bracket) = bracket.is_index
+is_in_index None = false
+
+abbrev pub within_of : Option Bracket → Within
+within_of (Some bracket) = bracket.within
+within_of None = Term
+
+abbrev pub new_bracket : Reading → Bool → Sign → Bracket
+new_bracket r tight s = record { within = outer r.within; is_index = begins_index r.before tight s }
+
+unfoldable pub opened : Reading → Brackets → Bool → Sign → Brackets
+opened r brackets tight s =
+    if opens r.within s then brackets ++ new_bracket r tight s ∷ []
+    else if closes r.in_size s then take (length brackets - 1) brackets else brackets
+
+abbrev pub begins_size : Within → Sign → Bool
+begins_size within sign.OpenBracket = is_type within
+begins_size within s = false
+
+unfoldable pub behind : Reading → Brackets → Sign → Reading
+behind r brackets s =
+    record {
+      within = if closes r.in_size s then within_of (innermost brackets) else within_behind r.within (is_in_index (innermost brackets)) s;
+      before = before_behind s;
+      in_size = begins_size r.within s;
+    }
 
 -- ---- tokens
 
--- A `*` in a type or a pattern begins a type; one in an expression is an operator. The `in` of a loop stands in its head.
-abbrev pub is_unbuilt_sign : Within → Sign → Bool
-is_unbuilt_sign within sign.Unbuilt = true
-is_unbuilt_sign Term sign.Star = false
-is_unbuilt_sign within sign.Star = true
-is_unbuilt_sign Turns sign.In = true
-is_unbuilt_sign within s = false
-
-abbrev pub is_member : Before → List ℕ → Bool
-is_member Point name = is_unbuilt_member name
-is_member b name = false
-
-abbrev pub is_unbuilt_word : Before → TokenKind → Bool
-is_unbuilt_word b (token.Name name) = is_unbuilt_name name || is_member b name
-is_unbuilt_word b kind = false
-
--- a token of a form that is not built stands behind those that were read
-unfoldable pub is_unbuilt : Reading → TokenKind → Bool
-is_unbuilt r kind = is_unbuilt_sign r.within (sign_of kind) || is_unbuilt_word r.before kind
-
-unfoldable pub behind : Reading → TokenKind → Reading
-behind r kind = record { within = within_behind r.within (sign_of kind); before = before_behind r.before kind }
-
 abbrev pub start : Reading
-start = record { within = Term; before = Other }
+start = record { within = Term; before = Other; in_size = false }
 
-abbrev pub first_behind : Reading → List Token → Option Place
-first_behind r [] = None
-first_behind r (t ∷ ts) = if is_unbuilt r t.kind then Some t.place else first_behind (behind r t.kind) ts
+abbrev pub first_behind : Reading → Brackets → List Token → Option Place
+first_behind r brackets [] = None
+first_behind r brackets (t ∷ ts) =
+    if is_unbuilt r t.kind then Some t.place
+    else first_behind (behind r brackets (sign_of t.kind)) (opened r brackets t.tight (sign_of t.kind)) ts
 
 -- the place of the first token of a form that is not built
 unfoldable pub first_unbuilt : List Token → Option Place
-first_unbuilt tokens = first_behind start tokens
-
--- ---- how many brackets are open
-
-abbrev pub opened_in : Within → ℕ
-opened_in (Head depth) = depth
-opened_in (Typed depth) = depth
-opened_in within = 0
+first_unbuilt tokens = first_behind start [] tokens

@@ -1,29 +1,34 @@
-//! The tokens of forms that are not built yet: arrays and sizes, uniqueness, modules, and the names of what works on arrays.
+//! The tokens of forms that are not built yet: sizes, updates and uniqueness, modules.
 //!
-//! One pass over the tokens of a file finds the first. Most are told by themselves; a `*` and an `in` by what they stand in,
-//! and a member by the two tokens before it (`specs/Unbuilt.antt`).
+//! One pass over the tokens of a file finds the first. Most are told by themselves; a bracket, a `*` and a size by what they
+//! stand in (`specs/Unbuilt.antt`).
 #![tactic(auto)]
 
-ghost use Rattle.std.specs.Prelude.{◌≡◌};
+ghost use Rattle.std.specs.Prelude.{◌≡◌, IfOk};
 ghost use Rattle.unbuilt_tokens.specs.Unbuilt.{first_unbuilt};
 
 mod steps;
 mod words;
 
-use crate::steps::Reading;
-use fut_scalar::Place;
+use crate::steps::{Reading, sign_of};
+use fut_scalar::{List, NoMemory, Place};
 use fut_token::Token;
+use std::alloc::Global;
 
 /// The place of the first token of a form that is not built.
-pub fn first_unbuilt(tokens: &[Token]) -> Option<Place>
-    ensures { result ≡ first_unbuilt tokens.now }
+pub fn first_unbuilt(alloc: Global, tokens: &[Token]) -> Result<Option<Place>, NoMemory>
+    ensures { IfOk result (λ found. found ≡ first_unbuilt tokens.now) }
 {
     let mut reading = Reading::new();
+    let mut brackets = List::new(alloc);
     for token in tokens {
         if reading.is_unbuilt(&token.kind) {
-            return Some(token.place);
+            return Ok(Some(token.place));
         }
-        reading = reading.behind(&token.kind);
+        let sign = sign_of(&token.kind);
+        let behind = reading.behind(brackets.as_slice(), sign);
+        reading.open_brackets(&mut brackets, token.tight, sign)?;
+        reading = behind;
     }
-    None
+    Ok(None)
 }

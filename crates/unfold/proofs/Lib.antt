@@ -4,9 +4,13 @@ pub mod Stands
 pub mod Patterns
 pub mod Components
 pub mod Runs
+pub mod Records
+pub mod Packing
+pub mod Binding
 pub mod Operating
+pub mod Arguments
 pub mod Simulation
 pub mod Programs
 pub mod Rising
-mod Examples
 pub mod Mirror
+mod Examples

@@ -3,10 +3,6 @@ use Rattle.std.proofs.Common.{◌≡◌, ℕ, suc, List, [], ◌∷◌, Bool, tr
 use Rattle.std.specs.Prelude.{decimal}
 use Rattle.std.specs.Str.{bytes_eq}
 use Rattle.fut_ast.specs.Sorts.{Text}
-use Rattle.fut_flat.specs.declared.prim.Ref.{Ref}
-use Rattle.fut_scalar.specs.declared.place.BindId.{BindId}
-use Rattle.fut_flat.specs.Erased.{FlatPattern}
-use Rattle.fut_flat.specs.Terms.{Patterns}
 use Rattle.fut_meaning.specs.Outcomes.{Out, Val, and_then}
 use Rattle.fut_meaning.specs.Values as values
 use Rattle.fut_meaning.specs.Values.{Tuple_value, Record_value}
@@ -18,8 +14,7 @@ use Rattle.fut_meaning.specs.Operations.{with_name, named_values}
 use Rattle.fut_meaning.specs.Sames.{All_same, all_none, all_more}
 use Rattle.fut_blocks.specs.Meaning.{Component, Names}
 use Rattle.unfold.specs.Knowns.{Known, Knowns, Known_fields, Scope, listed, knowns, with_field, fields, field, replaced, part_from, part, record_parts}
-use Rattle.unfold.specs.Unfolding.{Binds, b_bound, b_wild, b_tuple, b_record, b_typed, All_bind, b_none, b_more}
-use Rattle.unfold.proofs.Stands.{FlatValues, FlatFields, Stands, s_scalar, s_tuple, s_record, s_function, s_primitive, All_stand, s_none, s_more, Fields_stand, s_no_field, s_field, Holds, h_bind, some_inj}
+use Rattle.unfold.proofs.Stands.{FlatValues, FlatFields, Stands, s_scalar, s_tuple, s_record, s_function, s_primitive, All_stand, s_none, s_more, Fields_stand, s_no_field, s_field, Holds, some_inj}
 
 -- a part is found where what stands for it is known
 pub record Some_stands (d : Names Component) (n : ℕ) (s : Known) (o : Option FlatValue) : Type 0 where
@@ -77,7 +72,7 @@ module _ {d : Names Component} {n : ℕ} where
   some_out s o h = record { value = h.value; is = ap or_wrong h.is; stands = h.stands }
 
   pub part_stands : (f : Text) (s : Known) {u : Known} {v : FlatValue} → Stands d n u v → part f u ≡ Some s → Out_stands d n s (accessors.part f v)
-  part_stands f s (s_scalar h) q = absurd (let z : None ≡ Some s = q in cc)
+  part_stands f s (s_scalar e h) q = absurd (let z : None ≡ Some s = q in cc)
   part_stands f s (s_tuple h) q = some_out s _ (part_from_stands 0 f s h q)
   part_stands f s (s_record h) q = some_out s _ (field_stands f s h q)
   part_stands f s (s_function h) q = absurd (let z : None ≡ Some s = q in cc)
@@ -131,28 +126,6 @@ module _ {d : Names Component} {n : ℕ} where
     first_part None e q = absurd (let z : None ≡ Some ss = q in cc)
     first_part (Some s) e q = rest_parts s (record_parts names fs) refl (field_stands f s h e) q
 
-  record_parts_stand : (names : List Text) (ss : List Known) {fs : Known_fields} {gs : FlatFields} → Fields_stand d n fs gs → record_parts names fs ≡ Some ss → List_stands d n ss (accessors.record_parts names gs)
+  pub record_parts_stand : (names : List Text) (ss : List Known) {fs : Known_fields} {gs : FlatFields} → Fields_stand d n fs gs → record_parts names fs ≡ Some ss → List_stands d n ss (accessors.record_parts names gs)
   record_parts_stand [] ss h q = record { values = []; is = refl; stand = subst (λ z. All_same (Stands d n) z []) (some_inj q) all_none }
   record_parts_stand (f ∷ names) ss {fs} h q = first_part f names ss h (λ ts e. record_parts_stand names ts h e) (field f fs) refl q
-
-  -- ---- patterns
-
-  mutual
-    unfolding bound all_bound
-
-    pub bound_holds : {p : FlatPattern} {s : Known} {v : FlatValue} {sc inner : Scope} {env : FlatEnv} → Binds p s sc inner → Stands d n s v → Holds d n sc env → Bound_holds d n inner (bound p v env)
-    bound_holds b_bound h k = record { env = _; is = refl; holds = h_bind h k }
-    bound_holds b_wild h k = record { env = _; is = refl; holds = k }
-    bound_holds (b_tuple r) (s_tuple h) k = let l = all_bound_hold r (listed_stand h) k in record { env = l.env; is = l.is; holds = l.holds }
-    bound_holds {env = env} (b_record {fs = names} {ps} {ss = ss} q r) (s_record {gs = gs} h) k =
-        let l = record_parts_stand names ss h q in
-        let m = all_bound_hold r l.stand k in
-        record { env = m.env; is = ap (λ z. and_then z (λ vs. all_bound ps vs env)) l.is ∙ m.is; holds = m.holds }
-    bound_holds (b_typed r) h k = let l = bound_holds r h k in record { env = l.env; is = l.is; holds = l.holds }
-
-    all_bound_hold : {ps : Patterns Ref BindId} {ss : List Known} {vs : List FlatValue} {sc inner : Scope} {env : FlatEnv} → All_bind ps ss sc inner → All_same (Stands d n) ss vs → Holds d n sc env → Bound_holds d n inner (all_bound ps vs env)
-    all_bound_hold b_none all_none k = record { env = _; is = refl; holds = k }
-    all_bound_hold (b_more {ps = ps} r rs) (all_more {xs' = vs} h hs) k =
-        let l = bound_holds r h k in
-        let m = all_bound_hold rs hs l.holds in
-        record { env = m.env; is = ap (λ z. and_then z (λ e. all_bound ps vs e)) l.is ∙ m.is; holds = m.holds }

@@ -4,12 +4,12 @@ use Rattle.fut_scalar.specs.declared.place.BindId.{BindId}
 use Rattle.fut_scalar.specs.declared.scalar.IntType.{IntType}
 use Rattle.fut_flat.specs.declared.prim.Ref.{Ref}
 use Rattle.fut_meaning.specs.Accessors.{or_wrong}
-use Rattle.fut_meaning.specs.Flats.{FlatValue, FlatTop, FlatTops, FlatMode, flat_names}
-use Rattle.fut_meaning.specs.Meaning.{Ever}
+use Rattle.fut_meaning.specs.Flats.{FlatTop, FlatTops, flat_names}
+use Rattle.fut_meaning.specs.Meaning.{plain}
 use Rattle.fut_meaning.specs.Outcomes.{Rel, choose}
 use Rattle.fut_meaning.specs.Programs.{top, evaluated, applied_to}
 use Rattle.fut_meaning.specs.Programs as programs
-use Rattle.fut_meaning.specs.Sames.{All_same, all_none, all_more, Sim}
+use Rattle.fut_meaning.specs.Sames.{all_none, all_more, Sim}
 use Rattle.fut_meaning.specs.Values as values
 use Rattle.fut_meaning.specs.Values.{Values}
 use Rattle.fut_meaning.proofs.Sims.{go_back, go_forth}
@@ -17,16 +17,16 @@ use Rattle.fut_blocks.specs.declared.block.Program.{Program}
 use Rattle.fut_blocks.specs.Meaning.{Component, Names, bound, body_means}
 use Rattle.fut_blocks.specs.Programs.{Program_means}
 use Rattle.unfold.specs.Claims.{AddsNoOutcome, LosesNoOutcome}
-use Rattle.unfold.specs.Knowns.{Known, Tops}
-use Rattle.unfold.specs.Programs.{Definitions_unfold, d_none, d_reached, d_other, Applies_all, a_none, a_more, Program_unfolds}
+use Rattle.unfold.specs.Knowns.{Tops}
+use Rattle.unfold.specs.Programs.{Definitions_unfold, d_none, d_reached, d_other, Program_unfolds}
 use Rattle.unfold.specs.Shapes.{Shape, Shapes, All_split, Is_value}
 use Rattle.unfold.specs.Unfolding.{Bindings}
 use Rattle.unfold.proofs.Alike.{known_left, known_right}
 use Rattle.unfold.proofs.Components.{scatter_all, all_length, binds_names}
 use Rattle.unfold.proofs.Patterns.{listed_stand}
-use Rattle.unfold.proofs.Runs.{Gives, Standing, run, none_sim, seq_sim, body_sim}
-use Rattle.unfold.proofs.Simulation.{unfolds_grow, applies_grow, unfold_sim, applies_sim}
-use Rattle.unfold.proofs.Stands.{Stands, h_base, Tops_stand, tops_on, list_on, top_found}
+use Rattle.unfold.proofs.Runs.{Gives, run, none_sim, seq_sim, body_sim}
+use Rattle.unfold.proofs.Simulation.{unfolds_grow, unfold_sim, applied_sim}
+use Rattle.unfold.proofs.Stands.{h_base, Tops_stand, tops_on, list_on, top_found}
 
 module _ {integer_at : ℕ → IntType} where
   pub definitions_grow : {entry : ℕ} {tops end : Tops} {ds : List FlatTop} {n m : ℕ} {bs : Bindings} → Definitions_unfold integer_at entry tops ds n bs end m → n ≤ m
@@ -34,48 +34,38 @@ module _ {integer_at : ℕ → IntType} where
   definitions_grow (d_reached q p r) = omega (arith, unfolds_grow p, definitions_grow r)
   definitions_grow (d_other q r) = definitions_grow r
 
-  pub applied_grows : {tops : Tops} {ss : List Known} {f s : Known} {n m : ℕ} {bs : Bindings} → Applies_all integer_at tops ss f n bs s m → n ≤ m
-  applied_grows a_none = omega arith
-  applied_grows (a_more p r) = omega (arith, applies_grow p, applied_grows r)
-
 abbrev All_tops : Tops → ℕ → Names Component → FlatTops → Type 0
 All_tops tops n e tops' = Tops_stand e n tops tops'
 
-module _ (integer_at : ℕ → IntType) (M : FlatMode) (budget entry : ℕ) (dir : Bool) where
-  chosen : {d : Names Component} {n m : ℕ} {end : Tops} (bs : Bindings) (z y : Bool) (P Q : Rel FlatTops) → z ≡ y → Sim (Gives d n (All_tops end m)) (run budget bs d) (choose y P Q) dir → Sim (Gives d n (All_tops end m)) (run budget bs d) (choose z P Q) dir
-  chosen {d} {n} {m} {end} bs z y P Q e s = subst (λ x. Sim (Gives d n (All_tops end m)) (run budget bs d) (choose x P Q) dir) (sym e) s
+module _ (integer_at : ℕ → IntType) (tight : Bool) (budget entry : ℕ) (dir : Bool) where
+  chosen : {d : Names Component} {n m : ℕ} {end : Tops} (bs : Bindings) (z y : Bool) (P Q : Rel FlatTops) → z ≡ y → Sim (Gives d n (All_tops end m)) (run tight budget bs d) (choose y P Q) dir → Sim (Gives d n (All_tops end m)) (run tight budget bs d) (choose z P Q) dir
+  chosen {d} {n} {m} {end} bs z y P Q e s = subst (λ x. Sim (Gives d n (All_tops end m)) (run tight budget bs d) (choose x P Q) dir) (sym e) s
 
-  definitions_sim : {d : Names Component} {n m : ℕ} {tops end : Tops} {tops' : FlatTops} {ds : List FlatTop} {bs : Bindings} → Definitions_unfold integer_at entry tops ds n bs end m → Tops_stand d n tops tops' → Sim (Gives d n (All_tops end m)) (run budget bs d) (evaluated (flat_names integer_at) M budget entry ds tops') dir
+  definitions_sim : {d : Names Component} {n m : ℕ} {tops end : Tops} {tops' : FlatTops} {ds : List FlatTop} {bs : Bindings} → Definitions_unfold integer_at entry tops ds n bs end m → Tops_stand d n tops tops' → Sim (Gives d n (All_tops end m)) (run tight budget bs d) (evaluated (flat_names integer_at) (plain tight) budget entry ds tops') dir
   unfolding flat_names
-  definitions_sim {tops' = tops'} d_none ts = none_sim budget dir tops' refl ts
+  definitions_sim {tops' = tops'} d_none ts = none_sim tight budget dir tops' refl ts
   definitions_sim {tops = tops} {tops' = tops'} (d_reached {bs = bs} {cs} q p r) ts =
       chosen _ _ true _ _ q
-      (seq_sim budget dir bs cs (unfolds_grow p) (unfold_sim integer_at M budget tops tops' dir p ts h_base)
+      (seq_sim tight budget dir bs cs (unfolds_grow p) (unfold_sim integer_at tight budget tops tops' dir p ts h_base)
       (λ e v x k. definitions_sim r (all_more (record { number = refl; stands = k }) (tops_on x (unfolds_grow p) ts))))
   definitions_sim (d_other q r) ts = chosen _ _ false _ _ q (definitions_sim r ts)
 
-  applied_sim : {tops : Tops} (tops' : FlatTops) {d : Names Component} {n m : ℕ} {ss : List Known} {vs : List FlatValue} {s t : Known} {f : FlatValue} {bs : Bindings} → Applies_all integer_at tops ss s n bs t m → Tops_stand d n tops tops' → Stands d n s f → All_same (Stands d n) ss vs → Sim (Gives d n (Standing t m)) (run budget bs d) (applied_to (flat_names integer_at) (Ever ((flat_names integer_at).lang tops') M budget) vs f) dir
-  applied_sim tops' {f = f} a_none ts h all_none = none_sim budget dir f refl h
-  applied_sim {tops = tops} tops' (a_more {bs = bs} {cs} p r) ts h (all_more k ks) =
-      seq_sim budget dir bs cs (applies_grow p) (applies_sim integer_at M budget tops tops' dir p ts h k)
-      (λ e g x l. applied_sim tops' r (tops_on x (applies_grow p) ts) l (list_on x (applies_grow p) ks))
-
-  pub program_sim : {ds : List FlatTop} {hs : Shapes} {h : Shape} {p : Program} {vs : Values Ref BindId (Unit {0})} {cs : List Component} → Program_unfolds integer_at ds entry hs h p → All_split hs vs cs [] → Sim (Is_value h) (Program_means budget p cs) (programs.Program_means (flat_names integer_at) M budget ds entry (values.listed vs)) dir
+  pub program_sim : {ds : List FlatTop} {hs : Shapes} {h : Shape} {p : Program} {vs : Values Ref BindId (Unit {0})} {cs : List Component} → Program_unfolds integer_at ds entry hs h p → All_split hs vs cs [] → Sim (Is_value h) (Program_means tight budget p cs) (programs.Program_means (flat_names integer_at) (plain tight) budget ds entry (values.listed vs)) dir
   unfolding Program_means
   program_sim {ds} {h = h} {p} {vs} {cs} u split =
       let b = binds_names 0 p.params.now u.first cs [] u.rising (all_length u.parameters split refl) in
       let a = scatter_all u.parameters split b.have in
       known_left dir (or_wrong (bound p.params.now cs [])) b.env _ _ (ap or_wrong b.is)
-      (subst (λ z. Sim (Is_value h) (body_means budget z b.env) (programs.Program_means (flat_names integer_at) M budget ds entry (values.listed vs)) dir) (sym u.body)
-      (body_sim budget dir (u.defined ++ u.applied)
-      (seq_sim budget dir u.defined u.applied (definitions_grow u.definitions) (definitions_sim u.definitions all_none)
+      (subst (λ z. Sim (Is_value h) (body_means tight budget z b.env) (programs.Program_means (flat_names integer_at) (plain tight) budget ds entry (values.listed vs)) dir) (sym u.body)
+      (body_sim tight budget dir (u.defined ++ u.applied)
+      (seq_sim tight budget dir u.defined u.applied (definitions_grow u.definitions) (definitions_sim u.definitions all_none)
       (λ e tops' x ts.
       let f = top_found e u.behind entry u.function ts u.entry_known in
-      known_right dir (top tops' entry) f.value _ _ f.is (applied_sim tops' u.application ts f.stands (list_on x (definitions_grow u.definitions) (listed_stand a.stand)))))
+      known_right dir (top tops' entry) f.value _ _ f.is (applied_sim integer_at tight budget u.tops tops' dir u.application ts f.stands (list_on x (definitions_grow u.definitions) (listed_stand a.stand)))))
       u.laid))
 
-pub adds_no_outcome : (M : FlatMode) → AddsNoOutcome M
-adds_no_outcome M integer_at budget ds entry hs h p u vs cs split o f x = go_forth (program_sim integer_at M budget entry.0 false u split) o f x
+pub adds_no_outcome : AddsNoOutcome
+adds_no_outcome tight integer_at budget ds entry hs h p u vs cs split o f x = go_forth (program_sim integer_at tight budget entry.0 false u split) o f x
 
-pub loses_no_outcome : (M : FlatMode) → LosesNoOutcome M
-loses_no_outcome M integer_at budget ds entry hs h p u vs cs split o f x = go_back (program_sim integer_at M budget entry.0 true u split) o f x
+pub loses_no_outcome : LosesNoOutcome
+loses_no_outcome tight integer_at budget ds entry hs h p u vs cs split o f x = go_back (program_sim integer_at tight budget entry.0 true u split) o f x

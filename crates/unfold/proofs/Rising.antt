@@ -5,8 +5,8 @@ use Rattle.fut_scalar.specs.declared.place.Place.{Place}
 use Rattle.fut_scalar.specs.declared.scalar.IntType.{IntType}
 use Rattle.fut_flat.specs.declared.prim.Primitive.{Primitive}
 use Rattle.fut_flat.specs.declared.prim.Ref.{Ref}
-use Rattle.fut_flat.specs.Erased.{FlatTerm}
-use Rattle.fut_flat.specs.Terms.{Operation, Terms}
+use Rattle.fut_flat.specs.Erased.{FlatTerm, FlatPattern}
+use Rattle.fut_flat.specs.Terms.{Operation, Patterns, Terms}
 use Rattle.fut_meaning.specs.Flats.{FlatTop}
 use Rattle.fut_blocks.specs.declared.block.Atom.{Atom}
 use Rattle.fut_blocks.specs.declared.block.Operation.{Operation as Block_operation}
@@ -14,8 +14,8 @@ use Rattle.fut_blocks.specs.Numbered.{Upward, Act_numbered, Body_numbered}
 use Rattle.fut_blocks.specs.Plain.{Action, Operate, lets}
 use Rattle.unfold.specs.Claims.{NamesRise}
 use Rattle.unfold.specs.Knowns.{Known, Knowns, Known_fields, Scope, Tops}
-use Rattle.unfold.specs.Programs.{Definitions_unfold, d_none, d_reached, d_other, Applies_all, a_none, a_more}
-use Rattle.unfold.specs.Unfolding.{Bindings, step, both_hold, Equals, e_scalars, e_tuples, e_records, All_equal, e_none, e_more, Fields_equal, e_no_field, e_field, Operates, o_integer, o_truth, o_tuple, o_record, o_binary, o_equal, o_unequal, o_negate, o_complement, o_project, o_replace, o_ascribe, o_coerce, o_declared, o_assert, Primitive_operates, p_convert, p_min, p_max, p_abs, p_popc, Unfolds, u_name, u_primitive, u_constant, u_strict, u_lambda, u_apply, u_let, u_if, u_counted, u_while, Unfold_all, u_none, u_more, Applies, a_body, a_waits, a_primitive_waits, a_primitive}
+use Rattle.unfold.specs.Programs.{Definitions_unfold, d_none, d_reached, d_other}
+use Rattle.unfold.specs.Unfolding.{Bindings, step, both_hold, Binds, b_bound, b_wild, b_tuple, b_parts, b_record, b_fields, b_typed, All_bind, b_none, b_more, Equals, e_scalars, e_packed, e_tuples, e_records, All_equal, e_none, e_more, Fields_equal, e_no_field, e_field, Operates, o_integer, o_truth, o_tuple, o_record, o_binary, o_equal, o_unequal, o_negate, o_complement, o_project, o_part, o_changed, o_replace, o_ascribe, o_coerce, o_declared, o_assert, o_made, Primitive_operates, p_convert, p_min, p_max, p_abs, p_popc, Unfolds, u_name, u_primitive, u_constant, u_strict, u_lambda, u_apply, u_let, u_packed, u_if, u_counted, u_over, u_while, Unfold_all, u_none, u_more, Applies, a_body, a_waits, a_primitive_waits, a_primitive, a_job, Applies_all, a_none, a_more, Packs, p_atom, p_tuple, p_record, Packs_all, p_none, p_more}
 
 -- the names of steps rise from `n` on, up to `m`
 unfoldable pub Numbered : ℕ → Bindings → ℕ → Type 0
@@ -54,8 +54,21 @@ unfolding Act_numbered Body_numbered
 numbered_both n x u w le = numbered_step n x (suc x) (x ∷ []) (both_hold u w) (n, omega arith, le) (omega arith, omega arith)
 
 mutual
+  unfolding Act_numbered
+
+  packs_rise : {s : Known} {n m : ℕ} {bs : Bindings} {u : Atom} → Packs s n bs u m → Numbered n bs m
+  packs_rise p_atom = numbered_none _
+  packs_rise (p_tuple {n = n} {m} {x} {bs = bs} r le) = numbered_append n m (suc x) bs _ (packs_all_rise r) (numbered_step m x (suc x) (x ∷ []) _ le (omega arith, omega arith))
+  packs_rise (p_record {n = n} {m} {x} {bs = bs} r le) = numbered_append n m (suc x) bs _ (packs_all_rise r) (numbered_step m x (suc x) (x ∷ []) _ le (omega arith, omega arith))
+
+  packs_all_rise : {ss : List Known} {n m : ℕ} {bs : Bindings} {us : List Atom} → Packs_all ss n bs us m → Numbered n bs m
+  packs_all_rise p_none = numbered_none _
+  packs_all_rise (p_more {n = n} {k} {m} {bs = bs} {cs} r rs) = numbered_append n k m bs cs (packs_rise r) (packs_all_rise rs)
+
+mutual
   equals_rise : {at : Place} {s t : Known} {n m : ℕ} {bs : Bindings} {u : Atom} → Equals at s t n bs u m → Numbered n bs m
   equals_rise (e_scalars {n = n} {x} le) = numbered_one n x _ le
+  equals_rise (e_packed {n = n} {m} {x} {bs} r le) = numbered_append n m (suc x) bs _ (packs_all_rise r) (numbered_one m x _ le)
   equals_rise (e_tuples h) = all_equal_rise h
   equals_rise (e_records h) = fields_equal_rise h
 
@@ -83,6 +96,9 @@ operates_rise o_replace = numbered_none _
 operates_rise o_ascribe = numbered_none _
 operates_rise o_coerce = numbered_none _
 operates_rise o_declared = numbered_none _
+operates_rise (o_part {n = n} {x = x} le) = numbered_step n x (suc x) (x ∷ []) _ le (omega arith, omega arith)
+operates_rise (o_changed {n = n} {m = m} {x = x} {bs = bs} r le) = numbered_append n m (suc x) bs _ (packs_rise r) (numbered_step m x (suc x) (x ∷ []) _ le (omega arith, omega arith))
+operates_rise (o_made {n = n} {m} {x} {bs = bs} q r le) = numbered_append n m (suc x) bs _ (packs_all_rise r) (numbered_step m x (suc x) (x ∷ []) _ le (omega arith, omega arith))
 operates_rise (o_assert {n = n}) = numbered_step n n n [] _ (omega arith) (omega arith)
 
 primitive_rises : {p : Primitive} {at : Place} {ss : List Known} {n m : ℕ} {bs : Bindings} {s : Known} → Primitive_operates p at ss n bs s m → Numbered n bs m
@@ -91,6 +107,22 @@ primitive_rises (p_min {n = n} {x} le) = numbered_one n x _ le
 primitive_rises (p_max {n = n} {x} le) = numbered_one n x _ le
 primitive_rises (p_abs {n = n} {x} le) = numbered_one n x _ le
 primitive_rises (p_popc {n = n} {x} le) = numbered_one n x _ le
+
+mutual
+  unfolding Act_numbered
+
+  binds_rise : {p : FlatPattern} {s : Known} {sc inner : Scope} {n m : ℕ} {bs : Bindings} → Binds p s sc n bs inner m → Numbered n bs m
+  binds_rise b_bound = numbered_none _
+  binds_rise b_wild = numbered_none _
+  binds_rise (b_tuple r) = all_bind_rise r
+  binds_rise (b_parts {n = n} {k = k} {m = m} {bs = bs} xs up r) = numbered_append n k m _ bs (numbered_step n n k xs _ (omega arith) up) (all_bind_rise r)
+  binds_rise (b_record q r) = all_bind_rise r
+  binds_rise (b_typed r) = binds_rise r
+  binds_rise (b_fields {n = n} {k = k} {m = m} {bs = bs} xs up e r) = numbered_append n k m _ bs (numbered_step n n k xs _ (omega arith) up) (all_bind_rise r)
+
+  all_bind_rise : {ps : Patterns Ref BindId} {ss : List Known} {sc inner : Scope} {n m : ℕ} {bs : Bindings} → All_bind ps ss sc n bs inner m → Numbered n bs m
+  all_bind_rise b_none = numbered_none _
+  all_bind_rise (b_more {n = n} {k = k} {m = m} {bs = bs} {cs = cs} r rs) = numbered_append n k m bs cs (binds_rise r) (all_bind_rise rs)
 
 module _ {integer_at : ℕ → IntType} where
   module _ {tops : Tops} where
@@ -104,32 +136,37 @@ module _ {integer_at : ℕ → IntType} where
       unfolds_rise (u_strict {n = n} {n1} {n2} {bs = bs} {cs} p o) = numbered_append n n1 n2 bs cs (all_rise p) (operates_rise o)
       unfolds_rise u_lambda = numbered_none _
       unfolds_rise (u_apply {n = n} {n1} {n2} {n3} {bs = bs} {cs} {ds} p q r) = numbered_append n n1 n3 bs (cs ++ ds) (unfolds_rise p) (numbered_append n1 n2 n3 cs ds (unfolds_rise q) (applies_rise r))
-      unfolds_rise (u_let {n = n} {n1} {n2} {bs = bs} {cs} p b q) = numbered_append n n1 n2 bs cs (unfolds_rise p) (unfolds_rise q)
+      unfolds_rise (u_let {n = n} {n1 = n1} {n2 = n2} {n3 = n3} {bs = bs} {cs = cs} {ds = ds} p b q) = numbered_append n n1 n3 bs _ (unfolds_rise p) (numbered_append n1 n2 n3 cs ds (binds_rise b) (unfolds_rise q))
+      unfolds_rise (u_packed {n = n} {n1 = n1} {n2 = n2} {bs = bs} {cs = cs} p k) = numbered_append n n1 n2 bs cs (unfolds_rise p) (packs_rise k)
       unfolds_rise (u_if {n = n} {n1} {n2} {n3} {n4} {bs = bs} {cs} {ds} {us = us} {ws} xs p q l r k up t) =
           numbered_append n n1 n4 bs _ (unfolds_rise p) (numbered_step n1 n3 n4 xs _ (n2, numbered_body n1 n2 cs us (unfolds_rise q), numbered_body n2 n3 ds ws (unfolds_rise r)) up)
-      unfolds_rise (u_counted {n = n} {n1} {n2} {n3} {n4} {n5} {y} {bs = bs} {cs} {ds} {ws = ws} ps xs p l q up k b le r i up' t) =
-          numbered_append n n1 n5 bs _ (unfolds_rise p) (numbered_append n1 n2 n5 cs _ (unfolds_rise q) (numbered_step n2 n4 n5 xs _ (n3, up, le, numbered_body (suc y) n4 ds ws (unfolds_rise r)) up'))
-      unfolds_rise (u_while {n = n} {n1} {n2} {n3} {n4} {n5} {bs = bs} {cs} {ds} {u} {ws = ws} ps xs p l up k b q r i up' t) =
-          numbered_append n n1 n5 bs _ (unfolds_rise p) (numbered_step n1 n4 n5 xs _ (n2, up, n3, numbered_body n2 n3 cs (u ∷ []) (unfolds_rise q), numbered_body n3 n4 ds ws (unfolds_rise r)) up')
+      unfolds_rise (u_counted {n = n} {n1 = n1} {n2 = n2} {n3 = n3} {n4 = n4} {n5 = n5} {n6 = n6} {y = y} {bs = bs} {cs = cs} {es = es} {ds = ds} {ws = ws} ps xs p l q up k le b r i up' t) =
+          numbered_append n n1 n6 bs _ (unfolds_rise p) (numbered_append n1 n2 n6 cs _ (unfolds_rise q) (numbered_step n2 n5 n6 xs _ (n3, up, le, numbered_body (suc y) n5 (es ++ ds) ws (numbered_append (suc y) n4 n5 es ds (binds_rise b) (unfolds_rise r))) up'))
+      unfolds_rise (u_over {n = n} {n1 = n1} {n2 = n2} {n3 = n3} {n4 = n4} {n5 = n5} {n6 = n6} {n7 = n7} {y = y} {bs = bs} {cs = cs} {es = es} {es' = es'} {ds = ds} {ws = ws} ps xs p l q up k le b c r i up' t) =
+          numbered_append n n1 n7 bs _ (unfolds_rise p) (numbered_append n1 n2 n7 cs _ (unfolds_rise q) (numbered_step n2 n6 n7 xs _ (n3, up, le, numbered_body (suc y) n6 (es ++ (es' ++ ds)) ws (numbered_append (suc y) n4 n6 es _ (binds_rise b) (numbered_append n4 n5 n6 es' ds (binds_rise c) (unfolds_rise r)))) up'))
+      unfolds_rise (u_while {n = n} {n1 = n1} {n2 = n2} {n3 = n3} {n4 = n4} {n5 = n5} {n6 = n6} {n7 = n7} {bs = bs} {es = es} {cs = cs} {es' = es'} {ds = ds} {u = u} {ws = ws} ps xs p l up k b q b' r i up' t) =
+          numbered_append n n1 n7 bs _ (unfolds_rise p) (numbered_step n1 n6 n7 xs _ (n2, up, n4, numbered_body n2 n4 (es ++ cs) (u ∷ []) (numbered_append n2 n3 n4 es cs (binds_rise b) (unfolds_rise q)), numbered_body n4 n6 (es' ++ ds) ws (numbered_append n4 n5 n6 es' ds (binds_rise b') (unfolds_rise r))) up')
 
       all_rise : {sc : Scope} {lo n m : ℕ} {ts : Terms Ref BindId} {bs : Bindings} {ss : List Known} → Unfold_all integer_at tops sc lo ts n bs ss m → Numbered n bs m
       all_rise u_none = numbered_none _
       all_rise (u_more {n = n} {n1} {n2} {bs = bs} {cs} p q) = numbered_append n n1 n2 bs cs (unfolds_rise p) (all_rise q)
 
       applies_rise : {f s s' : Known} {n m : ℕ} {bs : Bindings} → Applies integer_at tops f s n bs s' m → Numbered n bs m
-      applies_rise (a_body b p) = unfolds_rise p
-      applies_rise (a_waits b) = numbered_none _
+      applies_rise (a_body {n = n} {n1 = n1} {n2 = n2} {bs = bs} {cs = cs} b p) = numbered_append n n1 n2 bs cs (binds_rise b) (unfolds_rise p)
+      applies_rise (a_waits b) = binds_rise b
       applies_rise (a_primitive_waits q) = numbered_none _
-      applies_rise (a_primitive q o) = primitive_rises o
+      applies_rise (a_primitive q i o) = primitive_rises o
+      applies_rise (a_job {n = n} {n1} {n2} {n3} {n4} {x} {bs} {cs} {ds} {w = w} xs q i e r up len a pk le) =
+          numbered_append n n1 (suc x) bs _ (packs_all_rise r) (numbered_step n1 x (suc x) (x ∷ []) _ (n2, up, numbered_lets n2 n4 x (cs ++ ds) (w ∷ []) (numbered_append n2 n3 n4 cs ds (applied_rises a) (packs_rise pk)) le) (omega arith, omega arith))
+
+      applied_rises : {ss : List Known} {f s : Known} {n m : ℕ} {bs : Bindings} → Applies_all integer_at tops ss f n bs s m → Numbered n bs m
+      applied_rises a_none = numbered_none _
+      applied_rises (a_more {n = n} {n1} {n2} {bs} {cs} p r) = numbered_append n n1 n2 bs cs (applies_rise p) (applied_rises r)
 
   definitions_rise : {entry : ℕ} {tops end : Tops} {ds : List FlatTop} {n m : ℕ} {bs : Bindings} → Definitions_unfold integer_at entry tops ds n bs end m → Numbered n bs m
   definitions_rise d_none = numbered_none _
   definitions_rise (d_reached {n = n} {n1} {n2} {bs} {cs} q p r) = numbered_append n n1 n2 bs cs (unfolds_rise p) (definitions_rise r)
   definitions_rise (d_other q r) = definitions_rise r
-
-  applied_rises : {tops : Tops} {ss : List Known} {f s : Known} {n m : ℕ} {bs : Bindings} → Applies_all integer_at tops ss f n bs s m → Numbered n bs m
-  applied_rises a_none = numbered_none _
-  applied_rises (a_more {n = n} {n1} {n2} {bs} {cs} p r) = numbered_append n n1 n2 bs cs (applies_rise p) (applied_rises r)
 
 pub names_rise : NamesRise
 names_rise integer_at ds entry hs h p u =

@@ -9,7 +9,9 @@ use Rattle.fut_flat.specs.declared.prim.Ref.{Ref}
 use Rattle.fut_flat.specs.Erased.{FlatTerm}
 use Rattle.fut_flat.specs.Terms.{Patterns}
 use Rattle.fut_meaning.specs.Outcomes.{Out, Val}
-use Rattle.fut_meaning.specs.Values.{Scalar_value, Tuple_value, Record_value, Closure, Primitive_value, Values, no_value, value_and, Fields, no_field, field_and, base, bind}
+use Rattle.fut_meaning.specs.Values.{Scalar_value, Tuple_value, Record_value, Closure, Primitive_value, Values, no_value, value_and, Fields, no_field, field_and, base, bind, entered}
+use Rattle.fut_scalar.specs.declared.scalar.Scalar.{Scalar}
+use Rattle.fut_meaning.specs.Datums.{as_value}
 use Rattle.fut_meaning.specs.Accessors.{or_wrong}
 use Rattle.fut_meaning.specs.Flats.{FlatValue, FlatEnv, FlatTops, flat_look}
 use Rattle.fut_meaning.specs.Programs.{top}
@@ -26,7 +28,7 @@ FlatValues = Values Ref BindId (Unit {0})
 abbrev pub FlatFields : Type 0
 FlatFields = Fields Ref BindId (Unit {0})
 
-abbrev pub scalar_value : Component → FlatValue
+abbrev pub scalar_value : Scalar → FlatValue
 scalar_value c = Scalar_value c
 
 abbrev pub Below : ℕ → Atom → Type 0
@@ -40,7 +42,7 @@ pub record Has (d : Names Component) (n : ℕ) (u : Atom) (c : Component) : Type
 
 mutual
   pub data Stands (d : Names Component) (n : ℕ) : Known → FlatValue → Type 0 where
-    s_scalar : {u : Atom} {c : Component} → Has d n u c → Stands d n (Scalar_known u) (Scalar_value c)
+    s_scalar : {u : Atom} {c : Component} {v : FlatValue} → v ≡ as_value c → Has d n u c → Stands d n (Scalar_known u) v
     s_tuple : {ss : Knowns} {vs : FlatValues} → All_stand d n ss vs → Stands d n (Tuple_known ss) (Tuple_value vs)
     s_record : {fs : Known_fields} {gs : FlatFields} → Fields_stand d n fs gs → Stands d n (Record_known fs) (Record_value gs)
     s_function : {ps : Patterns Ref BindId} {e : FlatTerm} {lo : ℕ} {sc : Scope} {env : FlatEnv} → Holds d n sc env → Stands d n (Function_known ps e lo sc) (Closure ps e lo env)
@@ -57,6 +59,8 @@ mutual
   pub data Holds (d : Names Component) (n : ℕ) : Scope → FlatEnv → Type 0 where
     h_base : {u : Unit {0}} → Holds d n no_name (base u)
     h_bind : {b : BindId} {s : Known} {sc : Scope} {v : FlatValue} {env : FlatEnv} → Stands d n s v → Holds d n sc env → Holds d n (name_and b s sc) (bind b v env)
+    -- what was entered is no name
+    h_entered : {q : ℕ} {sc : Scope} {v : FlatValue} {env : FlatEnv} → Holds d n sc env → Holds d n sc (entered q v env)
 
 -- definitions that were evaluated, by the same numbers
 pub record Top_stands (d : Names Component) (n : ℕ) (s : ℕ × Known) (v : ℕ × FlatValue) : Type 0 where
@@ -94,7 +98,7 @@ module _ {d e : Names Component} {n m : ℕ} (x : Extends n d e) (le : n ≤ m) 
 
   mutual
     pub stands_on : {s : Known} {v : FlatValue} → Stands d n s v → Stands e m s v
-    stands_on (s_scalar {u} h) = s_scalar (has_on u h)
+    stands_on (s_scalar {u} e h) = s_scalar e (has_on u h)
     stands_on (s_tuple h) = s_tuple (all_on h)
     stands_on (s_record h) = s_record (fields_on h)
     stands_on (s_function h) = s_function (holds_on h)
@@ -111,6 +115,7 @@ module _ {d e : Names Component} {n m : ℕ} (x : Extends n d e) (le : n ≤ m) 
     pub holds_on : {sc : Scope} {env : FlatEnv} → Holds d n sc env → Holds e m sc env
     holds_on h_base = h_base
     holds_on (h_bind h k) = h_bind (stands_on h) (holds_on k)
+    holds_on (h_entered k) = h_entered (holds_on k)
 
   pub tops_on : {tops : Tops} {tops' : FlatTops} → Tops_stand d n tops tops' → Tops_stand e m tops tops'
   tops_on all_none = all_none
@@ -152,6 +157,7 @@ module _ (d : Names Component) (n : ℕ) where
 
   pub name_found : (k : ℕ) (s : Known) {tops : Tops} {tops' : FlatTops} {sc : Scope} {env : FlatEnv} → Tops_stand d n tops tops' → Holds d n sc env → find tops sc k ≡ Some s → Finds (Stands d n) s (flat_look tops' env k)
   unfolding flat_look
+  name_found k s t (h_entered h) q = name_found k s t h q
   name_found k s {tops = tops} t h_base q = top_found k s t (sym (no_local tops k) ∙ q)
   name_found k s {tops = tops} t (h_bind {b} {s = u} {sc = sc} {v = v} h hs) q =
       by_name (nat_eq b.0 k) (nat_eq b.0 k) refl s u v (find tops sc k) _ h (sym (found_by tops b u sc k (nat_eq b.0 k) refl) ∙ q) (λ e. name_found k s t hs e)

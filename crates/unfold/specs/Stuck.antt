@@ -1,7 +1,7 @@
 -- Where unfolding comes to a place from which there is no way on: a name is not found, an operation does not take its parts,
--- what is applied is no function, a pattern has not the form of the value, or data has another shape than where it is to go.
--- What stands before the place has been unfolded. No typed program comes to such a place.
-use Rattle.std.specs.Prelude.{◌≡◌, ℕ, ◌+◌, ◌++◌, List, [], ◌∷◌, Bool, true, false, None, Some, length, nat_lt}
+-- what is applied is no function, a pattern has not the form of the value, or a function is where data has to be. What stands
+-- before the place has been unfolded. No typed program comes to such a place.
+use Rattle.std.specs.Prelude.{◌≡◌, ℕ, ◌+◌, ◌++◌, List, [], ◌∷◌, map, Bool, true, false, None, Some, length, nat_lt}
 use Rattle.fut_scalar.specs.declared.place.BindId.{BindId}
 use Rattle.fut_scalar.specs.declared.place.Place.{Place}
 use Rattle.fut_scalar.specs.declared.scalar.IntType.{IntType}
@@ -13,14 +13,15 @@ use Rattle.fut_flat.specs.Erased.{FlatTerm, FlatPattern, FlatTurns}
 use Rattle.fut_flat.specs.Numbers.{pattern_numbers, own_numbers, numbers, turn_numbers}
 use Rattle.fut_flat.specs.Terms.{Patterns, no_pattern, pattern_and, Operation, Binding, Use, Strict, Apply, Let, If, Loop, Terms, term_and, Counted, Over, While}
 use Rattle.fut_meaning.specs.Flats.{FlatTop, is_flat_use}
-use Rattle.fut_meaning.specs.Operations.{arity}
+use Rattle.fut_meaning.specs.Datums.{takes}
+use Rattle.fut_meaning.specs.Operations.{parameters_of, arity, is_of_scalars}
 use Rattle.fut_meaning.specs.Programs.{is_reached}
 use Rattle.fut_blocks.specs.declared.block.Atom.{Atom}
 use Rattle.fut_blocks.specs.Meaning.{look}
-use Rattle.unfold.specs.Knowns.{Known, Scalar_known, Function_known, Primitive_known, Knowns, Scope, no_name, name_and, Tops, listed, find}
+use Rattle.unfold.specs.Knowns.{Known, Scalar_known, Tuple_known, Function_known, Primitive_known, Knowns, no_known, Scope, no_name, name_and, Tops, listed, find}
 use Rattle.unfold.specs.Shapes.{Shape, Shapes, Laid, All_laid}
-use Rattle.unfold.specs.Unfolding.{Bindings, named, Binds, Operates, Primitive_operates, Unfolds, Unfold_all, Applies}
-use Rattle.unfold.specs.Programs.{Definitions_unfold, Applies_all}
+use Rattle.unfold.specs.Unfolding.{Bindings, named, Binds, Operates, Primitive_operates, Packs_all, data_known, function_known, Unfolds, Unfold_all, Applies, Applies_all}
+use Rattle.unfold.specs.Programs.{Definitions_unfold}
 
 abbrev pub No_scalar : Known → Type 0
 No_scalar s = (u : Atom) → s ≡ Scalar_known u → ⊥
@@ -38,9 +39,13 @@ is_function (Function_known (pattern_and p ps) e lo sc) = true
 is_function (Primitive_known p at ss) = true
 is_function s = false
 
+-- with some steps
+abbrev pub Binds_to : FlatPattern → Known → Scope → Scope → Type 0
+Binds_to p s sc inner = (n : ℕ) × (bs : Bindings) × (m : ℕ) × Binds p s sc n bs inner m
+
 -- the value has not the form of the pattern
 abbrev pub Not_bound : FlatPattern → Known → Type 0
-Not_bound p s = (sc inner : Scope) → Binds p s sc inner → ⊥
+Not_bound p s = (sc inner : Scope) → Binds_to p s sc inner → ⊥
 
 -- the parts have not the forms that the operation takes
 abbrev pub No_operation : IntType → Operation Ref BindId → Place → List Known → Type 0
@@ -49,6 +54,14 @@ No_operation t o at ss = (n n' : ℕ) (bs : Bindings) (s : Known) → Operates t
 abbrev pub No_primitive : Primitive → Place → List Known → Type 0
 No_primitive p at ss = (n n' : ℕ) (bs : Bindings) (s : Known) → Primitive_operates p at ss n bs s n' → ⊥
 
+-- the arguments of a primitive on arrays are not those of its parameters: one is or holds a function that has to be data
+abbrev pub No_arguments : Primitive → List Known → Type 0
+No_arguments p ss = (us : List Known) (n n' : ℕ) (bs : Bindings) (ws : List Atom) → data_known (parameters_of p) ss ≡ Some us → Packs_all us n bs ws n' → ⊥
+
+-- what is known of the function of a primitive with these arguments
+abbrev pub the_function : Primitive → List Known → Known
+the_function p ss = function_known (parameters_of p) ss (Tuple_known no_known)
+
 -- what is known of a loop's value in a turn: it has the shape of the first one
 pub data Carried (integer_at : ℕ → IntType) (tops : Tops) (sc : Scope) (lo : ℕ) (p : FlatPattern) (first : FlatTerm) : Shape → Known → Type 0 where
   carried : {n n' : ℕ} {bs : Bindings} {h : Shape} {s r : Known} {us ws : List Atom} → Unfolds integer_at tops sc (1 + lo + pattern_numbers p) first n bs s n' → Laid h s us [] → Laid h r ws [] → Carried integer_at tops sc lo p first h r
@@ -56,6 +69,7 @@ pub data Carried (integer_at : ℕ → IntType) (tops : Tops) (sc : Scope) (lo :
 -- the names of a turn, for the names that the pattern binds; how many turns there are has been unfolded outside of the loop
 pub data Turn_names (integer_at : ℕ → IntType) (tops : Tops) (sc inside : Scope) (at : ℕ) : FlatTurns → Scope → Type 0 where
   turn_counted : {n n' : ℕ} {i : BindId} {count : FlatTerm} {bs : Bindings} {u : Atom} (y : ℕ) → Unfolds integer_at tops sc (1 + at) count n bs (Scalar_known u) n' → Turn_names integer_at tops sc inside at (Counted i count) (name_and i (named y) inside)
+  turn_row : {inner : Scope} {n n' : ℕ} {q : FlatPattern} {rows : FlatTerm} {bs : Bindings} {u : Atom} (y : ℕ) → Unfolds integer_at tops sc (at + pattern_numbers q) rows n bs (Scalar_known u) n' → Binds_to q (named y) inside inner → Turn_names integer_at tops sc inside at (Over q rows) inner
   turn_tested : {test : FlatTerm} → Turn_names integer_at tops sc inside at (While test) inside
 
 -- a term, whose nodes are numbered from a number on
@@ -70,55 +84,60 @@ mutual
     stuck_application : {sc : Scope} {lo n n1 n2 : ℕ} {f e : FlatTerm} {bs cs : Bindings} {h s : Known} → Unfolds integer_at tops sc (1 + lo) f n bs h n1 → Unfolds integer_at tops sc (1 + lo + numbers f) e n1 cs s n2 → Stuck_run integer_at tops h s → Stuck integer_at tops sc lo (Apply f e)
     stuck_value : {sc : Scope} {lo : ℕ} {b : Binding Ref BindId} {v e : FlatTerm} → Stuck integer_at tops sc (1 + lo + pattern_numbers b.pattern) v → Stuck integer_at tops sc lo (Let b v e)
     no_pattern_of : {sc : Scope} {lo n n' : ℕ} {b : Binding Ref BindId} {v e : FlatTerm} {bs : Bindings} {s : Known} → Unfolds integer_at tops sc (1 + lo + pattern_numbers b.pattern) v n bs s n' → Not_bound b.pattern s → Stuck integer_at tops sc lo (Let b v e)
-    stuck_behind : {sc inner : Scope} {lo n n' : ℕ} {b : Binding Ref BindId} {v e : FlatTerm} {bs : Bindings} {s : Known} → Unfolds integer_at tops sc (1 + lo + pattern_numbers b.pattern) v n bs s n' → Binds b.pattern s sc inner → Stuck integer_at tops inner (1 + lo + pattern_numbers b.pattern + numbers v) e → Stuck integer_at tops sc lo (Let b v e)
+    stuck_behind : {sc inner : Scope} {lo n n' : ℕ} {b : Binding Ref BindId} {v e : FlatTerm} {bs : Bindings} {s : Known} → Unfolds integer_at tops sc (1 + lo + pattern_numbers b.pattern) v n bs s n' → Binds_to b.pattern s sc inner → Stuck integer_at tops inner (1 + lo + pattern_numbers b.pattern + numbers v) e → Stuck integer_at tops sc lo (Let b v e)
     stuck_condition : {sc : Scope} {lo : ℕ} {c a b : FlatTerm} → Stuck integer_at tops sc (1 + lo) c → Stuck integer_at tops sc lo (If c a b)
     no_condition : {sc : Scope} {lo n n' : ℕ} {c a b : FlatTerm} {bs : Bindings} {s : Known} → Unfolds integer_at tops sc (1 + lo) c n bs s n' → No_scalar s → Stuck integer_at tops sc lo (If c a b)
     stuck_then : {sc : Scope} {lo n n' : ℕ} {c a b : FlatTerm} {bs : Bindings} {s : Known} → Unfolds integer_at tops sc (1 + lo) c n bs s n' → Stuck integer_at tops sc (1 + lo + numbers c) a → Stuck integer_at tops sc lo (If c a b)
     then_function : {sc : Scope} {lo n n' : ℕ} {c a b : FlatTerm} {bs : Bindings} {s : Known} → Unfolds integer_at tops sc (1 + lo + numbers c) a n bs s n' → No_data s → Stuck integer_at tops sc lo (If c a b)
     stuck_else : {sc : Scope} {lo n n' : ℕ} {c a b : FlatTerm} {bs : Bindings} {s : Known} → Unfolds integer_at tops sc (1 + lo + numbers c) a n bs s n' → Stuck integer_at tops sc (1 + lo + numbers c + numbers a) b → Stuck integer_at tops sc lo (If c a b)
-    -- the branches are of different shapes
-    other_branch : {sc : Scope} {lo n n1 m m1 : ℕ} {c a b : FlatTerm} {bs cs : Bindings} {h : Shape} {s s' : Known} {us : List Atom} → Unfolds integer_at tops sc (1 + lo + numbers c) a n bs s n1 → Laid h s us [] → Unfolds integer_at tops sc (1 + lo + numbers c + numbers a) b m cs s' m1 → Not_laid h s' → Stuck integer_at tops sc lo (If c a b)
+    else_function : {sc : Scope} {lo n n' : ℕ} {c a b : FlatTerm} {bs : Bindings} {s : Known} → Unfolds integer_at tops sc (1 + lo + numbers c + numbers a) b n bs s n' → No_data s → Stuck integer_at tops sc lo (If c a b)
     stuck_first : {sc : Scope} {lo : ℕ} {mark : Place} {sizes : List BindId} {p : FlatPattern} {first body : FlatTerm} {turns : FlatTurns} → Stuck integer_at tops sc (1 + lo + pattern_numbers p) first → Stuck integer_at tops sc lo (Loop mark sizes p first turns body)
     first_function : {sc : Scope} {lo n n' : ℕ} {mark : Place} {sizes : List BindId} {p : FlatPattern} {first body : FlatTerm} {turns : FlatTurns} {bs : Bindings} {s : Known} → Unfolds integer_at tops sc (1 + lo + pattern_numbers p) first n bs s n' → No_data s → Stuck integer_at tops sc lo (Loop mark sizes p first turns body)
     stuck_turns : {sc : Scope} {lo n n' : ℕ} {mark : Place} {sizes : List BindId} {p : FlatPattern} {first body : FlatTerm} {turns : FlatTurns} {bs : Bindings} {s : Known} → Unfolds integer_at tops sc (1 + lo + pattern_numbers p) first n bs s n' → Stuck_turns integer_at tops sc (1 + lo + pattern_numbers p + numbers first) turns → Stuck integer_at tops sc lo (Loop mark sizes p first turns body)
     no_turn : {sc : Scope} {lo : ℕ} {mark : Place} {sizes : List BindId} {p : FlatPattern} {first body : FlatTerm} {turns : FlatTurns} {h : Shape} {r : Known} → Carried integer_at tops sc lo p first h r → Not_bound p r → Stuck integer_at tops sc lo (Loop mark sizes p first turns body)
-    stuck_test : {sc inner : Scope} {lo : ℕ} {mark : Place} {sizes : List BindId} {p : FlatPattern} {first test body : FlatTerm} {h : Shape} {r : Known} → Carried integer_at tops sc lo p first h r → Binds p r sc inner → Stuck integer_at tops inner (1 + lo + pattern_numbers p + numbers first) test → Stuck integer_at tops sc lo (Loop mark sizes p first (While test) body)
-    no_test : {sc inner : Scope} {lo n n' : ℕ} {mark : Place} {sizes : List BindId} {p : FlatPattern} {first test body : FlatTerm} {bs : Bindings} {h : Shape} {r s : Known} → Carried integer_at tops sc lo p first h r → Binds p r sc inner → Unfolds integer_at tops inner (1 + lo + pattern_numbers p + numbers first) test n bs s n' → No_scalar s
+    no_row : {sc inside : Scope} {lo y : ℕ} {mark : Place} {sizes : List BindId} {p q : FlatPattern} {first rows body : FlatTerm} {h : Shape} {r : Known} → Carried integer_at tops sc lo p first h r → Binds_to p r sc inside → Not_bound q (named y) → Stuck integer_at tops sc lo (Loop mark sizes p first (Over q rows) body)
+    stuck_test : {sc inner : Scope} {lo : ℕ} {mark : Place} {sizes : List BindId} {p : FlatPattern} {first test body : FlatTerm} {h : Shape} {r : Known} → Carried integer_at tops sc lo p first h r → Binds_to p r sc inner → Stuck integer_at tops inner (1 + lo + pattern_numbers p + numbers first) test → Stuck integer_at tops sc lo (Loop mark sizes p first (While test) body)
+    no_test : {sc inner : Scope} {lo n n' : ℕ} {mark : Place} {sizes : List BindId} {p : FlatPattern} {first test body : FlatTerm} {bs : Bindings} {h : Shape} {r s : Known} → Carried integer_at tops sc lo p first h r → Binds_to p r sc inner → Unfolds integer_at tops inner (1 + lo + pattern_numbers p + numbers first) test n bs s n' → No_scalar s
         → Stuck integer_at tops sc lo (Loop mark sizes p first (While test) body)
-    stuck_body : {sc inside inner : Scope} {lo : ℕ} {mark : Place} {sizes : List BindId} {p : FlatPattern} {first body : FlatTerm} {turns : FlatTurns} {h : Shape} {r : Known} → Carried integer_at tops sc lo p first h r → Binds p r sc inside → Turn_names integer_at tops sc inside (1 + lo + pattern_numbers p + numbers first) turns inner
+    stuck_body : {sc inside inner : Scope} {lo : ℕ} {mark : Place} {sizes : List BindId} {p : FlatPattern} {first body : FlatTerm} {turns : FlatTurns} {h : Shape} {r : Known} → Carried integer_at tops sc lo p first h r → Binds_to p r sc inside → Turn_names integer_at tops sc inside (1 + lo + pattern_numbers p + numbers first) turns inner
         → Stuck integer_at tops inner (1 + lo + pattern_numbers p + numbers first + turn_numbers turns) body → Stuck integer_at tops sc lo (Loop mark sizes p first turns body)
-    -- a turn gives data of another shape
-    other_turn : {sc inside inner : Scope} {lo n n' : ℕ} {mark : Place} {sizes : List BindId} {p : FlatPattern} {first body : FlatTerm} {turns : FlatTurns} {bs : Bindings} {h : Shape} {r s : Known} → Carried integer_at tops sc lo p first h r → Binds p r sc inside → Turn_names integer_at tops sc inside (1 + lo + pattern_numbers p + numbers first) turns inner
-        → Unfolds integer_at tops inner (1 + lo + pattern_numbers p + numbers first + turn_numbers turns) body n bs s n' → Not_laid h s → Stuck integer_at tops sc lo (Loop mark sizes p first turns body)
+    -- a turn gives a function
+    turn_function : {sc inside inner : Scope} {lo n n' : ℕ} {mark : Place} {sizes : List BindId} {p : FlatPattern} {first body : FlatTerm} {turns : FlatTurns} {bs : Bindings} {h : Shape} {r s : Known} → Carried integer_at tops sc lo p first h r → Binds_to p r sc inside → Turn_names integer_at tops sc inside (1 + lo + pattern_numbers p + numbers first) turns inner
+        → Unfolds integer_at tops inner (1 + lo + pattern_numbers p + numbers first + turn_numbers turns) body n bs s n' → No_data s → Stuck integer_at tops sc lo (Loop mark sizes p first turns body)
 
   -- terms from left to right
   pub data Stuck_all (integer_at : ℕ → IntType) (tops : Tops) : Scope → ℕ → Terms Ref BindId → Type 0 where
     stuck_here : {sc : Scope} {lo : ℕ} {t : FlatTerm} {ts : Terms Ref BindId} → Stuck integer_at tops sc lo t → Stuck_all integer_at tops sc lo (term_and t ts)
     stuck_later : {sc : Scope} {lo n n' : ℕ} {t : FlatTerm} {ts : Terms Ref BindId} {bs : Bindings} {s : Known} → Unfolds integer_at tops sc lo t n bs s n' → Stuck_all integer_at tops sc (lo + numbers t) ts → Stuck_all integer_at tops sc lo (term_and t ts)
 
-  -- what says how many turns there are, outside of the loop; a loop over an array comes with arrays
+  -- what says how many turns there are, outside of the loop
   pub data Stuck_turns (integer_at : ℕ → IntType) (tops : Tops) : Scope → ℕ → FlatTurns → Type 0 where
     stuck_count : {sc : Scope} {at : ℕ} {i : BindId} {count : FlatTerm} → Stuck integer_at tops sc (1 + at) count → Stuck_turns integer_at tops sc at (Counted i count)
     no_count : {sc : Scope} {at n n' : ℕ} {i : BindId} {count : FlatTerm} {bs : Bindings} {s : Known} → Unfolds integer_at tops sc (1 + at) count n bs s n' → No_scalar s → Stuck_turns integer_at tops sc at (Counted i count)
-    of_array : {sc : Scope} {at : ℕ} {p : FlatPattern} {e : FlatTerm} → Stuck_turns integer_at tops sc at (Over p e)
+    stuck_rows : {sc : Scope} {at : ℕ} {q : FlatPattern} {rows : FlatTerm} → Stuck integer_at tops sc (at + pattern_numbers q) rows → Stuck_turns integer_at tops sc at (Over q rows)
+    no_rows : {sc : Scope} {at n n' : ℕ} {q : FlatPattern} {rows : FlatTerm} {bs : Bindings} {s : Known} → Unfolds integer_at tops sc (at + pattern_numbers q) rows n bs s n' → No_scalar s → Stuck_turns integer_at tops sc at (Over q rows)
 
   -- the application of what is known to an argument
   pub data Stuck_run (integer_at : ℕ → IntType) (tops : Tops) : Known → Known → Type 0 where
     no_function : {h s : Known} → is_function h ≡ false → Stuck_run integer_at tops h s
     no_parameter : {sc : Scope} {p : FlatPattern} {ps : Patterns Ref BindId} {e : FlatTerm} {lo : ℕ} {s : Known} → Not_bound p s → Stuck_run integer_at tops (Function_known (pattern_and p ps) e lo sc) s
-    stuck_result : {sc inner : Scope} {p : FlatPattern} {e : FlatTerm} {lo : ℕ} {s : Known} → Binds p s sc inner → Stuck integer_at tops inner lo e → Stuck_run integer_at tops (Function_known (pattern_and p no_pattern) e lo sc) s
-    no_primitive : {p : Primitive} {at : Place} {ss : Knowns} {s : Known} → nat_lt (length (listed ss ++ s ∷ [])) (arity p) ≡ false → No_primitive p at (listed ss ++ s ∷ []) → Stuck_run integer_at tops (Primitive_known p at ss) s
+    stuck_result : {sc inner : Scope} {p : FlatPattern} {e : FlatTerm} {lo : ℕ} {s : Known} → Binds_to p s sc inner → Stuck integer_at tops inner lo e → Stuck_run integer_at tops (Function_known (pattern_and p no_pattern) e lo sc) s
+    no_primitive : {p : Primitive} {at : Place} {ss : Knowns} {s : Known} → nat_lt (length (listed ss ++ s ∷ [])) (arity p) ≡ false → is_of_scalars p ≡ true → No_primitive p at (listed ss ++ s ∷ []) → Stuck_run integer_at tops (Primitive_known p at ss) s
+    no_arguments : {p : Primitive} {at : Place} {ss : Knowns} {s : Known} → nat_lt (length (listed ss ++ s ∷ [])) (arity p) ≡ false → is_of_scalars p ≡ false → No_arguments p (listed ss ++ s ∷ []) → Stuck_run integer_at tops (Primitive_known p at ss) s
+    -- the function of a primitive on arrays, on names for its arguments
+    stuck_job : {p : Primitive} {at : Place} {ss : Knowns} {s : Known} (xs : List ℕ) → nat_lt (length (listed ss ++ s ∷ [])) (arity p) ≡ false → is_of_scalars p ≡ false → length xs ≡ takes (parameters_of p) → Stuck_runs integer_at tops (map named xs) (the_function p (listed ss ++ s ∷ [])) → Stuck_run integer_at tops (Primitive_known p at ss) s
+    job_function : {p : Primitive} {at : Place} {ss : Knowns} {s r : Known} {n n' : ℕ} {bs : Bindings} (xs : List ℕ) → nat_lt (length (listed ss ++ s ∷ [])) (arity p) ≡ false → is_of_scalars p ≡ false → length xs ≡ takes (parameters_of p) → Applies_all integer_at tops (map named xs) (the_function p (listed ss ++ s ∷ [])) n bs r n' → No_data r → Stuck_run integer_at tops (Primitive_known p at ss) s
+
+  -- a function applied to arguments, one after the other
+  pub data Stuck_runs (integer_at : ℕ → IntType) (tops : Tops) : List Known → Known → Type 0 where
+    stuck_run : {s f : Known} {ss : List Known} → Stuck_run integer_at tops f s → Stuck_runs integer_at tops (s ∷ ss) f
+    stuck_on : {s f g : Known} {ss : List Known} {n n' : ℕ} {bs : Bindings} → Applies integer_at tops f s n bs g n' → Stuck_runs integer_at tops ss g → Stuck_runs integer_at tops (s ∷ ss) f
 
 -- the definitions that are reached, in their order
 pub data Definitions_stuck (integer_at : ℕ → IntType) (entry : ℕ) : Tops → List FlatTop → Type 0 where
   stuck_definition : {tops : Tops} {d : FlatTop} {ds : List FlatTop} → is_reached is_flat_use entry ds d.number ≡ true → Stuck integer_at tops no_name d.first d.value → Definitions_stuck integer_at entry tops (d ∷ ds)
   stuck_next : {tops : Tops} {d : FlatTop} {ds : List FlatTop} {n n' : ℕ} {bs : Bindings} {s : Known} → is_reached is_flat_use entry ds d.number ≡ true → Unfolds integer_at tops no_name d.first d.value n bs s n' → Definitions_stuck integer_at entry ((d.number, s) ∷ tops) ds → Definitions_stuck integer_at entry tops (d ∷ ds)
   stuck_other : {tops : Tops} {d : FlatTop} {ds : List FlatTop} → is_reached is_flat_use entry ds d.number ≡ false → Definitions_stuck integer_at entry tops ds → Definitions_stuck integer_at entry tops (d ∷ ds)
-
--- a function applied to arguments, one after the other
-pub data Stuck_runs (integer_at : ℕ → IntType) (tops : Tops) : List Known → Known → Type 0 where
-  stuck_run : {s f : Known} {ss : List Known} → Stuck_run integer_at tops f s → Stuck_runs integer_at tops (s ∷ ss) f
-  stuck_on : {s f g : Known} {ss : List Known} {n n' : ℕ} {bs : Bindings} → Applies integer_at tops f s n bs g n' → Stuck_runs integer_at tops ss g → Stuck_runs integer_at tops (s ∷ ss) f
 
 -- a program from an entry on, whose parameters are data of these shapes
 pub data Program_stuck (integer_at : ℕ → IntType) (ds : List FlatTop) (entry : ℕ) (hs : Shapes) : Type 0 where

@@ -1,19 +1,22 @@
--- What is known stays where more definitions are known, and the part of a record is known by its label.
-use Rattle.std.proofs.Common.{◌≡◌, Bool, true, false, cond, ℕ, refl, sym, ◌∙◌, subst, List, [], ◌∷◌, Option, Some, None, if◌then◌else◌, ◌==◌, eq-eqb}
+-- What is known stays where more definitions are known, the part of a record is known by its label, and one component may be
+-- data of each type.
+use Rattle.std.proofs.Common.{◌≡◌, Bool, true, false, cond, ℕ, zero, suc, ◌≤◌, min, arith, refl, sym, ◌∙◌, subst, List, [], ◌∷◌, Option, Some, None, if◌then◌else◌, ◌==◌, eq-eqb}
 use native.Mathlib.Decide.{ℕ_discrete}
 use Rattle.std.specs.Str.{bytes_eq}
 use Rattle.std.proofs.lemmas.Slice.Eq.{bytes_eq-Decides}
 use Rattle.fut_scalar.specs.declared.scalar.IntType.{IntType}
 use Rattle.fut_ast.specs.Sorts.{Text}
 use Rattle.fut_types.specs.declared.Head.TheVariants as head
-use Rattle.fut_types.specs.Types.{Ty, Var, Made, Tys, none, more}
+use Rattle.fut_types.specs.declared.Kind.TheVariants as kind
+use Rattle.fut_types.specs.Types.{Ty, Var, Made, Tys, none, more, Kinds, HasKind, rank, least}
 use Rattle.fut_types.specs.Shapes.{place_from, part_at}
 use Rattle.fut_typing.specs.Names.{Names}
 use Rattle.type_soundness.proofs.Records.{there_place}
+use Rattle.fut_blocks.specs.declared.block.Atom.{Atom}
 use Rattle.fut_blocks.specs.Meaning.{look}
 use Rattle.fut_meaning.specs.Knowns.{or_else}
 use Rattle.unfold.specs.Knowns.{Known, Scalar_known, Tuple_known, Record_known, Function_known, Primitive_known, Knowns, no_known, known_and, Known_fields, no_known_field, known_field_and, Scope as Seen, Tops, local, find, field}
-use Rattle.unfold_laws.specs.Fits.{Learns, Each_field, Fits, All_fit, Keyed}
+use Rattle.unfold_laws.specs.Fits.{Learns, Each_field, Is_data, All_data, Part_data, Fits, All_fit, Keyed}
 
 pub some_same : {A : Type 0} {x y : A} → Some x ≡ Some y → x ≡ y
 some_same e = cc
@@ -84,19 +87,19 @@ module _ (N : Names) (integer_at : ℕ → IntType) where
     fits_learn (Made (head.Scalar x) ts) tops tops' g s h = h
     fits_learn (Made head.Array ts) tops tops' g s h = h
     fits_learn (Made head.Tuple ts) tops tops' g (Tuple_known ss) h = (h.0, all_fit_learn ts tops tops' g ss h.1)
-    fits_learn (Made head.Tuple ts) tops tops' g (Scalar_known u) h = absurd h.1
-    fits_learn (Made head.Tuple ts) tops tops' g (Record_known fs) h = absurd h.1
-    fits_learn (Made head.Tuple ts) tops tops' g (Function_known ps e lo sc) h = absurd h.1
-    fits_learn (Made head.Tuple ts) tops tops' g (Primitive_known p at ss) h = absurd h.1
+    fits_learn (Made head.Tuple ts) tops tops' g (Scalar_known u) h = h
+    fits_learn (Made head.Tuple ts) tops tops' g (Record_known fs) h = absurd h
+    fits_learn (Made head.Tuple ts) tops tops' g (Function_known ps e lo sc) h = absurd h
+    fits_learn (Made head.Tuple ts) tops tops' g (Primitive_known p at ss) h = absurd h
     fits_learn (Made (head.Record n) ts) tops tops' g (Record_known fs) h =
         (h.0, each_map (λ f u. Keyed N integer_at (N.shapes.fields n) ts tops (N.label f) u) (λ f u. Keyed N integer_at (N.shapes.fields n) ts tops' (N.label f) u) (λ f u k. keyed_learn (N.shapes.fields n) ts tops tops' g (N.label f) u k) fs h.1)
-    fits_learn (Made (head.Record n) ts) tops tops' g (Scalar_known u) h = absurd h
+    fits_learn (Made (head.Record n) ts) tops tops' g (Scalar_known u) h = h
     fits_learn (Made (head.Record n) ts) tops tops' g (Tuple_known ss) h = absurd h
     fits_learn (Made (head.Record n) ts) tops tops' g (Function_known ps e lo sc) h = absurd h
     fits_learn (Made (head.Record n) ts) tops tops' g (Primitive_known p at ss) h = absurd h
     fits_learn (Made head.Fun none) tops tops' g s h = h
     fits_learn (Made head.Fun (more t none)) tops tops' g s h = h
-    fits_learn (Made head.Fun (more t (more u none))) tops tops' g s h = λ tops'' g'. h tops'' (learns_more tops tops' tops'' g g')
+    fits_learn (Made head.Fun (more t (more u none))) tops tops' g s h = (h.0, λ tops'' g'. h.1 tops'' (learns_more tops tops' tops'' g g'))
     fits_learn (Made head.Fun (more t (more u (more w ts)))) tops tops' g s h = h
     fits_learn (Made (head.Rigid n k) ts) tops tops' g s h = h
     fits_learn (Made (head.Abstract n d) ts) tops tops' g s h = h
@@ -110,3 +113,76 @@ module _ (N : Names) (integer_at : ℕ → IntType) where
     keyed_learn [] ts tops tops' g l s h = absurd h
     keyed_learn (x ∷ ls) none tops tops' g l s h = absurd h
     keyed_learn (x ∷ ls) (more t ts) tops tops' g l s h = ((λ e. fits_learn t tops tops' g s (h.0 e)), (λ ne. keyed_learn ls ts tops tops' g l s (h.1 ne)))
+
+-- ---- data
+module _ (N : Names) (K : Kinds) where
+  mutual
+    unfolding Is_data All_data Part_data rank least
+
+    pub kind_data : (t : Ty) → HasKind K kind.Data t → Is_data N t
+    kind_data (Var n) k = tt
+    kind_data (Made (head.Scalar x) ts) k = tt
+    kind_data (Made head.Array ts) k = let z : 1 ≤ min 1 (least K ts) = k in kinds_data ts (omega (arith, z))
+    kind_data (Made head.Tuple ts) k = let z : 1 ≤ min 2 (least K ts) = k in kinds_data ts (omega (arith, z))
+    kind_data (Made (head.Record n) ts) k = λ f c. let z : 1 ≤ min 2 (least K ts) = k in kind_parts (N.shapes.fields n) ts (N.label f) (omega (arith, z))
+    kind_data (Made head.Fun ts) k = let z : 1 ≤ min 0 (least K ts) = k in omega (arith, z)
+    kind_data (Made (head.Rigid n d) ts) k = tt
+    kind_data (Made (head.Abstract n d) ts) k = tt
+
+    kinds_data : (ts : Tys) → 1 ≤ least K ts → All_data N ts
+    kinds_data none k = tt
+    kinds_data (more t ts) k = let z : 1 ≤ min (rank K t) (least K ts) = k in (kind_data t (omega (arith, z)), kinds_data ts (omega (arith, z)))
+
+    kind_parts : (ls : List ℕ) (ts : Tys) (g : ℕ) → 1 ≤ least K ts → Part_data N ls ts g
+    kind_parts [] ts g k = tt
+    kind_parts (l ∷ ls) none g k = tt
+    kind_parts (l ∷ ls) (more t ts) g k = let z : 1 ≤ min (rank K t) (least K ts) = k in ((λ e. kind_data t (omega (arith, z))), (λ ne. kind_parts ls ts g (omega (arith, z))))
+
+module _ (N : Names) (integer_at : ℕ → IntType) where
+  pub data_fits : (t : Ty) (tops : Tops) (u : Atom) → Is_data N t → Fits N integer_at t tops (Scalar_known u)
+  unfolding Fits Is_data
+  data_fits (Var n) tops u d = tt
+  data_fits (Made (head.Scalar x) ts) tops u d = tt
+  data_fits (Made head.Array ts) tops u d = (d, tt)
+  data_fits (Made head.Tuple ts) tops u d = d
+  data_fits (Made (head.Record n) ts) tops u d = d
+  data_fits (Made head.Fun ts) tops u d = absurd d
+  data_fits (Made (head.Rigid n k) ts) tops u d = tt
+  data_fits (Made (head.Abstract n k) ts) tops u d = tt
+
+  pub fits_data : (t : Ty) (tops : Tops) (u : Atom) → Fits N integer_at t tops (Scalar_known u) → Is_data N t
+  unfolding Fits Is_data
+  fits_data (Var n) tops u h = tt
+  fits_data (Made (head.Scalar x) ts) tops u h = tt
+  fits_data (Made head.Array ts) tops u h = h.0
+  fits_data (Made head.Tuple ts) tops u h = h
+  fits_data (Made (head.Record n) ts) tops u h = h
+  fits_data (Made head.Fun none) tops u h = h
+  fits_data (Made head.Fun (more t none)) tops u h = h
+  fits_data (Made head.Fun (more t (more v none))) tops u h = let z : false ≡ true = h.0 in cc
+  fits_data (Made head.Fun (more t (more v (more w ts)))) tops u h = h
+  fits_data (Made (head.Rigid n k) ts) tops u h = tt
+  fits_data (Made (head.Abstract n k) ts) tops u h = tt
+
+  -- ---- parts of data
+  pub all_data_part : (ts : Tys) (i : ℕ) (u : Ty) → part_at (Some i) ts ≡ Some u → All_data N ts → Is_data N u
+  unfolding part_at All_data
+  all_data_part none i u e d = absurd (let z : None ≡ Some u = e in cc)
+  all_data_part (more t ts) zero u e d = subst (Is_data N) (some_same e) d.0
+  all_data_part (more t ts) (suc i) u e d = all_data_part ts i u e d.1
+
+  pub part_data : (l : ℕ) (u : Ty) (ls : List ℕ) (ts : Tys) → part_at (place_from 0 l ls) ts ≡ Some u → Part_data N ls ts l → Is_data N u
+  unfolding Part_data place_from part_at
+  part_data l u [] none e h = absurd (let z : None ≡ Some u = e in cc)
+  part_data l u [] (more t ts) e h = absurd (let z : None ≡ Some u = e in cc)
+  part_data l u (x ∷ xs) none e h = absurd (none_at (if x == l then Some 0 else place_from 1 l xs) e)
+    where
+      none_at : (o : Option ℕ) → part_at o none ≡ Some u → ⊥
+      none_at None e = let z : None ≡ Some u = e in cc
+      none_at (Some i) e = let z : None ≡ Some u = e in cc
+  part_data l u (x ∷ xs) (more t ts) e h = elim (ℕ_discrete x l) as (λ d. Is_data N u) [
+    | yes same ↦
+        let here : Some t ≡ Some u = subst (λ b. part_at (if b then Some 0 else place_from 1 l xs) (more t ts) ≡ Some u) (eq-eqb x l same) e in
+        subst (Is_data N) (some_same here) (h.0 same)
+    | no ne ↦ part_data l u xs ts (sym (there_place l x xs t ts ne) ∙ e) (h.1 ne)
+  ]

@@ -3,20 +3,14 @@ pub mod ResultTypes
 pub mod Fitting
 pub mod Shaping
 pub mod Recording
+pub mod Packed
+pub mod Functions
+pub mod Primitives
 pub mod Operating
 pub mod Seeing
 pub mod Applying
 pub mod Going
 pub mod Surely
 pub mod Unstuck
-pub mod Worlds
-pub mod WorldFitting
-pub mod WorldRecording
-pub mod WorldSeeing
-pub mod Laying
-pub mod Equality
-pub mod WorldOperating
-pub mod WorldApplying
-pub mod WorldGoing
-pub mod WorldSurely
-pub mod Programs
+pub mod TypedSteps
+mod Examples

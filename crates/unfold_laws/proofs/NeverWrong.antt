@@ -27,4 +27,4 @@ module _ (N : Names) (integer_at : ℕ → IntType) (M : FlatMode) (budget : ℕ
 pub blocks_never_wrong : BlocksNeverWrong
 blocks_never_wrong N names places K a integer_at tight budget flat typed entry ts u used hs h p unfolds arguments components split fit o f x =
     has_right N integer_at (plain tight) budget h u o f (never_wrong N names places K a integer_at tight budget flat typed entry ts u _ used fit)
-    (adds_no_outcome (plain tight) integer_at budget _ entry hs h p unfolds arguments components split o f x)
+    (adds_no_outcome tight integer_at budget _ entry hs h p unfolds arguments components split o f x)

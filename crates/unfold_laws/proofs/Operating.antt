@@ -1,5 +1,5 @@
 -- A typed operation takes what is known of its parts, and what is known of its result is known by its type.
-use Rattle.std.proofs.Common.{◌≡◌, Bool, ℕ, suc, ◌+◌, ◌*◌, ◌^◌, ◌%◌, ◌≤◌, ◌<◌, min, refl, sym, ap, ◌∙◌, subst, arith, List, [], ◌∷◌, Option, Some, None, pos}
+use Rattle.std.proofs.Common.{◌≡◌, Bool, true, false, ℕ, suc, ◌+◌, ◌*◌, ◌^◌, ◌%◌, ◌≤◌, ◌<◌, min, refl, sym, ap, ◌∙◌, subst, arith, List, [], ◌∷◌, Option, Some, None, pos}
 use Rattle.std.specs.Int.{int_rem_euclid}
 use Rattle.std.specs.Prelude.{unsigned_abs}
 use Rattle.std.proofs.Math.IntN.{pos-+ℤ-pos}
@@ -16,6 +16,9 @@ use Rattle.fut_scalar.specs.declared.scalar.Scalar.TheVariants as scalar
 use Rattle.fut_scalar.specs.declared.scalar.ScalarType.{ScalarType}
 use Rattle.fut_scalar.specs.declared.scalar.ScalarType.TheVariants as types
 use Rattle.fut_ast.specs.Sorts.{Text}
+use Rattle.fut_ast.specs.declared.node.End.{End}
+use Rattle.fut_flat.specs.declared.act.Part.{Part}
+use Rattle.fut_flat.specs.declared.act.Part.TheVariants as part
 use Rattle.fut_flat.specs.declared.prim.Ref.{Ref}
 use Rattle.fut_flat.specs.Erased.{FlatType}
 use Rattle.fut_flat.specs.Terms.{Operation, Integer, Truth, Tuple_of, Record_of, Array_of, Binary, Negate, Complement, Index, Project, Update, Replace, Ascribe, Coerce, Declared, Assert, Range}
@@ -23,22 +26,24 @@ use Rattle.fut_types.specs.declared.Kind.TheVariants as kind
 use Rattle.fut_types.specs.declared.Head.TheVariants as head
 use Rattle.fut_types.specs.Types.{Ty, Var, Made, Tys, none, more, Kinds, HasKind, rank, least, scalar_ty}
 use Rattle.fut_typing.specs.Names.{Names, AreNames, IsRecord, count}
-use Rattle.fut_typing.specs.Primitives.{bool_ty}
-use Rattle.fut_typing.specs.Rules.{Operator, Rule}
-use Rattle.fut_meaning.specs.Operations.{named_values}
+use Rattle.fut_typing.specs.Primitives.{array_ty, bool_ty, i64_ty}
+use Rattle.fut_typing.specs.Scopes.{IsArray}
+use Rattle.fut_typing.specs.Rules.{Operator, All_are, Indexed, Updated, Rule}
+use Rattle.fut_meaning.specs.Arrays.{Making, Make_array, Make_index, Make_update, Make_range}
+use Rattle.fut_meaning.specs.Operations.{named_values, making}
 use Rattle.fut_meaning.specs.Operators.{integer}
 use Rattle.fut_blocks.specs.declared.block.Atom.{Atom}
 use Rattle.fut_blocks.specs.Meaning.{fitted}
 use Rattle.type_soundness.specs.Fits.{widest}
 use Rattle.type_soundness.specs.Meant.{Operation_meant}
 use Rattle.type_soundness.proofs.Operating.{Told}
-use Rattle.unfold.specs.Knowns.{Known, Scalar_known, Tuple_known, Record_known, Known_fields, Tops, knowns, fields, part, replaced}
-use Rattle.unfold.specs.Stuck.{No_operation, no_function}
-use Rattle.unfold.specs.Unfolding.{Bindings, literal_type, Operates, o_integer, o_truth, o_tuple, o_record, o_binary, o_equal, o_unequal, o_negate, o_complement, o_project, o_replace, o_ascribe, o_coerce, o_declared, o_assert}
-use Rattle.unfold_laws.specs.Fits.{On_scalar, Fits, All_fit}
-use Rattle.unfold_laws.proofs.Fitting.{some_same}
-use Rattle.unfold_laws.proofs.Recording.{Each_fits, record_fits, project_fits, replace_fits}
-use Rattle.unfold_laws.proofs.Shaping.{scalar_is, shaped, one_shape, Compares, compares}
+use Rattle.unfold.specs.Knowns.{Known, Scalar_known, Tuple_known, Record_known, Tops, knowns, fields, part}
+use Rattle.unfold.specs.Stuck.{No_operation}
+use Rattle.unfold.specs.Unfolding.{Bindings, p_none, p_more, literal_type, Operates, o_integer, o_truth, o_tuple, o_record, o_binary, o_equal, o_unequal, o_negate, o_complement, o_project, o_part, o_changed, o_replace, o_made, o_ascribe, o_coerce, o_declared, o_assert}
+use Rattle.unfold_laws.specs.Fits.{On_scalar, Is_data, All_data, Fits, All_fit}
+use Rattle.unfold_laws.proofs.Fitting.{some_same, kind_data, data_fits, fits_data}
+use Rattle.unfold_laws.proofs.Recording.{Each_fits, record_fits, Projects, project_fits, Replaces, replace_fits}
+use Rattle.unfold_laws.proofs.Shaping.{scalar_is, shaped, All_packing, shaped_packing, Compares, compares}
 
 at_zero : (m k : ℕ) → 0 < k → unsigned_abs (int_rem_euclid (pos m) (pos k)) ≡ m % k
 at_zero m k some = let e : m + 0 * k ≡ m = omega arith in ap unsigned_abs (int_rem_euclid_is (pos m) (pos k) k 0 m some refl (pos-+ℤ-pos m (0 * k) ∙ ap pos e))
@@ -75,6 +80,12 @@ binary_scalar : (i : IntType) (o : BinOp) (at : Place) (ss : List Known) (n n' :
 binary_scalar i o at _ _ _ _ _ (o_binary le) = tt
 binary_scalar i _ at _ _ _ _ _ (o_equal e) = tt
 binary_scalar i _ at _ _ _ _ _ (o_unequal e le) = tt
+binary_scalar i o at _ _ _ _ _ (o_made q r le) = tt
+
+-- an array is one component
+pub array_one_component : (N : Names) (integer_at : ℕ → IntType) (tops : Tops) (element t : Ty) (s : Known) → t ≡ array_ty element → Fits N integer_at t tops s → (u : Atom) × (s ≡ Scalar_known u)
+unfolding Fits
+array_one_component N integer_at tops element t s e h = let k : Fits N integer_at (array_ty element) tops s = subst (λ y. Fits N integer_at y tops s) e h in scalar_is s k.1
 
 module _ (N : Names) (integer_at : ℕ → IntType) (K : Kinds) where
   abbrev At : Tops → Ty → Known → Type 0
@@ -91,14 +102,14 @@ module _ (N : Names) (integer_at : ℕ → IntType) (K : Kinds) where
 
   scalar_kind : (tops : Tops) (t : Ty) (s : Known) → HasKind K kind.Scalar t → At tops t s → On_scalar s
   unfolding Fits rank least
-  scalar_kind tops (Var n) s k h = absurd h
+  scalar_kind tops (Var n) s k h = h
   scalar_kind tops (Made (head.Scalar x) ts) s k h = h
-  scalar_kind tops (Made head.Array ts) s k h = absurd h
+  scalar_kind tops (Made head.Array ts) s k h = absurd (let z : 3 ≤ min 1 (least K ts) = k in omega (arith, z))
   scalar_kind tops (Made head.Tuple ts) s k h = absurd (let z : 3 ≤ min 2 (least K ts) = k in omega (arith, z))
   scalar_kind tops (Made (head.Record n) ts) s k h = absurd (let z : 3 ≤ min 2 (least K ts) = k in omega (arith, z))
   scalar_kind tops (Made head.Fun ts) s k h = absurd (let z : 3 ≤ min 0 (least K ts) = k in omega (arith, z))
-  scalar_kind tops (Made (head.Rigid n d) ts) s k h = absurd h
-  scalar_kind tops (Made (head.Abstract n d) ts) s k h = absurd h
+  scalar_kind tops (Made (head.Rigid n d) ts) s k h = h
+  scalar_kind tops (Made (head.Abstract n d) ts) s k h = h
 
   pub of_scalars : (tops : Tops) (t : Ty) (s : Known) → HasKind K kind.Scalar t → At tops t s → (u : Atom) × (s ≡ Scalar_known u)
   of_scalars tops t s k h = scalar_is s (scalar_kind tops t s k h)
@@ -108,30 +119,14 @@ module _ (N : Names) (integer_at : ℕ → IntType) (K : Kinds) where
 
   -- a type of one scalar has all
   pub any_scalar : (tops : Tops) (t : Ty) (u : Atom) (s : Known) → At tops t (Scalar_known u) → On_scalar s → At tops t s
-  unfolding Fits
-  any_scalar tops t u s h k = let r = scalar_is s k in subst (At tops t) (sym r.1) (another t r.0 h)
-    where
-      another : (t : Ty) (w : Atom) → At tops t (Scalar_known u) → At tops t (Scalar_known w)
-      another (Var n) w h = absurd h
-      another (Made (head.Scalar x) ts) w h = tt
-      another (Made head.Array ts) w h = absurd h
-      another (Made head.Tuple ts) w h = absurd h.1
-      another (Made (head.Record n) ts) w h = absurd h
-      another (Made head.Fun none) w h = absurd h
-      another (Made head.Fun (more t none)) w h = absurd h
-      another (Made head.Fun (more t (more v none))) w h = λ tops' g s k. absurd ((h tops' g s k).0 (no_function refl))
-      another (Made head.Fun (more t (more v (more x ts)))) w h = absurd h
-      another (Made (head.Rigid n d) ts) w h = absurd h
-      another (Made (head.Abstract n d) ts) w h = absurd h
+  any_scalar tops t u s h k = let r = scalar_is s k in subst (At tops t) (sym r.1) (data_fits N integer_at t tops r.0 (fits_data N integer_at t tops u h))
 
   -- two values of a type are compared
   equal_there : (tops : Tops) (at : Place) (u : Ty) (s r : Known) → HasKind K kind.Equal u → At tops u s → At tops u r → Compares at s r
   equal_there tops at u s r k h g =
       let d : HasKind K kind.Data u = let y : 2 ≤ rank K u = k in let z : 1 ≤ rank K u = omega (arith, y) in z in
-      let a = shaped N integer_at K tops u s d h in
-      let l = a.1 [] in
-      let m = one_shape N integer_at K tops u s r d h g a.0 l.0 [] l.1 [] in
-      compares at a.0 s r l.0 [] m.0 [] l.1 m.1
+      let e = kind_data N K u d in
+      compares at s r (shaped N integer_at tops u s e h) (shaped N integer_at tops u r e g)
 
   module _ (are : AreNames N) (tops : Tops) (i : IntType) (at : Place) where
     -- there is a way on, and what is known of the result is known by this type
@@ -150,12 +145,14 @@ module _ (N : Names) (integer_at : ℕ → IntType) (K : Kinds) where
       where
         known : (n n' : ℕ) (bs : Bindings) (s : Known) → Operates i (Integer m suffix) at [] n bs s n' → At tops t s
         known _ _ _ _ (o_integer f) = fits_scalar tops (types.Int j) t _ e tt
+        known _ _ _ _ (o_made {k = k} q p le) = absurd (let z : None ≡ Some k = q in cc)
 
     truth_gives : (b : Bool) (t : Ty) → t ≡ bool_ty → Gives (Truth b) [] t
     truth_gives b t e = ((λ h. h 0 0 [] _ o_truth), (λ n n' bs s x. known n n' bs s x))
       where
         known : (n n' : ℕ) (bs : Bindings) (s : Known) → Operates i (Truth b) at [] n bs s n' → At tops t s
         known _ _ _ _ o_truth = fits_scalar tops types.Bool t _ e tt
+        known _ _ _ _ (o_made {k = k} q p le) = absurd (let z : None ≡ Some k = q in cc)
 
     -- ---- tuples and records
     all_listed : (ts : Tys) (ss : List Known) → Each_fits N integer_at tops ts ss → All_fit N integer_at ts tops (knowns ss)
@@ -174,6 +171,7 @@ module _ (N : Names) (integer_at : ℕ → IntType) (K : Kinds) where
       where
         known : (n n' : ℕ) (bs : Bindings) (s : Known) → Operates i Tuple_of at ss n bs s n' → At tops t s
         known _ _ _ _ o_tuple = tuple_fits t ts ss e lt h
+        known _ _ _ _ (o_made {k = k} q p le) = absurd (let z : None ≡ Some k = q in cc)
 
     record_gives : (names : List Text) (t : Ty) (ts : Tys) (ss : List Known) → IsRecord N names t ts → Each_fits N integer_at tops ts ss → Gives (Record_of names) ss t
     record_gives names t ts ss r h = ((λ g. g 0 0 [] _ (o_record made.1)), (λ n n' bs s x. known n n' bs s x))
@@ -183,18 +181,34 @@ module _ (N : Names) (integer_at : ℕ → IntType) (K : Kinds) where
 
         known : (n n' : ℕ) (bs : Bindings) (s : Known) → Operates i (Record_of names) at ss n bs s n' → At tops t s
         known _ _ _ _ (o_record e) = subst (λ l. At tops t (Record_known (fields l))) (some_same (sym made.1 ∙ e)) made.2
+        known _ _ _ _ (o_made {k = k} q p le) = absurd (let z : None ≡ Some k = q in cc)
 
-    project_gives : (f : Text) (t : Ty) (s : Known) → (r : Known) × (part f s ≡ Some r) × At tops t r → Gives (Project f) (s ∷ []) t
-    project_gives f t s p = ((λ g. g 0 0 [] _ (o_project p.1)), (λ n n' bs r x. known n n' bs r x))
+    project_gives : (f : Text) (t : Ty) (s : Known) → Projects N integer_at tops are f t s → Gives (Project f) (s ∷ []) t
+    project_gives f t s (inl (w, e, d)) = gives_as (Project f) s (Scalar_known w) t e ((λ g. g 0 1 _ _ (o_part (let z : 0 ≤ 0 = omega arith in z))), (λ n n' bs r x. known n n' bs r x))
       where
-        known : (n n' : ℕ) (bs : Bindings) (r : Known) → Operates i (Project f) at (s ∷ []) n bs r n' → At tops t r
-        known _ _ _ _ (o_project e) = subst (At tops t) (some_same (sym p.1 ∙ e)) p.2
+        known : (n n' : ℕ) (bs : Bindings) (r : Known) → Operates i (Project f) at (Scalar_known w ∷ []) n bs r n' → At tops t r
+        known _ _ _ _ (o_part le) = data_fits N integer_at t tops _ d
+        known _ _ _ r (o_project e) = absurd (let z : None ≡ Some r = e in cc)
+        known _ _ _ _ (o_made {k = k} q p le) = absurd (let z : None ≡ Some k = q in cc)
+    project_gives f t s (inr (r, e, h)) = ((λ g. g 0 0 [] _ (o_project e)), (λ n n' bs x o. known s e n n' bs x o))
+      where
+        known : (s : Known) → part f s ≡ Some r → (n n' : ℕ) (bs : Bindings) (x : Known) → Operates i (Project f) at (s ∷ []) n bs x n' → At tops t x
+        known s e _ _ _ _ (o_project e') = subst (At tops t) (some_same (sym e ∙ e')) h
+        known _ e _ _ _ _ (o_part le) = absurd (let z : None ≡ Some r = e in cc)
+        known s e _ _ _ _ (o_made {k = k} q p le) = absurd (let z : None ≡ Some k = q in cc)
 
-    replace_gives : (f : Text) (t : Ty) (u s : Known) → (fs : Known_fields) × (u ≡ Record_known fs) × At tops t (Record_known (replaced f s fs)) → Gives (Replace f) (u ∷ s ∷ []) t
-    replace_gives f t u s p = gives_both (Replace f) u s (Record_known p.0) s t p.1 refl ((λ g. g 0 0 [] _ o_replace), (λ n n' bs r x. known n n' bs r x))
+    replace_gives : (f : Text) (t : Ty) (u s : Known) → Replaces N integer_at tops are f t u s → Gives (Replace f) (u ∷ s ∷ []) t
+    replace_gives f t u s (inl (w, e, d, pack)) =
+        gives_both (Replace f) u s (Scalar_known w) s t e refl ((λ g. let p = pack 0 in g 0 (suc p.2) _ _ (o_changed p.3 (let z : p.2 ≤ p.2 = omega arith in z))), (λ n n' bs r x. known n n' bs r x))
       where
-        known : (n n' : ℕ) (bs : Bindings) (r : Known) → Operates i (Replace f) at (Record_known p.0 ∷ s ∷ []) n bs r n' → At tops t r
-        known _ _ _ _ o_replace = p.2
+        known : (n n' : ℕ) (bs : Bindings) (r : Known) → Operates i (Replace f) at (Scalar_known w ∷ s ∷ []) n bs r n' → At tops t r
+        known _ _ _ _ (o_changed p le) = data_fits N integer_at t tops _ d
+        known _ _ _ _ (o_made {k = k} q p le) = absurd (let z : None ≡ Some k = q in cc)
+    replace_gives f t u s (inr (fs, e, h)) = gives_both (Replace f) u s (Record_known fs) s t e refl ((λ g. g 0 0 [] _ o_replace), (λ n n' bs r x. known n n' bs r x))
+      where
+        known : (n n' : ℕ) (bs : Bindings) (r : Known) → Operates i (Replace f) at (Record_known fs ∷ s ∷ []) n bs r n' → At tops t r
+        known _ _ _ _ o_replace = h
+        known _ _ _ _ (o_made {k = k} q p le) = absurd (let z : None ≡ Some k = q in cc)
 
     -- ---- written types
     ascribe_gives : (e : FlatType) (t : Ty) (s : Known) → At tops t s → Gives (Ascribe e) (s ∷ []) t
@@ -202,24 +216,28 @@ module _ (N : Names) (integer_at : ℕ → IntType) (K : Kinds) where
       where
         known : (n n' : ℕ) (bs : Bindings) (r : Known) → Operates i (Ascribe e) at (s ∷ []) n bs r n' → At tops t r
         known _ _ _ _ o_ascribe = h
+        known _ _ _ _ (o_made {k = k} q p le) = absurd (let z : None ≡ Some k = q in cc)
 
     coerce_gives : (e : FlatType) (t : Ty) (s : Known) → At tops t s → Gives (Coerce e) (s ∷ []) t
     coerce_gives e t s h = ((λ g. g 0 0 [] _ o_coerce), (λ n n' bs r x. known n n' bs r x))
       where
         known : (n n' : ℕ) (bs : Bindings) (r : Known) → Operates i (Coerce e) at (s ∷ []) n bs r n' → At tops t r
         known _ _ _ _ o_coerce = h
+        known _ _ _ _ (o_made {k = k} q p le) = absurd (let z : None ≡ Some k = q in cc)
 
     declared_gives : (e : FlatType) (t : Ty) (s : Known) → At tops t s → Gives (Declared e) (s ∷ []) t
     declared_gives e t s h = ((λ g. g 0 0 [] _ o_declared), (λ n n' bs r x. known n n' bs r x))
       where
         known : (n n' : ℕ) (bs : Bindings) (r : Known) → Operates i (Declared e) at (s ∷ []) n bs r n' → At tops t r
         known _ _ _ _ o_declared = h
+        known _ _ _ _ (o_made {k = k} q p le) = absurd (let z : None ≡ Some k = q in cc)
 
     assert_gives : (t : Ty) (u : Atom) → At tops t (Scalar_known u) → Gives Assert (Scalar_known u ∷ []) t
     assert_gives t u h = ((λ g. g 0 0 _ _ o_assert), (λ n n' bs r x. known n n' bs r x))
       where
         known : (n n' : ℕ) (bs : Bindings) (r : Known) → Operates i Assert at (Scalar_known u ∷ []) n bs r n' → At tops t r
         known _ _ _ _ o_assert = h
+        known _ _ _ _ (o_made {k = k} q p le) = absurd (let z : None ≡ Some k = q in cc)
 
     -- ---- scalars
     negate_gives : (t : Ty) (u : Atom) → At tops t (Scalar_known u) → Gives Negate (Scalar_known u ∷ []) t
@@ -227,12 +245,14 @@ module _ (N : Names) (integer_at : ℕ → IntType) (K : Kinds) where
       where
         known : (n n' : ℕ) (bs : Bindings) (r : Known) → Operates i Negate at (Scalar_known u ∷ []) n bs r n' → At tops t r
         known _ _ _ _ (o_negate le) = any_scalar tops t u _ h tt
+        known _ _ _ _ (o_made {k = k} q p le) = absurd (let z : None ≡ Some k = q in cc)
 
     complement_gives : (t : Ty) (u : Atom) → At tops t (Scalar_known u) → Gives Complement (Scalar_known u ∷ []) t
     complement_gives t u h = ((λ g. g 0 1 _ _ (o_complement (let z : 0 ≤ 0 = omega arith in z))), (λ n n' bs r x. known n n' bs r x))
       where
         known : (n n' : ℕ) (bs : Bindings) (r : Known) → Operates i Complement at (Scalar_known u ∷ []) n bs r n' → At tops t r
         known _ _ _ _ (o_complement le) = any_scalar tops t u _ h tt
+        known _ _ _ _ (o_made {k = k} q p le) = absurd (let z : None ≡ Some k = q in cc)
 
     binary_gives : (o : BinOp) (t u : Ty) (s r : Known) → Operator o K t u → At tops u s → At tops u r → Gives (Binary o) (s ∷ r ∷ []) t
     binary_gives o t u s r rule h g = by_operator K (λ o. Gives (Binary o) (s ∷ r ∷ []) t) t u
@@ -256,16 +276,106 @@ module _ (N : Names) (integer_at : ℕ → IntType) (K : Kinds) where
           (λ n n' bs v x. of_type e a v (binary_scalar i o at (s ∷ r ∷ []) n n' bs v x)),
         )
 
+    -- ---- arrays
+    all_packing : (ts : Tys) (ss : List Known) → All_data N ts → Each_fits N integer_at tops ts ss → All_packing ss
+    unfolding All_data
+    all_packing none [] d h n = ([], [], n, p_none)
+    all_packing none (s ∷ ss) d h n = absurd h
+    all_packing (more t ts) [] d h n = absurd h
+    all_packing (more t ts) (s ∷ ss) d h n =
+        let p = shaped_packing s (shaped N integer_at tops t s d.0 h.0) n in
+        let q = all_packing ts ss d.1 h.1 p.2 in (_, _, _, p_more p.3 q.3)
+
+    -- one step, which gives one component
+    abbrev Gives_one : Operation Ref BindId → List Known → Type 0
+    Gives_one o ss = (n n' : ℕ) (bs : Bindings) (s : Known) → Operates i o at ss n bs s n' → On_scalar s
+
+    array_one : (ss : List Known) → Gives_one Array_of ss
+    array_one ss _ _ _ _ (o_made q p le) = tt
+
+    index_one : (ps : List Part) (ss : List Known) → Gives_one (Index ps) ss
+    index_one ps ss _ _ _ _ (o_made q p le) = tt
+
+    update_one : (ss : List Known) → Gives_one Update ss
+    update_one ss _ _ _ _ (o_made q p le) = tt
+
+    range_one : (stepped : Bool) (end : End) (ss : List Known) → Gives_one (Range stepped end) ss
+    range_one stepped end ss _ _ _ _ (o_made q p le) = tt
+
+    made_gives : (o : Operation Ref BindId) (k : Making) → making o ≡ Some k → (t : Ty) (ts : Tys) (ss : List Known) → Gives_one o ss → Is_data N t → All_data N ts → Each_fits N integer_at tops ts ss → Gives o ss t
+    made_gives o k q t ts ss one d ds h = (
+      (λ f. let p = all_packing ts ss ds h 0 in f 0 (suc p.2) _ _ (o_made q p.3 (let z : p.2 ≤ p.2 = omega arith in z))),
+      (λ n n' bs s x. let r = scalar_is s (one n n' bs s x) in subst (At tops t) (sym r.1) (data_fits N integer_at t tops r.0 d)),
+    )
+
+    alike_data : (element : Ty) (ts : Tys) → Is_data N element → All_are element ts → All_data N ts
+    unfolding All_data
+    alike_data element none d a = tt
+    alike_data element (more t ts) d a = (subst (Is_data N) (sym a.0) d, alike_data element ts d a.1)
+
+    array_is_data : (t element : Ty) → t ≡ array_ty element → Is_data N element → Is_data N t
+    unfolding Is_data All_data
+    array_is_data t element e d = subst (Is_data N) (sym e) (d, tt)
+
+    integer_data : Is_data N i64_ty
+    unfolding Is_data
+    integer_data = tt
+
+    array_gives : (t element : Ty) (ts : Tys) (ss : List Known) → IsArray kind.Data K t element → All_are element ts → Each_fits N integer_at tops ts ss → Gives Array_of ss t
+    array_gives t element ts ss r a h = let d = kind_data N K element r.1 in made_gives Array_of Make_array refl t ts ss (array_one ss) (array_is_data t element r.0 d) (alike_data element ts d a) h
+
+    index_data : (ps : List Part) (x t : Ty) → Is_data N x → Indexed N kind.Data K ps x t → Is_data N t
+    unfolding Is_data All_data
+    index_data [] x t d e = subst (Is_data N) (sym e) d
+    index_data (part.At ∷ ps) x t d r = subst (Is_data N) (sym r.4) (index_data ps r.0 r.1 (kind_data N K r.0 r.2.1) r.3)
+    index_data (part.Slice from to ∷ ps) x t d r = subst (Is_data N) (sym r.4) (index_data ps r.0 r.1 (kind_data N K r.0 r.2.1) r.3, tt)
+    index_data (part.Backwards ∷ ps) x t d r = subst (Is_data N) (sym r.4) (index_data ps r.0 r.1 (kind_data N K r.0 r.2.1) r.3, tt)
+
+    indexed_data : (ps : List Part) (n : ℕ) (x t : Ty) → Operation_meant (Index ps) n → Indexed N kind.Data K ps x t → Is_data N x
+    indexed_data [] n x t m r = absurd m
+    indexed_data (p ∷ ps) n x t m r = array_is_data x r.0 r.2.0 (kind_data N K r.0 r.2.1)
+
+    index_gives : (ps : List Part) (t u : Ty) (ts : Tys) (ss : List Known) → Operation_meant (Index ps) (count ts) → Rule N kind.Data K (Index ps) t u ts → Each_fits N integer_at tops ts ss → Gives (Index ps) ss t
+    unfolding All_data
+    index_gives ps t u none ss m r h = absurd r
+    index_gives ps t u (more x is) ss m r h =
+        let d = indexed_data ps _ x t m r.2 in made_gives (Index ps) (Make_index ps) refl t (more x is) ss (index_one ps ss) (index_data ps x t d r.2) (d, alike_data i64_ty is integer_data r.0) h
+
+    updated_data : (x : Ty) (vs : Tys) → Is_data N x → Updated N kind.Data K x vs → All_data N vs
+    unfolding All_data
+    updated_data x none d r = absurd r
+    updated_data x (more v none) d r = (subst (Is_data N) (sym r) d, tt)
+    updated_data x (more j (more v vs)) d r = (subst (Is_data N) (sym r.0) integer_data, updated_data r.1.0 (more v vs) (kind_data N K r.1.0 r.1.1.1) r.1.2)
+
+    update_gives : (t u : Ty) (ts : Tys) (ss : List Known) → Operation_meant Update (count ts) → Rule N kind.Data K Update t u ts → Each_fits N integer_at tops ts ss → Gives Update ss t
+    unfolding All_data
+    update_gives t u none ss m r h = absurd r
+    update_gives t u (more x none) ss m r h = absurd r.1
+    update_gives t u (more x (more v none)) ss m r h = absurd (let z : 2 < 2 = m in omega (arith, z))
+    update_gives t u (more x (more j (more v vs))) ss m r h =
+        let d = array_is_data x r.1.1.0 r.1.1.1.0 (kind_data N K r.1.1.0 r.1.1.1.1) in
+        made_gives Update Make_update refl t (more x (more j (more v vs))) ss (update_one ss) (subst (Is_data N) (sym r.0) d) (d, updated_data x (more j (more v vs)) d r.1) h
+
+    whole_data : (element : Ty) → HasKind K kind.Integer element → Is_data N element
+    whole_data element k = kind_data N K element (let y : 4 ≤ rank K element = k in let z : 1 ≤ rank K element = omega (arith, y) in z)
+
+    range_gives : (stepped : Bool) (end : End) (t u : Ty) (ts : Tys) (ss : List Known) → Rule N kind.Data K (Range stepped end) t u ts → Each_fits N integer_at tops ts ss → Gives (Range stepped end) ss t
+    range_gives true end t u (more x (more y (more z none))) ss (element, a, k, r) h =
+        let d = whole_data element k in made_gives (Range true end) (Make_range true end) refl t (more x (more y (more z none))) ss (range_one true end ss) (array_is_data t element a.0 d) (alike_data element (more x (more y (more z none))) d r) h
+    range_gives false end t u (more x (more z none)) ss (element, a, k, r) h =
+        let d = whole_data element k in made_gives (Range false end) (Make_range false end) refl t (more x (more z none)) ss (range_one false end ss) (array_is_data t element a.0 d) (alike_data element (more x (more z none)) d r) h
+    range_gives stepped end t u ts ss r h = absurd r
+
     -- ---- by forms
     abbrev pub Of : Operation Ref BindId → Type 0
-    Of o = (t u : Ty) (ts : Tys) (ss : List Known) → Operation_meant o → Rule N kind.Data K o t u ts → Told i o t → count ts < widest → Each_fits N integer_at tops ts ss → Gives o ss t
+    Of o = (t u : Ty) (ts : Tys) (ss : List Known) → Operation_meant o (count ts) → Rule N kind.Data K o t u ts → Told i o t → count ts < widest → Each_fits N integer_at tops ts ss → Gives o ss t
 
-    no_parts : (o : Operation Ref BindId) → ((t u : Ty) → Operation_meant o → Rule N kind.Data K o t u none → Told i o t → Gives o [] t) → ((t u x : Ty) (ts : Tys) → Rule N kind.Data K o t u (more x ts) → ⊥) → Of o
+    no_parts : (o : Operation Ref BindId) → ((t u : Ty) → Operation_meant o 0 → Rule N kind.Data K o t u none → Told i o t → Gives o [] t) → ((t u x : Ty) (ts : Tys) → Rule N kind.Data K o t u (more x ts) → ⊥) → Of o
     no_parts o here further t u none [] m r l lt h = here t u m r l
     no_parts o here further t u none (s ∷ ss) m r l lt h = absurd h
     no_parts o here further t u (more x ts) ss m r l lt h = absurd (further t u x ts r)
 
-    one_part : (o : Operation Ref BindId) → ((t u : Ty) → Rule N kind.Data K o t u none → ⊥) → ((t u x : Ty) (s : Known) → Operation_meant o → Rule N kind.Data K o t u (more x none) → At tops x s → Gives o (s ∷ []) t)
+    one_part : (o : Operation Ref BindId) → ((t u : Ty) → Rule N kind.Data K o t u none → ⊥) → ((t u x : Ty) (s : Known) → Operation_meant o 1 → Rule N kind.Data K o t u (more x none) → At tops x s → Gives o (s ∷ []) t)
         → ((t u x y : Ty) (ts : Tys) → Rule N kind.Data K o t u (more x (more y ts)) → ⊥) → Of o
     one_part o fewer here further t u none ss m r l lt h = absurd (fewer t u r)
     one_part o fewer here further t u (more x none) [] m r l lt h = absurd h
@@ -274,7 +384,7 @@ module _ (N : Names) (integer_at : ℕ → IntType) (K : Kinds) where
     one_part o fewer here further t u (more x (more y ts)) ss m r l lt h = absurd (further t u x y ts r)
 
     two_parts : (o : Operation Ref BindId) → ((t u : Ty) → Rule N kind.Data K o t u none → ⊥) → ((t u x : Ty) → Rule N kind.Data K o t u (more x none) → ⊥)
-        → ((t u x y : Ty) (s s' : Known) → Operation_meant o → Rule N kind.Data K o t u (more x (more y none)) → At tops x s → At tops y s' → Gives o (s ∷ s' ∷ []) t)
+        → ((t u x y : Ty) (s s' : Known) → Operation_meant o 2 → Rule N kind.Data K o t u (more x (more y none)) → At tops x s → At tops y s' → Gives o (s ∷ s' ∷ []) t)
         → ((t u x y z : Ty) (ts : Tys) → Rule N kind.Data K o t u (more x (more y (more z ts))) → ⊥) → Of o
     two_parts o no-one one-one here further t u none ss m r l lt h = absurd (no-one t u r)
     two_parts o no-one one-one here further t u (more x none) ss m r l lt h = absurd (one-one t u x r)
@@ -293,16 +403,16 @@ module _ (N : Names) (integer_at : ℕ → IntType) (K : Kinds) where
     operation_gives (Truth b) = no_parts (Truth b) (λ t u m r l. truth_gives b t r) (λ t u x ts r. r)
     operation_gives Tuple_of = λ t u ts ss m r l lt h. tuple_gives t ts ss r lt h
     operation_gives (Record_of names) = λ t u ts ss m r l lt h. record_gives names t ts ss r h
-    operation_gives Array_of = λ t u ts ss m r l lt h. absurd m
+    operation_gives Array_of = λ t u ts ss m r l lt h. array_gives t r.0 ts ss r.1 r.2 h
     operation_gives (Binary o) = two_parts (Binary o) (λ t u r. r) (λ t u x r. r) (λ t u x y s s' m r h g. binary_gives o t u s s' r.0 (subst (λ z. At tops z s) r.1 h) (subst (λ z. At tops z s') r.2 g)) (λ t u x y z ts r. r)
     operation_gives Negate = one_part Negate (λ t u r. r) (λ t u x s m r h. let k = same_fits t x s r.0 h in let q = of_integers tops t s r.1 k in gives_as Negate s (Scalar_known q.0) t q.1 (negate_gives t q.0 (subst (At tops t) q.1 k))) (λ t u x y ts r. r)
     operation_gives Complement = one_part Complement (λ t u r. r) (λ t u x s m r h. let k = same_fits t x s r.0 h in let q = of_scalars tops t s r.1 k in gives_as Complement s (Scalar_known q.0) t q.1 (complement_gives t q.0 (subst (At tops t) q.1 k))) (λ t u x y ts r. r)
-    operation_gives (Index ps) = λ t u ts ss m r l lt h. absurd m
+    operation_gives (Index ps) = λ t u ts ss m r l lt h. index_gives ps t u ts ss m r h
     operation_gives (Project f) = one_part (Project f) (λ t u r. r) (λ t u x s m r h. project_gives f t s (project_fits N integer_at tops are f t u s r.1 (subst (λ y. At tops y s) r.0 h))) (λ t u x y ts r. r)
-    operation_gives Update = λ t u ts ss m r l lt h. absurd m
+    operation_gives Update = λ t u ts ss m r l lt h. update_gives t u ts ss m r h
     operation_gives (Replace f) = two_parts (Replace f) (λ t u r. r) (λ t u x r. r) (λ t u x y s s' m r h g. replace_gives f t s s' (replace_fits N integer_at tops are f t y s s' m r.1 (same_fits t x s r.0 h) g)) (λ t u x y z ts r. r)
     operation_gives (Ascribe e) = one_part (Ascribe e) (λ t u r. r) (λ t u x s m r h. ascribe_gives e t s (same_fits t x s r h)) (λ t u x y ts r. r)
     operation_gives (Coerce e) = one_part (Coerce e) (λ t u r. r) (λ t u x s m r h. coerce_gives e t s (same_fits t x s r h)) (λ t u x y ts r. r)
     operation_gives (Declared e) = one_part (Declared e) (λ t u r. r) (λ t u x s m r h. declared_gives e t s (same_fits t x s r h)) (λ t u x y ts r. r)
     operation_gives Assert = one_part Assert (λ t u r. r) (λ t u x s m r h. let k = same_fits t x s (r.1 ∙ sym r.0) h in let q = scalar_fits tops types.Bool t s r.1 k in gives_as Assert s (Scalar_known q.0) t q.1 (assert_gives t q.0 (subst (At tops t) q.1 k))) (λ t u x y ts r. r)
-    operation_gives (Range stepped end) = λ t u ts ss m r l lt h. absurd m
+    operation_gives (Range stepped end) = λ t u ts ss m r l lt h. range_gives stepped end t u ts ss r h

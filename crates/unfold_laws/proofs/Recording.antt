@@ -1,6 +1,7 @@
 -- What is known of the fields of records: of those that are made, of one that is found, and where one is replaced.
 use Rattle.std.proofs.Common.{◌≡◌, ◌≢◌, Bool, true, false, cond, ℕ, zero, suc, ◌+◌, ◌≤◌, ◌<◌, refl, sym, ap, ◌∙◌, subst, arith, List, [], ◌∷◌, map, Option, Some, None, decimal}
 use Rattle.std.specs.Str.{bytes_eq}
+use Rattle.std.specs.List.{Contains}
 use Rattle.std.proofs.lemmas.Slice.Eq.{bytes_eq-Decides}
 use mathlib.Core.Logic.{◌⊎◌, inl, inr}
 use Rattle.fut_scalar.specs.declared.scalar.IntType.{IntType}
@@ -17,10 +18,11 @@ use Rattle.type_soundness.specs.Fits.{widest, Is_key, In_order, Are_keys}
 use Rattle.type_soundness.proofs.Decimals.{no_number, spelled, one_number, part_low}
 use Rattle.type_soundness.proofs.Ordering.{eq_here, eq_other, key_put, key_stays, order_put}
 use Rattle.type_soundness.proofs.Records.{Named, Apart, covers, long_map, label_named, labels_apart, placed_label}
-use Rattle.unfold.specs.Knowns.{Known, Record_known, Knowns, no_known, known_and, Known_fields, no_known_field, known_field_and, Tops, with_field, fields, field, replaced, part_from, part, record_parts}
-use Rattle.unfold_laws.specs.Fits.{On_record, Each_field, keys, Fits, All_fit, Keyed}
-use Rattle.unfold_laws.proofs.Fitting.{some_same, each_found, keyed_found, keyed_from}
-use Rattle.unfold_laws.proofs.Shaping.{tuple_is, record_is}
+use Rattle.fut_blocks.specs.declared.block.Atom.{Atom}
+use Rattle.unfold.specs.Knowns.{Known, Scalar_known, Tuple_known, Record_known, Function_known, Primitive_known, Knowns, no_known, known_and, Known_fields, no_known_field, known_field_and, Tops, with_field, fields, field, replaced, part_from, part, record_parts}
+use Rattle.unfold_laws.specs.Fits.{On_record, Each_field, keys, Is_data, All_data, Part_data, Fits, All_fit, Keyed}
+use Rattle.unfold_laws.proofs.Fitting.{some_same, each_found, keyed_found, keyed_from, all_data_part, part_data}
+use Rattle.unfold_laws.proofs.Shaping.{record_is, shaped, Packing, shaped_packing}
 
 -- ---- names of fields
 pub keys_put : (f : Text) (s : Known) (fs : Known_fields) → keys (with_field f s fs) ≡ put f (Tuple_value no_value) (keys fs)
@@ -93,6 +95,9 @@ module _ (N : Names) (integer_at : ℕ → IntType) (tops : Tops) where
 
   abbrev Is_record_of : ℕ → Tys → Known_fields → Type 0
   Is_record_of n ts fs = Are_keys N (N.shapes.fields n) (keys fs) × Each_field (λ g u. Keyed N integer_at (N.shapes.fields n) ts tops (N.label g) u) fs
+
+  abbrev pub Record_data : ℕ → Tys → Type 0
+  Record_data n ts = (f : Text) → Contains (N.shapes.fields n) (N.label f) → Part_data N (N.shapes.fields n) ts (N.label f)
 
   pub field_fits : (f : Text) (u : Ty) (n : ℕ) (ts : Tys) (fs : Known_fields) → HasPart N.shapes (N.label f) (Made (head.Record n) ts) u → Is_record_of n ts fs → Found (field f fs) u
   unfolding part_named place
@@ -185,43 +190,66 @@ module _ (N : Names) (integer_at : ℕ → IntType) (tops : Tops) where
         known (Some i) is e = let some : i < count ts = part_low ts i t e in
             tuple_part ts ss i 0 f t e k (ap decimal (let w : 0 + i ≡ i = omega arith in w) ∙ spelled f i ((are.position f i).0 is) (omega arith)) (omega arith)
 
-    pub project_fits : (f : Text) (t u : Ty) (s : Known) → HasPart N.shapes (N.label f) u t → Fits N integer_at u tops s → Found (part f s) t
-    unfolding Fits part_named place part_at
-    project_fits f t (Var n) s h k = absurd k
-    project_fits f t (Made (head.Scalar x) ts) s h k = absurd (let z : None ≡ Some t = h in cc)
-    project_fits f t (Made head.Array ts) s h k = absurd k
-    project_fits f t (Made head.Tuple ts) s h k =
-        let r = tuple_is (All_fit N integer_at ts tops) s k.1 in
-        subst (λ x. Found (part f x) t) (sym r.1) (tuple_project f t ts r.0 h k.0 r.2)
-    project_fits f t (Made (head.Record n) ts) s h k =
-        let r = record_is (Is_record_of n ts) s k in
-        subst (λ x. Found (part f x) t) (sym r.1) (field_fits f t n ts r.0 h r.2)
-    project_fits f t (Made head.Fun ts) s h k = absurd (let z : None ≡ Some t = h in cc)
-    project_fits f t (Made (head.Rigid n d) ts) s h k = absurd k
-    project_fits f t (Made (head.Abstract n d) ts) s h k = absurd k
+    -- it is one component and data, or its part is known
+    abbrev pub Projects : Text → Ty → Known → Type 0
+    Projects f t s = ((w : Atom) × (s ≡ Scalar_known w) × Is_data N t) ⊎ Found (part f s) t
 
-    -- a record of which a field is replaced
-    abbrev Replaces : Text → Ty → Known → Known → Type 0
-    Replaces f t u s = (fs : Known_fields) × (u ≡ Record_known fs) × Fits N integer_at t tops (Record_known (replaced f s fs))
+    tuple_data : (f : Text) (t : Ty) (ts : Tys) → HasPart N.shapes (N.label f) (Made head.Tuple ts) t → All_data N ts → Is_data N t
+    unfolding part_named place part_at
+    tuple_data f t ts h d = known (N.shapes.position (N.label f)) h
+      where
+        known : (o : Option ℕ) → part_at o ts ≡ Some t → Is_data N t
+        known None e = absurd (let z : None ≡ Some t = e in cc)
+        known (Some i) e = all_data_part N integer_at ts i t e d
+
+    record_data : (f : Text) (t : Ty) (n : ℕ) (ts : Tys) → HasPart N.shapes (N.label f) (Made (head.Record n) ts) t → Record_data n ts → Is_data N t
+    unfolding part_named place
+    record_data f t n ts h d = part_data N integer_at (N.label f) t (N.shapes.fields n) ts h (d f (list_in (N.shapes.fields n) (N.label f) (placed_label (N.label f) (N.shapes.fields n) ts t h)))
+
+    pub project_fits : (f : Text) (t u : Ty) (s : Known) → HasPart N.shapes (N.label f) u t → Fits N integer_at u tops s → Projects f t s
+    unfolding Fits part_named place part_at
+    project_fits f t (Var n) s h k = absurd (let z : None ≡ Some t = h in cc)
+    project_fits f t (Made (head.Scalar x) ts) s h k = absurd (let z : None ≡ Some t = h in cc)
+    project_fits f t (Made head.Array ts) s h k = absurd (let z : None ≡ Some t = h in cc)
+    project_fits f t (Made head.Tuple ts) (Tuple_known ss) h k = inr (tuple_project f t ts ss h k.0 k.1)
+    project_fits f t (Made head.Tuple ts) (Scalar_known w) h k = inl (w, refl, tuple_data f t ts h k)
+    project_fits f t (Made head.Tuple ts) (Record_known fs) h k = absurd k
+    project_fits f t (Made head.Tuple ts) (Function_known ps e lo sc) h k = absurd k
+    project_fits f t (Made head.Tuple ts) (Primitive_known p at ss) h k = absurd k
+    project_fits f t (Made (head.Record n) ts) (Record_known fs) h k = inr (field_fits f t n ts fs h k)
+    project_fits f t (Made (head.Record n) ts) (Scalar_known w) h k = inl (w, refl, record_data f t n ts h k)
+    project_fits f t (Made (head.Record n) ts) (Tuple_known ss) h k = absurd k
+    project_fits f t (Made (head.Record n) ts) (Function_known ps e lo sc) h k = absurd k
+    project_fits f t (Made (head.Record n) ts) (Primitive_known p at ss) h k = absurd k
+    project_fits f t (Made head.Fun ts) s h k = absurd (let z : None ≡ Some t = h in cc)
+    project_fits f t (Made (head.Rigid n d) ts) s h k = absurd (let z : None ≡ Some t = h in cc)
+    project_fits f t (Made (head.Abstract n d) ts) s h k = absurd (let z : None ≡ Some t = h in cc)
+
+    -- a record of which a field is replaced: one component, and the new field may be one too, or with known fields
+    abbrev pub Replaces : Text → Ty → Known → Known → Type 0
+    Replaces f t u s = ((w : Atom) × (u ≡ Scalar_known w) × Is_data N t × Packing s) ⊎ ((fs : Known_fields) × (u ≡ Record_known fs) × Fits N integer_at t tops (Record_known (replaced f s fs)))
 
     pub replace_fits : (f : Text) (t x : Ty) (u s : Known) → ((n : ℕ) → Spells f n → ⊥) → HasPart N.shapes (N.label f) t x → Fits N integer_at t tops u → Fits N integer_at x tops s → Replaces f t u s
-    unfolding Fits part_named place part_at
-    replace_fits f (Var n) x u s lacks h k g = absurd k
+    unfolding Fits Is_data part_named place part_at
+    replace_fits f (Var n) x u s lacks h k g = absurd (let z : None ≡ Some x = h in cc)
     replace_fits f (Made (head.Scalar y) ts) x u s lacks h k g = absurd (let z : None ≡ Some x = h in cc)
-    replace_fits f (Made head.Array ts) x u s lacks h k g = absurd k
+    replace_fits f (Made head.Array ts) x u s lacks h k g = absurd (let z : None ≡ Some x = h in cc)
     replace_fits f (Made head.Tuple ts) x u s lacks h k g = absurd (no_number N are f x ts lacks h)
-    replace_fits f (Made (head.Record n) ts) x u s lacks h k g =
-        let r = record_is (Is_record_of n ts) u k in (
-          r.0,
-          r.1,
-          (
-            subst (Are_keys N (N.shapes.fields n)) (sym (keys_replaced f s r.0)) r.2.0,
-            each_replaced (Part_fits n ts) f s r.0 (keyed_from N integer_at (N.label f) x tops s (N.shapes.fields n) ts h g) r.2.1,
-          ),
-        )
+    replace_fits f (Made (head.Record n) ts) x (Record_known fs) s lacks h k g = inr (
+      fs,
+      refl,
+      (
+        subst (Are_keys N (N.shapes.fields n)) (sym (keys_replaced f s fs)) k.0,
+        each_replaced (Part_fits n ts) f s fs (keyed_from N integer_at (N.label f) x tops s (N.shapes.fields n) ts h g) k.1,
+      ),
+    )
+    replace_fits f (Made (head.Record n) ts) x (Scalar_known w) s lacks h k g = inl (w, refl, k, shaped_packing s (shaped N integer_at tops x s (record_data f x n ts h k) g))
+    replace_fits f (Made (head.Record n) ts) x (Tuple_known ss) s lacks h k g = absurd k
+    replace_fits f (Made (head.Record n) ts) x (Function_known ps e lo sc) s lacks h k g = absurd k
+    replace_fits f (Made (head.Record n) ts) x (Primitive_known p at ss) s lacks h k g = absurd k
     replace_fits f (Made head.Fun ts) x u s lacks h k g = absurd (let z : None ≡ Some x = h in cc)
-    replace_fits f (Made (head.Rigid n d) ts) x u s lacks h k g = absurd k
-    replace_fits f (Made (head.Abstract n d) ts) x u s lacks h k g = absurd k
+    replace_fits f (Made (head.Rigid n d) ts) x u s lacks h k g = absurd (let z : None ≡ Some x = h in cc)
+    replace_fits f (Made (head.Abstract n d) ts) x u s lacks h k g = absurd (let z : None ≡ Some x = h in cc)
 
     -- ---- patterns of records
     parts_fit : (names : List Text) (n : ℕ) (ts us : Tys) (fs : Known_fields) → Parts_named N names (Made (head.Record n) ts) us → Is_record_of n ts fs → (ss : List Known) × (record_parts names fs ≡ Some ss) × Each_fits us ss
@@ -233,9 +261,28 @@ module _ (N : Names) (integer_at : ℕ → IntType) (tops : Tops) where
         let r = parts_fit names n ts us fs h.1 k in
         (g.0 ∷ r.0, subst (λ o. with_known o names fs ≡ Some (g.0 ∷ r.0)) (sym g.1) (subst (λ o. with_rest g.0 o ≡ Some (g.0 ∷ r.0)) (sym r.1) refl), (g.2, r.2))
 
-    pub record_parts_fit : (names : List Text) (t : Ty) (us : Tys) (s : Known) → IsRecord N names t us → Fits N integer_at t tops s → (fs : Known_fields) × (s ≡ Record_known fs) × ((ss : List Known) × (record_parts names fs ≡ Some ss) × Each_fits us ss)
+    parts_data : (names : List Text) (n : ℕ) (ts us : Tys) → Parts_named N names (Made (head.Record n) ts) us → Record_data n ts → All_data N us
+    unfolding All_data
+    parts_data [] n ts none h d = tt
+    parts_data [] n ts (more u us) h d = absurd h
+    parts_data (f ∷ names) n ts none h d = absurd h
+    parts_data (f ∷ names) n ts (more u us) h d = (record_data f u n ts h.0 d, parts_data names n ts us h.1 d)
+
+    -- where the form is known
+    pub known_parts_fit : (names : List Text) (t : Ty) (us : Tys) (fs : Known_fields) → IsRecord N names t us → Fits N integer_at t tops (Record_known fs) → (ss : List Known) × (record_parts names fs ≡ Some ss) × Each_fits us ss
+    unfolding Fits
+    known_parts_fit names t us fs r k = parts_fit names r.number r.parts us fs (subst (λ x. Parts_named N names x us) r.made r.named) (subst (λ x. Fits N integer_at x tops (Record_known fs)) r.made k)
+
+    pub component_parts : (names : List Text) (t : Ty) (us : Tys) (w : Atom) → IsRecord N names t us → Fits N integer_at t tops (Scalar_known w) → All_data N us
+    unfolding Fits
+    component_parts names t us w r k = parts_data names r.number r.parts us (subst (λ x. Parts_named N names x us) r.made r.named) (subst (λ x. Fits N integer_at x tops (Scalar_known w)) r.made k)
+
+    pub record_parts_fit : (names : List Text) (t : Ty) (us : Tys) (s : Known) → IsRecord N names t us → Fits N integer_at t tops s → ((w : Atom) × (s ≡ Scalar_known w) × All_data N us) ⊎ ((fs : Known_fields) × (s ≡ Record_known fs) × ((ss : List Known) × (record_parts names fs ≡ Some ss) × Each_fits us ss))
     unfolding Fits
     record_parts_fit names t us s r k =
-        let h : On_record (Is_record_of r.number r.parts) s = subst (λ x. Fits N integer_at x tops s) r.made k in
-        let q = record_is (Is_record_of r.number r.parts) s h in
-        (q.0, q.1, parts_fit names r.number r.parts us q.0 (subst (λ x. Parts_named N names x us) r.made r.named) q.2)
+        let named : Parts_named N names (Made (head.Record r.number) r.parts) us = subst (λ x. Parts_named N names x us) r.made r.named in
+        let h : On_record (Record_data r.number r.parts) (Is_record_of r.number r.parts) s = subst (λ x. Fits N integer_at x tops s) r.made k in
+        elim (record_is (Record_data r.number r.parts) (Is_record_of r.number r.parts) s h) as (λ d. ((w : Atom) × (s ≡ Scalar_known w) × All_data N us) ⊎ ((fs : Known_fields) × (s ≡ Record_known fs) × ((ss : List Known) × (record_parts names fs ≡ Some ss) × Each_fits us ss))) [
+          | inl q ↦ inl (q.0, q.1, parts_data names r.number r.parts us named q.2)
+          | inr q ↦ inr (q.0, q.1, parts_fit names r.number r.parts us q.0 named q.2)
+        ]

@@ -12,8 +12,8 @@ use Rattle.fut_types.specs.declared.Kind.TheVariants as kind
 use Rattle.fut_types.specs.Types.{Ty, Sub, Kinds, HasKind, fun_ty, scalar_ty}
 use Rattle.fut_typing.specs.Names.{Names, AreNames}
 use Rattle.fut_typing.specs.Primitives.{bool_ty}
-use Rattle.fut_typing.specs.Scopes.{Scope, with_sizes, the_one}
-use Rattle.fut_typing.specs.Patterns.{pattern_types, arrows, with_pattern, with_patterns, with_parameters, Parameters_typed}
+use Rattle.fut_typing.specs.Scopes.{Scope, IsArray, with_sizes, the_one}
+use Rattle.fut_typing.specs.Patterns.{Pattern_typed, pattern_types, arrows, with_pattern, with_patterns, with_parameters, Parameters_typed}
 use Rattle.fut_typing.specs.Free.{is_within, has_types, is_free}
 use Rattle.fut_typing.specs.Generalised.{own_types, Scheme, Reused}
 use Rattle.fut_typing.specs.Typing.{term_types, operand, FlatBinding, Function_name, with_turns, let_scheme, Let_typed, let_uses, with_let, Typed, All_typed, Turns_typed}
@@ -21,18 +21,20 @@ use Rattle.fut_typing.proofs.Local.{AllLocal, all_local_more, local_sizes, local
 use Rattle.fut_typing.proofs.Cong.{within_no}
 use Rattle.fut_typing.proofs.Locals.{body_local}
 use Rattle.type_soundness.specs.Fits.{widest}
-use Rattle.type_soundness.specs.Meant.{Has_parameter, No_sizes, Meant, All_meant, Turns_meant, Literal_here, Literal, A_literal, Turn_literal, Literals_told}
+use Rattle.type_soundness.specs.Meant.{Operation_meant, Has_parameter, No_sizes, Meant, All_meant, Turns_meant, Literal_here, Literal, A_literal, Turn_literal, Literals_told}
 use Rattle.type_soundness.proofs.Literals.{literal_kept}
 use Rattle.type_soundness.proofs.Operating.{Told}
 use Rattle.type_soundness.proofs.Running.{count_terms}
+use Rattle.type_soundness.proofs.Walking.{as_many}
+use Rattle.fut_blocks.specs.declared.block.Atom.TheVariants as atom
 use Rattle.unfold.specs.Knowns.{Known, Scalar_known, Function_known, Scope as Seen, name_and, Tops}
-use Rattle.unfold.specs.Stuck.{Turn_names, turn_counted, turn_tested, Stuck_turns, stuck_count, no_count, Stuck_run, no_function, no_parameter, stuck_result}
-use Rattle.unfold.specs.Unfolding.{Bindings, named, Binds, b_bound, Applies, a_body, a_waits}
+use Rattle.unfold.specs.Stuck.{Binds_to, Turn_names, turn_counted, turn_row, turn_tested, Stuck_turns, stuck_count, no_count, stuck_rows, no_rows, Stuck_run, no_function, no_parameter, stuck_result}
+use Rattle.unfold.specs.Unfolding.{Bindings, named, b_bound, Applies, a_body, a_waits}
 use Rattle.unfold_laws.specs.Fits.{Learns, Runs_well, Fits, Names_fit}
-use Rattle.unfold_laws.proofs.Fitting.{learns_more}
-use Rattle.unfold_laws.proofs.Operating.{of_integers, any_scalar, operation_gives}
+use Rattle.unfold_laws.proofs.Fitting.{learns_more, kind_data, data_fits}
+use Rattle.unfold_laws.proofs.Operating.{array_one_component, of_integers, any_scalar, operation_gives}
 use Rattle.unfold_laws.proofs.Seeing.{Bindable, names_learn, names_move, names_sizes, names_types, name_fits, bindable, binds_fit}
-use Rattle.unfold_laws.proofs.Applying.{fits_function}
+use Rattle.unfold_laws.proofs.Functions.{fits_function}
 use Rattle.unfold_laws.proofs.Going.{Goes, goes_as, All_go, use_goes, none_go, more_go, strict_goes, lambda_goes, apply_goes, Let_goes, let_goes, if_goes, Tested, loop_goes}
 
 pub told : (o : Operation Ref BindId) (a : Sub) (lo : ℕ) (integer_at : ℕ → IntType) → ((m : ℕ) → Literal_here o lo m → a m ≡ scalar_ty (types.Int (integer_at m))) → Told (integer_at lo) o (a lo)
@@ -56,36 +58,36 @@ module _ (N : Names) (are : AreNames N) (integer_at : ℕ → IntType) (P : ℕ 
   abbrev Body : ℕ → FlatTerm → Scope → Sub → Tops → Type 0
   Body at e scope a tops = (tops' : Tops) → Learns tops tops' → (inner : Seen) → In_scope tops' scope a inner → Goes_on tops' inner at e (a at)
 
-  last_runs : (p : FlatPattern) (at : ℕ) (e : FlatTerm) (t : Ty) (tops : Tops) (sc : Seen) (s : Known) → Bindable p s → ((inner : Seen) → Binds p s sc inner → Goes_on tops inner at e t) → Runs_well integer_at tops (Function_known (pattern_and p no_pattern) e at sc) s (At tops t)
+  last_runs : (p : FlatPattern) (at : ℕ) (e : FlatTerm) (t : Ty) (tops : Tops) (sc : Seen) (s : Known) → Bindable p s → ((inner : Seen) → Binds_to p s sc inner → Goes_on tops inner at e t) → Runs_well integer_at tops (Function_known (pattern_and p no_pattern) e at sc) s (At tops t)
   last_runs p at e t tops sc s bound body = ((λ w. stuck w), (λ n n' bs r x. result n n' bs r x))
     where
       stuck : Stuck_run integer_at tops (Function_known (pattern_and p no_pattern) e at sc) s → ⊥
       stuck (no_function f) = let z : true ≡ false = f in cc
-      stuck (no_parameter lacks) = let q = bound sc in lacks sc q.0 q.1
+      stuck (no_parameter lacks) = let q = bound sc 0 in lacks sc q.0 (0, q.1, q.2, q.3)
       stuck (stuck_result {inner = inner} b w) = (body inner b).0 w
 
       result : (n n' : ℕ) (bs : Bindings) (r : Known) → Applies integer_at tops (Function_known (pattern_and p no_pattern) e at sc) s n bs r n' → At tops t r
-      result n n' bs r (a_body {inner = inner} b u) = (body inner b).1 n n' bs r u
+      result _ _ _ r (a_body {inner = inner} b u) = (body inner (_, _, _, b)).1 _ _ _ r u
 
-  more_runs : (p q : FlatPattern) (ps : Patterns Ref BindId) (at : ℕ) (e : FlatTerm) (t : Ty) (tops : Tops) (sc : Seen) (s : Known) → Bindable p s → ((inner : Seen) → Binds p s sc inner → At tops t (Function_known (pattern_and q ps) e at inner)) → Runs_well integer_at tops (Function_known (pattern_and p (pattern_and q ps)) e at sc) s (At tops t)
+  more_runs : (p q : FlatPattern) (ps : Patterns Ref BindId) (at : ℕ) (e : FlatTerm) (t : Ty) (tops : Tops) (sc : Seen) (s : Known) → Bindable p s → ((inner : Seen) → Binds_to p s sc inner → At tops t (Function_known (pattern_and q ps) e at inner)) → Runs_well integer_at tops (Function_known (pattern_and p (pattern_and q ps)) e at sc) s (At tops t)
   more_runs p q ps at e t tops sc s bound rest = ((λ w. stuck w), (λ n n' bs r x. result n n' bs r x))
     where
       stuck : Stuck_run integer_at tops (Function_known (pattern_and p (pattern_and q ps)) e at sc) s → ⊥
       stuck (no_function f) = let z : true ≡ false = f in cc
-      stuck (no_parameter lacks) = let y = bound sc in lacks sc y.0 y.1
+      stuck (no_parameter lacks) = let q = bound sc 0 in lacks sc q.0 (0, q.1, q.2, q.3)
 
       result : (n n' : ℕ) (bs : Bindings) (r : Known) → Applies integer_at tops (Function_known (pattern_and p (pattern_and q ps)) e at sc) s n bs r n' → At tops t r
-      result _ _ _ _ (a_waits {inner = inner} b) = rest inner b
+      result _ _ _ _ (a_waits {inner = inner} b) = rest inner (_, _, _, b)
 
   lambda_fits : (ps : Patterns Ref BindId) → Has_parameter ps → (lo at : ℕ) (e : FlatTerm) (inside scope : Scope) (a : Sub) (tops : Tops) (sc : Seen) → Parameters_typed N kind.Data K a ps lo inside → Body at e (with_patterns the_one ps lo scope) a tops → In_scope tops scope a sc
       → At tops (arrows (pattern_types a ps lo) (a at)) (Function_known ps e at sc)
   lambda_fits no_pattern has lo at e inside scope a tops sc typed body h = absurd has
   lambda_fits (pattern_and p no_pattern) has lo at e inside scope a tops sc typed body h =
-      fits_function N integer_at (a lo) (a at) tops (Function_known (pattern_and p no_pattern) e at sc) (λ tops' g s k.
+      fits_function N integer_at (a lo) (a at) tops (Function_known (pattern_and p no_pattern) e at sc) refl (λ tops' g s k.
       last_runs p at e (a at) tops' sc s (bindable N integer_at P K tops' a are kind.Data p lo inside s typed.0 k)
       (λ inner b. body tops' g inner (binds_fit N integer_at P K tops' a are kind.Data p lo inside scope s sc inner typed.0 k (names_learn N integer_at P K tops tops' g scope a sc h) b)))
   lambda_fits (pattern_and p (pattern_and q ps)) has lo at e inside scope a tops sc typed body h =
-      fits_function N integer_at (a lo) (arrows (pattern_types a (pattern_and q ps) (lo + pattern_numbers p)) (a at)) tops (Function_known (pattern_and p (pattern_and q ps)) e at sc) (λ tops' g s k.
+      fits_function N integer_at (a lo) (arrows (pattern_types a (pattern_and q ps) (lo + pattern_numbers p)) (a at)) tops (Function_known (pattern_and p (pattern_and q ps)) e at sc) refl (λ tops' g s k.
       more_runs p q ps at e (arrows (pattern_types a (pattern_and q ps) (lo + pattern_numbers p)) (a at)) tops' sc s (bindable N integer_at P K tops' a are kind.Data p lo inside s typed.0 k)
       (λ inner b. lambda_fits (pattern_and q ps) tt (lo + pattern_numbers p) at e (with_pattern the_one p lo inside) (with_pattern the_one p lo scope) a tops' inner typed.1 (λ tops'' g' inner' k'. body tops'' (learns_more tops tops' tops'' g g') inner' k')
       (binds_fit N integer_at P K tops' a are kind.Data p lo inside scope s sc inner typed.0 k (names_learn N integer_at P K tops tops' g scope a sc h) b)))
@@ -93,17 +95,17 @@ module _ (N : Names) (are : AreNames N) (integer_at : ℕ → IntType) (P : ℕ 
   -- ---- lets
   -- a function has a name
   function_bindable : (sizes : List BindId) (p : FlatPattern) (s : Known) → Function_name sizes p → Bindable p s
-  function_bindable [] (Bound_pattern b) s f sc = (name_and b s sc, b_bound)
-  function_bindable [] Wild_pattern s f sc = absurd f
-  function_bindable [] (Tuple_pattern ps) s f sc = absurd f
-  function_bindable [] (Record_pattern fs ps) s f sc = absurd f
-  function_bindable [] (Typed_pattern p t) s f sc = absurd f
-  function_bindable (b ∷ bs) p s f sc = absurd f
+  function_bindable [] (Bound_pattern b) s f sc n = (name_and b s sc, [], n, b_bound)
+  function_bindable [] Wild_pattern s f sc n = absurd f
+  function_bindable [] (Tuple_pattern ps) s f sc n = absurd f
+  function_bindable [] (Record_pattern fs ps) s f sc n = absurd f
+  function_bindable [] (Typed_pattern p t) s f sc n = absurd f
+  function_bindable (b ∷ bs) p s f sc n = absurd f
 
   -- and is known at each type of its uses
-  function_binds : (sizes : List BindId) (p : FlatPattern) (s : Scheme) (lo : ℕ) (w : Known) (scope : Scope) (a : Sub) (tops : Tops) (sc inner : Seen) → Function_name sizes p → ((t : Ty) → Reused kind.Data s lo K a t → At tops t w) → In_scope tops scope a sc → Binds p w sc inner
+  function_binds : (sizes : List BindId) (p : FlatPattern) (s : Scheme) (lo : ℕ) (w : Known) (scope : Scope) (a : Sub) (tops : Tops) (sc inner : Seen) → Function_name sizes p → ((t : Ty) → Reused kind.Data s lo K a t → At tops t w) → In_scope tops scope a sc → Binds_to p w sc inner
       → In_scope tops (with_pattern (Reused kind.Data s) p lo (with_sizes sizes scope)) a inner
-  function_binds [] (Bound_pattern b) s lo w scope a tops sc _ f each h b_bound = name_fits N integer_at P K tops a b w (Reused kind.Data s lo) scope sc each h
+  function_binds [] (Bound_pattern b) s lo w scope a tops sc _ f each h (n, bs, m, b_bound) = name_fits N integer_at P K tops a b w (Reused kind.Data s lo) scope sc each h
   function_binds [] Wild_pattern s lo w scope a tops sc inner f each h x = absurd f
   function_binds [] (Tuple_pattern ps) s lo w scope a tops sc inner f each h x = absurd f
   function_binds [] (Record_pattern fs ps) s lo w scope a tops sc inner f each h x = absurd f
@@ -192,13 +194,28 @@ module _ (N : Names) (are : AreNames N) (integer_at : ℕ → IntType) (P : ℕ 
       names : (inside inner : Seen) → In_scope tops carried a inside → Turn_names integer_at tops sc inside at (While c) inner → In_scope tops carried a inner
       names inside _ h turn_tested = h
 
+  -- a row is data, and so is known of its type as one component
+  over_go : (q : FlatPattern) (e : FlatTerm) (at : ℕ) (carried : Scope) (a : Sub) (tops : Tops) (sc : Seen) → Pattern_typed N kind.Data K a q at carried → IsArray kind.Data K (a (at + pattern_numbers q)) (a at) → Goes_on tops sc (at + pattern_numbers q) e (a (at + pattern_numbers q)) → Turns_go at (Over q e) carried a tops sc
+  over_go q e at carried a tops sc typed array g =
+      ((λ w. stuck w), (λ inside h y. bindable N integer_at P K tops a are kind.Data q at carried (named y) typed (row y)), (λ inside inner h x. names inside inner h x))
+    where
+      row : (y : ℕ) → At tops (a at) (named y)
+      row y = data_fits N integer_at (a at) tops (atom.Name y) (kind_data N K (a at) array.1)
+
+      stuck : Stuck_turns integer_at tops sc at (Over q e) → ⊥
+      stuck (stuck_rows w) = g.0 w
+      stuck (no_rows {s = s} x lacks) = let r = array_one_component N integer_at tops (a at) (a (at + pattern_numbers q)) s array.0 (g.1 _ _ _ s x) in lacks r.0 r.1
+
+      names : (inside inner : Seen) → In_scope tops carried a inside → Turn_names integer_at tops sc inside at (Over q e) inner → In_scope tops (with_turns (Over q e) at carried) a inner
+      names inside inner h (turn_row y x b) = binds_fit N integer_at P K tops a are kind.Data q at carried carried (named y) inside inner typed (row y) h b
+
   mutual
     pub surely : (t : FlatTerm) → Sure t
     surely (Use r at k) = λ lo scope a tops sc all typed meant lits small h. use_goes N are integer_at P K tops sc lo r at k (a lo) scope a meant typed h
     surely (Strict o mark ts) = λ lo scope a tops sc all typed meant lits small h.
         strict_goes N are integer_at P K tops sc lo o mark ts (term_types a ts (lo + own_numbers o)) (a lo)
         (all_surely ts (lo + own_numbers o) scope a tops sc (further lo (lo + own_numbers o) scope (omega arith) all) typed.0 meant.1 (λ m l. lits m (inr l)) (omega (arith, small)) h)
-        (λ ss k. operation_gives N integer_at K are tops (integer_at lo) mark o (a lo) (a (operand o lo)) (term_types a ts (lo + own_numbers o)) ss meant.0 typed.1 (told o a lo integer_at (λ m l. lits m (inl l)))
+        (λ ss k. operation_gives N integer_at K are tops (integer_at lo) mark o (a lo) (a (operand o lo)) (term_types a ts (lo + own_numbers o)) ss (subst (Operation_meant o) (sym (as_many a ts (lo + own_numbers o))) meant.0) typed.1 (told o a lo integer_at (λ m l. lits m (inl l)))
         (let c = count_terms a ts (lo + own_numbers o) in omega (arith, c, small)) k)
     surely (Lambda ps e) = λ lo scope a tops sc all typed meant lits small h.
         let at : ℕ = 1 + lo + all_pattern_numbers ps in
@@ -252,7 +269,8 @@ module _ (N : Names) (are : AreNames N) (integer_at : ℕ → IntType) (P : ℕ 
     turns_surely : (turns : FlatTurns) → Sure_turns turns
     turns_surely (Counted i n) = λ at outer carried a tops sc all alli typed meant lits small h.
         counted_go i n at carried a tops sc typed.1 typed.2 (surely n (1 + at) outer a tops sc (further at (1 + at) outer (omega arith) all) typed.0 meant lits (omega (arith, small)) h)
-    turns_surely (Over q e) = λ at outer carried a tops sc all alli typed meant lits small h. absurd meant
+    turns_surely (Over q e) = λ at outer carried a tops sc all alli typed meant lits small h.
+        over_go q e at carried a tops sc typed.0.0 typed.1 (surely e (at + pattern_numbers q) outer a tops sc (further at (at + pattern_numbers q) outer (omega arith) all) typed.0.1 meant lits (omega (arith, small)) h)
     turns_surely (While c) = λ at outer carried a tops sc all alli typed meant lits small h.
         tested_go c at carried a tops sc typed.1 (λ inside k. surely c at carried a tops inside alli typed.0 meant lits small k)
 

@@ -29,15 +29,15 @@ use Rattle.type_soundness.specs.Programs.{Definitions_meant, Definitions_told, N
 use Rattle.type_soundness.proofs.Literals.{literal_kept}
 use Rattle.type_soundness.proofs.Programs.{or_left, or_right, both, uses_of, tops_of, Reached}
 use Rattle.unfold.specs.Knowns.{Known, Knowns, no_known, known_and, no_name, Tops, listed, find, local_by, local}
-use Rattle.unfold.specs.Programs.{Definitions_unfold, d_none, d_reached, d_other, Applies_all, a_none, a_more}
-use Rattle.unfold.specs.Shapes.{Shape, Shapes, Laid, laid_scalar, laid_tuple, All_laid, laid_none, laid_more}
+use Rattle.unfold.specs.Programs.{Definitions_unfold, d_none, d_reached, d_other}
+use Rattle.unfold.specs.Shapes.{Shape, Scalar_shape, Shapes, Laid, laid_scalar, laid_tuple, All_laid, laid_none, laid_more}
 use Rattle.unfold.specs.Stuck.{Definitions_stuck, stuck_definition, stuck_next, stuck_other, Stuck_runs, stuck_run, stuck_on, Program_stuck, in_definitions, no_entry, in_entry, no_result}
-use Rattle.unfold.specs.Unfolding.{Bindings, Unfolds}
+use Rattle.unfold.specs.Unfolding.{Bindings, Unfolds, Applies_all, a_none, a_more}
 use Rattle.unfold_laws.specs.Claims.{UnfoldingNeverStuck}
-use Rattle.unfold_laws.specs.Fits.{Learns, Runs_well, Fits, All_fit, Names_fit}
-use Rattle.unfold_laws.specs.Shaped.{Of_shape, scalar_of_shape, tuple_of_shape, All_of_shapes, none_of_shapes, more_of_shapes}
-use Rattle.unfold_laws.proofs.Fitting.{some_same, none_some, fits_learn}
-use Rattle.unfold_laws.proofs.Applying.{function_fits}
+use Rattle.unfold_laws.specs.Fits.{Learns, Runs_well, Is_data, All_data, Fits, All_fit, Names_fit}
+use Rattle.unfold_laws.specs.Shaped.{Of_shape, scalar_of_shape, array_of_shape, tuple_of_shape, All_of_shapes, none_of_shapes, more_of_shapes}
+use Rattle.unfold_laws.proofs.Fitting.{some_same, none_some, fits_learn, kind_data}
+use Rattle.unfold_laws.proofs.Functions.{function_fits}
 use Rattle.unfold_laws.proofs.Going.{Goes, goes_as}
 use Rattle.unfold_laws.proofs.Seeing.{names_move, names_types}
 use Rattle.unfold_laws.proofs.Shaping.{shaped}
@@ -189,12 +189,19 @@ module _ (N : Names) (are : AreNames N) (K : Kinds) (a : Sub) (integer_at : ℕ 
       known rec n n' bs end (d_other f w) = (rec tops (ready_left d ds lo scope tops r f)).1 n n' bs end w
 
   -- ---- the entry
+  -- what is one component is data
+  one_component : (t : Ty) → Of_shape t Scalar_shape → Is_data N t
+  unfolding Is_data All_data
+  one_component _ scalar_of_shape = tt
+  one_component _ (array_of_shape {t = t} o) = (one_component t o, tt)
+
   -- data of these shapes is known of values of their types
   mutual
-    unfolding Fits All_fit
+    unfolding Fits All_fit All_data
 
     shape_fits : (tops : Tops) (t : Ty) (h : Shape) (s : Known) (us rest : List Atom) → Of_shape t h → Laid h s us rest → At tops t s
     shape_fits tops _ _ _ us rest scalar_of_shape laid_scalar = tt
+    shape_fits tops _ _ _ us rest (array_of_shape {t = t} o) laid_scalar = ((one_component t o, tt), tt)
     shape_fits tops _ _ _ us rest (tuple_of_shape {ts = ts} {hs = hs} lt o) (laid_tuple {ss = ss} l) = (lt, all_shapes_fit tops ts hs ss us rest o l)
 
     all_shapes_fit : (tops : Tops) (ts : Tys) (hs : Shapes) (ss : Knowns) (us rest : List Atom) → All_of_shapes ts hs → All_laid hs ss us rest → All_fit N integer_at ts tops ss
@@ -241,7 +248,7 @@ module _ (N : Names) (are : AreNames N) (K : Kinds) (a : Sub) (integer_at : ℕ 
         (runs_go tops ts u ss f (all_shapes_fit tops ts hs ss us [] shapes l) (entry_is n n' bs tops f v e)).0 w
     program_goes (no_result {tops = tops} {n = n} {n1 = n1} {bs = bs} {f = f} {s = s} {arguments = ss} {us = us} v e l x lacks) =
         let k = (runs_go tops ts u ss f (all_shapes_fit tops ts hs ss us [] shapes l) (entry_is n n1 bs tops f v e)).1 _ _ _ s x in
-        let r = shaped N integer_at K tops u s result k in
+        let r = shaped N integer_at tops u s (kind_data N K u result) k in
         let q = r.1 [] in lacks r.0 q.0 q.1
 
 pub unfolding_never_stuck : UnfoldingNeverStuck

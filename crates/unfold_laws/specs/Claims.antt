@@ -3,6 +3,7 @@
 use Rattle.std.specs.Prelude.{ℕ, List, [], Bool, false}
 use Rattle.fut_scalar.specs.declared.place.BindId.{BindId}
 use Rattle.fut_scalar.specs.declared.scalar.IntType.{IntType}
+use Rattle.fut_scalar.specs.declared.sizes.DataType.{DataType}
 use Rattle.fut_flat.specs.declared.prim.Ref.{Ref}
 use Rattle.fut_flat.specs.declared.program.Flat.{Flat}
 use Rattle.fut_types.specs.declared.Kind.{Kind}
@@ -20,10 +21,9 @@ use Rattle.fut_meaning.specs.Values.{Values, listed}
 use Rattle.fut_blocks.specs.declared.block.Program.{Program}
 use Rattle.fut_blocks.specs.Meaning.{Component}
 use Rattle.fut_blocks.specs.Programs.{Program_means, AreOf}
-use Rattle.fut_blocks.specs.Typed.{Sort}
 use Rattle.type_soundness.specs.Programs.{Is_typed, Arguments_fit, Result_fits}
 use Rattle.unfold_laws.specs.Shaped.{All_of_shapes}
-use Rattle.unfold_laws.specs.Sorts.{Sorts}
+use Rattle.unfold_laws.specs.Sorts.{Sorts, parts}
 use Rattle.unfold.specs.Programs.{Program_unfolds}
 use Rattle.unfold.specs.Shapes.{Shape, Shapes, All_split, Is_value}
 use Rattle.unfold.specs.Stuck.{Program_stuck}
@@ -40,11 +40,11 @@ BlocksNeverWrong =
     → (entry : BindId) (ts : Tys) (u : Ty) → (scope_behind N places (program_of flat) 0 nothing).uses entry.0 K a (arrows ts u)
     → (hs : Shapes) (h : Shape) (p : Program) → Program_unfolds integer_at (flat_tops 0 (named_terms flat)) entry.0 hs h p
     → (arguments : Values Ref BindId (Unit {0})) (components : List Component) → All_split hs arguments components [] → Arguments_fit N integer_at (plain tight) budget false ts (listed arguments)
-    → Safe (Components_fit N integer_at (plain tight) budget h u) (Program_means budget p components)
+    → Safe (Components_fit N integer_at (plain tight) budget h u) (Program_means tight budget p components)
 
--- and so the results are of the scalar types of the components of the result's type
+-- and so the results, with tuples that are one component taken apart, are of the types of the components of the result's type
 abbrev pub ResultsAreOf : Type 0
-ResultsAreOf = (N : Names) (integer_at : ℕ → IntType) (tight : Bool) (budget : ℕ) (h : Shape) (u : Ty) (ss : List Sort) (components : List Component) → Sorts u ss [] → Components_fit N integer_at (plain tight) budget h u components → AreOf ss components
+ResultsAreOf = (N : Names) (integer_at : ℕ → IntType) (tight : Bool) (budget : ℕ) (h : Shape) (u : Ty) (ss : List DataType) (components : List Component) → Sorts u ss [] → Components_fit N integer_at (plain tight) budget h u components → AreOf ss (parts components)
 
 -- Unfolding a typed program is never stuck, from each entry that takes data of these shapes and gives data. Its places, as the
 -- branches of an `if` and what a loop carries, hold data alone.

@@ -1,5 +1,5 @@
--- Which data of a type is of a shape: scalars, and tuples of such data, no wider than what a machine counts. Of other types
--- nothing is said.
+-- Which data of a type is of a shape: scalars and arrays of scalars, which are one component each, and tuples of such data, no
+-- wider than what a machine counts. Of other types nothing is said.
 use Rattle.std.specs.Prelude.{◌<◌}
 use Rattle.fut_scalar.specs.declared.scalar.ScalarType.{ScalarType}
 use Rattle.fut_types.specs.declared.Head.TheVariants as head
@@ -11,6 +11,8 @@ use Rattle.unfold.specs.Shapes.{Shape, Scalar_shape, Tuple_shape, Shapes, no_sha
 mutual
   pub data Of_shape : Ty → Shape → Type 0 where
     scalar_of_shape : {s : ScalarType} {ts : Tys} → Of_shape (Made (head.Scalar s) ts) Scalar_shape
+    -- an array of scalars, of any rank
+    array_of_shape : {t : Ty} → Of_shape t Scalar_shape → Of_shape (Made head.Array (more t none)) Scalar_shape
     tuple_of_shape : {ts : Tys} {hs : Shapes} → count ts < widest → All_of_shapes ts hs → Of_shape (Made head.Tuple ts) (Tuple_shape hs)
 
   pub data All_of_shapes : Tys → Shapes → Type 0 where

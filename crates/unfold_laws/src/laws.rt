@@ -6,7 +6,8 @@ pub fn typed_blocks_never_go_wrong()
     ensures { BlocksNeverWrong }
 {}
 
-/// The law that the components of a value of the result's type are of the scalar types of that type's components.
+/// The law that the components of a value of the result's type are of the types of that type's components, once tuples that
+/// are one component are taken apart.
 pub fn results_are_of_their_types()
     ensures { ResultsAreOf }
 {}

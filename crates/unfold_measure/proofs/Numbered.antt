@@ -2,6 +2,7 @@
 use Rattle.std.proofs.Common.{◌≡◌, refl}
 use Rattle.fut_scalar.specs.declared.scalar.IntType.{IntType}
 use Rattle.fut_flat.specs.declared.prim.Primitive.{Primitive}
+use Rattle.fut_flat.specs.declared.prim.Folding.TheVariants as folding
 use Rattle.fut_flat.specs.declared.prim.Primitive.TheVariants as prim
 use Rattle.fut_meaning.specs.Knowns.{Known_primitive, known_none, known_primitive}
 
@@ -50,3 +51,7 @@ is_function (prim.Popc t) l h b = refl
 is_function (prim.Lowest t) l h b = absurd (l t refl)
 is_function (prim.Highest t) l h b = absurd (h t refl)
 is_function (prim.NumBits t) l h b = absurd (b t refl)
+is_function (prim.Fold folding.Sum t) l h b = refl
+is_function (prim.Fold folding.Product t) l h b = refl
+is_function (prim.Fold folding.Minimum t) l h b = refl
+is_function (prim.Fold folding.Maximum t) l h b = refl

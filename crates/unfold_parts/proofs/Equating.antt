@@ -1,5 +1,5 @@
 -- Comparisons, one part after the other.
-use Rattle.std.proofs.Common.{◌≡◌, ℕ, suc, arith, ◌+◌, ◌<◌, ◌≤◌, ◌++◌, List, [], ◌∷◌, map, length, get_or, drop, Bool, true, false, Ok, Err, refl, sym, ap, ◌∙◌, subst, append_assoc, append-nil, le_refl}
+use Rattle.std.proofs.Common.{◌≡◌, ℕ, suc, arith, ◌+◌, ◌<◌, ◌≤◌, ◌++◌, List, [], ◌∷◌, map, length, get_or, drop, Bool, true, Option, Some, None, Ok, Err, sym, ap, ◌∙◌, subst, append_assoc, append-nil, le_refl}
 use Rattle.std.specs.Borrow.{Bor}
 use Rattle.std.specs.Prelude.{Result}
 use Rattle.std.proofs.lemmas.List.{drop_all, length-map}
@@ -10,23 +10,22 @@ use Rattle.fut_blocks.specs.declared.block.Atom.{Atom}
 use Rattle.fut_blocks.specs.declared.block.Atom.TheVariants as atom
 use Rattle.fut_blocks.specs.declared.block.Operation.TheVariants as operation
 use Rattle.fut_blocks.specs.Plain.{Action, Operate}
-use Rattle.unfold.proofs.Mirror.{known_scalar, known_tuple, known_record}
+use Rattle.unfold.proofs.Mirror.{known_tuple, known_record}
 use Rattle.unfold.specs.Held.{known_of, field_of, fields_known}
-use Rattle.unfold.specs.Knowns.{Known, Scalar_known, knowns}
-use Rattle.unfold.specs.Stuck.{No_scalar}
-use Rattle.unfold.specs.Unfolding.{Bindings, step, both_hold, Equals, e_scalars, e_tuples, e_records, All_equal, e_none, e_more}
+use Rattle.unfold.specs.Knowns.{Known, Tuple_known, Record_known, knowns}
+use Rattle.unfold.specs.Unfolding.{Bindings, step, both_hold, field_knowns, Equals, e_packed, e_tuples, e_records, All_equal, e_none, e_more, p_none, p_more}
 use Rattle.unfold.specs.declared.known.Field.{Field}
 use Rattle.unfold.specs.declared.known.Known.{Known as Held_known}
 use Rattle.unfold.specs.declared.known.KnownForm.TheVariants as form
-use Rattle.unfold_parts.specs.Answers.{Answered, answered, unanswered, Computed, computed, not_computed, Equal_to, All_equal_to, Fields_equal_to, All_compared, none_compared, one_compared, All_hold, none_fails, one_holds, Names_told}
-use Rattle.unfold_parts.specs.Refused.{Refused, lost, no_memory, Not_compared, Not_all_compared}
+use Rattle.unfold_parts.specs.Answers.{Answered, answered, unanswered, Computed, computed, not_computed, Packed_to, Equal_to, All_equal_to, Whole_equal_to, Have_parts, have_parts, have_fields, Paired_to, paired_to, no_pair, not_paired, Tuples_paired, tuples_paired, no_tuples_paired, Records_paired, records_paired, no_records_paired, not_records_paired, All_compared, none_compared, one_compared, All_hold, none_fails, one_holds, Names_told}
+use Rattle.unfold_parts.specs.Refused.{lost, no_memory, Not_compared, Not_all_compared}
 use Rattle.unfold_parts.specs.declared.refusal.Refusal.{Refusal}
-use Rattle.unfold_parts.specs.declared.refusal.Refusal.TheVariants.{Lost}
-use Rattle.unfold_parts.proofs.Forms.{by_form}
-use Rattle.unfold_parts.proofs.Lacking.{No_tuple, No_record}
+use Rattle.unfold_parts.specs.declared.refusal.Refusal.TheVariants.{Lost, Memory}
+use Rattle.unfold_parts.specs.declared.equality.Pair.{Pair}
 use Rattle.unfold_parts.proofs.Lists.{one_more, one_mapped}
-use Rattle.unfold_parts.proofs.Operands.{scalar_uncompared, tuple_uncompared, record_uncompared, function_uncompared, primitive_uncompared, parts_uncompared, fields_uncompared, many_uncompared, part_uncompared}
-use Rattle.unfold_parts.proofs.Pairing.{values_of, values_are, names_same, names_differ, fields_equal, names_uncompared, values_uncompared}
+use Rattle.unfold_parts.proofs.Operands.{whole_uncompared, parts_uncompared, many_uncompared, part_uncompared}
+use Rattle.unfold_parts.proofs.Packs.{first_unpacked, rest_unpacked}
+use Rattle.unfold_parts.proofs.Pairing.{names_same, records_compared, records_uncompared}
 use Rattle.unfold_parts.proofs.Refusing.{refused_as, answered_as}
 
 -- ---- comparisons, and that all of them hold
@@ -39,43 +38,63 @@ module _ (at : Place) where
   all_equal none_compared none_fails = e_none
   all_equal (one_compared {s} {t} {ss} {ts} {n} {n1} {n2} {bs} {cs} {u} h hs) (one_holds {w = w} {n1 = m} {bs = ds} k) = subst (λ z. All_equal at (knowns (s ∷ ss)) (knowns (t ∷ ts)) n z (atom.Name m) (suc m)) (grouped bs cs ds (step (m ∷ []) (both_hold u w))) (e_more h (all_equal hs k) (le_refl m))
 
-  -- ---- by form
+-- ---- both have parts, or are compared as whole data
 
-  module _ (left right : Held_known) (n next : ℕ) (before after : Bindings) (r : Result Atom Refusal) where
-    as_known : (s t : Known) → known_of left ≡ s → known_of right ≡ t → Equal_to at s t n before after next r → Equal_to at (known_of left) (known_of right) n before after next r
-    as_known s t e q h = subst (λ z. Equal_to at z (known_of right) n before after next r) (sym e) (subst (λ z. Equal_to at s z n before after next r) (sym q) h)
+pub pairs_equal : (at : Place) (s t : Known) (p : Pair) (n next : ℕ) (before after : Bindings) (r : Result Atom Refusal) (o : Option Pair) → Paired_to s t (Ok o) → o ≡ Some p → All_equal_to at (knowns (map known_of p.lefts.now)) (knowns (map known_of p.rights.now)) n before after next r → Equal_to at s t n before after next r
+pairs_equal at s t p n next before after r _ (paired_to {p = q} h) e x = by_parts h (subst (λ (z : Pair). All_equal_to at (knowns (map known_of z.lefts.now)) (knowns (map known_of z.rights.now)) n before after next r) (let i : Some q ≡ Some p = e in let j : q ≡ p = cc in sym j) x)
+  where
+    by_parts : {s t : Known} {ss ts : List Known} → Have_parts s t ss ts → All_equal_to at (knowns ss) (knowns ts) n before after next r → Equal_to at s t n before after next r
+    by_parts (have_parts {ss = ss} {ts = ts} e) x = answered_as (λ bs u m y. e_tuples y) (parts_uncompared at ss ts e) x
+    by_parts (have_fields {fs = fs} {gs = gs} same) x = answered_as (λ bs u m y. e_records (records_compared at fs gs same n m bs u y)) (records_uncompared at fs gs same) x
+pairs_equal at s t p n next before after r _ no_pair e x = absurd (let i : None ≡ Some p = e in cc)
 
-    pub scalars_equal : (u w : Atom) → left.form ≡ form.Scalar u → right.form ≡ form.Scalar w → Computed (Operate (operation.Binary binary.Eq at u w)) n before after next r → Equal_to at (known_of left) (known_of right) n before after next r
-    scalars_equal u w i j h = as_known (Scalar_known u) (Scalar_known w) (known_scalar left u i) (known_scalar right w j) (by_step r h)
-      where
-        by_step : (r : Result Atom Refusal) → Computed (Operate (operation.Binary binary.Eq at u w)) n before after next r → Equal_to at (Scalar_known u) (Scalar_known w) n before after next r
-        by_step _ (computed e q) = answered (step (n ∷ []) (Operate (operation.Binary binary.Eq at u w))) e (subst (λ z. Equals at (Scalar_known u) (Scalar_known w) n (step (n ∷ []) (Operate (operation.Binary binary.Eq at u w))) (atom.Name n) z) (sym q) (e_scalars (le_refl n)))
-        by_step _ not_computed = unanswered no_memory
+pub unpaired : (at : Place) (s t : Known) (n next : ℕ) (before after : Bindings) (x : Refusal) → Paired_to s t (Err x) → Equal_to at s t n before after next (Err x)
+unpaired at s t n next before after _ not_paired = unanswered no_memory
 
-    pub tuples_equal : (ls rs : Bor (List Held_known)) → left.form ≡ form.Tuple ls → right.form ≡ form.Tuple rs → All_equal_to at (knowns (map known_of ls.now)) (knowns (map known_of rs.now)) n before after next r → Equal_to at (known_of left) (known_of right) n before after next r
-    tuples_equal ls rs i j h = as_known _ _ (known_tuple left ls i) (known_tuple right rs j) (answered_as (λ bs u m x. e_tuples x) (parts_uncompared at (knowns (map known_of ls.now)) (knowns (map known_of rs.now))) h)
+module _ (at : Place) (s t : Known) (n : ℕ) (before : Bindings) where
+  pub whole_is : (next : ℕ) (after : Bindings) (r : Result Atom Refusal) → Whole_equal_to at s t n before after next r → Equal_to at s t n before after next r
+  whole_is next after r h = answered_as (λ bs u m y. y) (whole_uncompared at s t) h
 
-    pub records_equal : (ls rs : Bor (List Field)) → left.form ≡ form.Record ls → right.form ≡ form.Record rs → Fields_equal_to at (fields_known (map field_of ls.now)) (fields_known (map field_of rs.now)) n before after next r → Equal_to at (known_of left) (known_of right) n before after next r
-    records_equal ls rs i j h = as_known _ _ (known_record left ls i) (known_record right rs j) (answered_as (λ bs u m x. e_records x) (fields_uncompared at (fields_known (map field_of ls.now)) (fields_known (map field_of rs.now))) h)
+  pub whole_ok : (mid later next : ℕ) (between behind after : Bindings) (u w : Atom) (r : Result Atom Refusal) → Packed_to s n before between mid (Ok u) → Packed_to t mid between behind later (Ok w) → Computed (Operate (operation.Binary binary.Eq at u w)) later behind after next r → Whole_equal_to at s t n before after next r
+  whole_ok mid later next between behind after u w _ (answered bs e p) (answered cs f q) (computed g i) =
+      answered ((bs ++ (cs ++ [])) ++ step (later ∷ []) (Operate (operation.Binary binary.Eq at u w)))
+      (g ∙ ap (λ z. z ++ step (later ∷ []) (Operate (operation.Binary binary.Eq at u w))) (f ∙ ap (λ z. z ++ cs) e ∙ append_assoc before bs cs ∙ ap (λ z. before ++ (bs ++ z)) (sym (append-nil cs))) ∙ append_assoc before (bs ++ (cs ++ [])) (step (later ∷ []) (Operate (operation.Binary binary.Eq at u w))))
+      (subst (λ z. Equals at s t n ((bs ++ (cs ++ [])) ++ step (later ∷ []) (Operate (operation.Binary binary.Eq at u w))) (atom.Name later) z) (sym i) (e_packed (p_more p (p_more q p_none)) (le_refl later)))
+  whole_ok mid later next between behind after u w _ h k not_computed = unanswered no_memory
 
-  -- ---- what lacks
+  pub first_err : (mid next : ℕ) (between after : Bindings) (x : Refusal) → Packed_to s n before between mid (Err x) → Whole_equal_to at s t n before after next (Err x)
+  first_err mid next between after x (unanswered h) = unanswered (refused_as (first_unpacked s (t ∷ [])) h)
 
-  module _ (left right : Held_known) (n next : ℕ) (before after : Bindings) where
-    as_compared : (s t : Known) (x : Refusal) → known_of left ≡ s → known_of right ≡ t → Refused (Not_compared at s t) x → Equal_to at (known_of left) (known_of right) n before after next (Err x)
-    as_compared s t x e q h = unanswered (refused_as (λ lacks. subst (λ z. Not_compared at z (known_of right)) (sym e) (subst (Not_compared at s) (sym q) lacks)) h)
+  pub second_err : (mid later next : ℕ) (between behind after : Bindings) (x : Refusal) → Packed_to t mid between behind later (Err x) → Whole_equal_to at s t n before after next (Err x)
+  second_err mid later next between behind after x (unanswered h) = unanswered (refused_as (λ lacks. rest_unpacked s (t ∷ []) (first_unpacked t [] lacks)) h)
 
-    pub scalar_other : (u : Atom) → left.form ≡ form.Scalar u → No_scalar (known_of right) → Equal_to at (known_of left) (known_of right) n before after next (Err Lost)
-    scalar_other u i lacks = as_compared _ _ Lost (known_scalar left u i) refl (lost (scalar_uncompared at u (known_of right) lacks))
+-- ---- the parts of both
 
-    pub tuple_other : (ls : Bor (List Held_known)) → left.form ≡ form.Tuple ls → No_tuple (known_of right) → Equal_to at (known_of left) (known_of right) n before after next (Err Lost)
-    tuple_other ls i lacks = as_compared _ _ Lost (known_tuple left ls i) refl (lost (tuple_uncompared at (knowns (map known_of ls.now)) (known_of right) lacks))
+module _ (l r : Held_known) where
+  pub paired_tuples : (ls rs : Bor (List Held_known)) (o : Option Pair) → l.form ≡ form.Tuple ls → r.form ≡ form.Tuple rs → Tuples_paired (map known_of ls.now) (map known_of rs.now) o → Paired_to (known_of l) (known_of r) (Ok o)
+  paired_tuples ls rs o i j h = subst (λ z. Paired_to z (known_of r) (Ok o)) (sym (known_tuple l ls i)) (subst (λ z. Paired_to (Tuple_known (knowns (map known_of ls.now))) z (Ok o)) (sym (known_tuple r rs j)) (by_pair o h))
+    where
+      by_pair : (o : Option Pair) → Tuples_paired (map known_of ls.now) (map known_of rs.now) o → Paired_to (Tuple_known (knowns (map known_of ls.now))) (Tuple_known (knowns (map known_of rs.now))) (Ok o)
+      by_pair _ (tuples_paired {p = p} e f q) = paired_to (subst (λ z. Have_parts (Tuple_known (knowns (map known_of ls.now))) (Tuple_known (knowns (map known_of rs.now))) z (map known_of p.rights.now)) (sym e) (subst (λ z. Have_parts (Tuple_known (knowns (map known_of ls.now))) (Tuple_known (knowns (map known_of rs.now))) (map known_of ls.now) z) (sym f) (have_parts q)))
+      by_pair _ no_tuples_paired = no_pair
 
-    pub record_other : (ls : Bor (List Field)) → left.form ≡ form.Record ls → No_record (known_of right) → Equal_to at (known_of left) (known_of right) n before after next (Err Lost)
-    record_other ls i lacks = as_compared _ _ Lost (known_record left ls i) refl (lost (record_uncompared at (fields_known (map field_of ls.now)) (known_of right) lacks))
+  pub paired_records : (ls rs : Bor (List Field)) (o : Result (Option Pair) Refusal) → l.form ≡ form.Record ls → r.form ≡ form.Record rs → Records_paired (map field_of ls.now) (map field_of rs.now) o → Paired_to (known_of l) (known_of r) o
+  paired_records ls rs o i j h = subst (λ z. Paired_to z (known_of r) o) (sym (known_record l ls i)) (subst (λ z. Paired_to (Record_known (fields_known (map field_of ls.now))) z o) (sym (known_record r rs j)) (by_pair o h))
+    where
+      by_pair : (o : Result (Option Pair) Refusal) → Records_paired (map field_of ls.now) (map field_of rs.now) o → Paired_to (Record_known (fields_known (map field_of ls.now))) (Record_known (fields_known (map field_of rs.now))) o
+      by_pair _ (records_paired {p = p} e f q) = paired_to (subst (λ z. Have_parts (Record_known (fields_known (map field_of ls.now))) (Record_known (fields_known (map field_of rs.now))) z (map known_of p.rights.now)) (sym e) (subst (λ z. Have_parts (Record_known (fields_known (map field_of ls.now))) (Record_known (fields_known (map field_of rs.now))) (field_knowns (fields_known (map field_of ls.now))) z) (sym f) (have_fields q)))
+      by_pair _ no_records_paired = no_pair
+      by_pair _ not_records_paired = not_paired
 
-    -- functions are not compared
-    pub function_other : ((u : Atom) → left.form ≡ form.Scalar u → ⊥) → ((ss : Bor (List Held_known)) → left.form ≡ form.Tuple ss → ⊥) → ((fs : Bor (List Field)) → left.form ≡ form.Record fs → ⊥) → Equal_to at (known_of left) (known_of right) n before after next (Err Lost)
-    function_other c t f = unanswered (lost (by_form left (λ k. Not_compared at k (known_of right)) (λ u is. absurd (c u is)) (λ ss is. absurd (t ss is)) (λ fs is. absurd (f fs is)) (λ ps e lo sc. function_uncompared at ps e lo sc (known_of right)) (λ p q ss. primitive_uncompared at p q ss (known_of right))))
+pub pair_tuples : (ls rs : List Held_known) (p : Pair) → p.lefts.now ≡ ls → p.rights.now ≡ rs → length ls ≡ length rs → Tuples_paired (map known_of ls) (map known_of rs) (Some p)
+pair_tuples ls rs p e f q = tuples_paired (ap (map known_of) e) (ap (map known_of) f) (length-map ls known_of ∙ q ∙ sym (length-map rs known_of))
+
+module _ (fs gs : List Field) where
+  pub pair_records : (p : Pair) (b : Bool) → Names_told (map field_of fs) (map field_of gs) b → b ≡ true → map known_of p.lefts.now ≡ field_knowns (fields_known (map field_of fs)) → map known_of p.rights.now ≡ field_knowns (fields_known (map field_of gs)) → Records_paired (map field_of fs) (map field_of gs) (Ok (Some p))
+  pair_records p b told t e f = records_paired e f (names_same (map field_of fs) (map field_of gs) b told t)
+
+  pub pair_memory : (x : Refusal) → x ≡ Memory → Records_paired (map field_of fs) (map field_of gs) (Err x)
+  pair_memory x e = subst (λ z. Records_paired (map field_of fs) (map field_of gs) (Err z)) (sym e) not_records_paired
 
 -- ---- parts, one after the other
 
@@ -119,24 +138,6 @@ module _ (at : Place) (ls rs : List Held_known) (n : ℕ) where
 
   pub parts_err : (i j mid next later : ℕ) (before between behind after : Bindings) (l r : Held_known) (x : Refusal) → i ≡ j → i < length ls → j < length rs → Equal_to at (known_of (get_or ls i l)) (known_of (get_or rs j r)) mid between behind later (Err x) → Parts_equal before after next (Err x)
   parts_err i j mid next later before between behind after l r x e lt lt' (unanswered h) = unanswered (refused_as (λ lacks. part_uncompared at known_of ls rs i l r lt (omega (arith, e, lt')) (subst (λ k. Not_compared at (known_of (get_or ls i l)) (known_of (get_or rs k r))) (sym e) lacks)) h)
-
-abbrev pub held_by : Field → Known
-held_by f = known_of f.known
-
-module _ (at : Place) (fs gs : List Field) (n : ℕ) where
-  abbrev pub Fields_are_equal : Bindings → Bindings → ℕ → Result Atom Refusal → Type 0
-  Fields_are_equal = Fields_equal_to at (fields_known (map field_of fs)) (fields_known (map field_of gs)) n
-
-  pub fields_end : (b : Bool) (i j mid next : ℕ) (before between after : Bindings) (us : List Atom) (row : Bor (List Atom)) (r : Result Atom Refusal) → Names_told (map field_of fs) (map field_of gs) b → b ≡ true → length fs ≤ i → length gs ≤ j → So_far held_by at fs gs n i j mid before between us → row.now ≡ us → Answered (All_hold row.now mid) ⊥ between after next r → Fields_are_equal before after next r
-  fields_end b i j mid next before between after us row r told t le le' s q h =
-      answered_as (λ bs u m x. fields_equal at (map field_of fs) (map field_of gs) n m bs u (names_same (map field_of fs) (map field_of gs) b told t) (subst (λ z. All_equal at (knowns (values_of (map field_of fs))) (knowns z) n bs u m) (values_are gs) (subst (λ z. All_equal at (knowns z) (knowns (map held_by gs)) n bs u m) (values_are fs) x))) (λ never. absurd never)
-      (compared_all held_by at fs gs n ⊥ i j mid next before between after us row r le le' s q h)
-
-  pub fields_other : (b : Bool) (before after : Bindings) (next : ℕ) → Names_told (map field_of fs) (map field_of gs) b → b ≡ false → Fields_are_equal before after next (Err Lost)
-  fields_other b before after next told t = unanswered (lost (names_uncompared at (map field_of fs) (map field_of gs) (names_differ (map field_of fs) (map field_of gs) b told t)))
-
-  pub fields_err : (i j mid next later : ℕ) (before between behind after : Bindings) (f g : Field) (x : Refusal) → i ≡ j → i < length fs → j < length gs → Equal_to at (known_of (get_or fs i f).known) (known_of (get_or gs j g).known) mid between behind later (Err x) → Fields_are_equal before after next (Err x)
-  fields_err i j mid next later before between behind after f g x e lt lt' (unanswered h) = unanswered (refused_as (λ lacks. values_uncompared at (map field_of fs) (map field_of gs) (subst (λ z. Not_all_compared at (knowns (values_of (map field_of fs))) (knowns z)) (values_are gs) (subst (λ z. Not_all_compared at (knowns z) (knowns (map held_by gs))) (values_are fs) (part_uncompared at held_by fs gs i f g lt (omega (arith, e, lt')) (subst (λ k. Not_compared at (known_of (get_or fs i f).known) (known_of (get_or gs k g).known)) (sym e) lacks))))) h)
 
 -- ---- that all hold, from the last one on
 

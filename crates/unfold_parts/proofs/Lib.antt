@@ -4,8 +4,8 @@ pub mod Refusing
 pub mod Lacking
 pub mod Forms
 pub mod Shapeless
-pub mod Operands
-pub mod Pairing
+pub mod Packs
+pub mod Packed
 pub mod Tabling
 pub mod Using
 pub mod Stepping
@@ -15,5 +15,9 @@ pub mod Parting
 pub mod Sorting
 pub mod Fielding
 pub mod Binding
+pub mod Operands
+pub mod Pairing
 pub mod Operated
+pub mod NewNaming
+pub mod Jobbing
 pub mod Equating

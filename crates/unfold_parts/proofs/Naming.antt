@@ -37,7 +37,7 @@ numbers_more : (n j k : ℕ) → numbers_from n (j + k) ≡ numbers_from n j ++ 
 numbers_more n zero k = let e : n ≡ n + 0 = omega arith in let q : 0 + k ≡ k = omega arith in ap (numbers_from n) q ∙ ap (λ z. numbers_from z k) e
 numbers_more n (suc j) k = let e : suc n + j ≡ n + suc j = omega arith in let q : suc j + k ≡ suc (j + k) = omega arith in ap (numbers_from n) q ∙ ap (λ z. n ∷ z) (numbers_more (suc n) j k ∙ ap (λ z. numbers_from (suc n) j ++ numbers_from z k) e)
 
-upward : (n k : ℕ) → Upward n (numbers_from n k) (n + k)
+pub upward : (n k : ℕ) → Upward n (numbers_from n k) (n + k)
 upward n zero = omega arith
 upward n (suc k) = let e : suc n + k ≡ n + suc k = omega arith in (omega arith, subst (Upward (suc n) (numbers_from (suc n) k)) e (upward (suc n) k))
 

@@ -1,5 +1,5 @@
 -- Operations, each by its form.
-use Rattle.std.proofs.Common.{◌≡◌, ℕ, suc, ◌+◌, ◌*◌, ◌<◌, ◌^◌, ◌%◌, ◌++◌, List, [], ◌∷◌, map, length, get_or, Bool, nat_lt, Option, Some, None, Ok, Err, pos, refl, sym, ap, ◌∙◌, subst, append_assoc, append-nil, le_refl, lt-ltb, le-ltb, arith}
+use Rattle.std.proofs.Common.{◌≡◌, ℕ, suc, ◌+◌, ◌*◌, ◌<◌, ◌^◌, ◌%◌, ◌++◌, List, [], ◌∷◌, map, length, get_or, Bool, true, false, nat_lt, Option, Some, None, Ok, Err, pos, refl, sym, ap, ◌∙◌, subst, append_assoc, append-nil, le_refl, lt-ltb, le-ltb, arith}
 use Rattle.std.specs.Borrow.{Bor}
 use Rattle.std.specs.Prelude.{Result, unsigned_abs}
 use Rattle.std.specs.Int.{int_rem_euclid}
@@ -30,33 +30,37 @@ use Rattle.fut_flat.specs.declared.prim.Ref.{Ref}
 use Rattle.fut_flat.specs.declared.ty.TypeExp.{TypeExp}
 use Rattle.fut_flat.specs.Erased.{operation_of, texts, type_of}
 use Rattle.fut_flat.specs.Terms.{Operation, Integer, Truth, Tuple_of, Record_of, Binary, Negate, Complement, Project, Replace, Ascribe, Coerce, Declared, Assert, Array_of, Index, Update, Range}
-use Rattle.fut_blocks.proofs.Layers.{binding_of-made, action_of-Operate}
+use Rattle.fut_blocks.proofs.Layers.{binding_of-made, action_of-Operate, action_of-Make}
 use Rattle.fut_blocks.specs.declared.block.Act.TheVariants as act
 use Rattle.fut_blocks.specs.declared.block.Atom.{Atom}
 use Rattle.fut_blocks.specs.declared.block.Atom.TheVariants as atom
+use Rattle.fut_blocks.specs.declared.block.Making.{Making as Held_making}
+use Rattle.fut_blocks.specs.declared.block.Making.TheVariants as make
 use Rattle.fut_blocks.specs.declared.block.Operation.TheVariants as operation
 use Rattle.fut_blocks.specs.declared.block.Step.{roll-Step}
 use Rattle.fut_blocks.specs.Meaning.{fitted}
-use Rattle.fut_blocks.specs.Plain.{Action, Operate, action_of, binding_of}
-use Rattle.fut_meaning.specs.Operations.{arity}
+use Rattle.fut_blocks.specs.Plain.{Action, Operate, Make, Read, Part_at, Replace_at, making_form, action_of, binding_of}
+use Rattle.fut_meaning.specs.Arrays.{Making, Make_array, Make_index, Make_update, Make_range}
+use Rattle.fut_meaning.specs.Operations.{arity, making, is_of_scalars}
 use Rattle.fut_meaning.specs.Operators.{integer}
 use Rattle.unfold.proofs.Mirror.{known_scalar, known_tuple, known_record, known_primitive}
 use Rattle.unfold.specs.Held.{known_of, field_of, fields_known}
 use Rattle.unfold.specs.Knowns.{Known, Scalar_known, Record_known, Primitive_known, Knowns, listed, knowns, replaced, part}
-use Rattle.unfold.specs.Stuck.{No_operation, No_primitive, Stuck_run, no_primitive}
-use Rattle.unfold.specs.Unfolding.{Bindings, step, named, constant, literal_type, Equals, Operates, o_integer, o_truth, o_tuple, o_record, o_binary, o_equal, o_unequal, o_negate, o_complement, o_project, o_replace, o_ascribe, o_coerce, o_declared, o_assert, Primitive_operates, p_convert, p_min, p_max, p_abs, p_popc, Applies, a_primitive_waits, a_primitive}
+use Rattle.unfold.specs.Stuck.{No_operation, No_primitive, No_scalar, no_primitive}
+use Rattle.unfold.specs.Unfolding.{Bindings, step, named, constant, literal_type, Equals, Operates, o_integer, o_truth, o_tuple, o_record, o_binary, o_equal, o_unequal, o_negate, o_complement, o_project, o_part, o_changed, o_made, o_replace, o_ascribe, o_coerce, o_declared, o_assert, Primitive_operates, p_convert, p_min, p_max, p_abs, p_popc, Packs, Packs_all, Applies, a_primitive_waits, a_primitive}
 use Rattle.unfold.specs.declared.known.Field.{Field}
 use Rattle.unfold.specs.declared.known.Known.{Known as Held_known}
 use Rattle.unfold.specs.declared.known.KnownForm.TheVariants as form
-use Rattle.unfold_parts.specs.Answers.{Answered, answered, unanswered, Pushed, pushed, not_pushed, Computed, computed, not_computed, Is_step, is_step, On_one, on_one, On_two, on_two, At_once, at_once, not_at_once, Operated, Operated_primitive, Applied_primitive, Equal_to, both_equal, Both_equal_to}
+use Rattle.unfold_parts.specs.Answers.{Answered, answered, unanswered, Pushed, pushed, not_pushed, Computed, computed, not_computed, Is_step, is_step, On_one, on_one, On_two, on_two, At_once, at_once, not_at_once, Made, made, Made_to, Changed, changed, Changed_to, Packed_to, All_packed_to, Operated, Operated_primitive, Applied_primitive, primitive_applied, primitive_ready, primitive_refused, Equal_to, both_equal, Both_equal_to}
 use Rattle.unfold_parts.specs.Parts.{Not_one, Not_one_scalar, Not_two_scalars, Is_scalar, a_scalar, no_scalar, Is_one_scalar, one_scalar, not_one_scalar, Is_two_scalars, two_scalars, not_two_scalars, Constant_to, constant_to, not_constant, One_to, one_to, not_one_to, is_record, Recorded_to, recorded_to, not_recorded}
-use Rattle.unfold_parts.specs.Refused.{lost, no_memory, Not_compared}
+use Rattle.unfold_parts.specs.Refused.{lost, no_memory, Not_all_packed, Not_compared}
+use Rattle.unfold_parts.specs.declared.primitives.Applied.{Applied}
 use Rattle.unfold_parts.specs.declared.parts.Scalars.{Scalars}
 use Rattle.unfold_parts.proofs.Parting.{not_one, one_is, two_are}
 use Rattle.unfold_parts.specs.declared.refusal.Refusal.{Refusal}
 use Rattle.unfold_parts.specs.declared.refusal.Refusal.TheVariants.{Lost, Memory}
 use Rattle.unfold_parts.proofs.Lacking.{No_record}
-use Rattle.unfold_parts.proofs.Operands.{integer_lacks, truth_lacks, record_lacks, project_lacks, project_one, replace_two, replace_lacks, negate_lacks, complement_lacks, ascribe_lacks, coerce_lacks, declared_lacks, assert_one, assert_lacks, array_lacks, index_lacks, update_lacks, range_lacks, binary_lacks, equal_lacks, unequal_lacks, convert_lacks, min_lacks, max_lacks, abs_lacks, popc_lacks, other_lacks}
+use Rattle.unfold_parts.proofs.Operands.{integer_lacks, truth_lacks, record_lacks, project_lacks, project_one, replace_two, replace_lacks, changed_lacks, negate_lacks, complement_lacks, ascribe_lacks, coerce_lacks, declared_lacks, assert_one, assert_lacks, array_lacks, index_lacks, update_lacks, range_lacks, binary_lacks, equal_lacks, unequal_lacks, convert_lacks, min_lacks, max_lacks, abs_lacks, popc_lacks, other_lacks}
 use Rattle.unfold_parts.proofs.Refusing.{refused_as, only_memory, answered_as}
 
 -- ---- answers
@@ -217,25 +221,68 @@ module _ (c : Scalar) (ss : List Held_known) where
   pub constant_many : (length ss ≡ 0 → ⊥) → Constant_to c (map known_of ss) (Err Lost)
   constant_many h = not_constant (λ e. h (sym (length-map ss known_of) ∙ ap length e))
 
-module _ (f : Text) (ss : List Held_known) where
-  pub project_ok : (c s : Held_known) → length ss ≡ 1 → Some (known_of s) ≡ part f (known_of (get_or ss 0 c)) → At_once (Project f) (map known_of ss) (Ok s)
-  project_ok c s i h = at_once (λ t at n. subst (λ z. Operates t (Project f) at z n [] (known_of s) n) (sym (one_is ss c i)) (o_project (sym h)))
+module _ (t : IntType) (at : Place) (f : Text) (ss : List Held_known) (n : ℕ) (before : Bindings) where
+  pub project_ok : (c s : Held_known) → length ss ≡ 1 → Some (known_of s) ≡ part f (known_of (get_or ss 0 c)) → Operated t (Project f) at (map known_of ss) n before before n (Ok s)
+  project_ok c s i h = no_steps (λ bs (s : Held_known) next. Operates t (Project f) at (map known_of ss) n bs (known_of s) next) (No_operation t (Project f) at (map known_of ss)) before n s (subst (λ z. Operates t (Project f) at z n [] (known_of s) n) (sym (one_is ss c i)) (o_project (sym h)))
 
-  pub project_none : (c : Held_known) → length ss ≡ 1 → None ≡ part f (known_of (get_or ss 0 c)) → At_once (Project f) (map known_of ss) (Err Lost)
-  project_none c i h = not_at_once (lost (λ t at. subst (No_operation t (Project f) at) (sym (one_is ss c i)) (project_lacks t at f (known_of (get_or ss 0 c)) (sym h))))
+  module _ (after : Bindings) (next : ℕ) where
+    pub project_read : (c : Held_known) (u : Atom) (r : Result Held_known Refusal) → length ss ≡ 1 → Is_scalar (known_of (get_or ss 0 c)) (Some u) → Answered (λ bs (s : Held_known) m. Is_step (Read (Part_at f) (u ∷ [])) n bs (known_of s) m) ⊥ before after next r → Operated t (Project f) at (map known_of ss) n before after next r
+    project_read c u r i (a_scalar e) h = answered_as (λ bs s m x. by_step bs (known_of s) m x) (λ never. absurd never) h
+      where
+        by_step : (bs : Bindings) (s : Known) (m : ℕ) → Is_step (Read (Part_at f) (u ∷ [])) n bs s m → Operates t (Project f) at (map known_of ss) n bs s m
+        by_step _ _ _ is_step = subst (λ z. Operates t (Project f) at z n (step (n ∷ []) (Read (Part_at f) (u ∷ []))) (named n) (suc n)) (sym (one_is ss c i ∙ ap (λ z. z ∷ []) e)) (o_part (le_refl n))
 
-  pub project_many : (length ss ≡ 1 → ⊥) → At_once (Project f) (map known_of ss) (Err Lost)
-  project_many h = not_at_once (lost (λ t at. project_one t at f (map known_of ss) (not_one ss h)))
+    pub project_none : (c d : Held_known) → length ss ≡ 1 → Is_scalar (known_of (get_or ss 0 c)) None → None ≡ part f (known_of (get_or ss 0 d)) → Operated t (Project f) at (map known_of ss) n before after next (Err Lost)
+    project_none c d i (no_scalar lacks) h = unanswered (lost (subst (No_operation t (Project f) at) (sym (one_is ss d i)) (project_lacks t at f (known_of (get_or ss 0 d)) (sym h) (subst (λ z. No_scalar (known_of z)) (sym (same_first ss c d i)) lacks))))
 
-pub replace_ok : (f : Text) (ss : List Held_known) (c d : Held_known) (fs gs : Bor (List Field)) (s : Held_known) → length ss ≡ 2 → (get_or ss 0 c).form ≡ form.Record fs → s.form ≡ form.Record gs → fields_known (map field_of gs.now) ≡ replaced f (known_of (get_or ss 1 d)) (fields_known (map field_of fs.now)) → At_once (Replace f) (map known_of ss) (Ok s)
-replace_ok f ss c d fs gs s i2 i j q = at_once (λ t at n. subst (λ z. Operates t (Replace f) at z n [] (known_of s) n) (sym (two_are ss c d i2 ∙ ap (λ z. z ∷ known_of (get_or ss 1 d) ∷ []) (known_record (get_or ss 0 c) fs i))) (subst (λ z. Operates t (Replace f) at (Record_known (fields_known (map field_of fs.now)) ∷ known_of (get_or ss 1 d) ∷ []) n [] z n) (sym (known_record s gs j ∙ ap Record_known q)) o_replace))
+    pub project_many : (length ss ≡ 1 → ⊥) → Operated t (Project f) at (map known_of ss) n before after next (Err Lost)
+    project_many h = unanswered (lost (project_one t at f (map known_of ss) (not_one ss h)))
 
-module _ (f : Text) (ss : List Held_known) where
-  pub replace_many : (length ss ≡ 2 → ⊥) → At_once (Replace f) (map known_of ss) (Err Lost)
-  replace_many h = not_at_once (lost (λ t at. replace_two t at f (map known_of ss) (λ e. h (sym (length-map ss known_of) ∙ e))))
+pub replace_ok : (t : IntType) (at : Place) (f : Text) (ss : List Held_known) (n : ℕ) (before : Bindings) (c d : Held_known) (fs gs : Bor (List Field)) (s : Held_known) → length ss ≡ 2 → (get_or ss 0 c).form ≡ form.Record fs → s.form ≡ form.Record gs → fields_known (map field_of gs.now) ≡ replaced f (known_of (get_or ss 1 d)) (fields_known (map field_of fs.now)) → Operated t (Replace f) at (map known_of ss) n before before n (Ok s)
+replace_ok t at f ss n before c d fs gs s i2 i j q =
+    no_steps (λ bs (s : Held_known) next. Operates t (Replace f) at (map known_of ss) n bs (known_of s) next) (No_operation t (Replace f) at (map known_of ss)) before n s
+    (subst (λ z. Operates t (Replace f) at z n [] (known_of s) n) (sym (two_are ss c d i2 ∙ ap (λ z. z ∷ known_of (get_or ss 1 d) ∷ []) (known_record (get_or ss 0 c) fs i))) (subst (λ z. Operates t (Replace f) at (Record_known (fields_known (map field_of fs.now)) ∷ known_of (get_or ss 1 d) ∷ []) n [] z n) (sym (known_record s gs j ∙ ap Record_known q)) o_replace))
 
-  pub replace_other : (c : Held_known) → length ss ≡ 2 → No_record (known_of (get_or ss 0 c)) → At_once (Replace f) (map known_of ss) (Err Lost)
-  replace_other c i2 lacks = not_at_once (lost (λ t at. subst (No_operation t (Replace f) at) (sym (two_are ss c c i2)) (replace_lacks t at f (known_of (get_or ss 0 c)) (known_of (get_or ss 1 c)) lacks)))
+module _ (t : IntType) (at : Place) (f : Text) (ss : List Held_known) (n : ℕ) (before after : Bindings) (next : ℕ) where
+  pub replace_many : (length ss ≡ 2 → ⊥) → Operated t (Replace f) at (map known_of ss) n before after next (Err Lost)
+  replace_many h = unanswered (lost (replace_two t at f (map known_of ss) (λ e. h (sym (length-map ss known_of) ∙ e))))
+
+  pub replace_other : (c : Held_known) → length ss ≡ 2 → No_record (known_of (get_or ss 0 c)) → No_scalar (known_of (get_or ss 0 c)) → Operated t (Replace f) at (map known_of ss) n before after next (Err Lost)
+  replace_other c i2 lacks none = unanswered (lost (subst (No_operation t (Replace f) at) (sym (two_are ss c c i2)) (replace_lacks t at f (known_of (get_or ss 0 c)) (known_of (get_or ss 1 c)) lacks none)))
+
+  pub replace_changed : (c d : Held_known) (u : Atom) (r : Result Held_known Refusal) → length ss ≡ 2 → (get_or ss 0 c).form ≡ form.Scalar u → Changed_to f u (known_of (get_or ss 1 d)) n before after next r → Operated t (Replace f) at (map known_of ss) n before after next r
+  replace_changed c d u r i2 is h = subst (λ z. Operated t (Replace f) at z n before after next r) (sym (two_are ss c d i2 ∙ ap (λ z. z ∷ known_of (get_or ss 1 d) ∷ []) (known_scalar (get_or ss 0 c) u is)))
+      (answered_as (λ bs s m x. by_steps bs (known_of s) m x) (changed_lacks t at f u (known_of (get_or ss 1 d))) h)
+    where
+      by_steps : (bs : Bindings) (s : Known) (m : ℕ) → Changed f u (known_of (get_or ss 1 d)) n bs s m → Operates t (Replace f) at (Scalar_known u ∷ known_of (get_or ss 1 d) ∷ []) n bs s m
+      by_steps bs s m (changed {m = k} {cs = cs} {w = w} p x e) = subst (λ z. Operates t (Replace f) at (Scalar_known u ∷ known_of (get_or ss 1 d) ∷ []) n z s m) (sym e) (one p x)
+        where
+          one : {ds : Bindings} {s : Known} {m : ℕ} → Packs (known_of (get_or ss 1 d)) n cs w k → Is_step (Read (Replace_at f) (u ∷ w ∷ [])) k ds s m → Operates t (Replace f) at (Scalar_known u ∷ known_of (get_or ss 1 d) ∷ []) n (cs ++ ds) s m
+          one p is_step = o_changed p (le_refl k)
+
+  pub replace_err : (x : Refusal) → x ≡ Memory → Operated t (Replace f) at (map known_of ss) n before after next (Err x)
+  replace_err x e = unanswered (only_memory e)
+
+-- a step behind those that pack the parts
+pub changed_is : (f : Text) (u w : Atom) (s : Known) (n mid next : ℕ) (before between after : Bindings) (both : Bor (List Atom)) (name : Bor Text) (at : Place) (r : Result Held_known Refusal) → both.now ≡ u ∷ w ∷ [] → name.now ≡ f → Packed_to s n before between mid (Ok w) → Answered (λ bs (t : Held_known) m. Is_step (action_of (act.Make (make.Replace name) at both)) mid bs (known_of t) m) ⊥ between after next r → Changed_to f u s n before after next r
+unfolding making_form
+changed_is f u w s n mid next before between after both name at _ i j (answered bs e p) (answered {a = t} cs q x) = answered (bs ++ cs) (q ∙ ap (λ z. z ++ cs) e ∙ append_assoc before bs cs) (changed p (subst (λ z. Is_step z mid cs (known_of t) next) (action_of-Make (make.Replace name) at both ∙ ap (λ z. Read (Replace_at z) both.now) j ∙ ap (Read (Replace_at f)) i) x) refl)
+changed_is f u w s n mid next before between after both name at _ i j h (unanswered x) = unanswered (refused_as (λ never. absurd never) x)
+
+pub changed_err : (f : Text) (u : Atom) (s : Known) (n mid next : ℕ) (before between after : Bindings) (x : Refusal) → Packed_to s n before between mid (Err x) → Changed_to f u s n before after next (Err x)
+changed_err f u s n mid next before between after x (unanswered h) = unanswered h
+
+pub part_is : (f : Bor Text) (u : Atom) (n next : ℕ) (before after : Bindings) (whole : Bor (List Atom)) (at : Place) (r : Result Held_known Refusal) → whole.now ≡ u ∷ [] → Answered (λ bs (t : Held_known) m. Is_step (action_of (act.Make (make.Part f) at whole)) n bs (known_of t) m) ⊥ before after next r → Answered (λ bs (t : Held_known) m. Is_step (Read (Part_at f.now) (u ∷ [])) n bs (known_of t) m) ⊥ before after next r
+unfolding making_form
+part_is f u n next before after whole at r i h = answered_as (λ bs t m x. subst (λ z. Is_step z n bs (known_of t) m) (action_of-Make (make.Part f) at whole ∙ ap (Read (Part_at f.now)) i) x) (λ never. never) h
+
+module _ (m : Held_making) (at : Place) (ss : List Known) (n mid next : ℕ) (before between after : Bindings) where
+  pub made_is : (us : Bor (List Atom)) (r : Result Held_known Refusal) → All_packed_to ss n before between mid (Ok us) → Answered (λ bs (t : Held_known) k. Is_step (action_of (act.Make m at us)) mid bs (known_of t) k) ⊥ between after next r → Made_to (making_form m at) ss n before after next r
+  made_is us _ (answered bs e p) (answered {a = t} cs q x) = answered (bs ++ cs) (q ∙ ap (λ z. z ++ cs) e ∙ append_assoc before bs cs) (made p (subst (λ z. Is_step z mid cs (known_of t) next) (action_of-Make m at us) x) refl)
+  made_is us _ h (unanswered x) = unanswered (refused_as (λ never. absurd never) x)
+
+  pub made_err : (x : Refusal) → All_packed_to ss n before between mid (Err x) → Made_to (making_form m at) ss n before after next (Err x)
+  made_err x (unanswered h) = unanswered h
 
 pub at_once_err : (o : Operation Ref BindId) (ss : List Known) (x : Refusal) → x ≡ Memory → At_once o ss (Err x)
 at_once_err o ss x e = not_at_once (only_memory e)
@@ -262,6 +309,38 @@ module _ (t : IntType) (a : Act) (at : Place) (n : ℕ) (before : Bindings) wher
     pub act_complement : a ≡ flat.Complement → One ss n next before after r unary.Not → Operated t (operation_of a) at ss n before after next r
     act_complement e h = as_act Complement (ap operation_of e) (complemented ss n next before after r t at h)
 
+    pub act_project : (f : Bor Text) → a ≡ flat.Project f → Operated t (Project f.now) at ss n before after next r → Operated t (operation_of a) at ss n before after next r
+    act_project f e h = as_act (Project f.now) (ap operation_of e) h
+
+    pub act_replace : (f : Bor Text) → a ≡ flat.Replace f → Operated t (Replace f.now) at ss n before after next r → Operated t (operation_of a) at ss n before after next r
+    act_replace f e h = as_act (Replace f.now) (ap operation_of e) h
+
+    -- what is made of the parts
+    made_as : (o : Operation Ref BindId) (k : Making) (f : List Atom → Action) → operation_of a ≡ o → making o ≡ Some k → ((us : List Atom) → f us ≡ Make k at us) → (Not_all_packed ss → No_operation t o at ss) → Made_to f ss n before after next r → Operated t (operation_of a) at ss n before after next r
+    made_as o k f e q same lacks h = as_act o e (answered_as (λ bs s m x. by_steps bs (known_of s) m x) lacks h)
+      where
+        one : {us : List Atom} {k' m : ℕ} {cs ds : Bindings} {s : Known} → Packs_all ss n cs us k' → Is_step (f us) k' ds s m → Operates t o at ss n (cs ++ ds) s m
+        one {us} {k'} {cs = cs} p is_step = subst (λ z. Operates t o at ss n (cs ++ step (k' ∷ []) z) (named k') (suc k')) (sym (same us)) (o_made q p (le_refl k'))
+
+        by_steps : (bs : Bindings) (s : Known) (m : ℕ) → Made f ss n bs s m → Operates t o at ss n bs s m
+        by_steps bs s m (made p x e) = subst (λ z. Operates t o at ss n z s m) (sym e) (one p x)
+
+    pub act_array : a ≡ flat.Array → Made_to (making_form make.Array at) ss n before after next r → Operated t (operation_of a) at ss n before after next r
+    unfolding making_form
+    act_array e h = made_as Array_of Make_array (making_form make.Array at) (ap operation_of e) refl (λ us. refl) (array_lacks t at ss) h
+
+    pub act_index : (ps : Bor (List Part)) → a ≡ flat.Index ps → Made_to (making_form (make.Index ps) at) ss n before after next r → Operated t (operation_of a) at ss n before after next r
+    unfolding making_form
+    act_index ps e h = made_as (Index ps.now) (Make_index ps.now) (making_form (make.Index ps) at) (ap operation_of e) refl (λ us. refl) (index_lacks t at ps.now ss) h
+
+    pub act_update : a ≡ flat.Update → Made_to (making_form make.Update at) ss n before after next r → Operated t (operation_of a) at ss n before after next r
+    unfolding making_form
+    act_update e h = made_as Update Make_update (making_form make.Update at) (ap operation_of e) refl (λ us. refl) (update_lacks t at ss) h
+
+    pub act_range : (stepped : Bool) (end : End) → a ≡ flat.Range stepped end → Made_to (making_form (make.Range stepped end) at) ss n before after next r → Operated t (operation_of a) at ss n before after next r
+    unfolding making_form
+    act_range stepped end e h = made_as (Range stepped end) (Make_range stepped end) (making_form (make.Range stepped end) at) (ap operation_of e) refl (λ us. refl) (range_lacks t at stepped end ss) h
+
     pub act_assert : a ≡ flat.Assert → Operated t Assert at ss n before after next r → Operated t (operation_of a) at ss n before after next r
     act_assert e h = as_act Assert (ap operation_of e) h
 
@@ -282,18 +361,12 @@ module _ (t : IntType) (a : Act) (at : Place) (n : ℕ) (before : Bindings) wher
     pub act_truth : (b : Bool) → a ≡ flat.Truth b → Constant_to (scalar.Bool b) ss r → Operated t (operation_of a) at ss n before before n r
     act_truth b e h = constant_as (Truth b) (scalar.Bool b) (ap operation_of e) (λ i. subst (λ z. Operates t (Truth b) at z n [] (constant (scalar.Bool b)) n) (sym i) o_truth) (truth_lacks t at b ss) h
 
-    pub act_project : (f : Bor Text) → a ≡ flat.Project f → At_once (Project f.now) ss r → Operated t (operation_of a) at ss n before before n r
-    act_project f e h = now_as (Project f.now) (ap operation_of e) h
-
-    pub act_replace : (f : Bor Text) → a ≡ flat.Replace f → At_once (Replace f.now) ss r → Operated t (operation_of a) at ss n before before n r
-    act_replace f e h = now_as (Replace f.now) (ap operation_of e) h
-
     pub act_record : (fs : Bor (List (Bor Text))) → a ≡ flat.Record fs → Recorded_to (texts fs.now) ss r → Operated t (operation_of a) at ss n before before n r
-    act_record fs e h = now_as (Record_of (texts fs.now)) (ap operation_of e) (made r h)
+    act_record fs e h = now_as (Record_of (texts fs.now)) (ap operation_of e) (is_made r h)
       where
-        made : (r : Result Held_known Refusal) → Recorded_to (texts fs.now) ss r → At_once (Record_of (texts fs.now)) ss r
-        made (Ok s) (recorded_to (is_record q i)) = at_once (λ u at n. subst (λ z. Operates u (Record_of (texts fs.now)) at ss n [] z n) (sym i) (o_record q))
-        made (Err r) (not_recorded h) = not_at_once (refused_as (λ lacks u at. record_lacks u at (texts fs.now) ss lacks) h)
+        is_made : (r : Result Held_known Refusal) → Recorded_to (texts fs.now) ss r → At_once (Record_of (texts fs.now)) ss r
+        is_made (Ok s) (recorded_to (is_record q i)) = at_once (λ u at n. subst (λ z. Operates u (Record_of (texts fs.now)) at ss n [] z n) (sym i) (o_record q))
+        is_made (Err r) (not_recorded h) = not_at_once (refused_as (λ lacks u at. record_lacks u at (texts fs.now) ss lacks) h)
 
     -- what has one part is as that part
     same_as : (o : Operation Ref BindId) → ((u : IntType) (at : Place) (n : ℕ) (s : Known) → Operates u o at (s ∷ []) n [] s n) → ((u : IntType) (at : Place) → Not_one ss → No_operation u o at ss) → (r : Result Held_known Refusal) → One_to ss r → At_once o ss r
@@ -311,23 +384,6 @@ module _ (t : IntType) (a : Act) (at : Place) (n : ℕ) (before : Bindings) wher
 
   pub act_tuple : (ss : Bor (List Held_known)) (s : Held_known) → a ≡ flat.Tuple → s.form ≡ form.Tuple ss → Operated t (operation_of a) at (map known_of ss.now) n before before n (Ok s)
   act_tuple ss s e i = now_as (map known_of ss.now) (Ok s) Tuple_of (ap operation_of e) (at_once (λ u at n. subst (λ z. Operates u Tuple_of at (map known_of ss.now) n [] z n) (sym (known_tuple s ss i)) o_tuple))
-
-  -- what arrays take is not unfolded
-  module _ (ss : List Known) (next : ℕ) (after : Bindings) where
-    lacking : (o : Operation Ref BindId) → operation_of a ≡ o → No_operation t o at ss → Operated t (operation_of a) at ss n before after next (Err Lost)
-    lacking o e lacks = as_act ss next after (Err Lost) o e (unanswered (lost lacks))
-
-    pub act_array : a ≡ flat.Array → Operated t (operation_of a) at ss n before after next (Err Lost)
-    act_array e = lacking Array_of (ap operation_of e) (array_lacks t at ss)
-
-    pub act_index : (ps : Bor (List Part)) → a ≡ flat.Index ps → Operated t (operation_of a) at ss n before after next (Err Lost)
-    act_index ps e = lacking (Index ps.now) (ap operation_of e) (index_lacks t at ps.now ss)
-
-    pub act_update : a ≡ flat.Update → Operated t (operation_of a) at ss n before after next (Err Lost)
-    act_update e = lacking Update (ap operation_of e) (update_lacks t at ss)
-
-    pub act_range : (stepped : Bool) (end : End) → a ≡ flat.Range stepped end → Operated t (operation_of a) at ss n before after next (Err Lost)
-    act_range stepped end e = lacking (Range stepped end) (ap operation_of e) (range_lacks t at stepped end ss)
 
 -- ---- primitives
 
@@ -366,14 +422,26 @@ module _ (p : Primitive) (at : Place) (given : List Held_known) (s : Held_known)
   as_many : length (listed (knowns (map known_of given)) ++ known_of s ∷ []) ≡ length arguments
   as_many = ap length (sym all_are) ∙ length-map arguments known_of
 
-  pub primitive_waits : (row : Bor (List Held_known)) (before : Bindings) (w : Held_known) → row.now ≡ arguments → length arguments < arity p → w.form ≡ form.Primitive p at row → Applied_primitive p at (knowns (map known_of given)) (known_of s) n before before n (Ok w)
-  primitive_waits row before w q lt i integer_at tops = no_steps (λ bs (s' : Held_known) next. Applies integer_at tops (Primitive_known p at (knowns (map known_of given))) (known_of s) n bs (known_of s') next) (Stuck_run integer_at tops (Primitive_known p at (knowns (map known_of given))) (known_of s)) before n w
-      (subst (λ z. Applies integer_at tops (Primitive_known p at (knowns (map known_of given))) (known_of s) n [] z n)
-      (sym (known_primitive w p at row i ∙ ap (λ z. Primitive_known p at (knowns (map known_of z))) q ∙ ap (λ z. Primitive_known p at (knowns z)) all_are))
-      (a_primitive_waits (ap (λ z. nat_lt z (arity p)) as_many ∙ lt-ltb _ _ lt)))
+  waiting : length arguments < arity p → nat_lt (length (listed (knowns (map known_of given)) ++ known_of s ∷ [])) (arity p) ≡ true
+  waiting lt = ap (λ z. nat_lt z (arity p)) as_many ∙ lt-ltb _ _ lt
 
-  pub primitive_runs : (before after : Bindings) (next : ℕ) (r : Result Held_known Refusal) → (length arguments < arity p → ⊥) → Operated_primitive p at (map known_of arguments) n before after next r → Applied_primitive p at (knowns (map known_of given)) (known_of s) n before after next r
-  primitive_runs before after next r ge h integer_at tops = answered_as (λ bs w m x. a_primitive (ap (λ z. nat_lt z (arity p)) as_many ∙ le-ltb _ _ (omega (arith, ge))) (subst (λ z. Primitive_operates p at z n bs (known_of w) m) all_are x)) (λ lacks. no_primitive (ap (λ z. nat_lt z (arity p)) as_many ∙ le-ltb _ _ (omega (arith, ge))) (subst (No_primitive p at) all_are lacks)) h
+  full : (length arguments < arity p → ⊥) → nat_lt (length (listed (knowns (map known_of given)) ++ known_of s ∷ [])) (arity p) ≡ false
+  full ge = ap (λ z. nat_lt z (arity p)) as_many ∙ le-ltb _ _ (omega (arith, ge))
+
+  pub primitive_waits : (row : Bor (List Held_known)) (before : Bindings) (w : Held_known) → row.now ≡ arguments → length arguments < arity p → w.form ≡ form.Primitive p at row → Applied_primitive p at (knowns (map known_of given)) (known_of s) n before before n (Ok (Applied.Known w))
+  primitive_waits row before w q lt i = primitive_applied [] (sym (append-nil before)) (λ integer_at tops.
+      subst (λ z. Applies integer_at tops (Primitive_known p at (knowns (map known_of given))) (known_of s) n [] z n)
+      (sym (known_primitive w p at row i ∙ ap (λ z. Primitive_known p at (knowns (map known_of z))) q ∙ ap (λ z. Primitive_known p at (knowns z)) all_are))
+      (a_primitive_waits (waiting lt)))
+
+  pub primitive_is_ready : (row : Bor (List Held_known)) (before : Bindings) → row.now ≡ arguments → (length arguments < arity p → ⊥) → is_of_scalars p ≡ false → Applied_primitive p at (knowns (map known_of given)) (known_of s) n before before n (Ok (Applied.Ready row))
+  primitive_is_ready row before q ge o = primitive_ready (ap (map known_of) q ∙ all_are) record { full = full ge; arrays = o } refl refl
+
+  pub primitive_runs : (before after : Bindings) (next : ℕ) (w : Held_known) → (length arguments < arity p → ⊥) → is_of_scalars p ≡ true → Operated_primitive p at (map known_of arguments) n before after next (Ok w) → Applied_primitive p at (knowns (map known_of given)) (known_of s) n before after next (Ok (Applied.Known w))
+  primitive_runs before after next w ge o (answered bs q x) = primitive_applied bs q (λ integer_at tops. a_primitive (full ge) o (subst (λ z. Primitive_operates p at z n bs (known_of w) next) all_are x))
+
+  pub primitive_lost : (before after between behind : Bindings) (next later : ℕ) (x : Refusal) → (length arguments < arity p → ⊥) → is_of_scalars p ≡ true → Operated_primitive p at (map known_of arguments) n before between later (Err x) → Applied_primitive p at (knowns (map known_of given)) (known_of s) n behind after next (Err x)
+  primitive_lost before after between behind next later x ge o (unanswered h) = primitive_refused (refused_as (λ lacks integer_at tops. no_primitive (full ge) o (subst (No_primitive p at) all_are lacks)) h)
 
 pub primitive_err : (p : Primitive) (at : Place) (ss : Knowns) (s : Known) (n next : ℕ) (before after : Bindings) (x : Refusal) → x ≡ Memory → Applied_primitive p at ss s n before after next (Err x)
-primitive_err p at ss s n next before after x e integer_at tops = unanswered (only_memory e)
+primitive_err p at ss s n next before after x e = primitive_refused (only_memory e)

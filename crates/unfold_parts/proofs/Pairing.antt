@@ -7,11 +7,12 @@ use Rattle.fut_ast.specs.Sorts.{Text}
 use Rattle.fut_blocks.specs.declared.block.Atom.{Atom}
 use Rattle.unfold.proofs.Mirror.{field_is}
 use Rattle.unfold.specs.Held.{known_of, field_of, fields_known}
-use Rattle.unfold.specs.Knowns.{Known, Knowns, knowns, Known_fields, known_field_and, known_and}
-use Rattle.unfold.specs.Unfolding.{Bindings, All_equal, e_none, e_more, Fields_equal, e_no_field, e_field}
+use Rattle.unfold.specs.Knowns.{Known, Record_known, Knowns, knowns, Known_fields, known_field_and, known_and}
+use Rattle.unfold.specs.Unfolding.{Bindings, field_knowns, All_equal, e_none, e_more, Fields_equal, e_no_field, e_field}
 use Rattle.unfold.specs.declared.known.Field.{Field}
 use Rattle.unfold_parts.specs.Answers.{Same_names, no_names, same_name, Names_told, same_names, other_names}
-use Rattle.unfold_parts.specs.Refused.{Not_all_compared, Not_fields_compared}
+use Rattle.unfold_parts.specs.Refused.{Not_all_compared, Not_compared}
+use Rattle.unfold_parts.proofs.Operands.{fields_uncompared}
 use Rattle.unfold_parts.proofs.Lists.{one_more}
 
 -- what is known of fields
@@ -71,24 +72,6 @@ module _ (at : Place) where
       one : (ks ls : Known_fields) (ss ts : Knowns) → ((m m' : ℕ) (cs : Bindings) (w : Atom) → All_equal at ss ts m cs w m' → Fields_equal at ks ls m cs w m') → (n n' : ℕ) (bs : Bindings) (u : Atom) → All_equal at (known_and f.1 ss) (known_and g.1 ts) n bs u n' → Fields_equal at (known_field_and f.0 f.1 ks) (known_field_and g.0 g.1 ls) n bs u n'
       one ks ls ss ts rest n _ _ _ (e_more {n1 = n1} {n2 = n2} {cs = cs} {w = w} h hs le) = e_field i h (rest n1 n2 cs w hs) le
 
-  -- ---- fields: what is compared has the same names, and what the fields hold is compared
-
-  abbrev Names_known : List (Text × Known) → List (Text × Known) → Type 0
-  Names_known fs gs = (n n' : ℕ) (bs : Bindings) (u : Atom) → Fields_equal at (fields_known fs) (fields_known gs) n bs u n' → Same_names fs gs
-
-  one_name : (f g : Text × Known) (fs gs : List (Text × Known)) (ks ls : Known_fields) → ((n n' : ℕ) (bs : Bindings) (u : Atom) → Fields_equal at ks ls n bs u n' → Same_names fs gs) → (s t : Known) (n n' : ℕ) (bs : Bindings) (u : Atom) → Fields_equal at (known_field_and f.0 s ks) (known_field_and g.0 t ls) n bs u n' → Same_names (f ∷ fs) (g ∷ gs)
-  one_name f g fs gs ks ls rest s t n _ _ _ (e_field {n1 = n1} {n2 = n2} {cs = cs} {w = w} q x xs le) = same_name q (rest n1 n2 cs w xs)
-
-  names_compared : (fs gs : List (Text × Known)) → Names_known fs gs
-  unfolding fields_known
-  names_compared [] [] n n' bs u x = no_names
-  names_compared [] (g ∷ gs) n n' bs u x = elim x [ ]
-  names_compared (f ∷ fs) [] n n' bs u x = elim x [ ]
-  names_compared (f ∷ fs) (g ∷ gs) n n' bs u x = one_name f g fs gs (fields_known fs) (fields_known gs) (names_compared fs gs) f.1 g.1 n n' bs u x
-
-  pub names_uncompared : (fs gs : List (Text × Known)) → (Same_names fs gs → ⊥) → Not_fields_compared at (fields_known fs) (fields_known gs)
-  names_uncompared fs gs lacks n n' bs u x = lacks (names_compared fs gs n n' bs u x)
-
   one_value : (f g : Text) (ks ls : Known_fields) (ss ts : Knowns) → ((n n' : ℕ) (bs : Bindings) (u : Atom) → Fields_equal at ks ls n bs u n' → All_equal at ss ts n bs u n') → (s t : Known) (n n' : ℕ) (bs : Bindings) (u : Atom) → Fields_equal at (known_field_and f s ks) (known_field_and g t ls) n bs u n' → All_equal at (known_and s ss) (known_and t ts) n bs u n'
   one_value f g ks ls ss ts rest s t n _ _ _ (e_field {n1 = n1} {n2 = n2} {cs = cs} {w = w} q x xs le) = e_more x (rest n1 n2 cs w xs) le
 
@@ -99,5 +82,24 @@ module _ (at : Place) where
   values_compared (f ∷ fs) [] n n' bs u x = elim x [ ]
   values_compared (f ∷ fs) (g ∷ gs) n n' bs u x = one_value f.0 g.0 (fields_known fs) (fields_known gs) (knowns (values_of fs)) (knowns (values_of gs)) (values_compared fs gs) f.1 g.1 n n' bs u x
 
-  pub values_uncompared : (fs gs : List (Text × Known)) → Not_all_compared at (knowns (values_of fs)) (knowns (values_of gs)) → Not_fields_compared at (fields_known fs) (fields_known gs)
-  values_uncompared fs gs lacks n n' bs u x = lacks n n' bs u (values_compared fs gs n n' bs u x)
+-- what is known of fields is that of their list
+pub values_known : (fs : List (Text × Known)) → field_knowns (fields_known fs) ≡ values_of fs
+unfolding fields_known
+values_known [] = refl
+values_known (f ∷ fs) = ap (λ z. f.1 ∷ z) (values_known fs)
+
+values_many : {fs gs : List (Text × Known)} → Same_names fs gs → length (values_of fs) ≡ length (values_of gs)
+values_many {fs} {gs} h = length-map fs (λ (f : Text × Known). f.1) ∙ as_many_names h ∙ sym (length-map gs (λ (f : Text × Known). f.1))
+
+module _ (at : Place) (fs gs : List (Text × Known)) (same : Same_names fs gs) where
+  as_values : {n m : ℕ} {bs : Bindings} {u : Atom} → All_equal at (knowns (field_knowns (fields_known fs))) (knowns (field_knowns (fields_known gs))) n bs u m → All_equal at (knowns (values_of fs)) (knowns (values_of gs)) n bs u m
+  as_values {n} {m} {bs} {u} h = subst (λ z. All_equal at (knowns (values_of fs)) (knowns z) n bs u m) (values_known gs) (subst (λ z. All_equal at (knowns z) (knowns (field_knowns (fields_known gs))) n bs u m) (values_known fs) h)
+
+  back_values : {n m : ℕ} {bs : Bindings} {u : Atom} → All_equal at (knowns (values_of fs)) (knowns (values_of gs)) n bs u m → All_equal at (knowns (field_knowns (fields_known fs))) (knowns (field_knowns (fields_known gs))) n bs u m
+  back_values {n} {m} {bs} {u} h = subst (λ z. All_equal at (knowns (field_knowns (fields_known fs))) (knowns z) n bs u m) (sym (values_known gs)) (subst (λ z. All_equal at (knowns z) (knowns (values_of gs)) n bs u m) (sym (values_known fs)) h)
+
+  pub records_compared : (n m : ℕ) (bs : Bindings) (u : Atom) → All_equal at (knowns (field_knowns (fields_known fs))) (knowns (field_knowns (fields_known gs))) n bs u m → Fields_equal at (fields_known fs) (fields_known gs) n bs u m
+  records_compared n m bs u h = fields_equal at fs gs n m bs u same (as_values h)
+
+  pub records_uncompared : Not_all_compared at (knowns (field_knowns (fields_known fs))) (knowns (field_knowns (fields_known gs))) → Not_compared at (Record_known (fields_known fs)) (Record_known (fields_known gs))
+  records_uncompared lacks = fields_uncompared at (fields_known fs) (fields_known gs) (ap length (values_known fs) ∙ values_many same ∙ sym (ap length (values_known gs))) (λ n m bs u h. lacks n m bs u (back_values (values_compared at fs gs n m bs u h))) lacks

@@ -15,7 +15,7 @@ use Rattle.fut_blocks.specs.declared.block.Operation.{Operation}
 use Rattle.fut_blocks.specs.declared.block.Step.{Step, roll-Step}
 use Rattle.fut_blocks.specs.Plain.{Action, Operate, Give, If, action_of, binding_of, body_of, lets}
 use Rattle.unfold.specs.Unfolding.{Bindings, both_hold}
-use Rattle.unfold_parts.specs.Answers.{Named_as, named_as, not_named, Pushed, pushed, not_pushed, Computed, computed, not_computed, Blocked, blocked, not_blocked}
+use Rattle.unfold_parts.specs.Answers.{Named_as, named_as, not_named, Pushed, pushed, not_pushed, Computed, computed, not_computed, Cut, Blocked, blocked, not_blocked}
 use Rattle.unfold_parts.specs.declared.refusal.Refusal.{Refusal}
 use Rattle.unfold_parts.specs.declared.refusal.Refusal.TheVariants.{Memory}
 
@@ -37,7 +37,7 @@ named_step s names x n mid next before between after u (named_as e) same i later
 
 -- the act of a step that is made
 module _ (names : Bor (List ℕ)) (n next : ℕ) (before after : Bindings) (r : Result Atom Refusal) where
-  as_act : (a : Act) (b : Action) → action_of a ≡ b → Computed (binding_of (roll-Step record { names = names; act = a })).1 n before after next r → Computed b n before after next r
+  pub as_act : (a : Act) (b : Action) → action_of a ≡ b → Computed (binding_of (roll-Step record { names = names; act = a })).1 n before after next r → Computed b n before after next r
   as_act a b e h = subst (λ z. Computed z n before after next r) (ap (λ (z : List ℕ × Action). z.1) (binding_of-made (record { names = names; act = a })) ∙ e) h
 
   pub as_operation : (o : Operation) → Computed (binding_of (roll-Step record { names = names; act = act.Operate o })).1 n before after next r → Computed (Operate o) n before after next r
@@ -69,6 +69,9 @@ pub parted : (outside inside : Bindings) (items : List Step) → map binding_of 
 parted [] inside items e = (refl, e)
 parted (o ∷ os) inside [] e = absurd (cons≢nil (sym e))
 parted (o ∷ os) inside (x ∷ xs) e = let r = parted os inside xs (tail-eq_of_cons-eq e) in (ap (λ z. z ∷ map binding_of (take (length os) xs)) (head-eq_of_cons-eq e) ∙ ap (λ z. o ∷ z) r.0, r.1)
+
+pub cut_is : (mark : ℕ) (items items' : List Step) → items' ≡ take mark items → Cut mark (map binding_of items) (map binding_of items')
+cut_is mark items items' e outside inside l q = let r = parted outside inside items q in ap (map binding_of) (e ∙ ap (λ z. take z items) (sym l)) ∙ r.0
 
 pub blocked_is : (mark : ℕ) (us : Bor (List Atom)) (items items' : List Step) (row : Bor (List Step)) (r : Result (Bor Block) Refusal) → row.now ≡ drop mark items → items' ≡ take mark items → IfOk r (λ b. b.now ≡ roll-Block record { steps = row; results = us }) → IfErr r (λ x. x ≡ Memory) → Blocked mark us.now (map binding_of items) (map binding_of items') r
 blocked_is mark us items items' row (Err r) q i e f = subst (λ z. Blocked mark us.now (map binding_of items) (map binding_of items') (Err z)) (sym f) not_blocked

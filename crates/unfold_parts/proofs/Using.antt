@@ -9,6 +9,7 @@ use Rattle.fut_scalar.specs.declared.scalar.IntType.TheVariants.{I8, I16, I32, I
 use Rattle.fut_scalar.specs.declared.scalar.Scalar.TheVariants as scalar
 use Rattle.fut_scalar.specs.declared.scalar.ScalarType.{ScalarType}
 use Rattle.fut_flat.specs.declared.prim.Primitive.{Primitive}
+use Rattle.fut_flat.specs.declared.prim.Folding.TheVariants as folding
 use Rattle.fut_flat.specs.declared.prim.Primitive.TheVariants as prim
 use Rattle.fut_flat.specs.declared.prim.Ref.TheVariants as ref
 use Rattle.fut_flat.specs.Terms.{Use}
@@ -136,6 +137,10 @@ no_constant (prim.Popc t) l h b = refl
 no_constant (prim.Lowest t) l h b = absurd (l t refl)
 no_constant (prim.Highest t) l h b = absurd (h t refl)
 no_constant (prim.NumBits t) l h b = absurd (b t refl)
+no_constant (prim.Fold folding.Sum t) l h b = refl
+no_constant (prim.Fold folding.Product t) l h b = refl
+no_constant (prim.Fold folding.Minimum t) l h b = refl
+no_constant (prim.Fold folding.Maximum t) l h b = refl
 
 pub used_function : (p : Primitive) (at : Place) (s : Held_known) (none : Bor (List Held_known)) → ((t : IntType) → p ≡ prim.Lowest t → ⊥) → ((t : IntType) → p ≡ prim.Highest t → ⊥) → ((t : IntType) → p ≡ prim.NumBits t → ⊥) → none.now ≡ [] → s.form ≡ form.Primitive p at none → Primitive_used p at (known_of s)
 used_function p at s none l h b e i integer_at tops sc lo k m = subst (λ z. Unfolds integer_at tops sc lo (Use (ref.Prim p) at k) m [] z m) (sym (known_primitive s p at none i ∙ ap (λ z. Primitive_known p at (knowns (map known_of z))) e)) (u_primitive (no_constant p l h b))

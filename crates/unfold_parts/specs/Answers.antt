@@ -1,5 +1,5 @@
 -- What the calls of unfolding answer. Where one is lost there is no way on; want of memory says nothing.
-use Rattle.std.specs.Prelude.{◌≡◌, ℕ, suc, ◌++◌, List, [], ◌∷◌, length, Bool, true, false, Result, Ok, Err, Some}
+use Rattle.std.specs.Prelude.{◌≡◌, ℕ, suc, ◌++◌, List, [], ◌∷◌, map, length, nat_lt, Bool, true, false, Result, Ok, Err, Option, Some, None}
 use Rattle.std.specs.Str.{bytes_eq}
 use Rattle.std.specs.Borrow.{Bor}
 use Rattle.fut_scalar.specs.declared.operator.BinOp.{BinOp}
@@ -12,20 +12,26 @@ use Rattle.fut_ast.specs.Sorts.{Text}
 use Rattle.fut_flat.specs.declared.prim.Primitive.{Primitive}
 use Rattle.fut_flat.specs.declared.prim.Ref.{Ref}
 use Rattle.fut_flat.specs.declared.prim.Ref.TheVariants as ref
-use Rattle.fut_flat.specs.Erased.{FlatPattern}
-use Rattle.fut_flat.specs.Terms.{Patterns, Operation, Use}
+use Rattle.fut_flat.specs.Erased.{FlatPattern, pattern_of, patterns}
+use Rattle.fut_flat.specs.Terms.{Patterns, Record_pattern, Operation, Use}
+use Rattle.fut_meaning.specs.Operations.{arity, is_of_scalars}
 use Rattle.fut_blocks.specs.declared.block.Atom.{Atom}
 use Rattle.fut_blocks.specs.declared.block.Atom.TheVariants as atom
 use Rattle.fut_blocks.specs.declared.block.Block.{Block}
 use Rattle.fut_blocks.specs.declared.block.Operation.TheVariants as operation
-use Rattle.fut_blocks.specs.Plain.{Action, Operate, lets, body_of}
-use Rattle.unfold.specs.Held.{known_of, scope_of}
-use Rattle.unfold.specs.Knowns.{Known, Scalar_known, Primitive_known, Knowns, Known_fields, Scope, Tops, record_parts}
+use Rattle.fut_blocks.specs.Numbered.{Upward}
+use Rattle.fut_blocks.specs.Plain.{Action, Operate, Read, Fields_at, Replace_at, lets, body_of}
+use Rattle.unfold.specs.Held.{known_of, scope_of, fields_known}
+use Rattle.unfold.specs.Knowns.{Known, Scalar_known, Tuple_known, Record_known, Primitive_known, Knowns, Known_fields, Scope, Tops, listed, knowns}
 use Rattle.unfold.specs.Stuck.{Not_bound, No_operation, No_primitive, Stuck, Stuck_run}
-use Rattle.unfold.specs.Unfolding.{Bindings, step, named, both_hold, Binds, All_bind, Equals, All_equal, Fields_equal, Operates, Primitive_operates, Unfolds, Applies}
+use Rattle.unfold.specs.Unfolding.{Bindings, step, named, both_hold, Binds, All_bind, Equals, All_equal, Packs, Packs_all, field_knowns, Operates, Primitive_operates, Unfolds, Applies}
 use Rattle.unfold.specs.declared.known.Known.{Known as Held_known}
 use Rattle.unfold.specs.declared.known.Scope.{Scope as Held_scope}
-use Rattle.unfold_parts.specs.Refused.{Refused, Not_all_bound, Not_fields_bound, Not_compared, Not_both_compared, Not_all_compared, Not_fields_compared}
+use Rattle.unfold_parts.specs.Refused.{Refused, Not_all_bound, Not_packed, Not_all_packed, Not_compared, Not_both_compared, Not_all_compared}
+use Rattle.unfold_parts.specs.declared.equality.Pair.{Pair}
+use Rattle.unfold_parts.specs.declared.new_names.Named.{Named}
+use Rattle.unfold_parts.specs.declared.patterns.Given.{Given}
+use Rattle.unfold_parts.specs.declared.primitives.Applied.{Applied}
 use Rattle.unfold_parts.specs.declared.refusal.Refusal.{Refusal}
 use Rattle.unfold_parts.specs.declared.refusal.Refusal.TheVariants.{Memory}
 
@@ -43,17 +49,62 @@ pub data Used (tops : Tops) (sc : Scope) (name : Ref) (at : Place) : Result Held
 abbrev pub Primitive_used : Primitive → Place → Known → Type 0
 Primitive_used p at s = (integer_at : ℕ → IntType) (tops : Tops) (sc : Scope) (lo k n : ℕ) → Unfolds integer_at tops sc lo (Use (ref.Prim p) at k) n [] s n
 
-pub data Bound_to (p : FlatPattern) (s : Known) (sc : Scope) : Result (Bor Held_scope) Refusal → Type 0 where
-  bound_to : {inner : Bor Held_scope} → Binds p s sc (scope_of inner.now) → Bound_to p s sc (Ok inner)
-  not_bound : {r : Refusal} → Refused (Not_bound p s) r → Bound_to p s sc (Err r)
+abbrev pub Bound_to : FlatPattern → Known → Scope → ℕ → Bindings → Bindings → ℕ → Result (Bor Held_scope) Refusal → Type 0
+Bound_to p s sc n = Answered (λ bs inner next. Binds p s sc n bs (scope_of inner.now) next) (Not_bound p s)
 
-pub data All_bound_to (ps : Patterns Ref BindId) (ss : List Known) (sc : Scope) : Result (Bor Held_scope) Refusal → Type 0 where
-  all_bound_to : {inner : Bor Held_scope} → All_bind ps ss sc (scope_of inner.now) → All_bound_to ps ss sc (Ok inner)
-  not_all_bound : {r : Refusal} → Refused (Not_all_bound ps ss) r → All_bound_to ps ss sc (Err r)
+abbrev pub All_bound_to : Patterns Ref BindId → List Known → Scope → ℕ → Bindings → Bindings → ℕ → Result (Bor Held_scope) Refusal → Type 0
+All_bound_to ps ss sc n = Answered (λ bs inner next. All_bind ps ss sc n bs (scope_of inner.now) next) (Not_all_bound ps ss)
 
-pub data Fields_bound_to (fs : List Text) (ps : Patterns Ref BindId) (known : Known_fields) (sc : Scope) : Result (Bor Held_scope) Refusal → Type 0 where
-  fields_bound_to : {inner : Bor Held_scope} {ss : List Known} → record_parts fs known ≡ Some ss → All_bind ps ss sc (scope_of inner.now) → Fields_bound_to fs ps known sc (Ok inner)
-  no_fields_bound : {r : Refusal} → Refused (Not_fields_bound fs ps known) r → Fields_bound_to fs ps known sc (Err r)
+-- The parts of a value by which a pattern is bound to it: the value is bound by the steps that give them and those by which the
+-- patterns of parts are bound to them, and where these lack, so does it.
+pub record Parts_given (p : FlatPattern) (ps : Patterns Ref BindId) (s : Known) (n : ℕ) (bs : Bindings) (ss : List Known) (next : ℕ) : Type 0 where
+  pub binds : (sc inner : Scope) (cs : Bindings) (m : ℕ) → All_bind ps ss sc next cs inner m → Binds p s sc n (bs ++ cs) inner m
+  pub lacks : Not_all_bound ps ss → Not_bound p s
+
+abbrev pub Given_to : FlatPattern → Patterns Ref BindId → Known → ℕ → Bindings → Bindings → ℕ → Result (Bor (List Held_known)) Refusal → Type 0
+Given_to p ps s n = Answered (λ bs given next. Parts_given p ps s n bs (map known_of given.now) next) (Not_bound p s)
+
+-- the same with the patterns of the parts
+pub record Fields_are_given (fs : List Text) (ps : Patterns Ref BindId) (s : Known) (n : ℕ) (bs : Bindings) (g : Given) (next : ℕ) : Type 0 where
+  pub patterns : patterns (map pattern_of g.pats.now) ≡ ps
+  pub parts : Parts_given (Record_pattern fs ps) ps s n bs (map known_of g.knowns.now) next
+
+abbrev pub Fields_given : List Text → Patterns Ref BindId → Known → ℕ → Bindings → Bindings → ℕ → Result Given Refusal → Type 0
+Fields_given fs ps s n = Answered (Fields_are_given fs ps s n) (Not_bound (Record_pattern fs ps) s)
+
+-- ---- new names
+
+-- so many new names, and components that have them
+pub record Are_named (count n : ℕ) (names : List ℕ) (ss : List Known) (next : ℕ) : Type 0 where
+  pub upward : Upward n names next
+  pub many : length names ≡ count
+  pub knowns : ss ≡ map named names
+
+pub data Newly_named (count n next : ℕ) : Result Named Refusal → Type 0 where
+  newly_named : {r : Named} → Are_named count n r.names.now (map known_of r.knowns.now) next → Newly_named count n next (Ok r)
+  not_newly_named : Newly_named count n next (Err Memory)
+
+-- one step, which gives so many components new names
+pub data Opened (a : Action) (count n : ℕ) : Bindings → List Known → ℕ → Type 0 where
+  opened : {xs : List ℕ} {ss : List Known} {next : ℕ} → Are_named count n xs ss next → Opened a count n (step xs a) ss next
+
+abbrev pub Opened_to : Action → ℕ → ℕ → Bindings → Bindings → ℕ → Result (Bor (List Held_known)) Refusal → Type 0
+Opened_to a count n = Answered (λ bs given next. Opened a count n bs (map known_of given.now) next) ⊥
+
+-- the fields of a component
+abbrev pub Fields_read : List Text → Atom → ℕ → Bindings → Bindings → ℕ → Result (Bor (List Held_known)) Refusal → Type 0
+Fields_read fs u = Opened_to (Read (Fields_at fs) (u ∷ [])) (length fs)
+
+-- ---- one component
+
+abbrev pub Packed_to : Known → ℕ → Bindings → Bindings → ℕ → Result Atom Refusal → Type 0
+Packed_to s n = Answered (Packs s n) (Not_packed s)
+
+abbrev pub All_packed_to : List Known → ℕ → Bindings → Bindings → ℕ → Result (Bor (List Atom)) Refusal → Type 0
+All_packed_to ss n = Answered (λ bs us next. Packs_all ss n bs us.now next) (Not_all_packed ss)
+
+abbrev pub Record_packed_to : Known_fields → ℕ → Bindings → Bindings → ℕ → Result Atom Refusal → Type 0
+Record_packed_to fs = Packed_to (Record_known fs)
 
 -- ---- steps
 
@@ -69,6 +120,10 @@ pub data Pushed (s : List ℕ × Action) (before after : Bindings) : Result (Uni
 pub data Computed (a : Action) (n : ℕ) (before after : Bindings) (next : ℕ) : Result Atom Refusal → Type 0 where
   computed : after ≡ before ++ step (n ∷ []) a → next ≡ suc n → Computed a n before after next (Ok (atom.Name n))
   not_computed : Computed a n before after next (Err Memory)
+
+-- the first steps are left
+abbrev pub Cut : ℕ → Bindings → Bindings → Type 0
+Cut mark before after = (outside inside : Bindings) → length outside ≡ mark → before ≡ outside ++ inside → after ≡ outside
 
 -- the steps behind the first ones are those of the block, and the first ones are left
 pub data Blocked (mark : ℕ) (us : List Atom) (before after : Bindings) : Result (Bor Block) Refusal → Type 0 where
@@ -88,6 +143,20 @@ pub data On_one (op : UnOp) (ss : List Known) (n : ℕ) (bs : Bindings) (s : Kno
 pub data On_two (op : BinOp) (at : Place) (ss : List Known) (n : ℕ) (bs : Bindings) (s : Known) (next : ℕ) : Type 0 where
   on_two : {u w : Atom} → ss ≡ Scalar_known u ∷ Scalar_known w ∷ [] → Is_step (Operate (operation.Binary op at u w)) n bs s next → On_two op at ss n bs s next
 
+-- one step on parts, each as a component
+pub data Made (make : List Atom → Action) (ss : List Known) (n : ℕ) (bs : Bindings) (s : Known) (next : ℕ) : Type 0 where
+  made : {m : ℕ} {cs ds : Bindings} {us : List Atom} → Packs_all ss n cs us m → Is_step (make us) m ds s next → bs ≡ cs ++ ds → Made make ss n bs s next
+
+abbrev pub Made_to : (List Atom → Action) → List Known → ℕ → Bindings → Bindings → ℕ → Result Held_known Refusal → Type 0
+Made_to make ss n = Answered (λ bs s next. Made make ss n bs (known_of s) next) (Not_all_packed ss)
+
+-- another value of a field of a component
+pub data Changed (f : Text) (u : Atom) (s : Known) (n : ℕ) (bs : Bindings) (t : Known) (next : ℕ) : Type 0 where
+  changed : {m : ℕ} {cs ds : Bindings} {w : Atom} → Packs s n cs w m → Is_step (Read (Replace_at f) (u ∷ w ∷ [])) m ds t next → bs ≡ cs ++ ds → Changed f u s n bs t next
+
+abbrev pub Changed_to : Text → Atom → Known → ℕ → Bindings → Bindings → ℕ → Result Held_known Refusal → Type 0
+Changed_to f u s n = Answered (λ bs t next. Changed f u s n bs (known_of t) next) (Not_packed s)
+
 -- an operation without steps, whatever the type of an integer without a suffix
 pub data At_once (o : Operation Ref BindId) (ss : List Known) : Result Held_known Refusal → Type 0 where
   at_once : {s : Held_known} → ((t : IntType) (at : Place) (n : ℕ) → Operates t o at ss n [] (known_of s) n) → At_once o ss (Ok s)
@@ -99,10 +168,15 @@ Operated t o at ss n = Answered (λ bs s next. Operates t o at ss n bs (known_of
 abbrev pub Operated_primitive : Primitive → Place → List Known → ℕ → Bindings → Bindings → ℕ → Result Held_known Refusal → Type 0
 Operated_primitive p at ss n = Answered (λ bs s next. Primitive_operates p at ss n bs (known_of s) next) (No_primitive p at ss)
 
-abbrev pub Applied_primitive : Primitive → Place → Knowns → Known → ℕ → Bindings → Bindings → ℕ → Result Held_known Refusal → Type 0
-Applied_primitive p at ss s n before after next r =
-    (integer_at : ℕ → IntType) (tops : Tops)
-    → Answered (λ bs s' next. Applies integer_at tops (Primitive_known p at ss) s n bs (known_of s') next) (Stuck_run integer_at tops (Primitive_known p at ss) s) before after next r
+-- a primitive on arrays has all its arguments
+pub record Is_ready (p : Primitive) (ss : List Known) : Type 0 where
+  pub full : nat_lt (length ss) (arity p) ≡ false
+  pub arrays : is_of_scalars p ≡ false
+
+pub data Applied_primitive (p : Primitive) (at : Place) (ss : Knowns) (s : Known) (n : ℕ) (before after : Bindings) (next : ℕ) : Result Applied Refusal → Type 0 where
+  primitive_applied : {s' : Held_known} (bs : Bindings) → after ≡ before ++ bs → ((integer_at : ℕ → IntType) (tops : Tops) → Applies integer_at tops (Primitive_known p at ss) s n bs (known_of s') next) → Applied_primitive p at ss s n before after next (Ok (Applied.Known s'))
+  primitive_ready : {given : Bor (List Held_known)} → map known_of given.now ≡ listed ss ++ s ∷ [] → Is_ready p (listed ss ++ s ∷ []) → after ≡ before → next ≡ n → Applied_primitive p at ss s n before after next (Ok (Applied.Ready given))
+  primitive_refused : {r : Refusal} → Refused ((integer_at : ℕ → IntType) (tops : Tops) → Stuck_run integer_at tops (Primitive_known p at ss) s) r → Applied_primitive p at ss s n before after next (Err r)
 
 -- ---- equality
 
@@ -119,8 +193,33 @@ Both_equal_to at ss n = Answered (Both_equal at ss n) (Not_both_compared at ss)
 abbrev pub All_equal_to : Place → Knowns → Knowns → ℕ → Bindings → Bindings → ℕ → Result Atom Refusal → Type 0
 All_equal_to at ss ts n = Answered (All_equal at ss ts n) (Not_all_compared at ss ts)
 
-abbrev pub Fields_equal_to : Place → Known_fields → Known_fields → ℕ → Bindings → Bindings → ℕ → Result Atom Refusal → Type 0
-Fields_equal_to at fs gs n = Answered (Fields_equal at fs gs n) (Not_fields_compared at fs gs)
+-- fields of the same names
+pub data Same_names : List (Text × Known) → List (Text × Known) → Type 0 where
+  no_names : Same_names [] []
+  same_name : {f g : Text × Known} {fs gs : List (Text × Known)} → bytes_eq f.0 g.0 ≡ true → Same_names fs gs → Same_names (f ∷ fs) (g ∷ gs)
+
+-- the comparison of both as whole data, where both are data
+abbrev pub Whole_equal_to : Place → Known → Known → ℕ → Bindings → Bindings → ℕ → Result Atom Refusal → Type 0
+Whole_equal_to at s t n = Answered (Equals at s t n) (Not_all_packed (s ∷ t ∷ []))
+
+-- both have parts, whose comparison is theirs
+pub data Have_parts : Known → Known → List Known → List Known → Type 0 where
+  have_parts : {ss ts : List Known} → length ss ≡ length ts → Have_parts (Tuple_known (knowns ss)) (Tuple_known (knowns ts)) ss ts
+  have_fields : {fs gs : List (Text × Known)} → Same_names fs gs → Have_parts (Record_known (fields_known fs)) (Record_known (fields_known gs)) (field_knowns (fields_known fs)) (field_knowns (fields_known gs))
+
+pub data Paired_to (s t : Known) : Result (Option Pair) Refusal → Type 0 where
+  paired_to : {p : Pair} → Have_parts s t (map known_of p.lefts.now) (map known_of p.rights.now) → Paired_to s t (Ok (Some p))
+  no_pair : Paired_to s t (Ok None)
+  not_paired : Paired_to s t (Err Memory)
+
+pub data Tuples_paired (ss ts : List Known) : Option Pair → Type 0 where
+  tuples_paired : {p : Pair} → map known_of p.lefts.now ≡ ss → map known_of p.rights.now ≡ ts → length ss ≡ length ts → Tuples_paired ss ts (Some p)
+  no_tuples_paired : Tuples_paired ss ts None
+
+pub data Records_paired (fs gs : List (Text × Known)) : Result (Option Pair) Refusal → Type 0 where
+  records_paired : {p : Pair} → map known_of p.lefts.now ≡ field_knowns (fields_known fs) → map known_of p.rights.now ≡ field_knowns (fields_known gs) → Same_names fs gs → Records_paired fs gs (Ok (Some p))
+  no_records_paired : Records_paired fs gs (Ok None)
+  not_records_paired : Records_paired fs gs (Err Memory)
 
 -- the comparisons of parts, one after the other
 pub data All_compared (at : Place) : List Known → List Known → ℕ → Bindings → List Atom → ℕ → Type 0 where
@@ -131,11 +230,6 @@ pub data All_compared (at : Place) : List Known → List Known → ℕ → Bindi
 pub data All_hold : List Atom → ℕ → Bindings → Atom → ℕ → Type 0 where
   none_fails : {n : ℕ} → All_hold [] n [] (atom.Constant (scalar.Bool true)) n
   one_holds : {u w : Atom} {us : List Atom} {n n1 : ℕ} {bs : Bindings} → All_hold us n bs w n1 → All_hold (u ∷ us) n (bs ++ step (n1 ∷ []) (both_hold u w)) (atom.Name n1) (suc n1)
-
--- fields of the same names
-pub data Same_names : List (Text × Known) → List (Text × Known) → Type 0 where
-  no_names : Same_names [] []
-  same_name : {f g : Text × Known} {fs gs : List (Text × Known)} → bytes_eq f.0 g.0 ≡ true → Same_names fs gs → Same_names (f ∷ fs) (g ∷ gs)
 
 pub data Names_told (fs gs : List (Text × Known)) : Bool → Type 0 where
   same_names : Same_names fs gs → Names_told fs gs true

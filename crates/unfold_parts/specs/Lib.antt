@@ -6,3 +6,4 @@ pub mod Refused
 pub mod Layouts
 pub mod Parts
 pub mod Answers
+pub mod Jobs

@@ -1,4 +1,5 @@
 -- Parts of values, by how many there are.
+use Rattle.std.specs.Borrow.{Bor}
 use Rattle.std.specs.Prelude.{◌≡◌, ℕ, map, get_or, set, List, [], ◌∷◌, Option, Some, None, Result, Ok, Err}
 use Rattle.fut_scalar.specs.declared.scalar.Scalar.{Scalar}
 use Rattle.fut_ast.specs.Sorts.{Text}
@@ -6,7 +7,7 @@ use Rattle.fut_blocks.specs.declared.block.Atom.{Atom}
 use Rattle.fut_blocks.specs.declared.block.Atom.TheVariants as atom
 use Rattle.fut_meaning.specs.Operations.{named_values}
 use Rattle.unfold.specs.Held.{known_of, field_of, fields_known}
-use Rattle.unfold.specs.Knowns.{Known, Scalar_known, Record_known, fields, replaced}
+use Rattle.unfold.specs.Knowns.{Known, Scalar_known, Record_known, Known_fields, fields, replaced, record_parts}
 use Rattle.unfold.specs.Stuck.{No_scalar}
 use Rattle.unfold.specs.declared.known.Field.{Field}
 use Rattle.unfold.specs.declared.known.Known.{Known as Held_known}
@@ -53,6 +54,11 @@ pub data Is_record (names : List Text) (ss : List Known) (s : Known) : Type 0 wh
 pub data Recorded_to (names : List Text) (ss : List Known) : Result Held_known Refusal → Type 0 where
   recorded_to : {s : Held_known} → Is_record names ss (known_of s) → Recorded_to names ss (Ok s)
   not_recorded : {r : Refusal} → Refused (named_values names ss ≡ None) r → Recorded_to names ss (Err r)
+
+-- what is known of the fields of these names, where each is there
+pub data Fields_to (names : List Text) (fs : Known_fields) : Result (Bor (List Held_known)) Refusal → Type 0 where
+  fields_to : {ss : Bor (List Held_known)} → record_parts names fs ≡ Some (map known_of ss.now) → Fields_to names fs (Ok ss)
+  not_fields : {r : Refusal} → Refused ((ss : List Known) → record_parts names fs ≡ Some ss → ⊥) r → Fields_to names fs (Err r)
 
 -- where a field of that name stands: the fields with another one of its name there are those with another value of it
 pub data Place_to (name : Text) (fs : List Field) : Option ℕ → Type 0 where

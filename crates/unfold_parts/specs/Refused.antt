@@ -1,13 +1,12 @@
 -- Why a call of unfolding refuses, and what lacks a way on.
-use Rattle.std.specs.Prelude.{◌≡◌, ◌∷◌, [], ℕ, List, Some}
+use Rattle.std.specs.Prelude.{◌≡◌, ◌∷◌, [], ℕ, List}
 use Rattle.fut_scalar.specs.declared.place.BindId.{BindId}
 use Rattle.fut_scalar.specs.declared.place.Place.{Place}
-use Rattle.fut_ast.specs.Sorts.{Text}
 use Rattle.fut_flat.specs.declared.prim.Ref.{Ref}
 use Rattle.fut_flat.specs.Terms.{Patterns}
 use Rattle.fut_blocks.specs.declared.block.Atom.{Atom}
-use Rattle.unfold.specs.Knowns.{Known, Knowns, Known_fields, Scope, record_parts}
-use Rattle.unfold.specs.Unfolding.{Bindings, All_bind, Equals, All_equal, Fields_equal}
+use Rattle.unfold.specs.Knowns.{Known, Knowns, Scope}
+use Rattle.unfold.specs.Unfolding.{Bindings, All_bind, Equals, All_equal, Packs, Packs_all}
 use Rattle.unfold_parts.specs.declared.refusal.Refusal.{Refusal}
 use Rattle.unfold_parts.specs.declared.refusal.Refusal.TheVariants.{Lost, Memory}
 
@@ -18,11 +17,14 @@ pub data Refused (Cause : Type 0) : Refusal → Type 0 where
 
 -- some part has not the form of its pattern, or there are not as many of both
 abbrev pub Not_all_bound : Patterns Ref BindId → List Known → Type 0
-Not_all_bound ps ss = (sc inner : Scope) → All_bind ps ss sc inner → ⊥
+Not_all_bound ps ss = (sc inner : Scope) (n m : ℕ) (bs : Bindings) → All_bind ps ss sc n bs inner m → ⊥
 
--- and so for the fields of these names
-abbrev pub Not_fields_bound : List Text → Patterns Ref BindId → Known_fields → Type 0
-Not_fields_bound names ps fs = (ss : List Known) → record_parts names fs ≡ Some ss → Not_all_bound ps ss
+-- a function, or what holds one, is no component
+abbrev pub Not_packed : Known → Type 0
+Not_packed s = (n n' : ℕ) (bs : Bindings) (u : Atom) → Packs s n bs u n' → ⊥
+
+abbrev pub Not_all_packed : List Known → Type 0
+Not_all_packed ss = (n n' : ℕ) (bs : Bindings) (us : List Atom) → Packs_all ss n bs us n' → ⊥
 
 -- no steps say whether both are equal: they have other forms, or other parts
 abbrev pub Not_compared : Place → Known → Known → Type 0
@@ -34,6 +36,3 @@ Not_both_compared at ss = (s t : Known) → ss ≡ s ∷ t ∷ [] → Not_compar
 
 abbrev pub Not_all_compared : Place → Knowns → Knowns → Type 0
 Not_all_compared at ss ts = (n n' : ℕ) (bs : Bindings) (u : Atom) → All_equal at ss ts n bs u n' → ⊥
-
-abbrev pub Not_fields_compared : Place → Known_fields → Known_fields → Type 0
-Not_fields_compared at fs gs = (n n' : ℕ) (bs : Bindings) (u : Atom) → Fields_equal at fs gs n bs u n' → ⊥

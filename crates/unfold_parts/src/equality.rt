@@ -1,20 +1,29 @@
 // Whether data is equal.
 ghost use Rattle.std.specs.Prelude.{map};
-ghost use Rattle.unfold.specs.Held.{field_of, fields_known, known_of};
+ghost use Rattle.unfold.specs.Held.{field_of, known_of};
 ghost use Rattle.unfold.specs.Knowns.{knowns};
-ghost use Rattle.unfold_parts.specs.Answers.{All_equal_to, All_hold, Answered, Equal_to, Fields_equal_to, Names_told};
+ghost use Rattle.unfold_parts.specs.Answers.{All_equal_to, All_hold, Answered, Equal_to, Names_told, Paired_to, Records_paired, Tuples_paired, Whole_equal_to};
 ghost use Rattle.unfold_parts.specs.States.{steps_of};
 
 use crate::laying::MOST_DEEP;
+use crate::packing::{pack, parts_of};
 use crate::refusal::Refusal;
 use crate::steps::Unfolding;
+use bumpalo::Bump;
 use bumpalo::collections::into_bump_slice;
 use fut_blocks::{Atom, Operation};
 use fut_scalar::{BinOp, Place, Scalar};
 use unfold::{Field, Known, KnownForm};
 
-/// Whether data is equal: the comparisons of all components, each of which has to hold. It lies inside `deep` others, and
-/// there is room for so many parts.
+/// The parts of two tuples, or of two records with the same fields.
+#[derive(Clone, Copy)]
+struct Pair<'a> {
+    lefts: &'a [Known<'a>],
+    rights: &'a [Known<'a>],
+}
+
+/// Whether data is equal: the comparisons of all parts, each of which has to hold, and where one of both has no known parts
+/// the comparison of whole data. It lies inside `deep` others, and there is room for so many parts.
 #[cycle(equal)]
 pub fn equal<'a>(
     work: &mut Unfolding<'a>,
@@ -33,22 +42,10 @@ pub fn equal<'a>(
         return Err(Refusal::Memory);
     }
     *room -= 1;
-    match left.form {
-        KnownForm::Scalar(first) => match right.form {
-            KnownForm::Scalar(second) => {
-                work.compute(Operation::Binary(BinOp::Eq, place, first, second))
-            }
-            _ => Err(Refusal::Lost),
-        },
-        KnownForm::Tuple(lefts) => match right.form {
-            KnownForm::Tuple(rights) => equal_all(work, room, deep + 1, place, lefts, rights),
-            _ => Err(Refusal::Lost),
-        },
-        KnownForm::Record(lefts) => match right.form {
-            KnownForm::Record(rights) => equal_fields(work, room, deep + 1, place, lefts, rights),
-            _ => Err(Refusal::Lost),
-        },
-        _ => Err(Refusal::Lost),
+    match paired(work.bump, left, right) {
+        Ok(Some(pair)) => equal_all(work, room, deep + 1, place, pair.lefts, pair.rights),
+        Ok(None) => equal_whole(work, place, left, right),
+        Err(refusal) => Err(refusal),
     }
 }
 
@@ -83,35 +80,75 @@ fn equal_all<'a>(
     all_hold(work, into_bump_slice(truths))
 }
 
-// The same for fields, which have to have the same names.
-#[cycle(equal)]
-fn equal_fields<'a>(
+// The comparison of both as whole data.
+fn equal_whole<'a>(
     work: &mut Unfolding<'a>,
-    room: &mut u32,
-    deep: u32,
     place: Place,
+    left: &Known<'a>,
+    right: &Known<'a>,
+) -> Result<Atom, Refusal>
+    ensures { Whole_equal_to place (known_of left.now) (known_of right.now) work.old.next (steps_of work.old) (steps_of work.new) work.new.next result }
+{
+    let first = match pack(work, left) {
+        Ok(first) => first,
+        Err(refusal) => return Err(refusal),
+    };
+    let second = match pack(work, right) {
+        Ok(second) => second,
+        Err(refusal) => return Err(refusal),
+    };
+    work.compute(Operation::Binary(BinOp::Eq, place, first, second))
+}
+
+// The parts of both, where they are tuples of as many parts, or records with the same fields.
+fn paired<'a>(
+    bump: &'a Bump,
+    left: &Known<'a>,
+    right: &Known<'a>,
+) -> Result<Option<Pair<'a>>, Refusal>
+    ensures { Paired_to (known_of left.now) (known_of right.now) result }
+{
+    match left.form {
+        KnownForm::Tuple(lefts) => match right.form {
+            KnownForm::Tuple(rights) => Ok(tuples_paired(lefts, rights)),
+            _ => Ok(None),
+        },
+        KnownForm::Record(lefts) => match right.form {
+            KnownForm::Record(rights) => records_paired(bump, lefts, rights),
+            _ => Ok(None),
+        },
+        _ => Ok(None),
+    }
+}
+
+fn tuples_paired<'a>(lefts: &'a [Known<'a>], rights: &'a [Known<'a>]) -> Option<Pair<'a>>
+    ensures { Tuples_paired (map known_of lefts.now) (map known_of rights.now) result }
+{
+    if lefts.len() == rights.len() {
+        Some(Pair { lefts, rights })
+    } else {
+        None
+    }
+}
+
+fn records_paired<'a>(
+    bump: &'a Bump,
     lefts: &'a [Field<'a>],
     rights: &'a [Field<'a>],
-) -> Result<Atom, Refusal>
-    ensures { Fields_equal_to place (fields_known (map field_of lefts.now)) (fields_known (map field_of rights.now)) work.old.next (steps_of work.old) (steps_of work.new) work.new.next result }
+) -> Result<Option<Pair<'a>>, Refusal>
+    ensures { Records_paired (map field_of lefts.now) (map field_of rights.now) result }
 {
     if !same_names(lefts, rights) {
-        return Err(Refusal::Lost);
+        return Ok(None);
     }
-    let mut truths = Vec::new(work.bump);
-    let mut at = 0;
-    for left in lefts {
-        let truth = match equal(work, room, deep, place, &left.known, &rights[at].known) {
-            Ok(truth) => truth,
-            Err(refusal) => return Err(refusal),
-        };
-        match truths.push(truth) {
-            Ok(()) => {}
-            Err(_) => return Err(Refusal::Memory),
-        }
-        at += 1;
+    let lefts = match parts_of(bump, lefts) {
+        Ok(lefts) => lefts,
+        Err(refusal) => return Err(refusal),
+    };
+    match parts_of(bump, rights) {
+        Ok(rights) => Ok(Some(Pair { lefts, rights })),
+        Err(refusal) => Err(refusal),
     }
-    all_hold(work, into_bump_slice(truths))
 }
 
 // Whether two records have fields of the same names.

@@ -1,5 +1,5 @@
-//! The parts of unfolding that do not walk over terms: names and patterns, operations, data laid out in components, and new
-//! names for it, with the steps so far.
+//! The parts of unfolding that do not walk over terms: names and patterns, operations, data laid out in components or packed
+//! as one, and new names for it, with the steps so far.
 //!
 //! What is unfolded is said by the definitions of `unfold`; `specs/Answers.antt` says what the calls answer. `Lost` is answered
 //! only where what is given has no way on, and each contract says what lacks.
@@ -7,8 +7,11 @@
 
 mod equality;
 mod fresh;
+mod jobs;
 mod laying;
+mod new_names;
 mod operations;
+mod packing;
 mod parts;
 mod patterns;
 mod primitives;
@@ -20,10 +23,13 @@ mod steps;
 mod tops;
 
 pub use fresh::Fresh;
+pub use jobs::{Job, begin_job, end_job};
 pub use laying::lay;
+pub use new_names::Named;
 pub use operations::{literal_type_at, operate};
+pub use packing::pack;
 pub use patterns::bind;
-pub use primitives::{apply_primitive, arity};
+pub use primitives::{Applied, apply_primitive, arity};
 pub use refusal::Refusal;
 pub use scope::bound;
 pub use steps::Unfolding;

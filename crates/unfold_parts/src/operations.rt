@@ -1,24 +1,25 @@
 // Operations on evaluated parts.
-ghost use Rattle.std.specs.Prelude.{◌≡◌, map};
+ghost use Rattle.std.specs.Prelude.{◌≡◌, ◌∷◌, [], map};
+ghost use Rattle.fut_blocks.specs.Plain.{Part_at, Read, making_form};
 ghost use Rattle.fut_flat.specs.Erased.{operation_of};
 ghost use Rattle.fut_flat.specs.Terms.{Assert, Binary, Project, Replace};
 ghost use Rattle.fut_scalar.specs.declared.scalar.IntType.{IntType as Integer_type};
 ghost use Rattle.unfold.specs.Held.{known_of};
 ghost use Rattle.unfold.specs.Unfolding.{literal_type};
-ghost use Rattle.unfold_parts.specs.Answers.{At_once, Both_equal_to, Operated};
+ghost use Rattle.unfold_parts.specs.Answers.{Answered, Both_equal_to, Changed_to, Is_step, Made_to, Operated};
 ghost use Rattle.unfold_parts.specs.Parts.{Constant_to, One_to};
 ghost use Rattle.unfold_parts.specs.Tables.{integer_at};
 ghost use Rattle.unfold_parts.specs.States.{steps_of};
 
 use crate::equality::equal;
 use crate::laying::MOST_PARTS;
+use crate::packing::{NOWHERE, pack, pack_all};
 use crate::parts::{part, scalar};
 use crate::records::{record_of, replaced};
 use crate::refusal::Refusal;
-use crate::stepped::{binary, computed, unary};
+use crate::stepped::{binary, computed, made, unary};
 use crate::steps::Unfolding;
-use bumpalo::Bump;
-use fut_blocks::{Act as StepAct, Atom, Operation, Step};
+use fut_blocks::{Act as StepAct, Atom, Making, Operation, Step};
 use fut_flat::Act;
 use fut_scalar::{BinOp, IntType, Place, Scalar, UnOp};
 use unfold::{Known, KnownForm};
@@ -56,35 +57,93 @@ fn constant<'a>(value: Scalar, parts: &'a [Known<'a>]) -> Result<Known<'a>, Refu
     }
 }
 
-fn project<'a>(name: &str, parts: &'a [Known<'a>]) -> Result<Known<'a>, Refusal>
-    ensures { At_once (Project name.now) (map known_of parts.now) result }
+// A part: of a component by a step.
+fn project<'a>(
+    work: &mut Unfolding<'a>,
+    ty: IntType,
+    name: &'a str,
+    mark: Place,
+    parts: &'a [Known<'a>],
+) -> Result<Known<'a>, Refusal>
+    ensures { Operated ty (Project name.now) mark (map known_of parts.now) work.old.next (steps_of work.old) (steps_of work.new) work.new.next result }
 {
     if parts.len() != 1 {
         return Err(Refusal::Lost);
     }
-    match part(&parts[0], name) {
-        Some(known) => Ok(*known),
-        None => Err(Refusal::Lost),
+    match scalar(&parts[0]) {
+        Some(atom) => part_read(work, name, atom),
+        None => match part(&parts[0], name) {
+            Some(known) => Ok(*known),
+            None => Err(Refusal::Lost),
+        },
     }
 }
 
-fn replace<'a>(bump: &'a Bump, name: &str, parts: &'a [Known<'a>]) -> Result<Known<'a>, Refusal>
-    ensures { At_once (Replace name.now) (map known_of parts.now) result }
+fn part_read<'a>(work: &mut Unfolding<'a>, name: &'a str, atom: Atom) -> Result<Known<'a>, Refusal>
+    ensures { Answered (λ bs s next. Is_step (Read (Part_at name.now) (atom ∷ [])) work.old.next bs (known_of s) next) ⊥ (steps_of work.old) (steps_of work.new) work.new.next result }
+{
+    match work.bump.try_alloc_slice_copy(&[atom]) {
+        Ok(whole) => made(work, StepAct::Make(Making::Part(name), NOWHERE, whole)),
+        Err(_) => Err(Refusal::Memory),
+    }
+}
+
+// Another value of a field: in a component by a step.
+fn replace<'a>(
+    work: &mut Unfolding<'a>,
+    ty: IntType,
+    name: &'a str,
+    mark: Place,
+    parts: &'a [Known<'a>],
+) -> Result<Known<'a>, Refusal>
+    ensures { Operated ty (Replace name.now) mark (map known_of parts.now) work.old.next (steps_of work.old) (steps_of work.new) work.new.next result }
 {
     if parts.len() != 2 {
         return Err(Refusal::Lost);
     }
     let whole = &parts[0];
     match whole.form {
-        KnownForm::Record(fields) => {
-            match replaced(bump, name, &parts[1], fields) {
-                Ok(made) => Ok(Known {
-                    form: KnownForm::Record(made),
-                }),
-                Err(refusal) => Err(refusal),
-            }
-        }
+        KnownForm::Scalar(atom) => changed(work, name, atom, &parts[1]),
+        KnownForm::Record(fields) => match replaced(work.bump, name, &parts[1], fields) {
+            Ok(made) => Ok(Known {
+                form: KnownForm::Record(made),
+            }),
+            Err(refusal) => Err(refusal),
+        },
         _ => Err(Refusal::Lost),
+    }
+}
+
+fn changed<'a>(
+    work: &mut Unfolding<'a>,
+    name: &'a str,
+    atom: Atom,
+    known: &Known<'a>,
+) -> Result<Known<'a>, Refusal>
+    ensures { Changed_to name.now atom (known_of known.now) work.old.next (steps_of work.old) (steps_of work.new) work.new.next result }
+{
+    let part = match pack(work, known) {
+        Ok(part) => part,
+        Err(refusal) => return Err(refusal),
+    };
+    match work.bump.try_alloc_slice_copy(&[atom, part]) {
+        Ok(both) => made(work, StepAct::Make(Making::Replace(name), NOWHERE, both)),
+        Err(_) => Err(Refusal::Memory),
+    }
+}
+
+// An array, or what is made of one: the parts as components, and one step.
+fn make<'a>(
+    work: &mut Unfolding<'a>,
+    making: Making<'a>,
+    mark: Place,
+    parts: &'a [Known<'a>],
+) -> Result<Known<'a>, Refusal>
+    ensures { Made_to (making_form making.entry mark) (map known_of parts.now) work.old.next (steps_of work.old) (steps_of work.new) work.new.next result }
+{
+    match pack_all(work, parts) {
+        Ok(atoms) => made(work, StepAct::Make(making, mark, atoms)),
+        Err(refusal) => Err(refusal),
     }
 }
 
@@ -186,15 +245,15 @@ pub fn operate<'a>(
         Act::Binary(op) => operate_binary(work, op, mark, parts),
         Act::Negate => unary(work, UnOp::Neg, parts),
         Act::Complement => unary(work, UnOp::Not, parts),
-        Act::Project(name) => project(name, parts),
-        Act::Replace(name) => replace(work.bump, name, parts),
+        Act::Project(name) => project(work, ty, name, mark, parts),
+        Act::Replace(name) => replace(work, ty, name, mark, parts),
         Act::Ascribe(_) => same(parts),
         Act::Coerce(_) => same(parts),
         Act::Declared(_) => same(parts),
         Act::Assert => assert_first(work, ty, mark, parts),
-        Act::Array => Err(Refusal::Lost),
-        Act::Index(_) => Err(Refusal::Lost),
-        Act::Update => Err(Refusal::Lost),
-        Act::Range { .. } => Err(Refusal::Lost),
+        Act::Array => make(work, Making::Array, mark, parts),
+        Act::Index(asked) => make(work, Making::Index(asked), mark, parts),
+        Act::Update => make(work, Making::Update, mark, parts),
+        Act::Range { stepped, end } => make(work, Making::Range { stepped, end }, mark, parts),
     }
 }

@@ -1,14 +1,22 @@
 // The names of patterns.
-ghost use Rattle.std.specs.Prelude.{map};
-ghost use Rattle.fut_flat.specs.Erased.{pattern_of, patterns};
+ghost use Rattle.std.specs.Prelude.{◌≡◌, IfErr, IfOk, length, map};
+ghost use Rattle.fut_flat.specs.Erased.{pattern_of, patterns, texts};
+ghost use Rattle.fut_flat.specs.Terms.{Record_pattern, Tuple_pattern};
 ghost use Rattle.unfold.specs.Held.{field_of, fields_known, known_of, scope_of};
-ghost use Rattle.unfold_parts.specs.Answers.{All_bound_to, Bound_to, Fields_bound_to};
+ghost use Rattle.unfold_parts.specs.Answers.{All_bound_to, Bound_to, Fields_given, Fields_read, Given_to};
+ghost use Rattle.unfold_parts.specs.Parts.{Fields_to};
 ghost use Rattle.unfold_parts.specs.Patterns.{field_names, field_patterns};
+ghost use Rattle.unfold_parts.specs.declared.refusal.Refusal.TheVariants as refusal;
+ghost use Rattle.unfold_parts.specs.States.{steps_of};
 
+use crate::packing::NOWHERE;
 use crate::records::field_known;
 use crate::refusal::Refusal;
 use crate::scope::bound;
+use crate::steps::Unfolding;
 use bumpalo::Bump;
+use bumpalo::collections::into_bump_slice;
+use fut_blocks::{Act, Atom, Making, Operation};
 use fut_flat::{Pat, PatField, PatForm};
 use unfold::{Field, Known, KnownForm, Scope};
 
@@ -18,50 +26,58 @@ struct Names<'a> {
     scope: &'a Scope<'a>,
 }
 
-/// The names with those of a pattern, and what is known of the parts of the value.
+/// The patterns of a record's fields, and what is known of the parts that they are given.
+#[derive(Clone, Copy)]
+pub struct Given<'a> {
+    pub pats: &'a [Pat<'a>],
+    pub knowns: &'a [Known<'a>],
+}
+
+/// The names with those of a pattern, and what is known of the parts of the value. What is one component is taken apart by
+/// steps.
 pub fn bind<'a>(
-    bump: &'a Bump,
-    pat: &Pat<'_>,
+    work: &mut Unfolding<'a>,
+    pat: &'a Pat<'a>,
     known: Known<'a>,
     scope: &'a Scope<'a>,
 ) -> Result<&'a Scope<'a>, Refusal>
-    ensures { Bound_to (pattern_of pat.now) (known_of known.entry) (scope_of scope.now) result }
+    ensures { Bound_to (pattern_of pat.now) (known_of known.entry) (scope_of scope.now) work.old.next (steps_of work.old) (steps_of work.new) work.new.next result }
 {
-    bind_known(bump, pat, &known, scope)
+    bind_known(work, pat, &known, scope)
 }
 
 #[cycle(bind)]
 fn bind_known<'a>(
-    bump: &'a Bump,
-    pat: &Pat<'_>,
+    work: &mut Unfolding<'a>,
+    pat: &'a Pat<'a>,
     known: &Known<'a>,
     scope: &'a Scope<'a>,
 ) -> Result<&'a Scope<'a>, Refusal>
-    ensures { Bound_to (pattern_of pat.now) (known_of known.now) (scope_of scope.now) result }
+    ensures { Bound_to (pattern_of pat.now) (known_of known.now) (scope_of scope.now) work.old.next (steps_of work.old) (steps_of work.new) work.new.next result }
 {
     match pat.form {
-        PatForm::Bound(number) => bound(bump, number, *known, scope),
+        PatForm::Bound(number) => bound(work.bump, number, *known, scope),
         PatForm::Wild => Ok(scope),
-        PatForm::Tuple(parts) => match known.form {
-            KnownForm::Tuple(given) => bind_all(bump, parts, given, scope),
-            _ => Err(Refusal::Lost),
+        PatForm::Tuple(parts) => match tuple_given(work, parts, known) {
+            Ok(given) => bind_all(work, parts, given, scope),
+            Err(refusal) => Err(refusal),
         },
-        PatForm::Record(fields) => match known.form {
-            KnownForm::Record(known_fields) => bind_fields(bump, fields, known_fields, scope),
-            _ => Err(Refusal::Lost),
+        PatForm::Record(fields) => match record_given(work, fields, known) {
+            Ok(given) => bind_all(work, given.pats, given.knowns, scope),
+            Err(refusal) => Err(refusal),
         },
-        PatForm::Typed(inner, _) => bind_known(bump, inner, known, scope),
+        PatForm::Typed(inner, _) => bind_known(work, inner, known, scope),
     }
 }
 
 #[cycle(bind)]
 fn bind_all<'a>(
-    bump: &'a Bump,
-    parts: &[Pat<'_>],
+    work: &mut Unfolding<'a>,
+    parts: &'a [Pat<'a>],
     given: &'a [Known<'a>],
     scope: &'a Scope<'a>,
 ) -> Result<&'a Scope<'a>, Refusal>
-    ensures { All_bound_to (patterns (map pattern_of parts.now)) (map known_of given.now) (scope_of scope.now) result }
+    ensures { All_bound_to (patterns (map pattern_of parts.now)) (map known_of given.now) (scope_of scope.now) work.old.next (steps_of work.old) (steps_of work.new) work.new.next result }
 {
     if parts.len() != given.len() {
         return Err(Refusal::Lost);
@@ -69,7 +85,7 @@ fn bind_all<'a>(
     let mut names = Names { scope };
     let mut at = 0;
     for part in parts {
-        let scope = match bind_known(bump, part, &given[at], names.scope) {
+        let scope = match bind_known(work, part, &given[at], names.scope) {
             Ok(scope) => scope,
             Err(refusal) => return Err(refusal),
         };
@@ -79,26 +95,120 @@ fn bind_all<'a>(
     Ok(names.scope)
 }
 
-#[cycle(bind)]
-fn bind_fields<'a>(
-    bump: &'a Bump,
-    fields: &[PatField<'_>],
-    known_fields: &'a [Field<'a>],
-    scope: &'a Scope<'a>,
-) -> Result<&'a Scope<'a>, Refusal>
-    ensures { Fields_bound_to (field_names fields.now) (field_patterns fields.now) (fields_known (map field_of known_fields.now)) (scope_of scope.now) result }
+// The parts of a tuple, or as many of a component as there are patterns, by a step.
+fn tuple_given<'a>(
+    work: &mut Unfolding<'a>,
+    parts: &'a [Pat<'a>],
+    known: &Known<'a>,
+) -> Result<&'a [Known<'a>], Refusal>
+    ensures { Given_to (Tuple_pattern (patterns (map pattern_of parts.now))) (patterns (map pattern_of parts.now)) (known_of known.now) work.old.next (steps_of work.old) (steps_of work.new) work.new.next result }
 {
-    let mut names = Names { scope };
+    match known.form {
+        KnownForm::Tuple(given) => Ok(given),
+        KnownForm::Scalar(atom) => work.opened(Act::Operate(Operation::Parts(atom)), parts.len()),
+        _ => Err(Refusal::Lost),
+    }
+}
+
+// The same for a record: those of its parts that have patterns.
+fn record_given<'a>(
+    work: &mut Unfolding<'a>,
+    fields: &'a [PatField<'a>],
+    known: &Known<'a>,
+) -> Result<Given<'a>, Refusal>
+    ensures { Fields_given (field_names fields.now) (field_patterns fields.now) (known_of known.now) work.old.next (steps_of work.old) (steps_of work.new) work.new.next result }
+{
+    let pats = match patterns_of(work.bump, fields) {
+        Ok(pats) => pats,
+        Err(refusal) => return Err(refusal),
+    };
+    match fields_given(work, fields, known) {
+        Ok(knowns) => Ok(Given { pats, knowns }),
+        Err(refusal) => Err(refusal),
+    }
+}
+
+fn fields_given<'a>(
+    work: &mut Unfolding<'a>,
+    fields: &'a [PatField<'a>],
+    known: &Known<'a>,
+) -> Result<&'a [Known<'a>], Refusal>
+    ensures { Given_to (Record_pattern (field_names fields.now) (field_patterns fields.now)) (field_patterns fields.now) (known_of known.now) work.old.next (steps_of work.old) (steps_of work.new) work.new.next result }
+{
+    match known.form {
+        KnownForm::Record(given) => fields_known(work.bump, fields, given),
+        KnownForm::Scalar(atom) => fields_read(work, fields, atom),
+        _ => Err(Refusal::Lost),
+    }
+}
+
+// The fields of a component, by a step.
+fn fields_read<'a>(
+    work: &mut Unfolding<'a>,
+    fields: &'a [PatField<'a>],
+    atom: Atom,
+) -> Result<&'a [Known<'a>], Refusal>
+    ensures { Fields_read (field_names fields.now) atom work.old.next (steps_of work.old) (steps_of work.new) work.new.next result }
+{
+    let names = match names_of(work.bump, fields) {
+        Ok(names) => names,
+        Err(refusal) => return Err(refusal),
+    };
+    match work.bump.try_alloc_slice_copy(&[atom]) {
+        Ok(whole) => work.opened(
+            Act::Make(Making::Fields(names), NOWHERE, whole),
+            fields.len(),
+        ),
+        Err(_) => Err(Refusal::Memory),
+    }
+}
+
+// What is known of the fields that have patterns.
+fn fields_known<'a>(
+    bump: &'a Bump,
+    fields: &'a [PatField<'a>],
+    given: &'a [Field<'a>],
+) -> Result<&'a [Known<'a>], Refusal>
+    ensures { Fields_to (field_names fields.now) (fields_known (map field_of given.now)) result }
+{
+    let mut knowns = Vec::new(bump);
     for field in fields {
-        let known = match field_known(known_fields, field.name) {
+        let known = match field_known(given, field.name) {
             Some(known) => known,
             None => return Err(Refusal::Lost),
         };
-        let scope = match bind_known(bump, &field.pat, known, names.scope) {
-            Ok(scope) => scope,
-            Err(refusal) => return Err(refusal),
-        };
-        names = Names { scope };
+        match knowns.push(*known) {
+            Ok(()) => {}
+            Err(_) => return Err(Refusal::Memory),
+        }
     }
-    Ok(names.scope)
+    Ok(into_bump_slice(knowns))
+}
+
+fn patterns_of<'a>(bump: &'a Bump, fields: &'a [PatField<'a>]) -> Result<&'a [Pat<'a>], Refusal>
+    ensures ok { IfOk result (λ pats. patterns (map pattern_of pats.now) ≡ field_patterns fields.now) }
+    ensures err { IfErr result (λ r. r ≡ refusal.Memory) }
+{
+    let mut pats = Vec::new(bump);
+    for field in fields {
+        match pats.push(field.pat) {
+            Ok(()) => {}
+            Err(_) => return Err(Refusal::Memory),
+        }
+    }
+    Ok(into_bump_slice(pats))
+}
+
+fn names_of<'a>(bump: &'a Bump, fields: &'a [PatField<'a>]) -> Result<&'a [&'a str], Refusal>
+    ensures ok { IfOk result (λ names. texts names.now ≡ field_names fields.now) }
+    ensures err { IfErr result (λ r. r ≡ refusal.Memory) }
+{
+    let mut names = Vec::new(bump);
+    for field in fields {
+        match names.push(field.name) {
+            Ok(()) => {}
+            Err(_) => return Err(Refusal::Memory),
+        }
+    }
+    Ok(into_bump_slice(names))
 }

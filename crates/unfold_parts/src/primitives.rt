@@ -2,7 +2,7 @@
 ghost use Rattle.std.specs.Prelude.{◌≡◌, ◌++◌, ◌∷◌, [], IfErr, IfOk, map};
 ghost use Rattle.fut_blocks.specs.declared.block.Atom.TheVariants as atom;
 ghost use Rattle.fut_flat.specs.declared.prim.Primitive.TheVariants as prim;
-ghost use Rattle.fut_meaning.specs.Operations.{arity};
+ghost use Rattle.fut_meaning.specs.Operations.{arity, is_of_scalars};
 ghost use Rattle.fut_meaning.specs.Operators.{highest, lowest};
 ghost use Rattle.fut_scalar.specs.Integers.{width_of};
 ghost use Rattle.fut_scalar.specs.declared.scalar.Scalar.TheVariants as scalar;
@@ -147,6 +147,29 @@ fn operate_primitive<'a>(
     }
 }
 
+/// What a primitive gives for one more argument.
+#[derive(Clone, Copy)]
+pub enum Applied<'a> {
+    /// A scalar, or the primitive that waits for further arguments.
+    Known(Known<'a>),
+    /// A primitive on arrays has all its arguments.
+    Ready(&'a [Known<'a>]),
+}
+
+/// Whether a primitive is one on scalars.
+pub fn is_of_scalars(primitive: Primitive) -> bool
+    ensures { result ≡ is_of_scalars primitive }
+{
+    match primitive {
+        Primitive::Convert { .. }
+        | Primitive::Min(_)
+        | Primitive::Max(_)
+        | Primitive::Abs(_)
+        | Primitive::Popc(_) => true,
+        _ => false,
+    }
+}
+
 /// A primitive with the arguments that it has, applied to one more.
 pub fn apply_primitive<'a>(
     work: &mut Unfolding<'a>,
@@ -154,7 +177,7 @@ pub fn apply_primitive<'a>(
     place: Place,
     given: &'a [Known<'a>],
     known: Known<'a>,
-) -> Result<Known<'a>, Refusal>
+) -> Result<Applied<'a>, Refusal>
     ensures { Applied_primitive primitive place (knowns (map known_of given.now)) (known_of known.entry) work.old.next (steps_of work.old) (steps_of work.new) work.new.next result }
 {
     let arguments = match with_known(work.bump, given, &known) {
@@ -162,9 +185,15 @@ pub fn apply_primitive<'a>(
         Err(refusal) => return Err(refusal),
     };
     if arguments.len() < arity(primitive) {
-        return Ok(Known {
+        return Ok(Applied::Known(Known {
             form: KnownForm::Primitive(primitive, place, arguments),
-        });
+        }));
     }
-    operate_primitive(work, primitive, place, arguments)
+    if !is_of_scalars(primitive) {
+        return Ok(Applied::Ready(arguments));
+    }
+    match operate_primitive(work, primitive, place, arguments) {
+        Ok(known) => Ok(Applied::Known(known)),
+        Err(refusal) => Err(refusal),
+    }
 }

@@ -1,6 +1,6 @@
-// Operations on scalars, each a step.
+// Operations, each a step.
 ghost use Rattle.std.specs.Prelude.{map};
-ghost use Rattle.fut_blocks.specs.Plain.{Operate};
+ghost use Rattle.fut_blocks.specs.Plain.{Operate, action_of};
 ghost use Rattle.unfold.specs.Held.{known_of};
 ghost use Rattle.unfold_parts.specs.Answers.{Answered, Is_step, On_one, On_two};
 ghost use Rattle.unfold_parts.specs.Parts.{Not_one_scalar, Not_two_scalars};
@@ -9,7 +9,7 @@ ghost use Rattle.unfold_parts.specs.States.{steps_of};
 use crate::parts::{one_scalar, two_scalars};
 use crate::refusal::Refusal;
 use crate::steps::Unfolding;
-use fut_blocks::Operation;
+use fut_blocks::{Act, Operation};
 use fut_scalar::{BinOp, Place, UnOp};
 use unfold::{Known, KnownForm};
 
@@ -18,6 +18,18 @@ pub fn computed<'a>(work: &mut Unfolding<'a>, operation: Operation) -> Result<Kn
     ensures { Answered (λ bs s next. Is_step (Operate operation) work.old.next bs (known_of s) next) ⊥ (steps_of work.old) (steps_of work.new) work.new.next result }
 {
     match work.compute(operation) {
+        Ok(atom) => Ok(Known {
+            form: KnownForm::Scalar(atom),
+        }),
+        Err(refusal) => Err(refusal),
+    }
+}
+
+/// One more step, and the component that it makes.
+pub fn made<'a>(work: &mut Unfolding<'a>, act: Act<'a>) -> Result<Known<'a>, Refusal>
+    ensures { Answered (λ bs s next. Is_step (action_of act.entry) work.old.next bs (known_of s) next) ⊥ (steps_of work.old) (steps_of work.new) work.new.next result }
+{
+    match work.made(act) {
         Ok(atom) => Ok(Known {
             form: KnownForm::Scalar(atom),
         }),

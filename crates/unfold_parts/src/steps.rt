@@ -1,8 +1,8 @@
 // The steps so far.
 ghost use Rattle.std.specs.Prelude.{◌≡◌, ◌≤◌, ◌∷◌, [], IfErr, IfOk, length};
-ghost use Rattle.fut_blocks.specs.Plain.{Give, Operate, binding_of, body_of};
+ghost use Rattle.fut_blocks.specs.Plain.{Give, Operate, action_of, binding_of, body_of};
 ghost use Rattle.unfold.specs.Unfolding.{both_hold};
-ghost use Rattle.unfold_parts.specs.Answers.{Blocked, Computed, Named_as, Pushed};
+ghost use Rattle.unfold_parts.specs.Answers.{Blocked, Computed, Cut, Named_as, Pushed};
 ghost use Rattle.unfold_parts.specs.States.{steps_of};
 ghost use Rattle.unfold_parts.specs.declared.refusal.Refusal.TheVariants as refusal;
 
@@ -11,12 +11,13 @@ use bumpalo::Bump;
 use fut_blocks::{Act, Atom, Block, Operation, Step};
 use fut_scalar::Scalar;
 
-/// The steps so far, in their order, and the next name that may be taken.
+/// The steps so far, in their order, the next name that may be taken, and which nodes pack what they give.
 #[derive(Drop)]
 pub struct Unfolding<'a> {
     pub bump: &'a Bump,
     pub next: u32,
     pub steps: Vec<Step<'a>, &'a Bump>,
+    pub packing: Vec<bool, &'a Bump>,
 }
 
 impl<'a> Unfolding<'a> {
@@ -69,6 +70,13 @@ impl<'a> Unfolding<'a> {
         }
     }
 
+    /// One more step, which gives one component a new name.
+    pub fn made(&mut self, act: Act<'a>) -> Result<Atom, Refusal>
+        ensures { Computed (action_of act.entry) self.old.next (steps_of self.old) (steps_of self.new) self.new.next result }
+    {
+        self.named(Step { names: &[], act })
+    }
+
     /// One more step, which gives a scalar a new name.
     pub fn compute(&mut self, operation: Operation) -> Result<Atom, Refusal>
         ensures { Computed (Operate operation) self.old.next (steps_of self.old) (steps_of self.new) self.new.next result }
@@ -84,6 +92,43 @@ impl<'a> Unfolding<'a> {
         ensures { result ≡ length (steps_of self.now) }
     {
         self.steps.len()
+    }
+
+    /// The steps up to the mark alone, as they were when `next` was the next name.
+    pub fn cut(&mut self, mark: usize, next: u32)
+        requires mark { mark ≤ length (steps_of self.old) }
+        ensures steps { Cut mark (steps_of self.old) (steps_of self.new) }
+        ensures next { self.new.next ≡ next }
+    {
+        self.steps.truncate(mark);
+        self.next = next;
+    }
+
+    /// Whether the node of this number packs what it gives.
+    pub fn packs(&self, number: u32) -> bool {
+        let at = number as usize;
+        if at < self.packing.len() {
+            self.packing[at]
+        } else {
+            false
+        }
+    }
+
+    /// From now on the node of this number packs what it gives.
+    pub fn note(&mut self, number: u32) -> Result<(), Refusal>
+        ensures steps { steps_of self.new ≡ steps_of self.old }
+        ensures next { self.new.next ≡ self.old.next }
+        ensures err { IfErr result (λ r. r ≡ refusal.Memory) }
+    {
+        let at = number as usize;
+        while self.packing.len() <= at {
+            match self.packing.push(false) {
+                Ok(()) => {}
+                Err(_) => return Err(Refusal::Memory),
+            }
+        }
+        self.packing[at] = true;
+        Ok(())
     }
 
     // The block in a place of its own.

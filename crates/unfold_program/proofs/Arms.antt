@@ -1,6 +1,5 @@
 -- What a term unfolds to, from what its parts do, or that it is stuck where one of them is.
-use Rattle.std.proofs.Common.{◌≡◌, ℕ, ◌+◌, ◌++◌, ◌≤◌, List, [], map, length, Ok, Err, refl, sym, ap, ◌∙◌, subst, arith}
-use Rattle.std.proofs.lemmas.List.{length-append}
+use Rattle.std.proofs.Common.{◌≡◌, ℕ, ◌+◌, ◌++◌, List, [], map, Ok, Err, refl, sym, ap, ◌∙◌, subst, arith}
 use Rattle.std.specs.Prelude.{IfErr, IfOk, Result}
 use Rattle.std.specs.Borrow.{Bor}
 use Rattle.fut_scalar.specs.declared.place.Place.{Place}
@@ -15,17 +14,12 @@ use Rattle.fut_flat.specs.Erased.{FlatTerm, operation_of, pattern_of, patterns, 
 use Rattle.fut_flat.specs.Numbers.{all_pattern_numbers, numbers, own_numbers}
 use Rattle.fut_flat.specs.Terms.{Apply, If, Lambda, Strict}
 use Rattle.fut_flat.proofs.ErasedForms.{loop_of, term_use, term_strict, term_lambda, term_apply, term_if, term_loop}
-use Rattle.fut_blocks.specs.declared.block.Act.TheVariants as tree
-use Rattle.fut_blocks.specs.Plain.{action_of, body_of, lets}
-use Rattle.fut_blocks.proofs.Layers.{action_of-If}
-use Rattle.fut_blocks.specs.Plain as act
 use Rattle.unfold.specs.Held.{known_of}
-use Rattle.unfold.specs.Knowns.{Function_known, Known, Scope}
-use Rattle.unfold.specs.Stuck.{No_operation, Not_laid, Stuck, Stuck_all, no_condition, no_operation, other_branch, stuck_application, stuck_argument, stuck_condition, stuck_else, stuck_function, stuck_parts, stuck_then, then_function}
-use Rattle.unfold.specs.Unfolding.{step, Unfolds, Unfold_all, Operates, u_strict, u_lambda, u_apply, u_if}
+use Rattle.unfold.specs.Knowns.{Function_known, Scope}
+use Rattle.unfold.specs.Stuck.{No_operation, Stuck, Stuck_all, no_operation, stuck_application, stuck_argument, stuck_function, stuck_parts}
+use Rattle.unfold.specs.Unfolding.{Unfolds, Unfold_all, Operates, u_strict, u_lambda, u_apply}
 use Rattle.unfold.specs.declared.known.Known.{Known as Held_known}
-use Rattle.unfold_parts.specs.Answers.{answered, used, blocked}
-use Rattle.unfold_parts.specs.Layouts.{shape_of}
+use Rattle.unfold_parts.specs.Answers.{answered, used}
 use Rattle.unfold_parts.specs.Refused.{no_memory}
 use Rattle.unfold_parts.specs.States.{steps_of}
 use Rattle.unfold_parts.specs.Tables.{integer_at}
@@ -33,14 +27,12 @@ use Rattle.unfold_parts.specs.declared.refusal.Refusal.{Refusal}
 use Rattle.unfold_parts.specs.declared.refusal.Refusal.TheVariants.{Memory}
 use Rattle.unfold_parts.specs.declared.steps.Unfolding.{Unfolding}
 use Rattle.unfold_parts.proofs.Refusing.{refused_as}
-use Rattle.unfold_parts.proofs.Shapeless.{no_data}
-use Rattle.unfold_program.specs.declared.walked.Branch.{Branch}
 use Rattle.unfold_program.specs.declared.walked.Context.{Context}
 use Rattle.unfold_program.specs.declared.walked.Parts.{Parts}
 use Rattle.unfold_program.specs.declared.walked.Walked.{Walked}
 use Rattle.unfold_program.specs.declared.walked.WalkedScalar.{WalkedScalar}
-use Rattle.unfold_program.specs.Answers.{Unfolded, unfolded, refused, All_unfolded, all_unfolded, all_refused, Applied, applied, not_applied, Use_known, use_known, no_use, Lambda_known, lambda_known, no_lambda, Closed_to, closed_to, not_closed, Stepped_to, stepped_to, not_stepped, No_block, stuck_inside, other_shape, Blocked_to, blocked_to, not_blocked, Scalar_to, scalar_to, no_scalar, Not_scalar, stuck_term, other_value, Scalar_unfolded, scalar_unfolded, no_scalar_unfolded, Walked_to, walked_to, not_walked, Operated_to, operated_to, not_operated, defined, told}
-use Rattle.unfold_program.proofs.Growing.{grown, not_grown, moved, stuck_at, known_as, ending}
+use Rattle.unfold_program.specs.Answers.{Unfolded, unfolded, refused, All_unfolded, all_unfolded, all_refused, Applied, applied, not_applied, Use_known, use_known, no_use, Lambda_known, lambda_known, no_lambda, Scalar_to, scalar_to, no_scalar, stuck_term, other_value, Scalar_unfolded, scalar_unfolded, no_scalar_unfolded, Walked_to, walked_to, not_walked, Operated_to, operated_to, not_operated, defined, told}
+use Rattle.unfold_program.proofs.Growing.{grown, not_grown, moved, stuck_at, known_as}
 
 pub lambda_end : (sc : Scope) (inside first next : ℕ) (ps : List Pat) (e : FlatTerm) (s : Result Held_known Refusal) (r : Result Walked Refusal) → first ≡ inside + all_pattern_numbers (patterns (map pattern_of ps)) → next ≡ first + numbers e → IfOk s (λ k. known_of k ≡ Function_known (patterns (map pattern_of ps)) e first sc) → IfErr s (λ x. x ≡ Memory) → Walked_to next s r → Lambda_known sc inside (patterns (map pattern_of ps)) e r
 lambda_end sc inside first next ps e _ _ q q' is m walked_to = lambda_known (is ∙ ap (λ z. Function_known (patterns (map pattern_of ps)) e z sc) q) (omega (arith, q, q'))
@@ -111,60 +103,3 @@ module _ (c : Context) (sc : Scope) (lo : ℕ) where
 
   pub scalar_stuck : (t : FlatTerm) (old new : Unfolding) (r : Refusal) → Unfolded c sc lo t old new (Err r) → Scalar_unfolded c sc lo t old new (Err r)
   scalar_stuck t old new r (refused x) = no_scalar_unfolded (refused_as stuck_term x)
-
-  -- blocks of their own
-  pub closes : (t : FlatTerm) (like : Known) (old mid new : Unfolding) (mark : ℕ) (w : Walked) (r : Result Branch Refusal) → mark ≡ length (steps_of old) → Unfolded c sc lo t old mid (Ok w) → Closed_to mark like w mid new r → Blocked_to c sc lo t like old new r
-  closes t like old mid new mark w _ q (unfolded bs g u h) (closed_to us l (blocked f) n) =
-      let parts = f (steps_of old) bs (sym q) g in
-      blocked_to bs us parts.0 (ending c (sym n) u) l parts.1 h
-  closes t like old mid new mark w _ q (unfolded bs g u h) (not_closed x) = not_blocked (refused_as (λ lacks. other_shape u lacks) x)
-
-  -- as many steps as before at least
-  pub block_mark : (t : FlatTerm) (old mid : Unfolding) (mark : ℕ) (r : Walked) → mark ≡ length (steps_of old) → Unfolded c sc lo t old mid (Ok r) → mark ≤ length (steps_of mid)
-  block_mark t old mid mark r q (unfolded bs g u h) = omega (arith, q, ap length g, length-append (steps_of old) bs)
-
-  pub block_stuck : (t : FlatTerm) (like : Known) (old new : Unfolding) (r : Refusal) → Unfolded c sc lo t old new (Err r) → Blocked_to c sc lo t like old new (Err r)
-  block_stuck t like old new r (refused h) = not_blocked (refused_as stuck_inside h)
-
-  -- branches
-  pub if_test_err : (tc ta tb : FlatTerm) (first : ℕ) (old new : Unfolding) (r : Refusal) → first ≡ lo + 1 → Scalar_unfolded c sc first tc old new (Err r) → Unfolded c sc lo (If tc ta tb) old new (Err r)
-  if_test_err tc ta tb first old new r q (no_scalar_unfolded x) = refused (refused_as none x)
-    where
-      none : Not_scalar c sc first tc → Stuck (told c) (defined c) sc lo (If tc ta tb)
-      none (stuck_term w) = stuck_condition (stuck_at c (omega (arith, q)) w)
-      none (other_value u lacks) = no_condition (moved c (omega (arith, q)) u) lacks
-
-  module _ (tc ta tb : FlatTerm) (first : ℕ) (old m1 : Unfolding) (r1 : WalkedScalar) (q : first ≡ lo + 1) (t : Scalar_unfolded c sc first tc old m1 (Ok r1)) where
-    pub if_then_err : (new : Unfolding) (r : Refusal) → Unfolded c sc r1.at ta m1 new (Err r) → Unfolded c sc lo (If tc ta tb) old new (Err r)
-    if_then_err new r (refused x) = refused (refused_as (none t) x)
-      where
-        none : Scalar_unfolded c sc first tc old m1 (Ok r1) → Stuck (told c) (defined c) sc r1.at ta → Stuck (told c) (defined c) sc lo (If tc ta tb)
-        none (scalar_unfolded bs g p h) w = stuck_then (moved c (omega (arith, q)) p) (stuck_at c (omega (arith, q, h)) w)
-
-    module _ (m2 : Unfolding) (mark : ℕ) (w : Walked) where
-      pub if_then_unlaid : (new : Unfolding) (r : Refusal) → Unfolded c sc r1.at ta m1 m2 (Ok w) → Closed_to mark (known_of w.known) w m2 new (Err r) → Unfolded c sc lo (If tc ta tb) old new (Err r)
-      if_then_unlaid new r (unfolded cs ga pa ha) (not_closed x) = refused (refused_as (none t) x)
-        where
-          none : Scalar_unfolded c sc first tc old m1 (Ok r1) → Not_laid (shape_of (known_of w.known)) (known_of w.known) → Stuck (told c) (defined c) sc lo (If tc ta tb)
-          none (scalar_unfolded bs g p h) lacks = then_function (moved c (omega (arith, q, h)) pa) (no_data (known_of w.known) lacks)
-
-      pub if_else_err : (m3 new : Unfolding) (a : Branch) (r : Refusal) → Unfolded c sc r1.at ta m1 m2 (Ok w) → Closed_to mark (known_of w.known) w m2 m3 (Ok a) → Blocked_to c sc a.at tb (known_of w.known) m3 new (Err r) → Unfolded c sc lo (If tc ta tb) old new (Err r)
-      if_else_err m3 new _ r (unfolded cs ga pa ha) (closed_to us la f n) (not_blocked x) = refused (refused_as (none t) x)
-        where
-          none : Scalar_unfolded c sc first tc old m1 (Ok r1) → No_block c sc w.at tb (known_of w.known) → Stuck (told c) (defined c) sc lo (If tc ta tb)
-          none (scalar_unfolded bs g p h) (stuck_inside z) = stuck_else (moved c (omega (arith, q, h)) pa) (stuck_at c (omega (arith, q, h, ha)) z)
-          none (scalar_unfolded bs g p h) (other_shape u lacks) = other_branch (moved c (omega (arith, q, h)) pa) la (moved c (omega (arith, q, h, ha)) u) lacks
-
-      pub if_end : (m3 m4 new : Unfolding) (a b : Branch) (r : Result Walked Refusal) → mark ≡ length (steps_of m1) → Unfolded c sc r1.at ta m1 m2 (Ok w) → Closed_to mark (known_of w.known) w m2 m3 (Ok a) → Blocked_to c sc a.at tb (known_of w.known) m3 m4 (Ok b) → Stepped_to (known_of w.known) (action_of (tree.If r1.atom a.block b.block)) b.at m4 new r → Unfolded c sc lo (If tc ta tb) old new r
-      if_end m3 m4 new _ b r at_mark (unfolded cs ga pa ha) (closed_to {b = a} us la (blocked f) n) (blocked_to ds ws gb pb lb bb hb) st = ending_at r t st
-        where
-          parts : (steps_of m3 ≡ steps_of m1) × (body_of a.now ≡ lets cs us)
-          parts = f (steps_of m1) cs (sym at_mark) ga
-
-          ending_at : (r : Result Walked Refusal) → Scalar_unfolded c sc first tc old m1 (Ok r1) → Stepped_to (known_of w.known) (action_of (tree.If r1.atom a b.block)) b.at m4 new r → Unfolded c sc lo (If tc ta tb) old new r
-          ending_at _ (scalar_unfolded bs g p h) (stepped_to xs gs up l) =
-              unfolded (bs ++ step xs (act.If r1.atom (lets cs us) (lets ds ws)))
-              (grown (steps_of old) (steps_of m1) (steps_of new) bs _ g (gs ∙ ap (λ z. z ++ step xs (action_of (tree.If r1.atom a b.block))) (gb ∙ parts.0) ∙ ap (λ z. steps_of m1 ++ step xs z) (action_of-If r1.atom a b.block ∙ ap (λ z. act.If r1.atom z (body_of b.block.now)) (parts.1) ∙ ap (λ z. act.If r1.atom (lets cs us) z) bb)))
-              (u_if xs (moved c (omega (arith, q)) p) (moved c (omega (arith, q, h)) (ending c (sym n) pa)) la (moved c (omega (arith, q, h, ha)) pb) lb up l)
-              (omega (arith, q, h, ha, hb))
-          ending_at _ (scalar_unfolded bs g p h) (not_stepped x) = refused (refused_as (λ lacks. absurd (lacks (shape_of (known_of w.known)) us la)) x)

@@ -1,4 +1,6 @@
 pub mod Growing
+pub mod Entering
+pub mod Branching
 pub mod Peeling
 pub mod Arms
 pub mod Looping

@@ -1,184 +1,276 @@
--- What a loop unfolds to, and where it is stuck.
-use Rattle.std.proofs.Common.{◌≡◌, ℕ, suc, ◌+◌, ◌++◌, List, [], ◌∷◌, Ok, Err, refl, sym, ap, ◌∙◌, subst, arith}
+-- What a loop unfolds to, from its first value on, and where it is stuck.
+use Rattle.std.proofs.Common.{◌≡◌, ℕ, suc, ◌+◌, ◌≤◌, ◌++◌, [], ◌∷◌, length, Option, Some, None, Ok, Err, sym, ap, ◌∙◌, subst, append_assoc, append-nil, arith}
 use Rattle.std.specs.Prelude.{Result}
 use Rattle.std.specs.Borrow.{Bor}
+use Rattle.std.proofs.lemmas.List.{length-append}
 use Rattle.fut_scalar.specs.declared.place.BindId.{BindId}
 use Rattle.fut_flat.specs.declared.exp.Exp.{Exp}
 use Rattle.fut_flat.specs.declared.exp.Loop.{Loop as LoopTree}
 use Rattle.fut_flat.specs.declared.exp.LoopForm.TheVariants as turns
 use Rattle.fut_flat.specs.declared.pat.Pat.{Pat}
 use Rattle.fut_flat.specs.Erased.{FlatPattern, FlatTerm, FlatTurns, pattern_of, term_of}
-use Rattle.fut_flat.specs.Numbers.{numbers, pattern_numbers}
-use Rattle.fut_flat.specs.Terms.{Counted, Loop, Over, While}
+use Rattle.fut_flat.specs.Numbers.{numbers, pattern_numbers, turn_numbers}
+use Rattle.fut_flat.specs.Terms.{Counted, Over, While}
 use Rattle.fut_flat.proofs.ErasedForms.{loop_of, loop_is, turns_of, turns_counted, turns_over, turns_while}
-use Rattle.fut_blocks.specs.declared.block.Atom.{Atom}
-use Rattle.fut_blocks.specs.declared.block.Atom.TheVariants as atom
 use Rattle.fut_blocks.specs.declared.block.Act.TheVariants as tree
 use Rattle.fut_blocks.specs.Plain.{action_of, body_of, lets}
-use Rattle.fut_blocks.proofs.Layers.{action_of-For, action_of-While}
+use Rattle.fut_blocks.proofs.Layers.{action_of-For, action_of-ForEach, action_of-While}
 use Rattle.fut_blocks.specs.Plain as act
 use Rattle.unfold.specs.Held.{known_of, scope_of}
-use Rattle.unfold.specs.Knowns.{Known, Scalar_known, Scope, name_and}
-use Rattle.unfold.specs.Shapes.{Laid, Scalar_shape, laid_scalar}
-use Rattle.unfold.specs.Stuck.{Stuck, Turn_names, carried, first_function, no_count, no_test, no_turn, of_array, other_turn, stuck_body, stuck_count, stuck_first, stuck_test, stuck_turns, turn_counted, turn_tested}
-use Rattle.unfold.specs.Unfolding.{Unfolds, named, step, u_counted, u_while}
-use Rattle.unfold.specs.declared.known.Known.{Known as Held_known}
+use Rattle.unfold.specs.Knowns.{Known, Scope}
+use Rattle.unfold.specs.Stuck.{Binds_to, No_data, Not_bound, Turn_names, carried, first_function, no_count, no_row, no_rows, no_test, no_turn, stuck_body, stuck_count, stuck_first, stuck_rows, stuck_test, stuck_turns, turn_counted, turn_function, turn_row, turn_tested}
+use Rattle.unfold.specs.Unfolding.{Binds, Unfolds, step, u_counted, u_over, u_packed, u_while}
 use Rattle.unfold.specs.declared.known.Scope.{Scope as Held_scope}
-use Rattle.unfold_parts.specs.Answers.{Bound_to, bound_to, not_bound, Named_as, named_as, not_named}
-use Rattle.unfold_parts.specs.Layouts.{Laid_to, laid_to, not_laid, Renewed, renewed, not_renewed, shape_of}
-use Rattle.unfold_parts.specs.Refused.{Refused, lost, no_memory}
+use Rattle.unfold_parts.specs.Answers.{answered, unanswered, Bound_to, Cut, Named_as, named_as, not_named}
+use Rattle.unfold_parts.specs.Layouts.{shape_of}
+use Rattle.unfold_parts.specs.Refused.{Refused, no_memory}
 use Rattle.unfold_parts.specs.States.{steps_of}
-use Rattle.unfold_parts.specs.declared.fresh.Fresh.{Fresh}
 use Rattle.unfold_parts.specs.declared.refusal.Refusal.{Refusal}
-use Rattle.unfold_parts.specs.declared.refusal.Refusal.TheVariants.{Lost, Memory}
 use Rattle.unfold_parts.specs.declared.steps.Unfolding.{Unfolding}
-use Rattle.unfold_parts.proofs.Refusing.{refused_as, only_memory}
-use Rattle.unfold_parts.proofs.Shapeless.{no_data}
+use Rattle.unfold_parts.proofs.Refusing.{refused_as}
 use Rattle.unfold_program.specs.declared.walked.Branch.{Branch}
 use Rattle.unfold_program.specs.declared.walked.Context.{Context}
 use Rattle.unfold_program.specs.declared.walked.Entered.{Entered}
-use Rattle.unfold_program.specs.declared.walked.Turn.{Turn}
 use Rattle.unfold_program.specs.declared.walked.Walked.{Walked}
 use Rattle.unfold_program.specs.declared.walked.WalkedScalar.{WalkedScalar}
-use Rattle.unfold_program.specs.Answers.{Unfolded, unfolded, refused, Not_scalar, stuck_term, other_value, Scalar_unfolded, scalar_unfolded, no_scalar_unfolded, No_entry, no_components, other_form, Entered_to, entered_to, not_entered, Turned_to, turned_to, not_turned, Stepped_to, stepped_to, not_stepped, Looped, Loop_stuck, Counted_to, counted_to, not_counted, Tested_to, tested_to, not_tested, No_block, stuck_inside, other_shape, Blocked_to, blocked_to, not_blocked, defined, told}
-use Rattle.unfold_program.proofs.Growing.{grown, moved, stuck_at, known_as, beginning}
+use Rattle.unfold_program.specs.Answers.{Unfolded, unfolded, refused, Not_scalar, stuck_term, other_value, Scalar_unfolded, scalar_unfolded, no_scalar_unfolded, Entered_to, entered_to, not_entered, Turn_bound_to, turn_bound_to, not_turn_bound, No_row_names, no_value_names, no_names_of_row, Row_bound_to, row_bound_to, not_row_bound, Stepped_to, stepped_to, not_stepped, Given_as, given_walked, given_refusal, Packed_walk, packed_walk, not_packed_walk, Loop_stuck, Looped_to, looped_to, turns_differ, not_looped, Tried_to, tried_to, has_to_pack, not_tried, No_truth, no_names_of_value, stuck_truth, other_truth, Tested_to, tested_to, not_tested, Scalar_closed, scalar_closed, not_scalar_closed, No_block, stuck_inside, gives_function, Blocked_to, blocked_to, block_differs, not_blocked, defined, told}
+use Rattle.unfold_program.proofs.Growing.{grown, moved, stuck_at, ending, known_as}
 
--- ---- what a loop begins with
+-- ---- a loop around its turns
 
-pub enter_ok : (p : FlatPattern) (sc : Scope) (s : Known) (old new : Unfolding) (us : Bor (List Atom)) (f : Fresh) (inner : Bor Held_scope) → Laid_to (shape_of s) s (Ok us) → Renewed s old.next new.next (Ok f) → steps_of new ≡ steps_of old → Bound_to p (known_of f.known) sc (Ok inner) → Entered_to p sc s old new (Ok (record { first = us; params = f.names; scope = inner }))
-enter_ok p sc s old new us f inner (laid_to l) (renewed up k) same (bound_to b) = entered_to same l up k b
+module _ (c : Context) (sc : Scope) (l : LoopTree) (turns : FlatTurns) (first : Walked) (old new : Unfolding) (r : Result (Option Walked) Refusal) (is : turns_of l.form ≡ turns) where
+  pub as_turns : Looped_to c sc l turns first old new r → Looped_to c sc l (turns_of l.form) first old new r
+  as_turns h = subst (λ z. Looped_to c sc l z first old new r) (sym is) h
 
-module _ (p : FlatPattern) (sc : Scope) (s : Known) (old new : Unfolding) where
-  pub enter_unlaid : (r : Refusal) → Laid_to (shape_of s) s (Err r) → Entered_to p sc s old new (Err r)
-  enter_unlaid r (not_laid x) = not_entered (refused_as (λ lacks. no_components (no_data s lacks)) x)
+module _ (c : Context) (sc : Scope) (l : LoopTree) (first : Walked) (old new : Unfolding) (r : Result (Option Walked) Refusal) where
+  pub turns_for : (i : BindId) (n : Exp) → l.form ≡ turns.For i n → Looped_to c sc l (Counted i (term_of n)) first old new r → Looped_to c sc l (turns_of l.form) first old new r
+  turns_for i n is h = as_turns c sc l (Counted i (term_of n)) first old new r (ap turns_of is ∙ turns_counted i n) h
 
-  pub enter_unnamed : (m m' : ℕ) (r : Refusal) → Renewed s m m' (Err r) → Entered_to p sc s old new (Err r)
-  enter_unnamed m m' r (not_renewed x) = not_entered (refused_as no_components x)
+  pub turns_for_in : (p : Pat) (e : Exp) → l.form ≡ turns.ForIn p e → Looped_to c sc l (Over (pattern_of p) (term_of e)) first old new r → Looped_to c sc l (turns_of l.form) first old new r
+  turns_for_in p e is h = as_turns c sc l (Over (pattern_of p) (term_of e)) first old new r (ap turns_of is ∙ turns_over p e) h
 
-  pub enter_unbound : (m m' : ℕ) (us : Bor (List Atom)) (f : Fresh) (r : Refusal) → Laid_to (shape_of s) s (Ok us) → Renewed s m m' (Ok f) → Bound_to p (known_of f.known) sc (Err r) → Entered_to p sc s old new (Err r)
-  enter_unbound m m' us f r (laid_to l) (renewed up k) (not_bound x) = not_entered (refused_as (other_form l k) x)
+  pub turns_test : (t : Exp) → l.form ≡ turns.While t → Looped_to c sc l (While (term_of t)) first old new r → Looped_to c sc l (turns_of l.form) first old new r
+  turns_test t is h = as_turns c sc l (While (term_of t)) first old new r (ap turns_of is ∙ turns_while t) h
 
-module _ (p : FlatPattern) (i : BindId) (sc : Scope) (s : Known) (old : Unfolding) where
-  pub turn_ok : (mid new : Unfolding) (en : Entered) (y : ℕ) (k : Held_known) (inner : Bor Held_scope) → Entered_to p sc s old mid (Ok en) → Named_as mid.next new.next (Ok y) → steps_of new ≡ steps_of mid → known_of k ≡ Scalar_known (atom.Name y) → scope_of inner.now ≡ name_and i (known_of k) (scope_of en.scope.now) → Turned_to p i sc s old new (Ok (record { first = en.first; params = en.params; index = y; scope = inner }))
-  turn_ok mid new en y k inner (entered_to same la up lt bi) nm gs ik iis = numbered nm iis ik
+module _ (c : Context) (sc : Scope) (l : LoopTree) (lo inside value : ℕ) (old : Unfolding) (q : inside ≡ lo + 1) (q' : value ≡ inside + pattern_numbers (pattern_of l.pat)) where
+  pub loop_first_err : (mid new : Unfolding) (r : Refusal) → Unfolded c sc value (term_of l.first) old mid (Err r) → Unfolded c sc lo (loop_of l) old new (Err r)
+  loop_first_err mid new r (refused x) = subst (λ z. Unfolded c sc lo z old new (Err r)) (sym (loop_is l)) (refused (refused_as (λ w. stuck_first (stuck_at c (omega (arith, q, q')) w)) x))
+
+  module _ (mid : Unfolding) (first : Walked) where
+    pub loop_looped : (new : Unfolding) (r : Walked) → Unfolded c sc value (term_of l.first) old mid (Ok first) → Looped_to c sc l (turns_of l.form) first mid new (Ok (Some r)) → Unfolded c sc lo (loop_of l) old new (Ok r)
+    loop_looped new r (unfolded bs g u h) (looped_to k) =
+        subst (λ z. Unfolded c sc lo z old new (Ok r)) (sym (loop_is l))
+        (unfolded (bs ++ k.steps) (grown (steps_of old) (steps_of mid) (steps_of new) bs k.steps g k.grown) (k.unfolds lo old.next bs (omega (arith, q, q', h)) (moved c (omega (arith, q, q')) u)) (omega (arith, q, q', h, k.behind)))
+
+    pub loop_turns_err : (new later : Unfolding) (r : Refusal) → Unfolded c sc value (term_of l.first) old mid (Ok first) → Looped_to c sc l (turns_of l.form) first mid new (Err r) → Unfolded c sc lo (loop_of l) old later (Err r)
+    loop_turns_err new later r (unfolded bs g u h) (not_looped x) =
+        subst (λ z. Unfolded c sc lo z old later (Err r)) (sym (loop_is l))
+        (refused (refused_as (λ w. w lo old.next bs (omega (arith, q, q', h)) (moved c (omega (arith, q, q')) u)) x))
+
+    pub loop_tried : (new : Unfolding) (r : Walked) → Unfolded c sc value (term_of l.first) old mid (Ok first) → Tried_to c sc l (turns_of l.form) first mid new (Ok (Some r)) → Unfolded c sc lo (loop_of l) old new (Ok r)
+    loop_tried new r u (tried_to k) = loop_looped new r u (looped_to k)
+
+    pub loop_tried_err : (new later : Unfolding) (r : Refusal) → Unfolded c sc value (term_of l.first) old mid (Ok first) → Tried_to c sc l (turns_of l.form) first mid new (Err r) → Unfolded c sc lo (loop_of l) old later (Err r)
+    loop_tried_err new later r u (not_tried x) = loop_turns_err new later r u (not_looped x)
+
+    pub loop_unpacked : (now new : Unfolding) (r : Refusal) → Unfolded c sc value (term_of l.first) old mid (Ok first) → Packed_walk first now new (Err r) → Unfolded c sc lo (loop_of l) old new (Err r)
+    loop_unpacked now new r (unfolded bs g u h) (not_packed_walk x) =
+        subst (λ z. Unfolded c sc lo z old new (Err r)) (sym (loop_is l))
+        (refused (refused_as (λ lacks. first_function (moved c (omega (arith, q, q')) u) lacks) x))
+
+-- the first value as one component, from where as many steps and names stand again
+pub packed_first : (c : Context) (sc : Scope) (value : ℕ) (t : FlatTerm) (old mid now new : Unfolding) (first w : Walked) (l : LoopTree) (turns : FlatTurns) → Tried_to c sc l turns first mid now (Ok None) → Unfolded c sc value t old mid (Ok first) → Packed_walk first now new (Ok w) → Unfolded c sc value t old new (Ok w)
+packed_first c sc value t old mid now new first w l turns (has_to_pack e n) (unfolded bs g u h) (packed_walk cs g' p is k) =
+    unfolded (bs ++ cs) (grown (steps_of old) (steps_of mid) (steps_of new) bs cs g (g' ∙ ap (λ z. z ++ cs) e)) (known_as c (sym is) (u_packed (ending c (sym n) u) p)) (k ∙ h)
+
+-- the first try
+module _ (c : Context) (sc : Scope) (l : LoopTree) (turns : FlatTurns) (first : Walked) (old mid : Unfolding) where
+  pub tried_looped : (r : Walked) → Looped_to c sc l turns first old mid (Ok (Some r)) → Tried_to c sc l turns first old mid (Ok (Some r))
+  tried_looped r (looped_to k) = tried_to k
+
+  pub tried_err : (later : Unfolding) (r : Refusal) → Looped_to c sc l turns first old mid (Err r) → Tried_to c sc l turns first old later (Err r)
+  tried_err later r (not_looped x) = not_tried x
+
+  pub turns_mark : (mark : ℕ) → mark ≡ length (steps_of old) → Looped_to c sc l turns first old mid (Ok None) → mark ≤ length (steps_of mid)
+  turns_mark mark q (turns_differ bs none g) = omega (arith, q, ap length g, length-append (steps_of old) bs)
+
+  pub tried_again : (mark : ℕ) (now : Unfolding) → mark ≡ length (steps_of old) → Looped_to c sc l turns first old mid (Ok None) → Cut mark (steps_of mid) (steps_of now) → now.next ≡ old.next → Tried_to c sc l turns first old now (Ok None)
+  tried_again mark now q (turns_differ bs none g) f n = has_to_pack (f (steps_of old) bs (sym q) g) n
+
+-- ---- what a turn has in common, however many there are
+
+module _ (c : Context) (sc : Scope) (l : LoopTree) (turns : FlatTurns) (first : Walked) (old new : Unfolding) where
+  pub unentered : (n n' : ℕ) (r : Refusal) → Entered_to (known_of first.known) n n' (Err r) → Looped_to c sc l turns first old new (Err r)
+  unentered n n' r (not_entered x) = not_looped (refused_as (λ lacks lo i bs at v. first_function v lacks) x)
+
+  pub unnamed : (n n' : ℕ) (r : Refusal) → Named_as n n' (Err r) → Looped_to c sc l turns first old new (Err r)
+  unnamed n n' _ not_named = not_looped no_memory
+
+  module _ (n n' : ℕ) (en : Entered) where
+    unbound : Entered_to (known_of first.known) n n' (Ok en) → Not_bound (pattern_of l.pat) (known_of en.known) → Loop_stuck c sc l turns first old
+    unbound (entered_to la up lt) lacks lo i bs at v = no_turn (carried v la lt) lacks
+
+    -- no block is made of the body
+    body_stuck : {inside inner : Scope} {at : ℕ} → at ≡ first.at + turn_numbers turns → Entered_to (known_of first.known) n n' (Ok en) → Binds_to (pattern_of l.pat) (known_of en.known) sc inside → ((lo : ℕ) → first.at ≡ 1 + lo + pattern_numbers (pattern_of l.pat) + numbers (term_of l.first) → Turn_names (told c) (defined c) sc inside (1 + lo + pattern_numbers (pattern_of l.pat) + numbers (term_of l.first)) turns inner) → No_block c inner at (term_of l.body) → Loop_stuck c sc l turns first old
+    body_stuck k (entered_to la up lt) b names (stuck_inside z) lo i bs at v = stuck_body (carried v la lt) b (names lo at) (stuck_at c (omega (arith, k, at)) z)
+    body_stuck k (entered_to la up lt) b names (gives_function u lacks) lo i bs at v = turn_function (carried v la lt) b (names lo at) (moved c (omega (arith, k, at)) u) lacks
+
+    -- and so where there are no names for what it gives
+    unstepped : (r : Refusal) → Entered_to (known_of first.known) n n' (Ok en) → Refused (No_data (known_of first.known)) r → Looped_to c sc l turns first old new (Err r)
+    unstepped r (entered_to la up lt) x = not_looped (refused_as (λ lacks. absurd (lacks (shape_of (known_of first.known)) en.first.now la)) x)
+
+-- the names of a turn come by steps behind those so far
+pub turn_mark : (p : FlatPattern) (i : BindId) (y : ℕ) (sc : Scope) (s : Known) (m3 m4 : Unfolding) (inner : Bor Held_scope) (mark : ℕ) → mark ≡ length (steps_of m3) → Turn_bound_to p i y sc s m3 m4 (Ok inner) → mark ≤ length (steps_of m4)
+turn_mark p i y sc s m3 m4 inner mark e (turn_bound_to bs g b is) = omega (arith, e, ap length g, length-append (steps_of m3) bs)
+
+pub row_mark : (p q : FlatPattern) (y : ℕ) (sc : Scope) (s : Known) (m3 m4 : Unfolding) (inner : Bor Held_scope) (mark : ℕ) → mark ≡ length (steps_of m3) → Row_bound_to p q y sc s m3 m4 (Ok inner) → mark ≤ length (steps_of m4)
+row_mark p q y sc s m3 m4 inner mark e (row_bound_to bs cs g b b') = omega (arith, e, ap length g, length-append (steps_of m3) (bs ++ cs))
+
+pub while_mark : (c : Context) (sc : Scope) (p : FlatPattern) (lo : ℕ) (test : FlatTerm) (s : Known) (m1 m2 : Unfolding) (t : Branch) (m3 : Unfolding) (inner : Bor Held_scope) (mark : ℕ) → mark ≡ length (steps_of m1) → Tested_to c sc p lo test s m1 m2 (Ok t) → Bound_to p s sc m2.next (steps_of m2) (steps_of m3) m3.next (Ok inner) → mark ≤ length (steps_of m3)
+while_mark c sc p lo test s m1 m2 t m3 inner mark e (tested_to es cs same b u is h) (answered fs g b') = omega (arith, e, ap length same, ap length g, length-append (steps_of m2) fs)
+
+-- a name that is taken is the next one
+name_is : {n n' y : ℕ} → Named_as n n' (Ok y) → n' ≡ suc y
+name_is (named_as e) = e
+
+name_low : {n n' y : ℕ} → Named_as n n' (Ok y) → n ≤ y
+name_low (named_as e) = omega arith
+
+-- ---- a turn for each number below a count
+
+module _ (c : Context) (sc : Scope) (l : LoopTree) (i : BindId) (count : FlatTerm) (first : Walked) (counting : ℕ) (old m1 : Unfolding) (q : counting ≡ first.at + 1) where
+  pub count_err : (new : Unfolding) (r : Refusal) → Scalar_unfolded c sc counting count old m1 (Err r) → Looped_to c sc l (Counted i count) first old new (Err r)
+  count_err new r (no_scalar_unfolded x) = not_looped (refused_as none x)
     where
-      numbered : {y : ℕ} → Named_as mid.next new.next (Ok y) → scope_of inner.now ≡ name_and i (known_of k) (scope_of en.scope.now) → known_of k ≡ Scalar_known (atom.Name y) → Turned_to p i sc s old new (Ok (record { first = en.first; params = en.params; index = y; scope = inner }))
-      numbered (named_as e) iis ik = turned_to (gs ∙ same) la up lt bi (iis ∙ ap (λ z. name_and i z (scope_of en.scope.now)) ik) e
+      none : Not_scalar c sc counting count → Loop_stuck c sc l (Counted i count) first old
+      none (stuck_term w) lo n bs at v = stuck_turns v (stuck_count (stuck_at c (omega (arith, q, at)) w))
+      none (other_value u lacks) lo n bs at v = stuck_turns v (no_count (moved c (omega (arith, q, at)) u) lacks)
 
-  pub turn_unentered : (new : Unfolding) (r : Refusal) → Entered_to p sc s old new (Err r) → Turned_to p i sc s old new (Err r)
-  turn_unentered new r (not_entered x) = not_turned x
+  module _ (m2 m3 m4 : Unfolding) (k : WalkedScalar) (en : Entered) (y : ℕ) where
+    pub counted_unbound : (new : Unfolding) (r : Refusal) → Entered_to (known_of first.known) m1.next m2.next (Ok en) → Turn_bound_to (pattern_of l.pat) i y sc (known_of en.known) m3 m4 (Err r) → Looped_to c sc l (Counted i count) first old new (Err r)
+    counted_unbound new r h (not_turn_bound x) = not_looped (refused_as (unbound c sc l (Counted i count) first old new m1.next m2.next en h) x)
 
-  pub turn_unnamed : (n n' : ℕ) (new : Unfolding) (r : Refusal) → Named_as n n' (Err r) → Turned_to p i sc s old new (Err r)
-  turn_unnamed n n' new _ not_named = not_turned no_memory
+    module _ (mark : ℕ) (inner : Bor Held_scope) where
+      pub counted_body_err : (m5 new : Unfolding) (r : Refusal) → Scalar_unfolded c sc counting count old m1 (Ok k) → Entered_to (known_of first.known) m1.next m2.next (Ok en) → Turn_bound_to (pattern_of l.pat) i y sc (known_of en.known) m3 m4 (Ok inner) → Blocked_to c (scope_of inner.now) mark k.at (term_of l.body) (known_of first.known) m4 m5 (Err r) → Looped_to c sc l (Counted i count) first old new (Err r)
+      counted_body_err m5 new r (scalar_unfolded cs g p h) en_to (turn_bound_to {inside = inside} es g' b is) (not_blocked x) =
+          not_looped (refused_as (body_stuck c sc l (Counted i count) first old new m1.next m2.next en (omega (arith, q, h)) en_to (m3.next, es, m4.next, b) (λ lo at. subst (λ z. Turn_names (told c) (defined c) sc inside (1 + lo + pattern_numbers (pattern_of l.pat) + numbers (term_of l.first)) (Counted i count) z) (sym is) (turn_counted y (moved c (omega (arith, q, at)) p)))) x)
 
-  pub turn_err : (new : Unfolding) (r : Refusal) → r ≡ Memory → Turned_to p i sc s old new (Err r)
-  turn_err new r m = not_turned (only_memory m)
+      pub counted_differs : (new : Unfolding) → steps_of m3 ≡ steps_of m1 → Scalar_unfolded c sc counting count old m1 (Ok k) → Turn_bound_to (pattern_of l.pat) i y sc (known_of en.known) m3 m4 (Ok inner) → Blocked_to c (scope_of inner.now) mark k.at (term_of l.body) (known_of first.known) m4 new (Ok None) → Looped_to c sc l (Counted i count) first old new (Ok None)
+      counted_differs new same (scalar_unfolded cs g p h) (turn_bound_to es g' b is) (block_differs ds none g'') =
+          turns_differ (cs ++ (es ++ ds)) none (grown (steps_of old) (steps_of m1) (steps_of new) cs (es ++ ds) g (grown (steps_of m1) (steps_of m4) (steps_of new) es ds (g' ∙ ap (λ z. z ++ es) same) g''))
 
--- ---- turns
+      pub counted_end : (m5 new : Unfolding) (e : Branch) (s : Result Walked Refusal) (r : Result (Option Walked) Refusal) → mark ≡ length (steps_of m3) → steps_of m3 ≡ steps_of m1 → Named_as m2.next m3.next (Ok y) → Scalar_unfolded c sc counting count old m1 (Ok k) → Entered_to (known_of first.known) m1.next m2.next (Ok en) → Turn_bound_to (pattern_of l.pat) i y sc (known_of en.known) m3 m4 (Ok inner) → Blocked_to c (scope_of inner.now) mark k.at (term_of l.body) (known_of first.known) m4 m5 (Ok (Some e)) → Stepped_to (known_of first.known) (action_of (tree.For en.params en.first y k.atom e.block)) e.at m5 new s → Given_as s r → Looped_to c sc l (Counted i count) first old new r
+      counted_end m5 new e s _ at_mark same nm (scalar_unfolded cs g p h) (entered_to la up lt) (turn_bound_to {inside = inside} es g' b is) (blocked_to {s = s'} ds ws f u lb hb) (stepped_to xs gs up' lx) given_walked =
+          let t = f (steps_of m3) es (sym at_mark) g' in
+          let b' = subst (λ z. Binds (pattern_of l.pat) (known_of en.known) sc z es inside m4.next) (name_is nm) b in
+          let u' = subst (λ z. Unfolds (told c) (defined c) z k.at (term_of l.body) m4.next ds s' m5.next) is u in
+          looped_to (record {
+            steps = cs ++ step xs (act.For en.params.now en.first.now y k.atom (lets (es ++ ds) ws));
+            grown = grown (steps_of old) (steps_of m1) (steps_of new) cs _ g (gs ∙ ap (λ z. z ++ step xs (action_of (tree.For en.params en.first y k.atom e.block))) (t.0 ∙ same) ∙ ap (λ z. steps_of m1 ++ step xs z) (action_of-For en.params en.first y k.atom e.block ∙ ap (λ z. act.For en.params.now en.first.now y k.atom z) (t.1)));
+            unfolds = λ lo n0 bs at v. u_counted en.params.now xs v la (moved c (omega (arith, q, at)) p) up lt (name_low nm) b' (moved c (omega (arith, q, at, h)) u') lb up' lx;
+            behind = omega (arith, q, h, hb);
+          })
+      counted_end m5 new e s _ at_mark same nm (scalar_unfolded cs g p h) (entered_to la up lt) (turn_bound_to es g' b is) (blocked_to ds ws f u lb hb) (not_stepped x) given_refusal = unstepped c sc l (Counted i count) first old new m1.next m2.next en _ (entered_to la up lt) x
 
-is_scalar : {s : Known} {us : List Atom} → Laid Scalar_shape s us [] → (u : Atom) × (s ≡ Scalar_known u) × (us ≡ u ∷ [])
-is_scalar (laid_scalar {u = u}) = (u, refl, refl)
+-- ---- a turn for each row
 
-module _ (c : Context) (sc : Scope) (l : LoopTree) (first : Walked) (old new : Unfolding) where
-  not_in : (turns : FlatTurns) → No_entry (pattern_of l.pat) (known_of first.known) → Loop_stuck c sc l turns first old
-  not_in turns (no_components lacks) lo n bs at v = first_function v lacks
-  not_in turns (other_form la lt lacks) lo n bs at v = no_turn (carried v la lt) lacks
+module _ (c : Context) (sc : Scope) (l : LoopTree) (row : FlatPattern) (rows : FlatTerm) (first : Walked) (counting : ℕ) (old m1 : Unfolding) (q : counting ≡ first.at + pattern_numbers row) where
+  pub rows_err : (new : Unfolding) (r : Refusal) → Scalar_unfolded c sc counting rows old m1 (Err r) → Looped_to c sc l (Over row rows) first old new (Err r)
+  rows_err new r (no_scalar_unfolded x) = not_looped (refused_as none x)
+    where
+      none : Not_scalar c sc counting rows → Loop_stuck c sc l (Over row rows) first old
+      none (stuck_term w) lo n bs at v = stuck_turns v (stuck_rows (stuck_at c (omega (arith, q, at)) w))
+      none (other_value u lacks) lo n bs at v = stuck_turns v (no_rows (moved c (omega (arith, q, at)) u) lacks)
 
-  -- a loop that is not entered
-  pub counted_unentered : (i : BindId) (count : FlatTerm) (m m' : Unfolding) (r : Refusal) → Turned_to (pattern_of l.pat) i sc (known_of first.known) m m' (Err r) → Counted_to c sc l i count first old new (Err r)
-  counted_unentered i count m m' r (not_turned x) = not_counted (refused_as (not_in (Counted i count)) x)
-
-  pub tested_unentered : (test : FlatTerm) (m m' : Unfolding) (r : Refusal) → Entered_to (pattern_of l.pat) sc (known_of first.known) m m' (Err r) → Tested_to c sc l test first old new (Err r)
-  tested_unentered test m m' r (not_entered x) = not_tested (refused_as (not_in (While test)) x)
-
-  -- how many turns there are
-  module _ (i : BindId) (count : FlatTerm) (counting : ℕ) (mid : Unfolding) (q : counting ≡ first.at + 1) where
-    pub counted_count_err : (r : Refusal) → Scalar_unfolded c sc counting count old mid (Err r) → Counted_to c sc l i count first old new (Err r)
-    counted_count_err r (no_scalar_unfolded x) = not_counted (refused_as none x)
+  module _ (m2 m3 m4 : Unfolding) (k : WalkedScalar) (en : Entered) (y : ℕ) where
+    pub row_unbound : (new : Unfolding) (r : Refusal) → Entered_to (known_of first.known) m1.next m2.next (Ok en) → Row_bound_to (pattern_of l.pat) row y sc (known_of en.known) m3 m4 (Err r) → Looped_to c sc l (Over row rows) first old new (Err r)
+    row_unbound new r (entered_to la up lt) (not_row_bound x) = not_looped (refused_as none x)
       where
-        none : Not_scalar c sc counting count → Loop_stuck c sc l (Counted i count) first old
-        none (stuck_term w) lo n bs at v = stuck_turns v (stuck_count (stuck_at c (omega (arith, q, at)) w))
-        none (other_value u lacks) lo n bs at v = stuck_turns v (no_count (moved c (omega (arith, q, at)) u) lacks)
+        none : No_row_names (pattern_of l.pat) row y sc (known_of en.known) → Loop_stuck c sc l (Over row rows) first old
+        none (no_value_names lacks) lo i bs at v = no_turn (carried v la lt) lacks
+        none (no_names_of_row b lacks) lo i bs at v = no_row (carried v la lt) b lacks
 
-    -- a turn
-    pub counted_body_err : (m1 m2 : Unfolding) (k : WalkedScalar) (tn : Turn) (r : Refusal) → Scalar_unfolded c sc counting count old mid (Ok k) → Turned_to (pattern_of l.pat) i sc (known_of first.known) mid m1 (Ok tn) → Blocked_to c (scope_of tn.scope.now) k.at (term_of l.body) (known_of first.known) m1 m2 (Err r) → Counted_to c sc l i count first old new (Err r)
-    counted_body_err m1 m2 k tn r (scalar_unfolded cs g p h) (turned_to {inside = inside} same la up lt bi iis ne) (not_blocked x) = not_counted (refused_as turn x)
+    module _ (mark : ℕ) (inner : Bor Held_scope) where
+      pub row_body_err : (m5 new : Unfolding) (r : Refusal) → Scalar_unfolded c sc counting rows old m1 (Ok k) → Entered_to (known_of first.known) m1.next m2.next (Ok en) → Row_bound_to (pattern_of l.pat) row y sc (known_of en.known) m3 m4 (Ok inner) → Blocked_to c (scope_of inner.now) mark k.at (term_of l.body) (known_of first.known) m4 m5 (Err r) → Looped_to c sc l (Over row rows) first old new (Err r)
+      row_body_err m5 new r (scalar_unfolded cs g p h) en_to (row_bound_to {k = m} es fs g' b b') (not_blocked x) =
+          not_looped (refused_as (body_stuck c sc l (Over row rows) first old new m1.next m2.next en (omega (arith, q, h)) en_to (m3.next, es, m, b) (λ lo at. turn_row y (moved c (omega (arith, q, at)) p) (m, fs, m4.next, b'))) x)
+
+      pub row_differs : (new : Unfolding) → steps_of m3 ≡ steps_of m1 → Scalar_unfolded c sc counting rows old m1 (Ok k) → Row_bound_to (pattern_of l.pat) row y sc (known_of en.known) m3 m4 (Ok inner) → Blocked_to c (scope_of inner.now) mark k.at (term_of l.body) (known_of first.known) m4 new (Ok None) → Looped_to c sc l (Over row rows) first old new (Ok None)
+      row_differs new same (scalar_unfolded cs g p h) (row_bound_to es fs g' b b') (block_differs ds none g'') =
+          turns_differ (cs ++ ((es ++ fs) ++ ds)) none (grown (steps_of old) (steps_of m1) (steps_of new) cs ((es ++ fs) ++ ds) g (grown (steps_of m1) (steps_of m4) (steps_of new) (es ++ fs) ds (g' ∙ ap (λ z. z ++ (es ++ fs)) same) g''))
+
+      pub row_end : (m5 new : Unfolding) (e : Branch) (s : Result Walked Refusal) (r : Result (Option Walked) Refusal) → mark ≡ length (steps_of m3) → steps_of m3 ≡ steps_of m1 → Named_as m2.next m3.next (Ok y) → Scalar_unfolded c sc counting rows old m1 (Ok k) → Entered_to (known_of first.known) m1.next m2.next (Ok en) → Row_bound_to (pattern_of l.pat) row y sc (known_of en.known) m3 m4 (Ok inner) → Blocked_to c (scope_of inner.now) mark k.at (term_of l.body) (known_of first.known) m4 m5 (Ok (Some e)) → Stepped_to (known_of first.known) (action_of (tree.ForEach en.params en.first y k.atom e.block)) e.at m5 new s → Given_as s r → Looped_to c sc l (Over row rows) first old new r
+      row_end m5 new e s _ at_mark same nm (scalar_unfolded cs g p h) (entered_to la up lt) (row_bound_to {inside = inside} {k = m} es fs g' b b') (blocked_to {s = s'} ds ws f u lb hb) (stepped_to xs gs up' lx) given_walked =
+          let t = f (steps_of m3) (es ++ fs) (sym at_mark) g' in
+          let b'' = subst (λ z. Binds (pattern_of l.pat) (known_of en.known) sc z es inside m) (name_is nm) b in
+          looped_to (record {
+            steps = cs ++ step xs (act.Over en.params.now en.first.now y k.atom (lets (es ++ (fs ++ ds)) ws));
+            grown = grown (steps_of old) (steps_of m1) (steps_of new) cs _ g (gs ∙ ap (λ z. z ++ step xs (action_of (tree.ForEach en.params en.first y k.atom e.block))) (t.0 ∙ same) ∙ ap (λ z. steps_of m1 ++ step xs z) (action_of-ForEach en.params en.first y k.atom e.block ∙ ap (λ z. act.Over en.params.now en.first.now y k.atom z) (t.1 ∙ ap (λ z. lets z ws) (append_assoc es fs ds))));
+            unfolds = λ lo n0 bs at v. u_over en.params.now xs v la (moved c (omega (arith, q, at)) p) up lt (name_low nm) b'' b' (moved c (omega (arith, q, at, h)) u) lb up' lx;
+            behind = omega (arith, q, h, hb);
+          })
+      row_end m5 new e s _ at_mark same nm (scalar_unfolded cs g p h) (entered_to la up lt) (row_bound_to es fs g' b b') (blocked_to ds ws f u lb hb) (not_stepped x) given_refusal = unstepped c sc l (Over row rows) first old new m1.next m2.next en _ (entered_to la up lt) x
+
+-- ---- turns while a condition holds
+
+module _ (c : Context) (sc : Scope) (p : FlatPattern) (lo : ℕ) (t : FlatTerm) (s : Known) (old mid : Unfolding) where
+  pub test_unbound : (new : Unfolding) (r : Refusal) → Bound_to p s sc old.next (steps_of old) (steps_of mid) mid.next (Err r) → Tested_to c sc p lo t s old new (Err r)
+  test_unbound new r (unanswered x) = not_tested (refused_as no_names_of_value x)
+
+  module _ (inner : Bor Held_scope) (m2 : Unfolding) where
+    pub test_err : (new : Unfolding) (r : Refusal) → Bound_to p s sc old.next (steps_of old) (steps_of mid) mid.next (Ok inner) → Scalar_unfolded c (scope_of inner.now) lo t mid m2 (Err r) → Tested_to c sc p lo t s old new (Err r)
+    test_err new r (answered es g b) (no_scalar_unfolded x) = not_tested (refused_as none x)
       where
-        names_of : (lo : ℕ) → first.at ≡ 1 + lo + pattern_numbers (pattern_of l.pat) + numbers (term_of l.first) → Turn_names (told c) (defined c) sc inside (1 + lo + pattern_numbers (pattern_of l.pat) + numbers (term_of l.first)) (Counted i count) (name_and i (named tn.index) inside)
-        names_of lo at = turn_counted tn.index (moved c (omega (arith, q, at)) p)
+        none : Not_scalar c (scope_of inner.now) lo t → No_truth c sc p lo t s
+        none (stuck_term w) = stuck_truth (old.next, es, mid.next, b) w
+        none (other_value u lacks) = other_truth (old.next, es, mid.next, b) u lacks
 
-        turn : No_block c (scope_of tn.scope.now) k.at (term_of l.body) (known_of first.known) → Loop_stuck c sc l (Counted i count) first old
-        turn (stuck_inside w) lo n bs at v = stuck_body (carried v la lt) bi (names_of lo at) (stuck_at c (omega (arith, q, at, h)) (subst (λ z. Stuck (told c) (defined c) z k.at (term_of l.body)) iis w))
-        turn (other_shape {n = a} {n' = a'} {bs = ds} {s = s} w lacks) lo n bs at v = other_turn (carried v la lt) bi (names_of lo at) (moved c (omega (arith, q, at, h)) (subst (λ z. Unfolds (told c) (defined c) z k.at (term_of l.body) a ds s a') iis w)) lacks
+    module _ (truth : WalkedScalar) (mark : ℕ) (q : mark ≡ length (steps_of old)) where
+      pub test_mark : Bound_to p s sc old.next (steps_of old) (steps_of mid) mid.next (Ok inner) → Scalar_unfolded c (scope_of inner.now) lo t mid m2 (Ok truth) → mark ≤ length (steps_of m2)
+      test_mark (answered es g b) (scalar_unfolded cs g' u h) = omega (arith, q, ap length g, ap length g', length-append (steps_of old) es, length-append (steps_of mid) cs)
 
-  -- the test and the body of a turn
-  module _ (test : FlatTerm) (m1 m2 : Unfolding) (en : Entered) where
-    pub tested_test_err : (like : Known) (w : Atom) (r : Refusal) → like ≡ Scalar_known w → Entered_to (pattern_of l.pat) sc (known_of first.known) old m1 (Ok en) → Blocked_to c (scope_of en.scope.now) first.at test like m1 m2 (Err r) → Tested_to c sc l test first old new (Err r)
-    unfolding shape_of
-    tested_test_err like w r it (entered_to same la up lt bi) (not_blocked x) = not_tested (refused_as tested x)
-      where
-        tested : No_block c (scope_of en.scope.now) first.at test like → Loop_stuck c sc l (While test) first old
-        tested (stuck_inside z) lo n bs at v = stuck_test (carried v la lt) bi (stuck_at c at z)
-        tested (other_shape {s = s} u lacks) lo n bs at v = no_test (carried v la lt) bi (moved c at u) (λ b e. lacks (b ∷ []) (subst (λ z. Laid (shape_of z) s (b ∷ []) []) (sym it) (subst (λ z. Laid Scalar_shape z (b ∷ []) []) (sym e) laid_scalar)))
+      pub test_end : (new : Unfolding) (r : Result Branch Refusal) → Bound_to p s sc old.next (steps_of old) (steps_of mid) mid.next (Ok inner) → Scalar_unfolded c (scope_of inner.now) lo t mid m2 (Ok truth) → Scalar_closed mark truth m2 new r → Tested_to c sc p lo t s old new r
+      test_end new _ (answered es g b) (scalar_unfolded cs g' u h) (scalar_closed f n k) =
+          let z = f (steps_of old) (es ++ cs) (sym q) (grown (steps_of old) (steps_of mid) (steps_of m2) es cs g g') in
+          tested_to es cs (z.0) b (ending c (sym n) u) (z.1 ∙ ap (λ y. lets y (truth.atom ∷ [])) (append-nil (es ++ cs))) (k ∙ h)
+      test_end new _ (answered es g b) (scalar_unfolded cs g' u h) not_scalar_closed = not_tested no_memory
 
-    pub tested_body_err : (like : Known) (m3 : Unfolding) (t : Branch) (r : Refusal) → Entered_to (pattern_of l.pat) sc (known_of first.known) old m1 (Ok en) → Blocked_to c (scope_of en.scope.now) first.at test like m1 m2 (Ok t) → Blocked_to c (scope_of en.scope.now) t.at (term_of l.body) (known_of first.known) m2 m3 (Err r) → Tested_to c sc l test first old new (Err r)
-    tested_body_err like m3 t r (entered_to same la up lt bi) (blocked_to cs us gt pt lc bt ht) (not_blocked x) = not_tested (refused_as turn x)
-      where
-        turn : No_block c (scope_of en.scope.now) t.at (term_of l.body) (known_of first.known) → Loop_stuck c sc l (While test) first old
-        turn (stuck_inside z) lo n bs at v = stuck_body (carried v la lt) bi turn_tested (stuck_at c (omega (arith, ht, at)) z)
-        turn (other_shape u lacks) lo n bs at v = other_turn (carried v la lt) bi turn_tested (moved c (omega (arith, ht, at)) u) lacks
+module _ (c : Context) (sc : Scope) (l : LoopTree) (test : FlatTerm) (first : Walked) (old m1 m2 : Unfolding) (en : Entered) where
+  pub while_test_err : (new : Unfolding) (r : Refusal) → Entered_to (known_of first.known) old.next m1.next (Ok en) → Tested_to c sc (pattern_of l.pat) first.at test (known_of en.known) m1 m2 (Err r) → Looped_to c sc l (While test) first old new (Err r)
+  while_test_err new r (entered_to la up lt) (not_tested x) = not_looped (refused_as none x)
+    where
+      none : No_truth c sc (pattern_of l.pat) first.at test (known_of en.known) → Loop_stuck c sc l (While test) first old
+      none (no_names_of_value lacks) lo i bs at v = no_turn (carried v la lt) lacks
+      none (stuck_truth b w) lo i bs at v = stuck_test (carried v la lt) b (stuck_at c at w)
+      none (other_truth b u lacks) lo i bs at v = no_test (carried v la lt) b (moved c at u) lacks
 
-  -- the step of a loop: data that is carried has new names
-  module _ (b : Branch) where
-    -- a turn for each number below the count
-    pub counted_end : (i : BindId) (count : FlatTerm) (counting : ℕ) (m1 m2 m3 : Unfolding) (n : WalkedScalar) (tn : Turn) (r : Result Walked Refusal) → counting ≡ first.at + 1 → Scalar_unfolded c sc counting count old m1 (Ok n) → Turned_to (pattern_of l.pat) i sc (known_of first.known) m1 m2 (Ok tn) → Blocked_to c (scope_of tn.scope.now) n.at (term_of l.body) (known_of first.known) m2 m3 (Ok b) → Stepped_to (known_of first.known) (action_of (tree.For tn.params tn.first tn.index n.atom b.block)) b.at m3 new r → Counted_to c sc l i count first old new r
-    counted_end i count counting m1 m2 m3 n tn _ q (scalar_unfolded cs g p h) (turned_to {inside = inside} same la up lt bi iis ne) (blocked_to {s = s} ds ws gb pb lb bb hb) (stepped_to xs gs up' l') =
-        counted_to (record {
-          steps = cs ++ step xs (act.For tn.params.now tn.first.now tn.index n.atom (lets ds ws));
-          grown = grown (steps_of old) (steps_of m1) (steps_of new) cs _ g (gs ∙ ap (λ z. z ++ step xs (action_of (tree.For tn.params tn.first tn.index n.atom b.block))) (gb ∙ same) ∙ ap (λ z. steps_of m1 ++ step xs z) (action_of-For tn.params tn.first tn.index n.atom b.block ∙ ap (λ z. act.For tn.params.now tn.first.now tn.index n.atom z) bb));
-          unfolds = λ lo n0 bs at v0. u_counted tn.params.now xs v0 la (moved c (omega (arith, q, at)) p) up lt bi (omega arith) (inside_scope (moved c (omega (arith, q, at, h)) (beginning c ne pb))) lb up' l';
-          behind = omega (arith, q, h, hb);
-        })
-      where
-        inside_scope : {lo : ℕ} → Unfolds (told c) (defined c) (scope_of tn.scope.now) lo (term_of l.body) (suc tn.index) ds s m3.next → Unfolds (told c) (defined c) (name_and i (named tn.index) inside) lo (term_of l.body) (suc tn.index) ds s m3.next
-        inside_scope {lo} w = subst (λ z. Unfolds (told c) (defined c) z lo (term_of l.body) (suc tn.index) ds s m3.next) iis w
-    counted_end i count counting m1 m2 m3 n tn _ q (scalar_unfolded cs g p h) (turned_to same la up lt bi iis ne) (blocked_to ds ws gb pb lb bb hb) (not_stepped x) = not_counted (refused_as (λ lacks. absurd (lacks (shape_of (known_of first.known)) tn.first.now la)) x)
+  module _ (m3 : Unfolding) (t : Branch) where
+    pub while_unbound : (new : Unfolding) (r : Refusal) → Entered_to (known_of first.known) old.next m1.next (Ok en) → Bound_to (pattern_of l.pat) (known_of en.known) sc m2.next (steps_of m2) (steps_of m3) m3.next (Err r) → Looped_to c sc l (While test) first old new (Err r)
+    while_unbound new r h (unanswered x) = not_looped (refused_as (unbound c sc l (While test) first old new old.next m1.next en h) x)
 
-    -- turns while the test holds
-    pub tested_end : (test : FlatTerm) (like : Known) (w : Atom) (m1 m2 m3 : Unfolding) (en : Entered) (t : Branch) (r : Result Walked Refusal) → like ≡ Scalar_known w → Entered_to (pattern_of l.pat) sc (known_of first.known) old m1 (Ok en) → Blocked_to c (scope_of en.scope.now) first.at test like m1 m2 (Ok t) → Blocked_to c (scope_of en.scope.now) t.at (term_of l.body) (known_of first.known) m2 m3 (Ok b) → Stepped_to (known_of first.known) (action_of (tree.While l.mark en.params en.first t.block b.block)) b.at m3 new r → Tested_to c sc l test first old new r
-    unfolding shape_of
-    tested_end test like w m1 m2 m3 en t _ it (entered_to same la up lt bi) (blocked_to {s = s} cs us gt pt lc bt ht) (blocked_to ds ws gb pb lb bb hb) (stepped_to xs gs up' l') =
-        let is = is_scalar (subst (λ z. Laid (shape_of z) s us []) it lc) in
-        tested_to (record {
-          steps = step xs (act.While l.mark en.params.now en.first.now (lets cs (is.0 ∷ [])) (lets ds ws));
-          grown = gs ∙ ap (λ z. z ++ step xs (action_of (tree.While l.mark en.params en.first t.block b.block))) (gb ∙ gt ∙ same) ∙ ap (λ z. steps_of old ++ step xs z) (action_of-While l.mark en.params en.first t.block b.block ∙ ap (λ z. act.While l.mark en.params.now en.first.now z (body_of b.block.now)) (bt ∙ ap (lets cs) (is.2)) ∙ ap (λ z. act.While l.mark en.params.now en.first.now (lets cs (is.0 ∷ [])) z) bb);
-          unfolds = λ lo n0 bs at v0. u_while en.params.now xs v0 la up lt bi (known_as c (is.1) (moved c at pt)) (moved c (omega (arith, ht, at)) pb) lb up' l';
-          behind = omega (arith, ht, hb);
-        })
-    tested_end test like w m1 m2 m3 en t _ it (entered_to same la up lt bi) (blocked_to cs us gt pt lc bt ht) (blocked_to ds ws gb pb lb bb hb) (not_stepped x) = not_tested (refused_as (λ lacks. absurd (lacks (shape_of (known_of first.known)) en.first.now la)) x)
+    module _ (mark : ℕ) (inner : Bor Held_scope) where
+      pub while_body_err : (m4 new : Unfolding) (r : Refusal) → Entered_to (known_of first.known) old.next m1.next (Ok en) → Tested_to c sc (pattern_of l.pat) first.at test (known_of en.known) m1 m2 (Ok t) → Bound_to (pattern_of l.pat) (known_of en.known) sc m2.next (steps_of m2) (steps_of m3) m3.next (Ok inner) → Blocked_to c (scope_of inner.now) mark t.at (term_of l.body) (known_of first.known) m3 m4 (Err r) → Looped_to c sc l (While test) first old new (Err r)
+      while_body_err m4 new r en_to (tested_to es cs same b u is h) (answered fs g b') (not_blocked x) =
+          not_looped (refused_as (body_stuck c sc l (While test) first old new old.next m1.next en h en_to (m2.next, fs, m3.next, b') (λ lo at. turn_tested)) x)
 
-pub loop_first_err : (c : Context) (sc : Scope) (l : LoopTree) (lo pattern value : ℕ) (old mid new : Unfolding) (r : Refusal) → pattern ≡ lo + 1 → value ≡ pattern + pattern_numbers (pattern_of l.pat) → Unfolded c sc value (term_of l.first) old mid (Err r) → Unfolded c sc lo (loop_of l) old new (Err r)
-loop_first_err c sc l lo pattern value old mid new r q q' (refused x) = subst (λ z. Unfolded c sc lo z old new (Err r)) (sym (loop_is l)) (refused (refused_as (λ w. stuck_first (stuck_at c (omega (arith, q, q')) w)) x))
+      pub while_differs : (new : Unfolding) → steps_of m1 ≡ steps_of old → Tested_to c sc (pattern_of l.pat) first.at test (known_of en.known) m1 m2 (Ok t) → Bound_to (pattern_of l.pat) (known_of en.known) sc m2.next (steps_of m2) (steps_of m3) m3.next (Ok inner) → Blocked_to c (scope_of inner.now) mark t.at (term_of l.body) (known_of first.known) m3 new (Ok None) → Looped_to c sc l (While test) first old new (Ok None)
+      while_differs new before (tested_to es cs same b u is h) (answered fs g b') (block_differs ds none g'') =
+          turns_differ (fs ++ ds) none (grown (steps_of old) (steps_of m3) (steps_of new) fs ds (g ∙ ap (λ z. z ++ fs) (same ∙ before)) g'')
 
--- a loop, from its first value on
-module _ (c : Context) (sc : Scope) (l : LoopTree) (lo pattern value : ℕ) (old mid new : Unfolding) (first : Walked) where
-  looped : (t : FlatTurns) (r : Walked) → turns_of l.form ≡ t → pattern ≡ lo + 1 → value ≡ pattern + pattern_numbers (pattern_of l.pat) → Unfolded c sc value (term_of l.first) old mid (Ok first) → Looped c sc l t first mid new r → Unfolded c sc lo (loop_of l) old new (Ok r)
-  looped t r is q q' (unfolded bs g u h) k =
-      subst (λ z. Unfolded c sc lo z old new (Ok r)) (sym (loop_is l ∙ ap (λ z. Loop l.mark l.sizes.now (pattern_of l.pat) (term_of l.first) z (term_of l.body)) is))
-      (unfolded (bs ++ k.steps) (grown (steps_of old) (steps_of mid) (steps_of new) bs k.steps g k.grown) (k.unfolds lo old.next bs (omega (arith, q, q', h)) (moved c (omega (arith, q, q')) u)) (omega (arith, q, q', h, k.behind)))
+      pub while_end : (m4 new : Unfolding) (e : Branch) (s : Result Walked Refusal) (r : Result (Option Walked) Refusal) → mark ≡ length (steps_of m1) → steps_of m1 ≡ steps_of old → Entered_to (known_of first.known) old.next m1.next (Ok en) → Tested_to c sc (pattern_of l.pat) first.at test (known_of en.known) m1 m2 (Ok t) → Bound_to (pattern_of l.pat) (known_of en.known) sc m2.next (steps_of m2) (steps_of m3) m3.next (Ok inner) → Blocked_to c (scope_of inner.now) mark t.at (term_of l.body) (known_of first.known) m3 m4 (Ok (Some e)) → Stepped_to (known_of first.known) (action_of (tree.While l.mark en.params en.first t.block e.block)) e.at m4 new s → Given_as s r → Looped_to c sc l (While test) first old new r
+      while_end m4 new e s _ at_mark before (entered_to la up lt) (tested_to {u = w} es cs same b u is h) (answered fs g b') (blocked_to ds ws f u' lb hb) (stepped_to xs gs up' lx) given_walked =
+          let z = f (steps_of m1) fs (sym at_mark) (g ∙ ap (λ y. y ++ fs) same) in
+          looped_to (record {
+            steps = step xs (act.While l.mark en.params.now en.first.now (lets (es ++ cs) (w ∷ [])) (lets (fs ++ ds) ws));
+            grown = gs ∙ ap (λ y. y ++ step xs (action_of (tree.While l.mark en.params en.first t.block e.block))) (z.0 ∙ before) ∙ ap (λ y. steps_of old ++ step xs y) (action_of-While l.mark en.params en.first t.block e.block ∙ ap (λ y. act.While l.mark en.params.now en.first.now y (body_of e.block.now)) is ∙ ap (λ y. act.While l.mark en.params.now en.first.now (lets (es ++ cs) (w ∷ [])) y) (z.1));
+            unfolds = λ lo n0 bs at v. u_while en.params.now xs v la up lt b (moved c at u) b' (moved c (omega (arith, h, at)) u') lb up' lx;
+            behind = omega (arith, h, hb);
+          })
+      while_end m4 new e s _ at_mark before (entered_to la up lt) (tested_to es cs same b u is h) (answered fs g b') (blocked_to ds ws f u' lb hb) (not_stepped x) given_refusal = unstepped c sc l (While test) first old new old.next m1.next en _ (entered_to la up lt) x
 
-  stuck_loop : (t : FlatTurns) (r : Refusal) → turns_of l.form ≡ t → pattern ≡ lo + 1 → value ≡ pattern + pattern_numbers (pattern_of l.pat) → Unfolded c sc value (term_of l.first) old mid (Ok first) → Refused (Loop_stuck c sc l t first mid) r → Unfolded c sc lo (loop_of l) old new (Err r)
-  stuck_loop t r is q q' (unfolded bs g u h) x =
-      subst (λ z. Unfolded c sc lo z old new (Err r)) (sym (loop_is l ∙ ap (λ z. Loop l.mark l.sizes.now (pattern_of l.pat) (term_of l.first) z (term_of l.body)) is))
-      (refused (refused_as (λ w. w lo old.next bs (omega (arith, q, q', h)) (moved c (omega (arith, q, q')) u)) x))
+module _ {c : Context} {sc : Scope} {l : LoopTree} {turns : FlatTurns} {first : Walked} {old new : Unfolding} {o o' : Option Walked} where
+  pub looped_as : o ≡ o' → Looped_to c sc l turns first old new (Ok o) → Looped_to c sc l turns first old new (Ok o')
+  looped_as e h = subst (λ z. Looped_to c sc l turns first old new (Ok z)) e h
 
-  pub loop_counted : (i : BindId) (n : Exp) (r : Result Walked Refusal) → l.form ≡ turns.For i n → pattern ≡ lo + 1 → value ≡ pattern + pattern_numbers (pattern_of l.pat) → Unfolded c sc value (term_of l.first) old mid (Ok first) → Counted_to c sc l i (term_of n) first mid new r → Unfolded c sc lo (loop_of l) old new r
-  loop_counted i n _ is q q' u (counted_to k) = looped (Counted i (term_of n)) _ (ap turns_of is ∙ turns_counted i n) q q' u k
-  loop_counted i n _ is q q' u (not_counted x) = stuck_loop (Counted i (term_of n)) _ (ap turns_of is ∙ turns_counted i n) q q' u x
-
-  pub loop_tested : (t : Exp) (r : Result Walked Refusal) → l.form ≡ turns.While t → pattern ≡ lo + 1 → value ≡ pattern + pattern_numbers (pattern_of l.pat) → Unfolded c sc value (term_of l.first) old mid (Ok first) → Tested_to c sc l (term_of t) first mid new r → Unfolded c sc lo (loop_of l) old new r
-  loop_tested t _ is q q' u (tested_to k) = looped (While (term_of t)) _ (ap turns_of is ∙ turns_while t) q q' u k
-  loop_tested t _ is q q' u (not_tested x) = stuck_loop (While (term_of t)) _ (ap turns_of is ∙ turns_while t) q q' u x
-
-  pub loop_over : (p : Pat) (e : Exp) → l.form ≡ turns.ForIn p e → pattern ≡ lo + 1 → value ≡ pattern + pattern_numbers (pattern_of l.pat) → Unfolded c sc value (term_of l.first) old mid (Ok first) → Unfolded c sc lo (loop_of l) old new (Err Lost)
-  loop_over p e is q q' u = stuck_loop (Over (pattern_of p) (term_of e)) Lost (ap turns_of is ∙ turns_over p e) q q' u (lost (λ lo n bs at v. stuck_turns v of_array))
+  pub tried_as : o ≡ o' → Tried_to c sc l turns first old new (Ok o) → Tried_to c sc l turns first old new (Ok o')
+  tried_as e h = subst (λ z. Tried_to c sc l turns first old new (Ok z)) e h

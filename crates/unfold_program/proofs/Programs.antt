@@ -5,7 +5,7 @@ use Rattle.std.specs.Borrow.{Bor}
 use Rattle.std.specs.List.{AllClonesOf}
 use Rattle.fut_scalar.specs.declared.place.BindId.{BindId}
 use Rattle.fut_scalar.specs.declared.scalar.IntType.{IntType}
-use Rattle.fut_scalar.specs.declared.scalar.ScalarType.{ScalarType}
+use Rattle.fut_scalar.specs.declared.sizes.DataType.{DataType}
 use Rattle.fut_flat.specs.declared.program.Definition.{Definition}
 use Rattle.fut_flat.specs.Erased.{FlatTerm, term_of}
 use Rattle.fut_flat.specs.Numbers.{numbers}
@@ -19,10 +19,10 @@ use Rattle.unfold_reach.proofs.Lists.{drop_end, one_more}
 use Rattle.unfold_reach.specs.Reach.{Reached, reached, is_set, named_term}
 use Rattle.unfold.specs.Held.{known_of}
 use Rattle.unfold.specs.Knowns.{Known, Tuple_known, Knowns, knowns, listed, no_name, Scalar_known, Scope, Tops}
-use Rattle.unfold.specs.Programs.{Applies_all, a_none, a_more, Definitions_unfold, d_none, d_reached, d_other}
+use Rattle.unfold.specs.Programs.{Definitions_unfold, d_none, d_reached, d_other}
 use Rattle.unfold.specs.Shapes.{All_laid, Laid, Scalar_shape, Shapes, Tuple_shape, laid_more, laid_none, laid_scalar, laid_tuple}
 use Rattle.unfold.specs.Stuck.{Definitions_stuck, Program_stuck, Stuck, Stuck_runs, in_definitions, in_entry, no_entry, no_result, stuck_definition, stuck_next, stuck_on, stuck_other, stuck_run}
-use Rattle.unfold.specs.Unfolding.{Bindings, Unfolds, names}
+use Rattle.unfold.specs.Unfolding.{Applies_all, a_none, a_more, Bindings, Unfolds, names}
 use Rattle.unfold.specs.declared.known.Known.{Known as Held_known}
 use Rattle.unfold.specs.declared.known.KnownForm.TheVariants as form
 use Rattle.unfold.proofs.Mirror.{known_tuple}
@@ -44,8 +44,8 @@ use Rattle.unfold_program.specs.declared.program.Given.{Given}
 use Rattle.unfold_program.specs.declared.program.Made.{Made}
 use Rattle.unfold_program.specs.declared.walked.Context.{Context}
 use Rattle.unfold_program.specs.declared.walked.Walked.{Walked}
-use Rattle.unfold_program.specs.Answers.{Applied, applied, not_applied, Unfolded, unfolded, refused, defined, told}
-use Rattle.unfold_program.specs.Whole.{scalars, Are_scalars, Given_to, given_to, not_given, Defined_to, passed_over, defined_to, not_defined, Definitions_to, definitions_to, no_definitions, All_applied, all_applied, not_all_applied, Entry_stuck, not_known, stuck_there, no_data_there, Entry_to, entry_to, not_entered, Finished, finished, not_finished, Unfolds_to, unfolds_to, no_program}
+use Rattle.unfold_program.specs.Answers.{All_applied, all_applied, not_all_applied, Applied, applied, not_applied, Unfolded, unfolded, refused, defined, told}
+use Rattle.unfold_program.specs.Whole.{scalars, Are_scalars, Given_to, given_to, not_given, Defined_to, passed_over, defined_to, not_defined, Definitions_to, definitions_to, no_definitions, Entry_stuck, not_known, stuck_there, no_data_there, Entry_to, entry_to, not_entered, Finished, finished, not_finished, Unfolds_to, unfolds_to, no_program}
 use Rattle.unfold_program.proofs.Growing.{grown, not_grown, moved, stuck_at}
 
 -- ---- parameters
@@ -200,7 +200,7 @@ module _ (c : Context) (ss : List Held_known) (old : Unfolding) where
     all_err new d r lt (applied_from bs g k kw) (not_applied x) = not_all_applied (refused_as (λ w. kw (subst (λ z. Stuck_runs (told c) (defined c) (map known_of z) (known_of made)) (sym (one_more ss i d lt)) (stuck_run w))) x)
 
 -- the entry
-module _ (c : Context) (entry : ℕ) (g : Given) (types : List ScalarType) (old : Unfolding) (o : Option Held_known) (e : maybe_known o ≡ look (defined c) entry) where
+module _ (c : Context) (entry : ℕ) (g : Given) (types : List DataType) (old : Unfolding) (o : Option Held_known) (e : maybe_known o ≡ look (defined c) entry) where
   pub entry_none : o ≡ None → Entry_to c entry g types old (Err Lost)
   entry_none is = not_entered (lost (not_known (sym e ∙ ap maybe_known is)))
 
@@ -213,13 +213,13 @@ module _ (c : Context) (entry : ℕ) (g : Given) (types : List ScalarType) (old 
 
 -- ---- the whole
 
-pub finish_ok : (params : Bor (List ℕ)) (types : Bor (List ScalarType)) (s : Known) (old new : Unfolding) (us : Bor (List Atom)) (b : Bor Block) → Laid_to (shape_of s) s (Ok us) → Blocked 0 us.now (steps_of old) (steps_of new) (Ok b) → new.next ≡ old.next → Finished params.now types.now s old (Ok (record { params = params; types = types; body = b.now; names = new.next }))
+pub finish_ok : (params : Bor (List ℕ)) (types : Bor (List DataType)) (s : Known) (old new : Unfolding) (us : Bor (List Atom)) (b : Bor Block) → Laid_to (shape_of s) s (Ok us) → Blocked 0 us.now (steps_of old) (steps_of new) (Ok b) → new.next ≡ old.next → Finished params.now types.now s old (Ok (record { params = params; types = types; body = b.now; names = new.next }))
 finish_ok params types s old new us b (laid_to l) (blocked f) n = finished refl refl l ((f [] (steps_of old) refl refl).1) n
 
-pub finish_unlaid : (params : List ℕ) (types : List ScalarType) (s : Known) (old : Unfolding) (r : Refusal) → Laid_to (shape_of s) s (Err r) → Finished params types s old (Err r)
+pub finish_unlaid : (params : List ℕ) (types : List DataType) (s : Known) (old : Unfolding) (r : Refusal) → Laid_to (shape_of s) s (Err r) → Finished params types s old (Err r)
 finish_unlaid params types s old r (not_laid x) = not_finished (refused_as (no_data s) x)
 
-pub finish_err : (params : List ℕ) (types : List ScalarType) (s : Known) (old : Unfolding) (mark : ℕ) (us : List Atom) (before after : Bindings) (r : Refusal) → Blocked mark us before after (Err r) → Finished params types s old (Err r)
+pub finish_err : (params : List ℕ) (types : List DataType) (s : Known) (old : Unfolding) (mark : ℕ) (us : List Atom) (before after : Bindings) (r : Refusal) → Blocked mark us before after (Err r) → Finished params types s old (Err r)
 finish_err params types s old mark us before after _ not_blocked = not_finished no_memory
 
 listed_knowns : (ss : List Known) → listed (knowns ss) ≡ ss
@@ -229,7 +229,7 @@ listed_knowns (s ∷ ss) = ap (λ z. s ∷ z) (listed_knowns ss)
 application_of : (types : List IntType) (made : Made) (ss : List Held_known) (f : Known) (n m : ℕ) (cs : Bindings) (s : Known) → made.context.types.now ≡ types → Applies_all (told made.context) (defined made.context) (map known_of ss) f n cs s m → Applies_all (integer_at types) (defined made.context) (listed (knowns (map known_of ss))) f n cs s m
 application_of types made ss f n m cs s ts a = subst (λ z. Applies_all (integer_at z) (defined made.context) (listed (knowns (map known_of ss))) f n cs s m) ts (subst (λ z. Applies_all (told made.context) (defined made.context) z f n cs s m) (sym (listed_knowns (map known_of ss))) a)
 
-module _ (types : List IntType) (ds : List FlatTop) (entry : ℕ) (sorts : List ScalarType) where
+module _ (types : List IntType) (ds : List FlatTop) (entry : ℕ) (sorts : List DataType) where
   pub whole : (m0 m1 m2 : Unfolding) (g : Given) (made : Made) (answer : Result Program Refusal) → m0.next ≡ 0 → steps_of m0 ≡ [] → Given_to (length sorts) m0.next m1.next (Ok g) → steps_of m1 ≡ steps_of m0 → Definitions_to types entry ds m1 m2 (Ok made) → Entry_to made.context entry g sorts m2 answer → Unfolds_to (integer_at types) ds entry sorts answer
   whole m0 m1 m2 g made _ zero_first none (given_to up laid) same (definitions_to bs gb ts du) (entry_to {r = r} {f = f} m3 is (all_applied cs gc a) (finished {p = p} {us} ps ss l body below)) =
       unfolds_to (shape_of (known_of r)) (record {

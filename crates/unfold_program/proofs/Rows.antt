@@ -17,7 +17,7 @@ use Rattle.unfold.specs.Stuck.{Stuck, Stuck_all, no_pattern_of, stuck_behind, st
 use Rattle.unfold.specs.Unfolding.{Bindings, Unfold_all, Unfolds, u_let, u_more, u_none}
 use Rattle.unfold.specs.declared.known.Known.{Known as Held_known}
 use Rattle.unfold.specs.declared.known.Scope.{Scope as Held_scope}
-use Rattle.unfold_parts.specs.Answers.{Bound_to, bound_to, not_bound}
+use Rattle.unfold_parts.specs.Answers.{answered, unanswered, Bound_to}
 use Rattle.unfold_parts.specs.States.{steps_of}
 use Rattle.unfold_parts.proofs.Refusing.{refused_as}
 use Rattle.unfold_parts.specs.declared.refusal.Refusal.{Refusal}
@@ -74,14 +74,17 @@ module _ {c : Context} {sc : Scope} {lo : ℕ} {e : FlatTerm} {n : ℕ} where
   }
 
 module _ (c : Context) (row : Held_row) (l : LetTree) (old new : Unfolding) where
-  pub let_ok : (first value : ℕ) (r : Walked) (inner : Bor Held_scope) → first ≡ row.at + 1 → value ≡ first + pattern_numbers (pattern_of l.pat) → Unfolded c (scope_of row.scope.now) value (term_of l.value) old new (Ok r) → Bound_to (pattern_of l.pat) (known_of r.known) (scope_of row.scope.now) (Ok inner) → Row_unfolded c row (row_of l ∷ []) old new (Ok (record { scope = inner; at = r.at }))
+  pub let_ok : (first value : ℕ) (mid : Unfolding) (r : Walked) (inner : Bor Held_scope) → first ≡ row.at + 1 → value ≡ first + pattern_numbers (pattern_of l.pat) → Unfolded c (scope_of row.scope.now) value (term_of l.value) old mid (Ok r) → Bound_to (pattern_of l.pat) (known_of r.known) (scope_of row.scope.now) mid.next (steps_of mid) (steps_of new) new.next (Ok inner) → Row_unfolded c row (row_of l ∷ []) old new (Ok (record { scope = inner; at = r.at }))
   unfolding lets
-  let_ok first value r inner q q' (unfolded bs g u h) (bound_to b) = row_unfolded bs g (λ body. subst (λ (z : Row). Leads c (scope_of row.scope.now) row.at (Let z.0 z.1 body) old.next bs (scope_of inner.now) r.at body new.next) (sym (row_is l)) (one body))
+  let_ok first value mid r inner q q' (unfolded bs g u h) (answered es k b) = row_unfolded (bs ++ es) (grown (steps_of old) (steps_of mid) (steps_of new) bs es g k) (λ body. subst (λ (z : Row). Leads c (scope_of row.scope.now) row.at (Let z.0 z.1 body) old.next (bs ++ es) (scope_of inner.now) r.at body new.next) (sym (row_is l)) (one body))
     where
-      one : (body : FlatTerm) → Leads c (scope_of row.scope.now) row.at (Let (record { sizes = l.sizes.now; parameters = parameters l.heads.now; is_function = l.is_function; pattern = pattern_of l.pat }) (term_of l.value) body) old.next bs (scope_of inner.now) r.at body new.next
+      this : FlatTerm → FlatTerm
+      this body = Let (record { sizes = l.sizes.now; parameters = parameters l.heads.now; is_function = l.is_function; pattern = pattern_of l.pat }) (term_of l.value) body
+
+      one : (body : FlatTerm) → Leads c (scope_of row.scope.now) row.at (this body) old.next (bs ++ es) (scope_of inner.now) r.at body new.next
       one body = record {
-        unfolds = λ cs s m v. u_let (moved c (omega (arith, q, q')) u) b (moved c (omega (arith, q, q', h)) v);
-        stuck = λ w. stuck_behind (moved c (omega (arith, q, q')) u) b (stuck_at c (omega (arith, q, q', h)) w);
+        unfolds = λ cs s m v. subst (λ z. Unfolds (told c) (defined c) (scope_of row.scope.now) row.at (this body) old.next z s m) (sym (append_assoc bs es cs)) (u_let (moved c (omega (arith, q, q')) u) b (moved c (omega (arith, q, q', h)) v));
+        stuck = λ w. stuck_behind (moved c (omega (arith, q, q')) u) (mid.next, es, new.next, b) (stuck_at c (omega (arith, q, q', h)) w);
         behind = omega (arith, q, q', h);
       }
 
@@ -93,8 +96,8 @@ module _ (c : Context) (row : Held_row) (l : LetTree) (old new : Unfolding) wher
   pub let_value_err : (first value : ℕ) (r : Refusal) → first ≡ row.at + 1 → value ≡ first + pattern_numbers (pattern_of l.pat) → Unfolded c (scope_of row.scope.now) value (term_of l.value) old new (Err r) → Row_unfolded c row (row_of l ∷ []) old new (Err r)
   let_value_err first value r q q' (refused x) = row_refused (refused_as (λ w. one_stuck (λ body. stuck_value (stuck_at c (omega (arith, q, q')) w))) x)
 
-  pub let_err : (first value : ℕ) (v : Walked) (r : Refusal) → first ≡ row.at + 1 → value ≡ first + pattern_numbers (pattern_of l.pat) → Unfolded c (scope_of row.scope.now) value (term_of l.value) old new (Ok v) → Bound_to (pattern_of l.pat) (known_of v.known) (scope_of row.scope.now) (Err r) → Row_unfolded c row (row_of l ∷ []) old new (Err r)
-  let_err first value v r q q' (unfolded bs g u h) (not_bound x) = row_refused (refused_as (λ lacks. one_stuck (λ body. no_pattern_of (moved c (omega (arith, q, q')) u) lacks)) x)
+  pub let_err : (first value : ℕ) (mid : Unfolding) (v : Walked) (r : Refusal) → first ≡ row.at + 1 → value ≡ first + pattern_numbers (pattern_of l.pat) → Unfolded c (scope_of row.scope.now) value (term_of l.value) old mid (Ok v) → Bound_to (pattern_of l.pat) (known_of v.known) (scope_of row.scope.now) mid.next (steps_of mid) (steps_of new) new.next (Err r) → Row_unfolded c row (row_of l ∷ []) old new (Err r)
+  let_err first value mid v r q q' (unfolded bs g u h) (unanswered x) = row_refused (refused_as (λ lacks. one_stuck (λ body. no_pattern_of (moved c (omega (arith, q, q')) u) lacks)) x)
 
 -- how far a row has come, whatever stands behind it
 pub data Row_leads (c : Context) (row : Held_row) (ls : List LetTree) (old now : Unfolding) (at : Held_row) (i : ℕ) : Type 0 where
@@ -120,14 +123,14 @@ module _ (c : Context) (row : Held_row) (ls : List LetTree) (old : Unfolding) wh
 
   -- the next let
   module _ (now new : Unfolding) (at : Held_row) (i : ℕ) (d : LetTree) (inside value : ℕ) (lt : i < length ls) (before : Row_leads c row ls old now at i) (q : inside ≡ at.at + 1) (q' : value ≡ inside + pattern_numbers (pattern_of (get_or ls i d).pat)) where
-    pub row_next : (r : Walked) (inner : Bor Held_scope) → Unfolded c (scope_of at.scope.now) value (term_of (get_or ls i d).value) now new (Ok r) → Bound_to (pattern_of (get_or ls i d).pat) (known_of r.known) (scope_of at.scope.now) (Ok inner) → Row_leads c row ls old new (record { scope = inner; at = r.at }) (i + 1)
-    row_next r inner u b = row_more now new at (record { scope = inner; at = r.at }) i d lt before (let_ok c at (get_or ls i d) now new inside value r inner q q' u b)
+    pub row_next : (mid : Unfolding) (r : Walked) (inner : Bor Held_scope) → Unfolded c (scope_of at.scope.now) value (term_of (get_or ls i d).value) now mid (Ok r) → Bound_to (pattern_of (get_or ls i d).pat) (known_of r.known) (scope_of at.scope.now) mid.next (steps_of mid) (steps_of new) new.next (Ok inner) → Row_leads c row ls old new (record { scope = inner; at = r.at }) (i + 1)
+    row_next mid r inner u b = row_more now new at (record { scope = inner; at = r.at }) i d lt before (let_ok c at (get_or ls i d) now new inside value mid r inner q q' u b)
 
     pub row_value_err : (r : Refusal) → Unfolded c (scope_of at.scope.now) value (term_of (get_or ls i d).value) now new (Err r) → Row_unfolded c row (map row_of ls) old new (Err r)
     row_value_err r u = row_err now new at i d r lt before (let_value_err c at (get_or ls i d) now new inside value r q q' u)
 
-    pub row_bind_err : (v : Walked) (r : Refusal) → Unfolded c (scope_of at.scope.now) value (term_of (get_or ls i d).value) now new (Ok v) → Bound_to (pattern_of (get_or ls i d).pat) (known_of v.known) (scope_of at.scope.now) (Err r) → Row_unfolded c row (map row_of ls) old new (Err r)
-    row_bind_err v r u b = row_err now new at i d r lt before (let_err c at (get_or ls i d) now new inside value v r q q' u b)
+    pub row_bind_err : (mid : Unfolding) (v : Walked) (r : Refusal) → Unfolded c (scope_of at.scope.now) value (term_of (get_or ls i d).value) now mid (Ok v) → Bound_to (pattern_of (get_or ls i d).pat) (known_of v.known) (scope_of at.scope.now) mid.next (steps_of mid) (steps_of new) new.next (Err r) → Row_unfolded c row (map row_of ls) old new (Err r)
+    row_bind_err mid v r u b = row_err now new at i d r lt before (let_err c at (get_or ls i d) now new inside value mid v r q q' u b)
 
 -- how far rows behind each other have come
 pub data Lets_lead (c : Context) (sc : Scope) (lo : ℕ) (e : FlatTerm) (old now : Unfolding) (row : Held_row) (rest : Exp) : Type 0 where

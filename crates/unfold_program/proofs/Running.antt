@@ -1,15 +1,17 @@
 -- Known functions applied to arguments, and where there is no way on in them.
-use Rattle.std.proofs.Common.{◌≡◌, ◌<◌, ◌≤◌, List, [], ◌∷◌, map, length, get_or, drop, false, Ok, Err, refl, sym, ap, ◌∙◌, subst, arith}
+use Rattle.std.proofs.Common.{◌≡◌, ◌<◌, ◌≤◌, ◌++◌, ℕ, suc, List, [], ◌∷◌, map, length, get_or, drop, false, Some, Ok, Err, refl, sym, ap, ◌∙◌, subst, append_assoc, arith}
+use Rattle.std.proofs.lemmas.List.{length-append}
 use Rattle.std.specs.Prelude.{IfErr, IfOk, Result}
 use Rattle.std.specs.Borrow.{Bor}
 use Rattle.fut_scalar.specs.declared.place.Place.{Place}
 use Rattle.fut_flat.specs.declared.pat.Pat.{Pat}
 use Rattle.fut_flat.specs.declared.prim.Primitive.{Primitive}
 use Rattle.fut_flat.specs.Erased.{pattern_of, patterns, term_of}
+use Rattle.fut_meaning.specs.Operations.{parameters_of}
 use Rattle.unfold.specs.Held.{known_of, scope_of}
-use Rattle.unfold.specs.Knowns.{Function_known, Known, Primitive_known, knowns}
-use Rattle.unfold.specs.Stuck.{Stuck, Stuck_run, is_function, no_function, stuck_result}
-use Rattle.unfold.specs.Unfolding.{Applies, Binds, a_body, a_waits}
+use Rattle.unfold.specs.Knowns.{Function_known, Known, Knowns, Primitive_known, knowns, listed}
+use Rattle.unfold.specs.Stuck.{No_arguments, Stuck, Stuck_run, Stuck_runs, is_function, job_function, no_arguments, no_function, stuck_job, stuck_result, the_function}
+use Rattle.unfold.specs.Unfolding.{Applies, Applies_all, Binds, Bindings, a_body, a_job, a_waits, data_known, named, step}
 use Rattle.unfold.specs.declared.known.Field.{Field}
 use Rattle.unfold.specs.declared.known.Function.{Function}
 use Rattle.unfold.specs.declared.known.Known.{Known as Held_known}
@@ -17,7 +19,14 @@ use Rattle.unfold.specs.declared.known.KnownForm.{KnownForm, KnownForm-F, out-Kn
 use Rattle.unfold.specs.declared.known.KnownForm.TheVariants as form
 use Rattle.unfold.specs.declared.known.Scope.{Scope as Held_scope}
 use Rattle.unfold.proofs.Mirror.{function_is, known_function, known_primitive, known_record, known_scalar, known_tuple}
-use Rattle.unfold_parts.specs.Answers.{answered, unanswered, Answered, Applied_primitive}
+use Rattle.unfold_parts.specs.Answers.{answered, unanswered, Applied_primitive, Is_ready, primitive_applied, primitive_ready, primitive_refused}
+use Rattle.unfold_parts.specs.Jobs.{Begins, Begun_to, Ended_to, ended_to, not_ended}
+use Rattle.unfold_parts.specs.declared.jobs.Job.{Job}
+use Rattle.unfold_parts.specs.declared.primitives.Applied.{Applied as Step_form}
+use Rattle.unfold_parts.specs.declared.primitives.Applied.TheVariants as step_form
+use Rattle.unfold_parts.proofs.Packs.{unpacked_no_data}
+use Rattle.fut_blocks.specs.Plain as act
+use Rattle.fut_blocks.specs.Plain.{lets}
 use Rattle.unfold_parts.proofs.Refusing.{only_memory, refused_as}
 use Rattle.unfold_parts.specs.Refused.{lost}
 use Rattle.unfold_parts.specs.States.{steps_of}
@@ -26,8 +35,8 @@ use Rattle.unfold_parts.specs.declared.refusal.Refusal.TheVariants.{Lost, Memory
 use Rattle.unfold_parts.specs.declared.steps.Unfolding.{Unfolding}
 use Rattle.unfold_program.specs.declared.walked.Context.{Context}
 use Rattle.unfold_program.specs.declared.walked.Walked.{Walked}
-use Rattle.unfold_program.specs.Answers.{Unfolded, unfolded, refused, Applied, applied, not_applied, Argued, argued, not_argued, defined, told}
-use Rattle.unfold_program.proofs.Growing.{not_grown}
+use Rattle.unfold_program.specs.Answers.{Unfolded, unfolded, refused, Applied, applied, not_applied, All_applied, all_applied, not_all_applied, Job_applied, Argued, argued, not_argued, defined, told}
+use Rattle.unfold_program.proofs.Growing.{grown}
 
 back : (f g : KnownForm) → out-KnownForm f ≡ out-KnownForm g → f ≡ g
 back f g q = sym (roll-out-KnownForm f) ∙ ap roll-KnownForm q ∙ roll-out-KnownForm g
@@ -50,49 +59,97 @@ module _ (c : Context) (s : Known) (old new : Unfolding) (h : Held_known) where
       at (KnownForm-F.Function g) q = absurd (nf g (back _ _ (q ∙ sym (form.outs-Function g))))
       at (KnownForm-F.Primitive p place ss) q = absurd (np p place ss (back _ _ (q ∙ sym (form.outs-Primitive p place ss))))
 
-  module _ (r : Result Held_known Refusal) where
-    pub apply_of_primitive : (p : Primitive) (at : Place) (ss : Bor (List Held_known)) → h.form ≡ form.Primitive p at ss → Applied_primitive p at (knowns (map known_of ss.now)) s old.next (steps_of old) (steps_of new) new.next r → Applied c (known_of h) s old new r
-    apply_of_primitive p at ss is a = subst (λ z. Applied c z s old new r) (sym (known_primitive h p at ss is)) (made r (a (told c) (defined c)))
-      where
-        made : (r : Result Held_known Refusal) → Answered (λ bs s' next. Applies (told c) (defined c) (Primitive_known p at (knowns (map known_of ss.now))) s old.next bs (known_of s') next) (Stuck_run (told c) (defined c) (Primitive_known p at (knowns (map known_of ss.now))) s) (steps_of old) (steps_of new) new.next r → Applied c (Primitive_known p at (knowns (map known_of ss.now))) s old new r
-        made _ (answered bs g x) = applied bs g x
-        made _ (unanswered h) = not_applied h
+  pub apply_of_primitive : (r : Result Held_known Refusal) (p : Primitive) (at : Place) (ss : Bor (List Held_known)) → h.form ≡ form.Primitive p at ss → Applied c (Primitive_known p at (knowns (map known_of ss.now))) s old new r → Applied c (known_of h) s old new r
+  apply_of_primitive r p at ss is a = subst (λ z. Applied c z s old new r) (sym (known_primitive h p at ss is)) a
+
+-- a primitive with one argument more
+module _ (c : Context) (p : Primitive) (at : Place) (ss : Knowns) (s : Known) (old mid : Unfolding) where
+  pub primitive_as : (a a' : Step_form) → a ≡ a' → Applied_primitive p at ss s old.next (steps_of old) (steps_of mid) mid.next (Ok a) → Applied_primitive p at ss s old.next (steps_of old) (steps_of mid) mid.next (Ok a')
+  primitive_as a a' e h = subst (λ z. Applied_primitive p at ss s old.next (steps_of old) (steps_of mid) mid.next (Ok z)) e h
+
+  pub primitive_known : (k : Held_known) → Applied_primitive p at ss s old.next (steps_of old) (steps_of mid) mid.next (Ok (step_form.Known k)) → Applied c (Primitive_known p at ss) s old mid (Ok k)
+  primitive_known k (primitive_applied bs g a) = applied bs g (a (told c) (defined c))
+
+  pub primitive_err : (new : Unfolding) (r : Refusal) → Applied_primitive p at ss s old.next (steps_of old) (steps_of mid) mid.next (Err r) → Applied c (Primitive_known p at ss) s old new (Err r)
+  primitive_err new r (primitive_refused x) = not_applied (refused_as (λ w. w (told c) (defined c)) x)
+
+  pub primitive_job : (new : Unfolding) (given : Bor (List Held_known)) (r : Result Held_known Refusal) → Applied_primitive p at ss s old.next (steps_of old) (steps_of mid) mid.next (Ok (step_form.Ready given)) → Job_applied c p at (map known_of given.now) mid new r → Applied c (Primitive_known p at ss) s old new r
+  primitive_job new given r (primitive_ready e ready same n) job = from_here r (job ss s e (subst (Is_ready p) (sym e) ready))
+    where
+      from_here : (r : Result Held_known Refusal) → Applied c (Primitive_known p at ss) s mid new r → Applied c (Primitive_known p at ss) s old new r
+      from_here _ (applied {r = k} bs g a) = applied bs (g ∙ ap (λ z. z ++ bs) same) (subst (λ z. Applies (told c) (defined c) (Primitive_known p at ss) s z bs (known_of k) new.next) n a)
+      from_here _ (not_applied x) = not_applied x
+
+pub job_mark : (c : Context) (us : List Known) (f : Known) (m1 m2 : Unfolding) (k : Held_known) (mark : ℕ) → mark ≡ length (steps_of m1) → All_applied c us f m1 m2 (Ok k) → mark ≤ length (steps_of m2)
+job_mark c us f m1 m2 k mark q (all_applied cs g a) = omega (arith, q, ap length g, length-append (steps_of m1) cs)
+
+-- a primitive on arrays with all its arguments
+module _ (c : Context) (p : Primitive) (at : Place) (ss : List Known) (old m1 : Unfolding) where
+  pub job_unbegun : (new : Unfolding) (r : Refusal) → Begun_to p ss old.next (steps_of old) (steps_of m1) m1.next (Err r) → Job_applied c p at ss old new (Err r)
+  job_unbegun new r (unanswered x) gs s e ready =
+      let full = subst (Is_ready p) e ready in
+      not_applied (refused_as (λ lacks. no_arguments full.full full.arrays (subst (No_arguments p) e lacks)) x)
+
+  module _ (j : Job) (m2 : Unfolding) where
+    -- what its function comes to, on the names of its arguments
+    on_names : (gs : Knowns) (s : Known) {bs : Bindings} → ss ≡ listed gs ++ s ∷ [] → Begins p ss old.next bs j m1.next → Stuck_runs (told c) (defined c) (map known_of j.arguments.now) (known_of j.function) → Stuck_runs (told c) (defined c) (map named j.params.now) (the_function p (listed gs ++ s ∷ []))
+    on_names gs s e b w = subst (λ z. Stuck_runs (told c) (defined c) (map named j.params.now) (the_function p z)) e (subst (λ z. Stuck_runs (told c) (defined c) (map named j.params.now) z) b.function (subst (λ z. Stuck_runs (told c) (defined c) z (known_of j.function)) b.named.knowns w))
+
+    applied_on_names : (gs : Knowns) (s : Known) {t : Known} {n : ℕ} {bs cs : Bindings} → ss ≡ listed gs ++ s ∷ [] → Begins p ss old.next bs j m1.next → Applies_all (told c) (defined c) (map known_of j.arguments.now) (known_of j.function) m1.next cs t n → Applies_all (told c) (defined c) (map named j.params.now) (the_function p (listed gs ++ s ∷ [])) m1.next cs t n
+    applied_on_names gs s {t} {n} {cs = cs} e b w = subst (λ z. Applies_all (told c) (defined c) (map named j.params.now) (the_function p z) m1.next cs t n) e (subst (λ z. Applies_all (told c) (defined c) (map named j.params.now) z m1.next cs t n) b.function (subst (λ z. Applies_all (told c) (defined c) z (known_of j.function) m1.next cs t n) b.named.knowns w))
+
+    pub job_stuck : (new : Unfolding) (r : Refusal) → Begun_to p ss old.next (steps_of old) (steps_of m1) m1.next (Ok j) → All_applied c (map known_of j.arguments.now) (known_of j.function) m1 m2 (Err r) → Job_applied c p at ss old new (Err r)
+    job_stuck new r (answered bs g b) (not_all_applied x) gs s e ready =
+        let full = subst (Is_ready p) e ready in
+        not_applied (refused_as (λ w. stuck_job j.params.now full.full full.arrays b.named.many (on_names gs s e b w)) x)
+
+    module _ (mark : ℕ) (k : Held_known) (q : mark ≡ length (steps_of m1)) where
+      pub job_end : (new : Unfolding) (r : Result Held_known Refusal) → Begun_to p ss old.next (steps_of old) (steps_of m1) m1.next (Ok j) → All_applied c (map known_of j.arguments.now) (known_of j.function) m1 m2 (Ok k) → Ended_to mark p at j.atoms.now j.params.now (known_of k) m2.next (steps_of m2) (steps_of new) new.next r → Job_applied c p at ss old new r
+      job_end new _ (answered bs g b) (all_applied cs g' a) (ended_to {s = h} {m} {ds} {w} pk f is n) gs s e ready =
+          let full = subst (Is_ready p) e ready in
+          let whole = a_job {x = m} j.params.now full.full full.arrays (subst (λ z. data_known (parameters_of p) z ≡ Some b.arguments) e b.are_data) b.packs b.named.upward b.named.many (applied_on_names gs s e b a) pk (omega arith) in
+          applied (bs ++ step (m ∷ []) (act.Job p at j.atoms.now j.params.now (lets (cs ++ ds) (w ∷ []))))
+          (f (steps_of m1) cs (sym q) g' ∙ ap (λ z. z ++ step (m ∷ []) (act.Job p at j.atoms.now j.params.now (lets (cs ++ ds) (w ∷ [])))) g ∙ append_assoc (steps_of old) bs _)
+          (subst (λ z. Applies (told c) (defined c) (Primitive_known p at gs) s old.next (bs ++ step (m ∷ []) (act.Job p at j.atoms.now j.params.now (lets (cs ++ ds) (w ∷ [])))) (known_of h) z) (sym n) (subst (λ z. Applies (told c) (defined c) (Primitive_known p at gs) s old.next (bs ++ step (m ∷ []) (act.Job p at j.atoms.now j.params.now (lets (cs ++ ds) (w ∷ [])))) z (suc m)) (sym is) whole))
+      job_end new _ (answered bs g b) (all_applied cs g' a) (not_ended x) gs s e ready =
+          let full = subst (Is_ready p) e ready in
+          not_applied (refused_as (λ lacks. job_function j.params.now full.full full.arrays b.named.many (applied_on_names gs s e b a) (unpacked_no_data (known_of k) lacks)) x)
 
 -- a function with one argument more
 module _ (c : Context) (s : Known) (old : Unfolding) (h : Held_known) (f : Bor Function) (is : h.form ≡ form.Function f) where
   as_function : (new : Unfolding) (r : Result Held_known Refusal) → Applied c (Function_known (patterns (map pattern_of f.now.parameters.now)) (term_of f.now.body.now) f.now.first (scope_of f.now.scope.now)) s old new r → Applied c (known_of h) s old new r
   as_function new r a = subst (λ z. Applied c z s old new r) (sym (known_function h f is)) a
 
-  pub apply_unargued : (new : Unfolding) (r : Refusal) → Argued f.now s (Err r) → Applied c (known_of h) s old new (Err r)
-  apply_unargued new r (not_argued x) = subst (λ z. Applied c z s old new (Err r)) (function_is f.now ∙ sym (known_function h f is)) (not_applied (refused_as (λ w. w (told c) (defined c)) x))
+  pub apply_unargued : (mid new : Unfolding) (r : Refusal) → Argued f.now s old mid (Err r) → Applied c (known_of h) s old new (Err r)
+  apply_unargued mid new r (not_argued x) = subst (λ z. Applied c z s old new (Err r)) (function_is f.now ∙ sym (known_function h f is)) (not_applied (refused_as (λ w. w (told c) (defined c)) x))
 
-  module _ (inner : Bor Held_scope) where
+  module _ (inner : Bor Held_scope) (mid : Unfolding) where
     -- it waits for further ones
-    pub apply_waits : (qs : List Pat) (r : Result Held_known Refusal) → Argued f.now s (Ok inner) → 1 < length f.now.parameters.now → qs ≡ drop 1 f.now.parameters.now → IfOk r (λ k. known_of k ≡ Function_known (patterns (map pattern_of qs)) (term_of f.now.body.now) f.now.first (scope_of inner.now)) → IfErr r (λ x. x ≡ Memory) → Applied c (known_of h) s old old r
+    pub apply_waits : (qs : List Pat) (r : Result Held_known Refusal) → Argued f.now s old mid (Ok inner) → 1 < length f.now.parameters.now → qs ≡ drop 1 f.now.parameters.now → IfOk r (λ k. known_of k ≡ Function_known (patterns (map pattern_of qs)) (term_of f.now.body.now) f.now.first (scope_of inner.now)) → IfErr r (λ x. x ≡ Memory) → Applied c (known_of h) s old mid r
     unfolding patterns
     apply_waits qs (Err x) a some q e m = not_applied (only_memory m)
-    apply_waits qs (Ok k) (argued d nonempty b) some q e m = as_function old (Ok k) (applied [] (not_grown (steps_of old) (steps_of old) refl) (subst (λ z. Applies (told c) (defined c) (Function_known (patterns (map pattern_of f.now.parameters.now)) (term_of f.now.body.now) f.now.first (scope_of f.now.scope.now)) s old.next [] z old.next) (sym (e ∙ ap (λ z. Function_known (patterns (map pattern_of z)) (term_of f.now.body.now) f.now.first (scope_of inner.now)) q)) (waits f.now.parameters.now some b)))
+    apply_waits qs (Ok k) (argued d bs nonempty g b) some q e m = as_function mid (Ok k) (applied bs g (subst (λ z. Applies (told c) (defined c) (Function_known (patterns (map pattern_of f.now.parameters.now)) (term_of f.now.body.now) f.now.first (scope_of f.now.scope.now)) s old.next bs z mid.next) (sym (e ∙ ap (λ z. Function_known (patterns (map pattern_of z)) (term_of f.now.body.now) f.now.first (scope_of inner.now)) q)) (waits f.now.parameters.now some b)))
       where
-        waits : (ps : List Pat) → 1 < length ps → Binds (pattern_of (get_or ps 0 d)) s (scope_of f.now.scope.now) (scope_of inner.now) → Applies (told c) (defined c) (Function_known (patterns (map pattern_of ps)) (term_of f.now.body.now) f.now.first (scope_of f.now.scope.now)) s old.next [] (Function_known (patterns (map pattern_of (drop 1 ps))) (term_of f.now.body.now) f.now.first (scope_of inner.now)) old.next
+        waits : (ps : List Pat) → 1 < length ps → Binds (pattern_of (get_or ps 0 d)) s (scope_of f.now.scope.now) old.next bs (scope_of inner.now) mid.next → Applies (told c) (defined c) (Function_known (patterns (map pattern_of ps)) (term_of f.now.body.now) f.now.first (scope_of f.now.scope.now)) s old.next bs (Function_known (patterns (map pattern_of (drop 1 ps))) (term_of f.now.body.now) f.now.first (scope_of inner.now)) mid.next
         waits [] some b = absurd (omega (arith, some))
         waits (p ∷ []) some b = absurd (omega (arith, some))
         waits (p ∷ q ∷ ps) some b = a_waits b
 
     -- or its body is unfolded
-    pub apply_runs : (new : Unfolding) (r : Walked) → Argued f.now s (Ok inner) → length f.now.parameters.now ≤ 1 → Unfolded c (scope_of inner.now) f.now.first (term_of f.now.body.now) old new (Ok r) → Applied c (known_of h) s old new (Ok r.known)
+    pub apply_runs : (new : Unfolding) (r : Walked) → Argued f.now s old mid (Ok inner) → length f.now.parameters.now ≤ 1 → Unfolded c (scope_of inner.now) f.now.first (term_of f.now.body.now) mid new (Ok r) → Applied c (known_of h) s old new (Ok r.known)
     unfolding patterns
-    apply_runs new r (argued d nonempty b) few (unfolded bs g u k) = as_function new (Ok r.known) (applied bs g (runs f.now.parameters.now nonempty few b))
+    apply_runs new r (argued d es nonempty ge b) few (unfolded bs g u k) = as_function new (Ok r.known) (applied (es ++ bs) (grown (steps_of old) (steps_of mid) (steps_of new) es bs ge g) (runs f.now.parameters.now nonempty few b))
       where
-        runs : (ps : List Pat) → (length ps ≡ 0 → ⊥) → length ps ≤ 1 → Binds (pattern_of (get_or ps 0 d)) s (scope_of f.now.scope.now) (scope_of inner.now) → Applies (told c) (defined c) (Function_known (patterns (map pattern_of ps)) (term_of f.now.body.now) f.now.first (scope_of f.now.scope.now)) s old.next bs (known_of r.known) new.next
+        runs : (ps : List Pat) → (length ps ≡ 0 → ⊥) → length ps ≤ 1 → Binds (pattern_of (get_or ps 0 d)) s (scope_of f.now.scope.now) old.next es (scope_of inner.now) mid.next → Applies (told c) (defined c) (Function_known (patterns (map pattern_of ps)) (term_of f.now.body.now) f.now.first (scope_of f.now.scope.now)) s old.next (es ++ bs) (known_of r.known) new.next
         runs [] nonempty few b = absurd (nonempty refl)
         runs (p ∷ []) nonempty few b = a_body b u
         runs (p ∷ q ∷ ps) nonempty few b = absurd (omega (arith, few))
 
-    pub apply_stuck : (new : Unfolding) (r : Refusal) → Argued f.now s (Ok inner) → length f.now.parameters.now ≤ 1 → Unfolded c (scope_of inner.now) f.now.first (term_of f.now.body.now) old new (Err r) → Applied c (known_of h) s old new (Err r)
+    pub apply_stuck : (new : Unfolding) (r : Refusal) → Argued f.now s old mid (Ok inner) → length f.now.parameters.now ≤ 1 → Unfolded c (scope_of inner.now) f.now.first (term_of f.now.body.now) mid new (Err r) → Applied c (known_of h) s old new (Err r)
     unfolding patterns
-    apply_stuck new r (argued d nonempty b) few (refused x) = as_function new (Err r) (not_applied (refused_as (λ w. stuck_there f.now.parameters.now nonempty few b w) x))
+    apply_stuck new r (argued d es nonempty ge b) few (refused x) = as_function new (Err r) (not_applied (refused_as (λ w. stuck_there f.now.parameters.now nonempty few b w) x))
       where
-        stuck_there : (ps : List Pat) → (length ps ≡ 0 → ⊥) → length ps ≤ 1 → Binds (pattern_of (get_or ps 0 d)) s (scope_of f.now.scope.now) (scope_of inner.now) → Stuck (told c) (defined c) (scope_of inner.now) f.now.first (term_of f.now.body.now) → Stuck_run (told c) (defined c) (Function_known (patterns (map pattern_of ps)) (term_of f.now.body.now) f.now.first (scope_of f.now.scope.now)) s
+        stuck_there : (ps : List Pat) → (length ps ≡ 0 → ⊥) → length ps ≤ 1 → Binds (pattern_of (get_or ps 0 d)) s (scope_of f.now.scope.now) old.next es (scope_of inner.now) mid.next → Stuck (told c) (defined c) (scope_of inner.now) f.now.first (term_of f.now.body.now) → Stuck_run (told c) (defined c) (Function_known (patterns (map pattern_of ps)) (term_of f.now.body.now) f.now.first (scope_of f.now.scope.now)) s
         stuck_there [] nonempty few b w = absurd (nonempty refl)
-        stuck_there (p ∷ []) nonempty few b w = stuck_result b w
+        stuck_there (p ∷ []) nonempty few b w = stuck_result (old.next, es, mid.next, b) w
         stuck_there (p ∷ q ∷ ps) nonempty few b w = absurd (omega (arith, few))

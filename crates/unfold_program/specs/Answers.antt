@@ -1,5 +1,5 @@
 -- What the calls of the walk answer. Where one is lost, unfolding is stuck; want of memory says nothing.
-use Rattle.std.specs.Prelude.{◌≡◌, ℕ, suc, ◌+◌, ◌++◌, List, [], map, length, get_or, Bool, true, false, Result, Ok, Err}
+use Rattle.std.specs.Prelude.{◌≡◌, ℕ, ◌+◌, ◌++◌, List, [], ◌∷◌, map, length, get_or, Bool, true, false, Option, Some, None, Result, Ok, Err}
 use Rattle.std.specs.Borrow.{Bor}
 use Rattle.fut_scalar.specs.declared.place.BindId.{BindId}
 use Rattle.fut_scalar.specs.declared.place.Place.{Place}
@@ -8,26 +8,27 @@ use Rattle.fut_flat.specs.declared.act.Act.{Act}
 use Rattle.fut_flat.specs.declared.act.Act.TheVariants as act
 use Rattle.fut_flat.specs.declared.exp.Exp.{Exp}
 use Rattle.fut_flat.specs.declared.exp.Loop.{Loop as LoopTree}
+use Rattle.fut_flat.specs.declared.prim.Primitive.{Primitive}
 use Rattle.fut_flat.specs.declared.prim.Ref.{Ref}
+use Rattle.fut_scalar.specs.declared.scalar.Scalar.TheVariants as scalar
 use Rattle.fut_flat.specs.declared.pat.Pat.{Pat}
 use Rattle.fut_flat.specs.Erased.{FlatPattern, FlatTerm, FlatType, lets, pattern_of, term_of}
 use Rattle.fut_flat.specs.Erased as erased
 use Rattle.fut_flat.specs.Numbers.{all_numbers, all_pattern_numbers, numbers, pattern_numbers}
-use Rattle.fut_flat.specs.Terms.{Counted, Declared, Loop, Operation, Patterns, Strict, Terms, Use, While, no_term, term_and}
+use Rattle.fut_flat.specs.Terms.{Declared, If, Loop, Operation, Patterns, Strict, Terms, Use, no_term, term_and}
 use Rattle.fut_blocks.specs.declared.block.Atom.{Atom}
-use Rattle.fut_blocks.specs.declared.block.Block.{Block}
 use Rattle.fut_blocks.specs.Numbered.{Upward}
 use Rattle.fut_blocks.specs.Plain as plain
-use Rattle.fut_blocks.specs.Plain.{Action, body_of}
+use Rattle.fut_blocks.specs.Plain.{Action, Body, body_of}
 use Rattle.unfold.specs.Held.{function_of, known_of, scope_of}
-use Rattle.unfold.specs.Knowns.{Function_known, Known, Scalar_known, Scope, Tops, name_and}
+use Rattle.unfold.specs.Knowns.{Function_known, Known, Knowns, Primitive_known, Scalar_known, Scope, Tops, listed, name_and}
 use Rattle.unfold.specs.Shapes.{Laid}
-use Rattle.unfold.specs.Stuck.{No_data, No_operation, No_scalar, Not_bound, Not_laid, Stuck, Stuck_all, Stuck_run}
-use Rattle.unfold.specs.Unfolding.{Applies, Bindings, Binds, Unfold_all, Unfolds, named, names, step}
+use Rattle.unfold.specs.Stuck.{Binds_to, No_data, No_operation, No_scalar, Not_bound, Stuck, Stuck_all, Stuck_run, Stuck_runs}
+use Rattle.unfold.specs.Unfolding.{Applies, Applies_all, Bindings, Binds, Packs, Unfold_all, Unfolds, constant, named, names, step}
 use Rattle.unfold.specs.declared.known.Function.{Function}
 use Rattle.unfold.specs.declared.known.Known.{Known as Held_known}
 use Rattle.unfold.specs.declared.known.Scope.{Scope as Held_scope}
-use Rattle.unfold_parts.specs.Answers.{Blocked, Operated, Used}
+use Rattle.unfold_parts.specs.Answers.{Is_ready, Operated, Used}
 use Rattle.unfold_parts.specs.Layouts.{shape_of}
 use Rattle.unfold_parts.specs.Refused.{Refused}
 use Rattle.unfold_parts.specs.States.{steps_of}
@@ -43,7 +44,6 @@ use Rattle.unfold_program.specs.declared.walked.Parts.{Parts}
 use Rattle.unfold_program.specs.declared.walked.Branch.{Branch}
 use Rattle.unfold_program.specs.declared.walked.Row.{Row}
 use Rattle.unfold_program.specs.declared.walked.Entered.{Entered}
-use Rattle.unfold_program.specs.declared.walked.Turn.{Turn}
 
 -- ---- declared types around a term
 
@@ -115,31 +115,97 @@ pub data Lambda_known (sc : Scope) (inside : ℕ) (ps : Patterns Ref BindId) (e 
   no_lambda : Lambda_known sc inside ps e (Err Memory)
 
 -- the names around the body of a function whose first parameter is bound to an argument
-pub data Argued (f : Function) (s : Known) : Result (Bor Held_scope) Refusal → Type 0 where
-  argued : {inner : Bor Held_scope} (d : Pat) → (length f.parameters.now ≡ 0 → ⊥) → Binds (pattern_of (get_or f.parameters.now 0 d)) s (scope_of f.scope.now) (scope_of inner.now) → Argued f s (Ok inner)
-  not_argued : {r : Refusal} → Refused ((types : ℕ → IntType) (tops : Tops) → Stuck_run types tops (function_of f) s) r → Argued f s (Err r)
+pub data Argued (f : Function) (s : Known) (old new : Unfolding) : Result (Bor Held_scope) Refusal → Type 0 where
+  argued : {inner : Bor Held_scope} (d : Pat) (bs : Bindings) → (length f.parameters.now ≡ 0 → ⊥) → steps_of new ≡ steps_of old ++ bs → Binds (pattern_of (get_or f.parameters.now 0 d)) s (scope_of f.scope.now) old.next bs (scope_of inner.now) new.next → Argued f s old new (Ok inner)
+  not_argued : {r : Refusal} → Refused ((types : ℕ → IntType) (tops : Tops) → Stuck_run types tops (function_of f) s) r → Argued f s old new (Err r)
+
+-- a function applied to arguments, one after the other
+pub data All_applied (c : Context) (ss : List Known) (f : Known) (old new : Unfolding) : Result Held_known Refusal → Type 0 where
+  all_applied : {r : Held_known} (bs : Bindings) → steps_of new ≡ steps_of old ++ bs → Applies_all (told c) (defined c) ss f old.next bs (known_of r) new.next → All_applied c ss f old new (Ok r)
+  not_all_applied : {r : Refusal} → Refused (Stuck_runs (told c) (defined c) ss f) r → All_applied c ss f old new (Err r)
+
+-- a primitive on arrays that has all its arguments, of which the last one is told
+abbrev pub Job_applied : Context → Primitive → Place → List Known → Unfolding → Unfolding → Result Held_known Refusal → Type 0
+Job_applied c p at ss old new r = (gs : Knowns) (s : Known) → ss ≡ listed gs ++ s ∷ [] → Is_ready p ss → Applied c (Primitive_known p at gs) s old new r
 
 -- ---- blocks
 
--- what has been walked as a block: the steps behind the mark, and its value as data of the shape that is asked for
-pub data Closed_to (mark : ℕ) (like : Known) (w : Walked) (old new : Unfolding) : Result Branch Refusal → Type 0 where
-  closed_to : {b : Bor Block} (us : List Atom) → Laid (shape_of like) (known_of w.known) us [] → Blocked mark us (steps_of old) (steps_of new) (Ok b) → new.next ≡ old.next → Closed_to mark like w old new (Ok (record { block = b; at = w.at }))
-  not_closed : {r : Refusal} → Refused (Not_laid (shape_of like) (known_of w.known)) r → Closed_to mark like w old new (Err r)
+abbrev pub is_component : Known → Bool
+is_component (Scalar_known u) = true
+is_component s = false
 
--- why a term is no block: there is no way on in it, or what it gives has not the shape that is asked for
-pub data No_block (c : Context) (sc : Scope) (lo : ℕ) (t : FlatTerm) (like : Known) : Type 0 where
-  stuck_inside : Stuck (told c) (defined c) sc lo t → No_block c sc lo t like
-  other_shape : {n n' : ℕ} {bs : Bindings} {s : Known} → Unfolds (told c) (defined c) sc lo t n bs s n' → Not_laid (shape_of like) s → No_block c sc lo t like
+-- what is known of a value, as it is or as one component
+pub data Becomes : Known → ℕ → Bindings → Known → ℕ → Type 0 where
+  stays : {s : Known} {n : ℕ} → Becomes s n [] s n
+  becomes_one : {s : Known} {n m : ℕ} {bs : Bindings} {u : Atom} → Packs s n bs u m → Becomes s n bs (Scalar_known u) m
 
--- a term as a block of its own: the steps around it are as they were
-pub data Blocked_to (c : Context) (sc : Scope) (lo : ℕ) (t : FlatTerm) (like : Known) (old new : Unfolding) : Result Branch Refusal → Type 0 where
-  blocked_to : {r : Branch} {s : Known} (bs : Bindings) (us : List Atom) → steps_of new ≡ steps_of old → Unfolds (told c) (defined c) sc lo t old.next bs s new.next → Laid (shape_of like) s us [] → body_of r.block.now ≡ plain.lets bs us → r.at ≡ lo + numbers t → Blocked_to c sc lo t like old new (Ok r)
-  not_blocked : {r : Refusal} → Refused (No_block c sc lo t like) r → Blocked_to c sc lo t like old new (Err r)
+pub data Packed_walk (w : Walked) (old new : Unfolding) : Result Walked Refusal → Type 0 where
+  packed_walk : {r : Walked} {u : Atom} (bs : Bindings) → steps_of new ≡ steps_of old ++ bs → Packs (known_of w.known) old.next bs u new.next → known_of r.known ≡ Scalar_known u → r.at ≡ w.at → Packed_walk w old new (Ok r)
+  not_packed_walk : {r : Refusal} → Refused (No_data (known_of w.known)) r → Packed_walk w old new (Err r)
+
+-- the steps behind the mark and some more are those of a block with these results, and those before the mark are left
+abbrev pub Is_block : ℕ → Bindings → Bindings → Bindings → List Atom → Body → Type 0
+Is_block mark before after bs us b = (outside inside : Bindings) → length outside ≡ mark → before ≡ outside ++ inside → (after ≡ outside) × (b ≡ plain.lets (inside ++ bs) us)
+
+-- what has been walked as a block: the steps behind the mark, and its value as data of the shape that is asked for; none where it
+-- is of another shape, or too large, and more than one component is asked for
+pub data Closed_to (mark : ℕ) (like : Known) (w : Walked) (old new : Unfolding) : Result (Option Branch) Refusal → Type 0 where
+  closed_to : {r : Branch} {s : Known} (bs : Bindings) (us : List Atom) → Becomes (known_of w.known) old.next bs s new.next → Laid (shape_of like) s us [] → Is_block mark (steps_of old) (steps_of new) bs us (body_of r.block.now) → r.at ≡ w.at → Closed_to mark like w old new (Ok (Some r))
+  other_form : is_component like ≡ false → steps_of new ≡ steps_of old → Closed_to mark like w old new (Ok None)
+  not_closed : {r : Refusal} → Refused (No_data (known_of w.known)) r → Closed_to mark like w old new (Err r)
+
+-- the same, where one component is asked for
+abbrev pub Packed_closed : ℕ → Walked → Unfolding → Unfolding → Result (Option Branch) Refusal → Type 0
+Packed_closed mark = Closed_to mark (constant (scalar.Bool true))
+
+-- and for a scalar, which is one
+pub data Scalar_closed (mark : ℕ) (w : WalkedScalar) (old new : Unfolding) : Result Branch Refusal → Type 0 where
+  scalar_closed : {r : Branch} → Is_block mark (steps_of old) (steps_of new) [] (w.atom ∷ []) (body_of r.block.now) → new.next ≡ old.next → r.at ≡ w.at → Scalar_closed mark w old new (Ok r)
+  not_scalar_closed : Scalar_closed mark w old new (Err Memory)
+
+-- why a term is no block: there is no way on in it, or what it gives is or holds a function
+pub data No_block (c : Context) (sc : Scope) (lo : ℕ) (t : FlatTerm) : Type 0 where
+  stuck_inside : Stuck (told c) (defined c) sc lo t → No_block c sc lo t
+  gives_function : {n n' : ℕ} {bs : Bindings} {s : Known} → Unfolds (told c) (defined c) sc lo t n bs s n' → No_data s → No_block c sc lo t
+
+-- a term behind the steps from a mark on as a block; none where what it gives is of another shape
+pub data Blocked_to (c : Context) (sc : Scope) (mark lo : ℕ) (t : FlatTerm) (like : Known) (old new : Unfolding) : Result (Option Branch) Refusal → Type 0 where
+  blocked_to : {r : Branch} {s : Known} (bs : Bindings) (us : List Atom) → Is_block mark (steps_of old) (steps_of new) bs us (body_of r.block.now) → Unfolds (told c) (defined c) sc lo t old.next bs s new.next → Laid (shape_of like) s us [] → r.at ≡ lo + numbers t → Blocked_to c sc mark lo t like old new (Ok (Some r))
+  block_differs : (bs : Bindings) → is_component like ≡ false → steps_of new ≡ steps_of old ++ bs → Blocked_to c sc mark lo t like old new (Ok None)
+  not_blocked : {r : Refusal} → Refused (No_block c sc lo t) r → Blocked_to c sc mark lo t like old new (Err r)
 
 -- one more step, which gives data of the shape of what is known under new names
 pub data Stepped_to (like : Known) (a : Action) (at : ℕ) (old new : Unfolding) : Result Walked Refusal → Type 0 where
   stepped_to : {s : Held_known} (xs : List ℕ) → steps_of new ≡ steps_of old ++ step xs a → Upward old.next xs new.next → Laid (shape_of like) (known_of s) (names xs) [] → Stepped_to like a at old new (Ok (record { known = s; at = at }))
   not_stepped : {r : Refusal} → Refused (No_data like) r → Stepped_to like a at old new (Err r)
+
+-- what has been walked, if anything
+pub data Given_as : Result Walked Refusal → Result (Option Walked) Refusal → Type 0 where
+  given_walked : {w : Walked} → Given_as (Ok w) (Ok (Some w))
+  given_refusal : {r : Refusal} → Given_as (Err r) (Err r)
+
+-- ---- branches
+
+-- the shape that is asked for: one component where both branches are packed, else that of the first one
+pub data Asked (packs : Bool) (s : Known) : Known → Type 0 where
+  asked_one : {u : Atom} → packs ≡ true → Asked packs s (Scalar_known u)
+  asked_same : packs ≡ false → Asked packs s s
+
+-- Both branches, once the condition is known: what the whole unfolds to, from where its condition was unfolded.
+pub record Branched (c : Context) (sc : Scope) (truth : WalkedScalar) (ta tb : FlatTerm) (old new : Unfolding) (r : Walked) : Type 0 where
+  pub steps : Bindings
+  pub grown : steps_of new ≡ steps_of old ++ steps
+  pub unfolds : (lo n : ℕ) (bs : Bindings) (tc : FlatTerm) → truth.at ≡ 1 + lo + numbers tc → Unfolds (told c) (defined c) sc (1 + lo) tc n bs (Scalar_known truth.atom) old.next → Unfolds (told c) (defined c) sc lo (If tc ta tb) n (bs ++ steps) (known_of r.known) new.next
+  pub behind : r.at ≡ truth.at + numbers ta + numbers tb
+
+abbrev pub Branches_stuck : Context → Scope → WalkedScalar → FlatTerm → FlatTerm → Unfolding → Type 0
+Branches_stuck c sc truth ta tb old =
+    (lo n : ℕ) (bs : Bindings) (tc : FlatTerm) → truth.at ≡ 1 + lo + numbers tc → Unfolds (told c) (defined c) sc (1 + lo) tc n bs (Scalar_known truth.atom) old.next → Stuck (told c) (defined c) sc lo (If tc ta tb)
+
+pub data Branches_to (c : Context) (sc : Scope) (truth : WalkedScalar) (ta tb : FlatTerm) (packs : Bool) (old new : Unfolding) : Result (Option Walked) Refusal → Type 0 where
+  branches_to : {r : Walked} → Branched c sc truth ta tb old new r → Branches_to c sc truth ta tb packs old new (Ok (Some r))
+  branches_differ : (bs : Bindings) → packs ≡ false → steps_of new ≡ steps_of old ++ bs → Branches_to c sc truth ta tb packs old new (Ok None)
+  no_branches : {r : Refusal} → Refused (Branches_stuck c sc truth ta tb old) r → Branches_to c sc truth ta tb packs old new (Err r)
 
 -- ---- loops
 
@@ -147,20 +213,25 @@ pub data Scalar_to (w : Walked) : Result WalkedScalar Refusal → Type 0 where
   scalar_to : {u : Atom} → known_of w.known ≡ Scalar_known u → Scalar_to w (Ok (record { atom = u; at = w.at }))
   no_scalar : {r : Refusal} → Refused (No_scalar (known_of w.known)) r → Scalar_to w (Err r)
 
--- why a loop has no first turn: its first value is no data, or data of its shape has not the form of the pattern
-pub data No_entry (p : FlatPattern) (s : Known) : Type 0 where
-  no_components : No_data s → No_entry p s
-  other_form : {t : Known} {us ws : List Atom} → Laid (shape_of s) s us [] → Laid (shape_of s) t ws [] → Not_bound p t → No_entry p s
+-- the components of a loop's first value, and new names for its parameters
+pub data Entered_to (s : Known) (n next : ℕ) : Result Entered Refusal → Type 0 where
+  entered_to : {r : Entered} → Laid (shape_of s) s r.first.now [] → Upward n r.params.now next → Laid (shape_of s) (known_of r.known) (names r.params.now) [] → Entered_to s n next (Ok r)
+  not_entered : {r : Refusal} → Refused (No_data s) r → Entered_to s n next (Err r)
 
--- the components of a loop's first value, and new names for its parameters, bound by the loop's pattern
-pub data Entered_to (p : FlatPattern) (sc : Scope) (s : Known) (old new : Unfolding) : Result Entered Refusal → Type 0 where
-  entered_to : {r : Entered} {t : Known} → steps_of new ≡ steps_of old → Laid (shape_of s) s r.first.now [] → Upward old.next r.params.now new.next → Laid (shape_of s) t (names r.params.now) [] → Binds p t sc (scope_of r.scope.now) → Entered_to p sc s old new (Ok r)
-  not_entered : {r : Refusal} → Refused (No_entry p s) r → Entered_to p sc s old new (Err r)
+-- the names of a turn, whose number has a name
+pub data Turn_bound_to (p : FlatPattern) (i : BindId) (y : ℕ) (sc : Scope) (s : Known) (old new : Unfolding) : Result (Bor Held_scope) Refusal → Type 0 where
+  turn_bound_to : {inner : Bor Held_scope} {inside : Scope} (bs : Bindings) → steps_of new ≡ steps_of old ++ bs → Binds p s sc old.next bs inside new.next → scope_of inner.now ≡ name_and i (named y) inside → Turn_bound_to p i y sc s old new (Ok inner)
+  not_turn_bound : {r : Refusal} → Refused (Not_bound p s) r → Turn_bound_to p i y sc s old new (Err r)
 
--- and behind them a new name for the number of the turn
-pub data Turned_to (p : FlatPattern) (i : BindId) (sc : Scope) (s : Known) (old new : Unfolding) : Result Turn Refusal → Type 0 where
-  turned_to : {r : Turn} {t : Known} {inside : Scope} → steps_of new ≡ steps_of old → Laid (shape_of s) s r.first.now [] → Upward old.next r.params.now r.index → Laid (shape_of s) t (names r.params.now) [] → Binds p t sc inside → scope_of r.scope.now ≡ name_and i (named r.index) inside → new.next ≡ suc r.index → Turned_to p i sc s old new (Ok r)
-  not_turned : {r : Refusal} → Refused (No_entry p s) r → Turned_to p i sc s old new (Err r)
+-- why there are no names of a turn for a row: the pattern of the loop has not the form of its value, or that of the row none of a
+-- component
+pub data No_row_names (p q : FlatPattern) (y : ℕ) (sc : Scope) (s : Known) : Type 0 where
+  no_value_names : Not_bound p s → No_row_names p q y sc s
+  no_names_of_row : {inside : Scope} → Binds_to p s sc inside → Not_bound q (named y) → No_row_names p q y sc s
+
+pub data Row_bound_to (p q : FlatPattern) (y : ℕ) (sc : Scope) (s : Known) (old new : Unfolding) : Result (Bor Held_scope) Refusal → Type 0 where
+  row_bound_to : {inner : Bor Held_scope} {inside : Scope} {k : ℕ} (bs cs : Bindings) → steps_of new ≡ steps_of old ++ (bs ++ cs) → Binds p s sc old.next bs inside k → Binds q (named y) inside k cs (scope_of inner.now) new.next → Row_bound_to p q y sc s old new (Ok inner)
+  not_row_bound : {r : Refusal} → Refused (No_row_names p q y sc s) r → Row_bound_to p q y sc s old new (Err r)
 
 -- A loop, once its first value is known: what it unfolds to in all, from where its first value was unfolded.
 pub record Looped (c : Context) (sc : Scope) (l : LoopTree) (turns : erased.FlatTurns) (first : Walked) (old new : Unfolding) (r : Walked) : Type 0 where
@@ -175,13 +246,28 @@ Loop_stuck c sc l turns first old =
     (lo n : ℕ) (bs : Bindings) → first.at ≡ 1 + lo + pattern_numbers (pattern_of l.pat) + numbers (term_of l.first) → Unfolds (told c) (defined c) sc (1 + lo + pattern_numbers (pattern_of l.pat)) (term_of l.first) n bs (known_of first.known) old.next
     → Stuck (told c) (defined c) sc lo (Loop l.mark l.sizes.now (pattern_of l.pat) (term_of l.first) turns (term_of l.body))
 
-pub data Counted_to (c : Context) (sc : Scope) (l : LoopTree) (i : BindId) (count : FlatTerm) (first : Walked) (old new : Unfolding) : Result Walked Refusal → Type 0 where
-  counted_to : {r : Walked} → Looped c sc l (Counted i count) first old new r → Counted_to c sc l i count first old new (Ok r)
-  not_counted : {r : Refusal} → Refused (Loop_stuck c sc l (Counted i count) first old) r → Counted_to c sc l i count first old new (Err r)
+-- none where the first value is more than one component, and a turn gives data of another shape
+pub data Looped_to (c : Context) (sc : Scope) (l : LoopTree) (turns : erased.FlatTurns) (first : Walked) (old new : Unfolding) : Result (Option Walked) Refusal → Type 0 where
+  looped_to : {r : Walked} → Looped c sc l turns first old new r → Looped_to c sc l turns first old new (Ok (Some r))
+  turns_differ : (bs : Bindings) → is_component (known_of first.known) ≡ false → steps_of new ≡ steps_of old ++ bs → Looped_to c sc l turns first old new (Ok None)
+  not_looped : {r : Refusal} → Refused (Loop_stuck c sc l turns first old) r → Looped_to c sc l turns first old new (Err r)
 
-pub data Tested_to (c : Context) (sc : Scope) (l : LoopTree) (test : FlatTerm) (first : Walked) (old new : Unfolding) : Result Walked Refusal → Type 0 where
-  tested_to : {r : Walked} → Looped c sc l (While test) first old new r → Tested_to c sc l test first old new (Ok r)
-  not_tested : {r : Refusal} → Refused (Loop_stuck c sc l (While test) first old) r → Tested_to c sc l test first old new (Err r)
+-- the first try: none where it has to be packed, and then as many steps and names stand as before
+pub data Tried_to (c : Context) (sc : Scope) (l : LoopTree) (turns : erased.FlatTurns) (first : Walked) (old new : Unfolding) : Result (Option Walked) Refusal → Type 0 where
+  tried_to : {r : Walked} → Looped c sc l turns first old new r → Tried_to c sc l turns first old new (Ok (Some r))
+  has_to_pack : steps_of new ≡ steps_of old → new.next ≡ old.next → Tried_to c sc l turns first old new (Ok None)
+  not_tried : {r : Refusal} → Refused (Loop_stuck c sc l turns first old) r → Tried_to c sc l turns first old new (Err r)
+
+-- why a condition is no block in the names of a pattern
+pub data No_truth (c : Context) (sc : Scope) (p : FlatPattern) (lo : ℕ) (t : FlatTerm) (s : Known) : Type 0 where
+  no_names_of_value : Not_bound p s → No_truth c sc p lo t s
+  stuck_truth : {inner : Scope} → Binds_to p s sc inner → Stuck (told c) (defined c) inner lo t → No_truth c sc p lo t s
+  other_truth : {inner : Scope} {n n' : ℕ} {bs : Bindings} {s' : Known} → Binds_to p s sc inner → Unfolds (told c) (defined c) inner lo t n bs s' n' → No_scalar s' → No_truth c sc p lo t s
+
+-- a condition as a block of its own, in the names of a pattern
+pub data Tested_to (c : Context) (sc : Scope) (p : FlatPattern) (lo : ℕ) (t : FlatTerm) (s : Known) (old new : Unfolding) : Result Branch Refusal → Type 0 where
+  tested_to : {r : Branch} {inner : Scope} {k : ℕ} {u : Atom} (es cs : Bindings) → steps_of new ≡ steps_of old → Binds p s sc old.next es inner k → Unfolds (told c) (defined c) inner lo t k cs (Scalar_known u) new.next → body_of r.block.now ≡ plain.lets (es ++ cs) (u ∷ []) → r.at ≡ lo + numbers t → Tested_to c sc p lo t s old new (Ok r)
+  not_tested : {r : Refusal} → Refused (No_truth c sc p lo t s) r → Tested_to c sc p lo t s old new (Err r)
 
 -- ---- rows of lets
 

@@ -2,7 +2,7 @@
 use Rattle.std.specs.Prelude.{◌≡◌, ℕ, zero, suc, ◌+◌, ◌++◌, List, [], ◌∷◌, map, length, Bool, true, false, Result, Ok, Err, Some, None}
 use Rattle.fut_scalar.specs.declared.place.BindId.{BindId}
 use Rattle.fut_scalar.specs.declared.scalar.IntType.{IntType}
-use Rattle.fut_scalar.specs.declared.scalar.ScalarType.{ScalarType}
+use Rattle.fut_scalar.specs.declared.sizes.DataType.{DataType}
 use Rattle.fut_flat.specs.Erased.{FlatTerm}
 use Rattle.fut_flat.specs.Numbers.{numbers}
 use Rattle.fut_meaning.specs.Flats.{FlatTop}
@@ -13,10 +13,10 @@ use Rattle.fut_blocks.specs.Numbered.{Upward}
 use Rattle.fut_blocks.specs.Plain.{body_of, lets}
 use Rattle.unfold.specs.Held.{known_of}
 use Rattle.unfold.specs.Knowns.{Known, knowns, no_name}
-use Rattle.unfold.specs.Programs.{Applies_all, Definitions_unfold, Program_unfolds}
+use Rattle.unfold.specs.Programs.{Definitions_unfold, Program_unfolds}
 use Rattle.unfold.specs.Shapes.{All_laid, Laid, Scalar_shape, Shape, Shapes, no_shape, shape_and}
 use Rattle.unfold.specs.Stuck.{Definitions_stuck, No_data, Program_stuck, Stuck, Stuck_runs}
-use Rattle.unfold.specs.Unfolding.{Bindings, Unfolds, names}
+use Rattle.unfold.specs.Unfolding.{Applies_all, Bindings, Unfolds, names}
 use Rattle.unfold.specs.declared.known.Known.{Known as Held_known}
 use Rattle.unfold_parts.specs.Layouts.{shape_of}
 use Rattle.unfold_parts.specs.Refused.{Refused}
@@ -28,7 +28,7 @@ use Rattle.unfold_parts.specs.declared.steps.Unfolding.{Unfolding}
 use Rattle.unfold_program.specs.declared.program.Given.{Given}
 use Rattle.unfold_program.specs.declared.program.Made.{Made}
 use Rattle.unfold_program.specs.declared.walked.Context.{Context}
-use Rattle.unfold_program.specs.Answers.{defined, told}
+use Rattle.unfold_program.specs.Answers.{All_applied, defined, told}
 
 -- so many scalars
 abbrev pub scalars : ℕ → Shapes
@@ -56,12 +56,8 @@ pub data Definitions_to (types : List IntType) (entry : ℕ) (ds : List FlatTop)
   definitions_to : {r : Made} (bs : Bindings) → steps_of new ≡ steps_of old ++ bs → r.context.types.now ≡ types → Definitions_unfold (integer_at types) entry [] ds old.next bs (defined r.context) new.next → Definitions_to types entry ds old new (Ok r)
   no_definitions : {r : Refusal} → Refused (Definitions_stuck (integer_at types) entry [] ds) r → Definitions_to types entry ds old new (Err r)
 
-pub data All_applied (c : Context) (ss : List Known) (f : Known) (old new : Unfolding) : Result Held_known Refusal → Type 0 where
-  all_applied : {r : Held_known} (bs : Bindings) → steps_of new ≡ steps_of old ++ bs → Applies_all (told c) (defined c) ss f old.next bs (known_of r) new.next → All_applied c ss f old new (Ok r)
-  not_all_applied : {r : Refusal} → Refused (Stuck_runs (told c) (defined c) ss f) r → All_applied c ss f old new (Err r)
-
 -- all steps so far as a program, whose result this is
-pub data Finished (params : List ℕ) (types : List ScalarType) (s : Known) (before : Unfolding) : Result Program Refusal → Type 0 where
+pub data Finished (params : List ℕ) (types : List DataType) (s : Known) (before : Unfolding) : Result Program Refusal → Type 0 where
   finished : {p : Program} {us : List Atom} → p.params.now ≡ params → p.types.now ≡ types → Laid (shape_of s) s us [] → body_of p.body ≡ lets (steps_of before) us → p.names ≡ before.next → Finished params types s before (Ok p)
   not_finished : {r : Refusal} → Refused (No_data s) r → Finished params types s before (Err r)
 
@@ -72,12 +68,12 @@ pub data Entry_stuck (c : Context) (entry : ℕ) (ss : List Known) (n : ℕ) : T
   no_data_there : {n' : ℕ} {bs : Bindings} {f s : Known} → look (defined c) entry ≡ Some f → Applies_all (told c) (defined c) ss f n bs s n' → No_data s → Entry_stuck c entry ss n
 
 -- the entry, if it was defined, applied to its arguments, and all steps as a program
-pub data Entry_to (c : Context) (entry : ℕ) (g : Given) (types : List ScalarType) (old : Unfolding) : Result Program Refusal → Type 0 where
+pub data Entry_to (c : Context) (entry : ℕ) (g : Given) (types : List DataType) (old : Unfolding) : Result Program Refusal → Type 0 where
   entry_to : {p : Program} {r : Held_known} {f : Known} (mid : Unfolding) → look (defined c) entry ≡ Some f → All_applied c (map known_of g.arguments.now) f old mid (Ok r) → Finished g.names.now types (known_of r) mid (Ok p) → Entry_to c entry g types old (Ok p)
   not_entered : {r : Refusal} → Refused (Entry_stuck c entry (map known_of g.arguments.now) old.next) r → Entry_to c entry g types old (Err r)
 
 -- The public answer, for an entry with scalars of these types: the program that it unfolds to, whose result has some shape. It
 -- is lost only where unfolding the program is stuck.
-pub data Unfolds_to (integer_at : ℕ → IntType) (ds : List FlatTop) (entry : ℕ) (types : List ScalarType) : Result Program Refusal → Type 0 where
+pub data Unfolds_to (integer_at : ℕ → IntType) (ds : List FlatTop) (entry : ℕ) (types : List DataType) : Result Program Refusal → Type 0 where
   unfolds_to : {p : Program} (h : Shape) → Program_unfolds integer_at ds entry (scalars (length types)) h p → p.types.now ≡ types → Unfolds_to integer_at ds entry types (Ok p)
   no_program : {r : Refusal} → Refused (Program_stuck integer_at ds entry (scalars (length types))) r → Unfolds_to integer_at ds entry types (Err r)

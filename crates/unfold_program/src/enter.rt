@@ -1,9 +1,12 @@
-// What a loop begins with.
+// What a loop begins with, and the names of a turn.
+ghost use Rattle.std.specs.Prelude.{◌≡◌};
 ghost use Rattle.fut_flat.specs.Erased.{pattern_of};
 ghost use Rattle.unfold.specs.Held.{known_of, scope_of};
-ghost use Rattle.unfold_program.specs.Answers.{Entered_to, Scalar_to, Turned_to};
+ghost use Rattle.unfold.specs.Unfolding.{named};
+ghost use Rattle.unfold_parts.specs.States.{steps_of};
+ghost use Rattle.unfold_program.specs.Answers.{Entered_to, Row_bound_to, Scalar_to, Turn_bound_to};
 
-use crate::walked::{Entered, Turn, Walked, WalkedScalar};
+use crate::walked::{Entered, Walked, WalkedScalar};
 use fut_blocks::Atom;
 use fut_flat::Pat;
 use fut_scalar::BindId;
@@ -23,61 +26,65 @@ pub fn scalar_of(walked: Walked<'_>) -> Result<WalkedScalar, Refusal>
     }
 }
 
-/// A first value in components, new names for its parameters, and the names of its pattern.
-pub fn enter<'a>(
-    pat: &Pat<'_>,
-    scope: &'a Scope<'a>,
-    known: Known<'a>,
-    state: &mut Unfolding<'a>,
-) -> Result<Entered<'a>, Refusal>
-    ensures { Entered_to (pattern_of pat.now) (scope_of scope.now) (known_of known.entry) state.old state.new result }
+/// A first value in components, and new names for its parameters.
+pub fn enter<'a>(known: Known<'a>, state: &mut Unfolding<'a>) -> Result<Entered<'a>, Refusal>
+    ensures entered { Entered_to (known_of known.entry) state.old.next state.new.next result }
+    ensures steps { steps_of state.new ≡ steps_of state.old }
 {
     let first = match lay(state.bump, known, known) {
         Ok(first) => first,
         Err(refusal) => return Err(refusal),
     };
-    let made = match state.fresh(known) {
-        Ok(made) => made,
-        Err(refusal) => return Err(refusal),
-    };
-    match bind(state.bump, pat, made.known, scope) {
-        Ok(scope) => Ok(Entered {
+    match state.fresh(known) {
+        Ok(made) => Ok(Entered {
             first,
             params: made.names,
-            scope,
+            known: made.known,
         }),
         Err(refusal) => Err(refusal),
     }
 }
 
-/// The same, and a new name for the number of the turn.
-pub fn enter_turn<'a>(
-    pat: &Pat<'_>,
+fn named<'a>(name: u32) -> Known<'a>
+    ensures { known_of result ≡ named name }
+{
+    Known {
+        form: KnownForm::Scalar(Atom::Name(name)),
+    }
+}
+
+/// The names of a counted turn, whose number has the name `name`.
+pub fn bind_turn<'a>(
+    pat: &'a Pat<'a>,
     index: BindId,
+    name: u32,
     scope: &'a Scope<'a>,
     known: Known<'a>,
     state: &mut Unfolding<'a>,
-) -> Result<Turn<'a>, Refusal>
-    ensures { Turned_to (pattern_of pat.now) index (scope_of scope.now) (known_of known.entry) state.old state.new result }
+) -> Result<&'a Scope<'a>, Refusal>
+    ensures { Turn_bound_to (pattern_of pat.now) index name (scope_of scope.now) (known_of known.entry) state.old state.new result }
 {
-    let entered = match enter(pat, scope, known, state) {
-        Ok(entered) => entered,
+    let inside = match bind(state, pat, known, scope) {
+        Ok(inside) => inside,
         Err(refusal) => return Err(refusal),
     };
-    let number = match state.name() {
-        Ok(number) => number,
+    bound(state.bump, index, named(name), inside)
+}
+
+/// The names of a turn for a row, which has the name `name`.
+pub fn bind_row<'a>(
+    pat: &'a Pat<'a>,
+    row: &'a Pat<'a>,
+    name: u32,
+    scope: &'a Scope<'a>,
+    known: Known<'a>,
+    state: &mut Unfolding<'a>,
+) -> Result<&'a Scope<'a>, Refusal>
+    ensures { Row_bound_to (pattern_of pat.now) (pattern_of row.now) name (scope_of scope.now) (known_of known.entry) state.old state.new result }
+{
+    let inside = match bind(state, pat, known, scope) {
+        Ok(inside) => inside,
         Err(refusal) => return Err(refusal),
     };
-    let turn = Known {
-        form: KnownForm::Scalar(Atom::Name(number)),
-    };
-    match bound(state.bump, index, turn, entered.scope) {
-        Ok(scope) => Ok(Turn {
-            first: entered.first,
-            params: entered.params,
-            index: number,
-            scope,
-        }),
-        Err(refusal) => Err(refusal),
-    }
+    bind(state, row, named(name), inside)
 }

@@ -9,15 +9,15 @@ ghost use Rattle.unfold_parts.specs.States.{steps_of};
 ghost use Rattle.unfold_parts.specs.Tables.{Kept, integer_at};
 ghost use Rattle.unfold_parts.specs.declared.refusal.Refusal.TheVariants as refusal;
 ghost use Rattle.unfold_program.specs.Answers.{defined};
-ghost use Rattle.unfold_program.specs.Whole.{All_applied, Are_scalars, Defined_to, Definitions_to, Entry_to, Finished, Given_to, Unfolds_to};
+ghost use Rattle.unfold_program.specs.Whole.{Are_scalars, Defined_to, Definitions_to, Entry_to, Finished, Given_to, Unfolds_to};
 
-use crate::walk::{apply, walk};
+use crate::walk::{apply_all, walk};
 use crate::walked::{Context, Setting};
 use bumpalo::Bump;
 use flat_numbers::{after, after_exp};
 use fut_blocks::{Atom, Program};
 use fut_flat::{Definition, Flat};
-use fut_scalar::{BindId, IntType, Scalar, ScalarType};
+use fut_scalar::{BindId, DataType, IntType, Scalar};
 use unfold::{Known, KnownForm, Scope};
 use unfold_parts::{Refusal, Tops, Unfolding, lay};
 use unfold_reach::{above, reached};
@@ -48,7 +48,7 @@ pub fn unfold<'a>(
     integer_types: &'a [IntType],
     flat: &Flat<'a>,
     entry: BindId,
-    types: &'a [ScalarType],
+    types: &'a [DataType],
 ) -> Result<Program<'a>, Refusal>
     ensures { Unfolds_to (integer_at integer_types.now) (flat_tops 0 (named_terms flat.now)) entry.0 types.now result }
 {
@@ -56,6 +56,7 @@ pub fn unfold<'a>(
         bump,
         next: 0,
         steps: Vec::new(bump),
+        packing: Vec::new(bump),
     };
     unfold_from(integer_types, flat, entry, types, &mut state)
 }
@@ -65,7 +66,7 @@ fn unfold_from<'a>(
     integer_types: &'a [IntType],
     flat: &Flat<'a>,
     entry: BindId,
-    types: &'a [ScalarType],
+    types: &'a [DataType],
     state: &mut Unfolding<'a>,
 ) -> Result<Program<'a>, Refusal>
     requires steps { steps_of state.old ≡ [] }
@@ -226,7 +227,7 @@ fn unfold_entry<'a>(
     context: &Context<'a>,
     entry: BindId,
     given: Given<'a>,
-    types: &'a [ScalarType],
+    types: &'a [DataType],
     state: &mut Unfolding<'a>,
 ) -> Result<Program<'a>, Refusal>
     requires kept { Kept context.now.tops }
@@ -236,36 +237,16 @@ fn unfold_entry<'a>(
         Some(function) => function,
         None => return Err(Refusal::Lost),
     };
-    match apply_all(context, function, given.arguments, state) {
+    match apply_all(context, 0, function, given.arguments, state) {
         Ok(known) => finish(given.names, types, known, state),
         Err(refusal) => Err(refusal),
     }
 }
 
-// A function applied to arguments, one after the other.
-fn apply_all<'a>(
-    context: &Context<'a>,
-    function: Known<'a>,
-    arguments: &'a [Known<'a>],
-    state: &mut Unfolding<'a>,
-) -> Result<Known<'a>, Refusal>
-    requires kept { Kept context.now.tops }
-    ensures { All_applied context.now (map known_of arguments.now) (known_of function.entry) state.old state.new result }
-{
-    let mut made = function;
-    for argument in arguments {
-        made = match apply(context, 0, made, *argument, state) {
-            Ok(made) => made,
-            Err(refusal) => return Err(refusal),
-        };
-    }
-    Ok(made)
-}
-
 // The steps as the body of a program, whose results are the components of what is known of its result.
 fn finish<'a>(
     params: &'a [u32],
-    types: &'a [ScalarType],
+    types: &'a [DataType],
     known: Known<'a>,
     state: &mut Unfolding<'a>,
 ) -> Result<Program<'a>, Refusal>

@@ -1,25 +1,32 @@
 // The walk over terms: an application of a known function becomes its body, and each operation on scalars a step.
-ghost use Rattle.std.specs.Prelude.{◌≡◌, ◌≤◌, ◌+◌, map};
+ghost use Rattle.std.specs.Prelude.{◌≡◌, ◌≤◌, ◌+◌, length, map};
 ghost use Rattle.fut_flat.specs.Erased.{operation_of, pattern_of, patterns, term_of, terms};
-ghost use Rattle.fut_flat.specs.Terms.{Apply, If, Strict};
-ghost use Rattle.fut_flat.proofs.ErasedForms.{loop_of, row_of};
+ghost use Rattle.fut_flat.specs.Terms.{Apply, Counted, If, Over, Strict, While};
+ghost use Rattle.fut_flat.proofs.ErasedForms.{loop_of, row_of, turns_of};
 ghost use Rattle.unfold.specs.Held.{known_of, scope_of};
+ghost use Rattle.unfold.specs.Knowns.{Primitive_known, knowns};
+ghost use Rattle.unfold_parts.specs.States.{steps_of};
 ghost use Rattle.unfold_parts.specs.Tables.{Kept};
-ghost use Rattle.unfold_program.specs.Answers.{All_unfolded, Applied, Blocked_to, Counted_to, Lambda_known, Row_unfolded, Scalar_unfolded, Tested_to, Unfolded, Unfolded_inside};
+ghost use Rattle.unfold_program.specs.Answers.{All_applied, All_unfolded, Applied, Blocked_to, Branches_to, Job_applied, Lambda_known, Looped_to, Row_unfolded, Scalar_unfolded, Tested_to, Tried_to, Unfolded, Unfolded_inside};
 
-use crate::enter::{enter, enter_turn, scalar_of};
+use crate::enter::{bind_row, bind_turn, enter, scalar_of};
 use crate::function::function_known;
-use crate::give::{close, give, operated, used, walked_to, with_argument};
+use crate::give::{
+    again, asked, close, close_scalar, give, given, operated, packed, used, walked_to,
+    with_argument,
+};
 use crate::peel::stripped;
 use crate::walked::{Branch, Context, MOST_DEPTH, Parts, Row, Setting, Walked, WalkedScalar};
 use bumpalo::Bump;
 use bumpalo::collections::into_bump_slice;
 use flat_numbers::{after, after_exp, after_pattern, after_patterns, own_numbers_of};
-use fut_blocks::{Act, Atom};
-use fut_flat::{Act as Operation, Exp, Form, Let, Loop, LoopForm, Pat};
-use fut_scalar::{BindId, Place, Scalar};
+use fut_blocks::Act;
+use fut_flat::{Act as Operation, Exp, Form, Let, Loop, LoopForm, Pat, Primitive};
+use fut_scalar::{BindId, Place};
 use unfold::{Known, KnownForm, Scope};
-use unfold_parts::{Refusal, Unfolding, apply_primitive, bind, literal_type_at};
+use unfold_parts::{
+    Applied as Step, Refusal, Unfolding, apply_primitive, begin_job, bind, end_job, literal_type_at,
+};
 
 /// What is known of the value of an expression, whose node has the number `at`.
 #[cycle(walk)]
@@ -57,7 +64,7 @@ fn walk_form<'a>(
     state: &mut Unfolding<'a>,
 ) -> Result<Walked<'a>, Refusal>
     requires kept { Kept setting.context.now.tops }
-    requires level { setting.level ≤ 1000 }
+    requires level { setting.level ≤ 2000 }
     requires inside { inside ≡ at + 1 }
     ensures { Unfolded setting.entry.context.now (scope_of setting.entry.scope.now) at (term_of exp.now) state.old state.new result }
 {
@@ -103,7 +110,7 @@ fn walk_strict<'a>(
     state: &mut Unfolding<'a>,
 ) -> Result<Walked<'a>, Refusal>
     requires kept { Kept setting.context.now.tops }
-    requires level { setting.level ≤ 1000 }
+    requires level { setting.level ≤ 2000 }
     ensures { Unfolded setting.entry.context.now (scope_of setting.entry.scope.now) at (Strict (operation_of act.now) mark (terms (map term_of parts.now))) state.old state.new result }
 {
     let first = match after(at, own_numbers_of(act)) {
@@ -126,7 +133,7 @@ fn walk_parts<'a>(
     state: &mut Unfolding<'a>,
 ) -> Result<Parts<'a>, Refusal>
     requires kept { Kept setting.context.now.tops }
-    requires level { setting.level ≤ 1000 }
+    requires level { setting.level ≤ 2000 }
     ensures { All_unfolded setting.entry.context.now (scope_of setting.entry.scope.now) at (terms (map term_of exps.now)) state.old state.new result }
 {
     let mut knowns = Vec::new(state.bump);
@@ -157,7 +164,7 @@ fn walk_apply<'a>(
     state: &mut Unfolding<'a>,
 ) -> Result<Walked<'a>, Refusal>
     requires kept { Kept setting.context.now.tops }
-    requires level { setting.level ≤ 1000 }
+    requires level { setting.level ≤ 2000 }
     ensures { Unfolded_inside setting.entry.context.now (scope_of setting.entry.scope.now) inside (Apply (term_of function.now) (term_of argument.now)) state.old state.new result }
 {
     let f = match walk(setting, inside, function, state) {
@@ -183,7 +190,7 @@ fn walk_scalar<'a>(
     state: &mut Unfolding<'a>,
 ) -> Result<WalkedScalar, Refusal>
     requires kept { Kept setting.context.now.tops }
-    requires level { setting.level ≤ 1000 }
+    requires level { setting.level ≤ 2000 }
     ensures { Scalar_unfolded setting.entry.context.now (scope_of setting.entry.scope.now) at (term_of exp.now) state.old state.new result }
 {
     match walk(setting, at, exp, state) {
@@ -192,7 +199,7 @@ fn walk_scalar<'a>(
     }
 }
 
-// Both branches give data of one shape, whose components get new names.
+// Both branches give data of one shape, whose components get new names. Where they do not, they are unfolded once more and packed.
 #[cycle(walk)]
 fn walk_if<'a>(
     setting: Setting<'_, 'a>,
@@ -203,7 +210,7 @@ fn walk_if<'a>(
     state: &mut Unfolding<'a>,
 ) -> Result<Walked<'a>, Refusal>
     requires kept { Kept setting.context.now.tops }
-    requires level { setting.level ≤ 1000 }
+    requires level { setting.level ≤ 2000 }
     ensures { Unfolded_inside setting.entry.context.now (scope_of setting.entry.scope.now) inside (If (term_of test.now) (term_of yes.now) (term_of no.now)) state.old state.new result }
 {
     let truth = match walk_scalar(setting, inside, test, state) {
@@ -211,41 +218,79 @@ fn walk_if<'a>(
         Err(refusal) => return Err(refusal),
     };
     let mark = state.mark();
+    let next = state.next;
+    let packs = state.packs(inside);
+    match walk_branches(setting, truth, yes, no, packs, state) {
+        Ok(Some(walked)) => return Ok(walked),
+        Ok(None) => (),
+        Err(refusal) => return Err(refusal),
+    }
+    match again(state, mark, next, inside) {
+        Ok(()) => (),
+        Err(refusal) => return Err(refusal),
+    }
+    match walk_branches(setting, truth, yes, no, true, state) {
+        Ok(Some(walked)) => Ok(walked),
+        Ok(None) => unreachable!(),
+        Err(refusal) => Err(refusal),
+    }
+}
+
+// Both branches, packed or not; `None` where they are not and give data of different shapes.
+#[cycle(walk)]
+fn walk_branches<'a>(
+    setting: Setting<'_, 'a>,
+    truth: WalkedScalar,
+    yes: &'a Exp<'a>,
+    no: &'a Exp<'a>,
+    packs: bool,
+    state: &mut Unfolding<'a>,
+) -> Result<Option<Walked<'a>>, Refusal>
+    requires kept { Kept setting.context.now.tops }
+    requires level { setting.level ≤ 2000 }
+    ensures { Branches_to setting.entry.context.now (scope_of setting.entry.scope.now) truth (term_of yes.now) (term_of no.now) packs state.old state.new result }
+{
+    let mark = state.mark();
     let r = match walk(setting, truth.at, yes, state) {
         Ok(r) => r,
         Err(refusal) => return Err(refusal),
     };
-    let a = match close(state, mark, r.known, r) {
-        Ok(a) => a,
+    let like = asked(packs, r.known);
+    let a = match close(state, mark, like, r) {
+        Ok(Some(a)) => a,
+        Ok(None) => return Ok(None),
         Err(refusal) => return Err(refusal),
     };
-    let b = match walk_block(setting, a.at, no, r.known, state) {
-        Ok(b) => b,
+    let b = match walk_block(setting, mark, a.at, no, like, state) {
+        Ok(Some(b)) => b,
+        Ok(None) => return Ok(None),
         Err(refusal) => return Err(refusal),
     };
-    give(state, r.known, Act::If(truth.atom, a.block, b.block), b.at)
+    given(give(state, like, Act::If(truth.atom, a.block, b.block), b.at))
 }
 
-// An expression as a block of its own, which gives data of the shape of `like`.
+// The steps from the mark on and those of an expression as a block, which gives data of the shape of `like`.
 #[cycle(walk)]
 fn walk_block<'a>(
     setting: Setting<'_, 'a>,
+    mark: usize,
     at: u32,
     exp: &'a Exp<'a>,
     like: Known<'a>,
     state: &mut Unfolding<'a>,
-) -> Result<Branch<'a>, Refusal>
+) -> Result<Option<Branch<'a>>, Refusal>
     requires kept { Kept setting.context.now.tops }
-    requires level { setting.level ≤ 1000 }
-    ensures { Blocked_to setting.entry.context.now (scope_of setting.entry.scope.now) at (term_of exp.now) (known_of like.entry) state.old state.new result }
+    requires level { setting.level ≤ 2000 }
+    requires mark { mark ≤ length (steps_of state.old) }
+    ensures { Blocked_to setting.entry.context.now (scope_of setting.entry.scope.now) mark at (term_of exp.now) (known_of like.entry) state.old state.new result }
 {
-    let mark = state.mark();
     match walk(setting, at, exp, state) {
         Ok(r) => close(state, mark, like, r),
         Err(refusal) => Err(refusal),
     }
 }
 
+// A loop whose turns do not give data of the shape of its first value is unfolded once more, with that value packed.
 #[cycle(walk)]
 fn walk_loop<'a>(
     setting: Setting<'_, 'a>,
@@ -254,7 +299,7 @@ fn walk_loop<'a>(
     state: &mut Unfolding<'a>,
 ) -> Result<Walked<'a>, Refusal>
     requires kept { Kept setting.context.now.tops }
-    requires level { setting.level ≤ 1000 }
+    requires level { setting.level ≤ 2000 }
     ensures { Unfolded_inside setting.entry.context.now (scope_of setting.entry.scope.now) inside (loop_of whole.now) state.old state.new result }
 {
     let value = match after_pattern(inside, &whole.pat) {
@@ -265,14 +310,70 @@ fn walk_loop<'a>(
         Ok(first) => first,
         Err(refusal) => return Err(refusal),
     };
-    match &whole.form {
-        LoopForm::For(index, count) => { walk_for(setting, whole, *index, count, first, state) }
-        LoopForm::While(test) => walk_while(setting, whole, test, first, state),
-        LoopForm::ForIn(_, _) => Err(Refusal::Lost),
+    match walk_first(setting, inside, whole, first, state) {
+        Ok(Some(walked)) => return Ok(walked),
+        Ok(None) => (),
+        Err(refusal) => return Err(refusal),
+    }
+    let first = match packed(state, first) {
+        Ok(first) => first,
+        Err(refusal) => return Err(refusal),
+    };
+    match walk_turns(setting, whole, first, state) {
+        Ok(Some(walked)) => Ok(walked),
+        Ok(None) => unreachable!(),
+        Err(refusal) => Err(refusal),
     }
 }
 
-// A turn is unfolded once, on new names, and gives data of the shape of the first value.
+// The turns with the first value as it is; `None` where it has to be packed.
+#[cycle(walk)]
+fn walk_first<'a>(
+    setting: Setting<'_, 'a>,
+    inside: u32,
+    whole: &'a Loop<'a>,
+    first: Walked<'a>,
+    state: &mut Unfolding<'a>,
+) -> Result<Option<Walked<'a>>, Refusal>
+    requires kept { Kept setting.context.now.tops }
+    requires level { setting.level ≤ 2000 }
+    ensures { Tried_to setting.entry.context.now (scope_of setting.entry.scope.now) whole.now (turns_of whole.now.form) first.entry state.old state.new result }
+{
+    if state.packs(inside) {
+        return Ok(None);
+    }
+    let mark = state.mark();
+    let next = state.next;
+    match walk_turns(setting, whole, first, state) {
+        Ok(Some(walked)) => return Ok(Some(walked)),
+        Ok(None) => (),
+        Err(refusal) => return Err(refusal),
+    }
+    match again(state, mark, next, inside) {
+        Ok(()) => Ok(None),
+        Err(refusal) => Err(refusal),
+    }
+}
+
+// A turn is unfolded once, on new names, and gives data of the shape of the first value; `None` where it does not.
+#[cycle(walk)]
+fn walk_turns<'a>(
+    setting: Setting<'_, 'a>,
+    whole: &'a Loop<'a>,
+    first: Walked<'a>,
+    state: &mut Unfolding<'a>,
+) -> Result<Option<Walked<'a>>, Refusal>
+    requires kept { Kept setting.context.now.tops }
+    requires level { setting.level ≤ 2000 }
+    ensures { Looped_to setting.entry.context.now (scope_of setting.entry.scope.now) whole.now (turns_of whole.now.form) first.entry state.old state.new result }
+{
+    match &whole.form {
+        LoopForm::For(index, count) => { walk_for(setting, whole, *index, count, first, state) }
+        LoopForm::ForIn(row, rows) => walk_rows(setting, whole, row, rows, first, state),
+        LoopForm::While(test) => walk_while(setting, whole, test, first, state),
+    }
+}
+
 #[cycle(walk)]
 fn walk_for<'a>(
     setting: Setting<'_, 'a>,
@@ -281,10 +382,10 @@ fn walk_for<'a>(
     count: &'a Exp<'a>,
     first: Walked<'a>,
     state: &mut Unfolding<'a>,
-) -> Result<Walked<'a>, Refusal>
+) -> Result<Option<Walked<'a>>, Refusal>
     requires kept { Kept setting.context.now.tops }
-    requires level { setting.level ≤ 1000 }
-    ensures { Counted_to setting.entry.context.now (scope_of setting.entry.scope.now) whole.now index (term_of count.now) first.entry state.old state.new result }
+    requires level { setting.level ≤ 2000 }
+    ensures { Looped_to setting.entry.context.now (scope_of setting.entry.scope.now) whole.now (Counted index (term_of count.now)) first.entry state.old state.new result }
 {
     let counting = match after(first.at, 1) {
         Ok(counting) => counting,
@@ -294,26 +395,83 @@ fn walk_for<'a>(
         Ok(n) => n,
         Err(refusal) => return Err(refusal),
     };
-    let turn = match enter_turn(&whole.pat, index, setting.scope, first.known, state) {
-        Ok(turn) => turn,
+    let entered = match enter(first.known, state) {
+        Ok(entered) => entered,
         Err(refusal) => return Err(refusal),
     };
-    let inner = Setting {
-        scope: turn.scope,
-        ..setting
+    let name = match state.name() {
+        Ok(name) => name,
+        Err(refusal) => return Err(refusal),
     };
-    let body = match walk_block(inner, n.at, &whole.body, first.known, state) {
-        Ok(body) => body,
+    let mark = state.mark();
+    let scope = match bind_turn(&whole.pat, index, name, setting.scope, entered.known, state) {
+        Ok(scope) => scope,
+        Err(refusal) => return Err(refusal),
+    };
+    let inner = Setting { scope, ..setting };
+    let body = match walk_block(inner, mark, n.at, &whole.body, first.known, state) {
+        Ok(Some(body)) => body,
+        Ok(None) => return Ok(None),
         Err(refusal) => return Err(refusal),
     };
     let act = Act::For {
-        params: turn.params,
-        first: turn.first,
-        index: turn.index,
+        params: entered.params,
+        first: entered.first,
+        index: name,
         count: n.atom,
         body: body.block,
     };
-    give(state, first.known, act, body.at)
+    given(give(state, first.known, act, body.at))
+}
+
+#[cycle(walk)]
+fn walk_rows<'a>(
+    setting: Setting<'_, 'a>,
+    whole: &'a Loop<'a>,
+    row: &'a Pat<'a>,
+    rows: &'a Exp<'a>,
+    first: Walked<'a>,
+    state: &mut Unfolding<'a>,
+) -> Result<Option<Walked<'a>>, Refusal>
+    requires kept { Kept setting.context.now.tops }
+    requires level { setting.level ≤ 2000 }
+    ensures { Looped_to setting.entry.context.now (scope_of setting.entry.scope.now) whole.now (Over (pattern_of row.now) (term_of rows.now)) first.entry state.old state.new result }
+{
+    let counting = match after_pattern(first.at, row) {
+        Ok(counting) => counting,
+        Err(_) => return Err(Refusal::Memory),
+    };
+    let r = match walk_scalar(setting, counting, rows, state) {
+        Ok(r) => r,
+        Err(refusal) => return Err(refusal),
+    };
+    let entered = match enter(first.known, state) {
+        Ok(entered) => entered,
+        Err(refusal) => return Err(refusal),
+    };
+    let name = match state.name() {
+        Ok(name) => name,
+        Err(refusal) => return Err(refusal),
+    };
+    let mark = state.mark();
+    let scope = match bind_row(&whole.pat, row, name, setting.scope, entered.known, state) {
+        Ok(scope) => scope,
+        Err(refusal) => return Err(refusal),
+    };
+    let inner = Setting { scope, ..setting };
+    let body = match walk_block(inner, mark, r.at, &whole.body, first.known, state) {
+        Ok(Some(body)) => body,
+        Ok(None) => return Ok(None),
+        Err(refusal) => return Err(refusal),
+    };
+    let act = Act::ForEach {
+        params: entered.params,
+        first: entered.first,
+        row: name,
+        rows: r.atom,
+        body: body.block,
+    };
+    given(give(state, first.known, act, body.at))
 }
 
 #[cycle(walk)]
@@ -323,28 +481,28 @@ fn walk_while<'a>(
     test: &'a Exp<'a>,
     first: Walked<'a>,
     state: &mut Unfolding<'a>,
-) -> Result<Walked<'a>, Refusal>
+) -> Result<Option<Walked<'a>>, Refusal>
     requires kept { Kept setting.context.now.tops }
-    requires level { setting.level ≤ 1000 }
-    ensures { Tested_to setting.entry.context.now (scope_of setting.entry.scope.now) whole.now (term_of test.now) first.entry state.old state.new result }
+    requires level { setting.level ≤ 2000 }
+    ensures { Looped_to setting.entry.context.now (scope_of setting.entry.scope.now) whole.now (While (term_of test.now)) first.entry state.old state.new result }
 {
-    let entered = match enter(&whole.pat, setting.scope, first.known, state) {
+    let entered = match enter(first.known, state) {
         Ok(entered) => entered,
         Err(refusal) => return Err(refusal),
     };
-    let inner = Setting {
-        scope: entered.scope,
-        ..setting
-    };
-    let truth = Known {
-        form: KnownForm::Scalar(Atom::Constant(Scalar::Bool(true))),
-    };
-    let c = match walk_block(inner, first.at, test, truth, state) {
+    let mark = state.mark();
+    let c = match walk_test(setting, whole, first.at, test, entered.known, state) {
         Ok(c) => c,
         Err(refusal) => return Err(refusal),
     };
-    let body = match walk_block(inner, c.at, &whole.body, first.known, state) {
-        Ok(body) => body,
+    let scope = match bind(state, &whole.pat, entered.known, setting.scope) {
+        Ok(scope) => scope,
+        Err(refusal) => return Err(refusal),
+    };
+    let inner = Setting { scope, ..setting };
+    let body = match walk_block(inner, mark, c.at, &whole.body, first.known, state) {
+        Ok(Some(body)) => body,
+        Ok(None) => return Ok(None),
         Err(refusal) => return Err(refusal),
     };
     let act = Act::While {
@@ -354,7 +512,33 @@ fn walk_while<'a>(
         test: c.block,
         body: body.block,
     };
-    give(state, first.known, act, body.at)
+    given(give(state, first.known, act, body.at))
+}
+
+// The condition of a loop as a block, on what is known of its value in a turn.
+#[cycle(walk)]
+fn walk_test<'a>(
+    setting: Setting<'_, 'a>,
+    whole: &'a Loop<'a>,
+    at: u32,
+    test: &'a Exp<'a>,
+    known: Known<'a>,
+    state: &mut Unfolding<'a>,
+) -> Result<Branch<'a>, Refusal>
+    requires kept { Kept setting.context.now.tops }
+    requires level { setting.level ≤ 2000 }
+    ensures { Tested_to setting.entry.context.now (scope_of setting.entry.scope.now) (pattern_of whole.now.pat) at (term_of test.now) (known_of known.entry) state.old state.new result }
+{
+    let mark = state.mark();
+    let scope = match bind(state, &whole.pat, known, setting.scope) {
+        Ok(scope) => scope,
+        Err(refusal) => return Err(refusal),
+    };
+    let inner = Setting { scope, ..setting };
+    match walk_scalar(inner, at, test, state) {
+        Ok(truth) => close_scalar(state, mark, truth),
+        Err(refusal) => Err(refusal),
+    }
 }
 
 // Rows of `let`s and the body behind them.
@@ -366,7 +550,7 @@ fn walk_lets<'a>(
     state: &mut Unfolding<'a>,
 ) -> Result<Walked<'a>, Refusal>
     requires kept { Kept setting.context.now.tops }
-    requires level { setting.level ≤ 1000 }
+    requires level { setting.level ≤ 2000 }
     ensures { Unfolded setting.entry.context.now (scope_of setting.entry.scope.now) at (term_of exp.now) state.old state.new result }
 {
     let mut rest = exp;
@@ -397,7 +581,7 @@ fn walk_row<'a>(
     state: &mut Unfolding<'a>,
 ) -> Result<Row<'a>, Refusal>
     requires kept { Kept setting.context.now.tops }
-    requires level { setting.level ≤ 1000 }
+    requires level { setting.level ≤ 2000 }
     ensures { Row_unfolded setting.entry.context.now row.entry (map row_of lets.now) state.old state.new result }
 {
     let mut at = row;
@@ -418,7 +602,7 @@ fn walk_row<'a>(
             Ok(value) => value,
             Err(refusal) => return Err(refusal),
         };
-        let scope = match bind(state.bump, &one.pat, value.known, at.scope) {
+        let scope = match bind(state, &one.pat, value.known, at.scope) {
             Ok(scope) => scope,
             Err(refusal) => return Err(refusal),
         };
@@ -440,17 +624,17 @@ pub fn apply<'a>(
     state: &mut Unfolding<'a>,
 ) -> Result<Known<'a>, Refusal>
     requires kept { Kept context.now.tops }
-    requires level { level ≤ 1000 }
+    requires level { level ≤ 2000 }
     ensures { Applied context.now (known_of function.entry) (known_of argument.entry) state.old state.new result }
 {
     let lambda = match function.form {
         KnownForm::Function(lambda) => lambda,
-        KnownForm::Primitive(primitive, place, given) => {
-            return apply_primitive(state, primitive, place, given, argument);
+        KnownForm::Primitive(primitive, place, known) => {
+            return apply_to(context, level, primitive, place, known, argument, state);
         }
         _ => return Err(Refusal::Lost),
     };
-    let inner = match with_argument(state.bump, lambda, argument) {
+    let inner = match with_argument(state, lambda, argument) {
         Ok(inner) => inner,
         Err(refusal) => return Err(refusal),
     };
@@ -467,4 +651,77 @@ pub fn apply<'a>(
         Ok(r) => Ok(r.known),
         Err(refusal) => Err(refusal),
     }
+}
+
+// A primitive with the arguments that it has, applied to one more.
+#[cycle(walk)]
+fn apply_to<'a>(
+    context: &Context<'a>,
+    level: u32,
+    primitive: Primitive,
+    place: Place,
+    known: &'a [Known<'a>],
+    argument: Known<'a>,
+    state: &mut Unfolding<'a>,
+) -> Result<Known<'a>, Refusal>
+    requires kept { Kept context.now.tops }
+    requires level { level ≤ 2000 }
+    ensures { Applied context.now (Primitive_known primitive place (knowns (map known_of known.now))) (known_of argument.entry) state.old state.new result }
+{
+    match apply_primitive(state, primitive, place, known, argument) {
+        Ok(Step::Known(known)) => Ok(known),
+        Ok(Step::Ready(arguments)) => walk_job(context, level, primitive, place, arguments, state),
+        Err(refusal) => Err(refusal),
+    }
+}
+
+// A primitive on arrays with all its arguments: its function is unfolded once, on new names.
+#[cycle(walk)]
+fn walk_job<'a>(
+    context: &Context<'a>,
+    level: u32,
+    primitive: Primitive,
+    place: Place,
+    arguments: &'a [Known<'a>],
+    state: &mut Unfolding<'a>,
+) -> Result<Known<'a>, Refusal>
+    requires kept { Kept context.now.tops }
+    requires level { level ≤ 2000 }
+    ensures { Job_applied context.now primitive place (map known_of arguments.now) state.old state.new result }
+{
+    if level >= MOST_DEPTH {
+        return Err(Refusal::Memory);
+    }
+    let job = match begin_job(state, primitive, arguments) {
+        Ok(job) => job,
+        Err(refusal) => return Err(refusal),
+    };
+    let mark = state.mark();
+    match apply_all(context, level + 1, job.function, job.arguments, state) {
+        Ok(result) => end_job(state, mark, primitive, place, &job, &result),
+        Err(refusal) => Err(refusal),
+    }
+}
+
+/// A function applied to arguments, one after the other.
+#[cycle(walk)]
+pub fn apply_all<'a>(
+    context: &Context<'a>,
+    level: u32,
+    function: Known<'a>,
+    arguments: &'a [Known<'a>],
+    state: &mut Unfolding<'a>,
+) -> Result<Known<'a>, Refusal>
+    requires kept { Kept context.now.tops }
+    requires level { level ≤ 2000 }
+    ensures { All_applied context.now (map known_of arguments.now) (known_of function.entry) state.old state.new result }
+{
+    let mut made = function;
+    for argument in arguments {
+        made = match apply(context, level, made, *argument, state) {
+            Ok(made) => made,
+            Err(refusal) => return Err(refusal),
+        };
+    }
+    Ok(made)
 }

@@ -4,8 +4,12 @@ use fut_scalar::IntType;
 use unfold::{Known, Scope};
 use unfold_parts::Tops;
 
-/// The most applications, operations and blocks that lie inside each other. A measured program has no more.
-pub const MOST_DEPTH: u32 = 1_000;
+/// The most applications, operations, blocks and functions of primitives that lie inside each other. A measured program has no
+/// more: 1,000 of its visits, and as many primitives.
+pub const MOST_DEPTH: u32 = 2_000;
+
+/// The most components that a branch or a turn gives. Data of more is packed.
+pub const MOST_GIVEN: usize = 64;
 
 /// What is known of the definitions, and the types of integers without a suffix, by the numbers of their nodes.
 #[derive(Drop)]
@@ -57,19 +61,11 @@ pub struct Row<'a> {
     pub at: u32,
 }
 
-/// What a loop begins with: the components of its first value, the names of its parameters, and the local names inside.
+/// What a loop begins with: the components of its first value, the names of its parameters, and what is known of the value
+/// that has them.
 #[derive(Clone, Copy)]
 pub struct Entered<'a> {
     pub first: &'a [Atom],
     pub params: &'a [u32],
-    pub scope: &'a Scope<'a>,
-}
-
-/// What a counted loop begins with: as any loop, and with a name for the number of the turn.
-#[derive(Clone, Copy)]
-pub struct Turn<'a> {
-    pub first: &'a [Atom],
-    pub params: &'a [u32],
-    pub index: u32,
-    pub scope: &'a Scope<'a>,
+    pub known: Known<'a>,
 }

@@ -3,8 +3,7 @@ use Rattle.std.proofs.Common.{◌≡◌, ℕ, List, [], ◌∷◌, Bool, true, f
 use Rattle.fut_scalar.specs.declared.place.BindId.{BindId}
 use Rattle.fut_scalar.specs.declared.report.Report.{Report}
 use Rattle.fut_scalar.specs.declared.scalar.IntType.{IntType}
-use Rattle.fut_scalar.specs.declared.scalar.Scalar.{Scalar}
-use Rattle.fut_scalar.specs.declared.scalar.ScalarType.{ScalarType}
+use Rattle.fut_scalar.specs.declared.sizes.DataType.{DataType}
 use Rattle.fut_ast.specs.declared.module.Program.{Program as SourceProgram}
 use Rattle.fut_flat.specs.declared.prim.Ref.{Ref}
 use Rattle.fut_flat.specs.declared.program.Definition.{Definition}
@@ -14,9 +13,11 @@ use Rattle.fut_flat.specs.Terms.{Parameter, Size_parameter, Type_parameter, Use,
 use Rattle.fut_flat.specs.Erased.{FlatTerm, FlatTurns}
 use Rattle.fut_typing.specs.Program.{defined, program_of as typing_of}
 use Rattle.fut_meaning.specs.Claims.{HasOut, Safe, Some_outcome}
-use Rattle.fut_meaning.specs.Datums.{Datum, Scalar_datum, as_value, as_values, all_values}
+use Rattle.fut_value.specs.Data.{Datum, datums}
+use Rattle.fut_meaning.specs.Datums.{as_value, as_values, all_values}
 use Rattle.fut_meaning.specs.Flats.{FlatValue, named_terms, flat_tops, Flat_means, flat_names}
 use Rattle.fut_meaning.specs.Meaning.{plain}
+use Rattle.fut_meaning.specs.Answers.{Answer, Gives, Fails}
 use Rattle.fut_meaning.specs.Outcomes.{Out, Val, Fail, Wrong}
 use Rattle.fut_meaning.specs.Sames.{Same_out, same_value, same_report, same_wrong, Left, left, Right, right}
 use Rattle.fut_meaning.specs.Values.{listed}
@@ -26,6 +27,7 @@ use Rattle.fut_blocks.specs.Programs.{Program_means, AreOf}
 use Rattle.module_elab.specs.Elaborated.{definition_of, program_of}
 use Rattle.std.specs.Prelude.{Ok}
 use Rattle.elab_scopes.specs.Programs.{resolve_program}
+use Rattle.elab_laws.specs.Answers.{Files_allow}
 use Rattle.elab_laws.specs.Sourced.{No_sizes as None_sized, named_values}
 use Rattle.elab_laws.specs.Sizeless.{Sizeless, All_sizeless, Turns_sizeless, Definitions_sizeless}
 use Rattle.elab_laws.proofs.Programs.{same_results, same_reports}
@@ -39,16 +41,15 @@ use Rattle.fut_typing.specs.Names.{Names}
 use Rattle.fut_typing.specs.Scopes.{nothing}
 use Rattle.fut_typing.specs.Patterns.{arrows}
 use Rattle.fut_typing.specs.Exact.{scope_behind}
-use Rattle.typed_programs.specs.EntryTypes.{scalar_tys, Has_entry_type}
+use Rattle.typed_programs.specs.EntryTypes.{data_tys, Has_entry_type}
 use Rattle.type_infer.specs.Inferring.{Told_by}
 use Rattle.type_scopes.specs.declared.Inference.{Inference}
 use Rattle.typed_programs.specs.Typed.{Typed_by, integer_at}
 use Rattle.unfold.specs.Shapes.{Shape, Shapes, All_split, Is_value}
 use Rattle.unfold.proofs.Programs.{adds_no_outcome, loses_no_outcome}
-use Rattle.unfolded_runs.specs.Allowed.{Allows_result, Allows_report, Allows_some}
-use Rattle.unfolded_runs.specs.Claims.{Is_usable, Is_run, Runs_as, BlocksMeanTheSource, FilesAllowSome}
-use Rattle.unfolded_runs.specs.Results.{scalar_datums, Is_result}
-use Rattle.unfolded_runs.proofs.Data.{arguments_fit, listed_scalars, Is_data, data_of, results_are, result_is}
+use Rattle.unfolded_runs.specs.Claims.{Answer_is_of, Is_usable, Is_run, Runs_as, BlocksMeanTheSource, FilesAllowSome}
+use Rattle.unfolded_runs.specs.Results.{Are_arguments, components_of, opened}
+use Rattle.unfolded_runs.proofs.Data.{arguments_fit, listed_values, Is_data, data_of, result_opened, same_datum}
 
 -- ---- what the meaning knows binds no size
 
@@ -75,7 +76,7 @@ module _ (P : ℕ → Type 0) where
 
     turns_sizeless : (ts : FlatTurns) → Turns_meant P ts → Turns_sizeless ts
     turns_sizeless (Counted i n) m = sizeless n m
-    turns_sizeless (Over p e) m = absurd m
+    turns_sizeless (Over p e) m = sizeless e m
     turns_sizeless (While c) m = sizeless c m
 
 definitions_sizeless : (ds : List Definition) → Definitions_meant (map defined ds) → Definitions_sizeless (map definition_of ds)
@@ -88,7 +89,7 @@ named_are (d ∷ ds) = ap (λ z. (d.bind, term_of d.value.now) ∷ z) (named_are
 
 -- ---- typed programs
 
-module _ {flat : Flat} {inference : Inference} {integers : List IntType} {entry : BindId} {params : List ScalarType} {tuple : Bool} {results : List ScalarType} (typed : Told_by (Typed_by flat inference integers) inference) (usable : Is_usable flat inference entry params tuple results) (budget : ℕ) (arguments : List Scalar) (of : AreOf params arguments) where
+module _ {flat : Flat} {inference : Inference} {integers : List IntType} {entry : BindId} {params : List DataType} {tuple : Bool} {results : List DataType} (typed : Told_by (Typed_by flat inference integers) inference) (usable : Is_usable flat inference entry params tuple results) (tight : Bool) (budget : ℕ) (arguments : List Datum) (of : Are_arguments params arguments) where
   abbrev N : Names
   N = typed.some.0
 
@@ -98,114 +99,121 @@ module _ {flat : Flat} {inference : Inference} {integers : List IntType} {entry 
   abbrev used : Has_entry_type ((scope_behind N kind.Data (typing_of flat) 0 nothing).uses (slice_index_or flat.definitions.now usable.at usable.definition).bind.0) known.kinds known.types params tuple results
   used = usable.usable.entry usable.definition N typed.some.1 known.kinds known.types known.typed.typed known.comes
 
-  entry_used : (scope_behind N kind.Data (typing_of flat) 0 nothing).uses entry.0 known.kinds known.types (arrows (scalar_tys params) used.result)
-  entry_used = subst (λ z. (scope_behind N kind.Data (typing_of flat) 0 nothing).uses z known.kinds known.types (arrows (scalar_tys params) used.result)) usable.is used.used
+  entry_used : (scope_behind N kind.Data (typing_of flat) 0 nothing).uses entry.0 known.kinds known.types (arrows (data_tys params) used.result)
+  entry_used = subst (λ z. (scope_behind N kind.Data (typing_of flat) 0 nothing).uses z known.kinds known.types (arrows (data_tys params) used.result)) usable.is used.used
 
   abbrev values : List FlatValue
-  values = listed (as_values (scalar_datums arguments))
+  values = listed (as_values (datums arguments))
 
   abbrev Flat_allows : Out FlatValue → ℕ → Type 0
-  Flat_allows = Flat_means (integer_at integers) (plain false) budget (named_terms flat) entry values
+  Flat_allows = Flat_means (integer_at integers) (plain tight) budget (named_terms flat) entry values
 
-  safe : Safe (Result_fits N (integer_at integers) (plain false) budget false used.result) Flat_allows
-  safe = never_wrong N typed.some.1.names _ known.kinds known.types (integer_at integers) false budget flat known.typed entry _ used.result values entry_used (arguments_fit N (integer_at integers) (plain false) budget false params arguments of)
+  safe : Safe (Result_fits N (integer_at integers) (plain tight) budget false used.result) Flat_allows
+  safe = never_wrong N typed.some.1.names _ known.kinds known.types (integer_at integers) tight budget flat known.typed entry _ used.result values entry_used (arguments_fit N (integer_at integers) (plain tight) budget false params arguments of)
 
   some : Some_outcome Flat_allows
-  some = has_outcome N typed.some.1.names _ known.kinds known.types (integer_at integers) false budget flat known.typed entry _ used.result values entry_used (arguments_fit N (integer_at integers) (plain false) budget true params arguments of)
+  some = has_outcome N typed.some.1.names _ known.kinds known.types (integer_at integers) tight budget flat known.typed entry _ used.result values entry_used (arguments_fit N (integer_at integers) (plain tight) budget true params arguments of)
 
   no_size : Definitions_sizeless (program_of flat).definitions
   no_size = definitions_sizeless flat.definitions.now known.typed.meant
 
   abbrev Named_means : Out FlatValue → ℕ → Type 0
-  Named_means = Rattle.fut_meaning.specs.Programs.Program_means (flat_names (integer_at integers)) (plain false) budget (flat_tops 0 (named_values (program_of flat).definitions)) entry.0 (all_values (map Scalar_datum arguments))
+  Named_means = Rattle.fut_meaning.specs.Programs.Program_means (flat_names (integer_at integers)) (plain tight) budget (flat_tops 0 (named_values (program_of flat).definitions)) entry.0 (all_values arguments)
 
   -- the same program, as its files are resolved to it
   to_named : (o : Out FlatValue) (f : ℕ) → Flat_allows o f → Named_means o f
   to_named o f x =
-      subst (λ z. Rattle.fut_meaning.specs.Programs.Program_means (flat_names (integer_at integers)) (plain false) budget (flat_tops 0 z) entry.0 (all_values (map Scalar_datum arguments)) o f) (sym (named_are flat.definitions.now))
-      (subst (λ z. Flat_means (integer_at integers) (plain false) budget (named_terms flat) entry z o f) (listed_scalars arguments) x)
+      subst (λ z. Rattle.fut_meaning.specs.Programs.Program_means (flat_names (integer_at integers)) (plain tight) budget (flat_tops 0 z) entry.0 (all_values arguments) o f) (sym (named_are flat.definitions.now))
+      (subst (λ z. Flat_means (integer_at integers) (plain tight) budget (named_terms flat) entry z o f) (listed_values arguments) x)
 
   from_named : (o : Out FlatValue) (f : ℕ) → Named_means o f → Flat_allows o f
   from_named o f m =
-      subst (λ z. Flat_means (integer_at integers) (plain false) budget (named_terms flat) entry z o f) (sym (listed_scalars arguments))
-      (subst (λ z. Rattle.fut_meaning.specs.Programs.Program_means (flat_names (integer_at integers)) (plain false) budget (flat_tops 0 z) entry.0 (all_values (map Scalar_datum arguments)) o f) (named_are flat.definitions.now) m)
+      subst (λ z. Flat_means (integer_at integers) (plain tight) budget (named_terms flat) entry z o f) (sym (listed_values arguments))
+      (subst (λ z. Rattle.fut_meaning.specs.Programs.Program_means (flat_names (integer_at integers)) (plain tight) budget (flat_tops 0 z) entry.0 (all_values arguments) o f) (named_are flat.definitions.now) m)
 
   module _ (ps : List SourceProgram) (resolved : resolve_program ps ≡ Ok (program_of flat)) where
-    data_allowed : (vs : List Scalar) (f : ℕ) (v : FlatValue) → Flat_allows (Val v) f → Is_data N (integer_at integers) (plain false) budget false tuple results v vs → Allows_result ps (program_of flat) (integer_at integers) budget entry.0 arguments tuple vs × AreOf results vs
-    data_allowed vs f v x is =
-        let m = to_named (Val (as_value is.result)) f (subst (λ z. Flat_allows (Val z) f) is.value x) in
-        (record { result = is.result; is_result = is.is_result; words = f; means = (same_results ps (program_of flat) resolved no_size (integer_at integers) false budget entry.0 (map Scalar_datum arguments) is.result f).0 m }, is.are_of)
+    result_of : (d : Datum) (f : ℕ) → Flat_allows (Val (as_value d)) f → Files_allow ps (program_of flat) (integer_at integers) budget entry.0 arguments tight (Gives d) f
+    result_of d f x = (same_results ps (program_of flat) resolved no_size (integer_at integers) tight budget entry.0 arguments d f).0 (to_named (Val (as_value d)) f x)
 
-    report_of : (k : Report) (f : ℕ) → Flat_allows (Fail k) f → Allows_report ps (program_of flat) (integer_at integers) budget entry.0 arguments k
-    report_of k f x = record { words = f; means = (same_reports ps (program_of flat) resolved no_size (integer_at integers) false budget entry.0 (map Scalar_datum arguments) k f).0 (to_named (Fail k) f x) }
+    report_of : (k : Report) (f : ℕ) → Flat_allows (Fail k) f → Files_allow ps (program_of flat) (integer_at integers) budget entry.0 arguments tight (Fails k) f
+    report_of k f x = (same_reports ps (program_of flat) resolved no_size (integer_at integers) tight budget entry.0 arguments k f).0 (to_named (Fail k) f x)
 
-    outcome_of : (o : Out FlatValue) (f : ℕ) → Flat_allows o f → Allows_some ps (program_of flat) (integer_at integers) budget entry.0 arguments tuple results
-    outcome_of (Val v) f x =
+    answer_of : (o : Out FlatValue) (f : ℕ) → Flat_allows o f → (answer : Answer) × (words : ℕ) × Answer_is_of tuple results answer × Files_allow ps (program_of flat) (integer_at integers) budget entry.0 arguments tight answer words
+    answer_of (Val v) f x =
         let fit = safe (Val v) f x in
-        let d = data_of N (integer_at integers) (plain false) budget false fit.0 v tuple results used.result used.results_are fit.1 in
-        let a = data_allowed d.0 f v x d.1 in
-        inl (d.0, a.0, a.1)
-    outcome_of (Fail k) f x = inr (k, report_of k f x)
-    outcome_of Wrong f x = absurd (safe Wrong f x)
+        let d = data_of N (integer_at integers) (plain tight) budget false fit.0 v tuple results used.result used.results_are fit.1 in
+        (Gives d.result, f, d.are_of, result_of d.result f (subst (λ z. Flat_allows (Val z) f) d.value x))
+    answer_of (Fail k) f x = (Fails k, f, tt, report_of k f x)
+    answer_of Wrong f x = absurd (safe Wrong f x)
 
-    pub some_allowed : Allows_some ps (program_of flat) (integer_at integers) budget entry.0 arguments tuple results
-    some_allowed = outcome_of some.0 some.1 some.2
+    pub some_allowed : (answer : Answer) × (words : ℕ) × Answer_is_of tuple results answer × Files_allow ps (program_of flat) (integer_at integers) budget entry.0 arguments tight answer words
+    some_allowed = answer_of some.0 some.1 some.2
 
 -- ---- runs
 
-module _ {flat : Flat} {inference : Inference} {integers : List IntType} {entry : BindId} {params : List ScalarType} {tuple : Bool} {results : List ScalarType} {hs : Shapes} {h : Shape} {p : Program} (r : Is_run flat inference integers entry params tuple results hs h p) (budget : ℕ) (arguments : List Scalar) (of : AreOf params arguments) (split : All_split hs (as_values (scalar_datums arguments)) arguments []) where
+module _ {flat : Flat} {inference : Inference} {integers : List IntType} {entry : BindId} {params : List DataType} {tuple : Bool} {results : List DataType} {hs : Shapes} {h : Shape} {p : Program} (r : Is_run flat inference integers entry params tuple results hs h p) (tight : Bool) (budget : ℕ) (arguments : List Datum) (of : Are_arguments params arguments) (split : All_split hs (as_values (datums arguments)) arguments []) where
   abbrev Allows : Out FlatValue → ℕ → Type 0
-  Allows = Flat_allows r.typed r.usable budget arguments of
+  Allows = Flat_allows r.typed r.usable tight budget arguments of
 
-  flat_allows : (o : Out (List Component)) (f : ℕ) → Program_means budget p arguments o f → Right (Is_value h) Allows o f
-  flat_allows o f x = adds_no_outcome (plain false) (integer_at integers) budget (named_terms flat) entry hs h p r.unfolds (as_values (scalar_datums arguments)) arguments split o f x
+  flat_allows : (o : Out (List Component)) (f : ℕ) → Program_means tight budget p arguments o f → Right (Is_value h) Allows o f
+  flat_allows o f x = adds_no_outcome tight (integer_at integers) budget (named_terms flat) entry hs h p r.unfolds (as_values (datums arguments)) arguments split o f x
 
   wrong_never : (f : ℕ) → Right (Is_value h) Allows Wrong f → ⊥
-  wrong_never f (right o x s) = same s (safe r.typed r.usable budget arguments of o f x)
+  wrong_never f (right o x s) = same s (safe r.typed r.usable tight budget arguments of o f x)
     where
-      same : {o : Out FlatValue} → Same_out (Is_value h) Wrong o → HasOut (Result_fits (N r.typed r.usable budget arguments of) (integer_at integers) (plain false) budget false (used r.typed r.usable budget arguments of).result) o → ⊥
+      same : {o : Out FlatValue} → Same_out (Is_value h) Wrong o → HasOut (Result_fits (N r.typed r.usable tight budget arguments of) (integer_at integers) (plain tight) budget false (used r.typed r.usable tight budget arguments of).result) o → ⊥
       same same_wrong k = k
 
   module _ (ps : List SourceProgram) (resolved : resolve_program ps ≡ Ok (program_of flat)) where
-    gives_so : (vs : List Scalar) (f : ℕ) → Right (Is_value h) Allows (Val vs) f → Allows_result ps (program_of flat) (integer_at integers) budget entry.0 arguments tuple vs × AreOf results vs
+    -- a value is data, whose components are those that it is laid in, opened
+    laid_data : (v : FlatValue) (f : ℕ) → Allows (Val v) f → Is_data (N r.typed r.usable tight budget arguments of) (integer_at integers) (plain tight) budget false tuple results v
+    laid_data v f x =
+        let fit = safe r.typed r.usable tight budget arguments of (Val v) f x in
+        let u = used r.typed r.usable tight budget arguments of in
+        data_of (N r.typed r.usable tight budget arguments of) (integer_at integers) (plain tight) budget false fit.0 v tuple results u.result u.results_are fit.1
+
+    gives_so : (vs : List Component) (f : ℕ) → Right (Is_value h) Allows (Val vs) f → (result : Datum) × (opened tuple vs ≡ components_of tuple result) × AreOf results (components_of tuple result) × Files_allow ps (program_of flat) (integer_at integers) budget entry.0 arguments tight (Gives result) f
     gives_so vs f (right o x s) = same s x
       where
-        same : {o : Out FlatValue} → Same_out (Is_value h) (Val vs) o → Allows o f → Allows_result ps (program_of flat) (integer_at integers) budget entry.0 arguments tuple vs × AreOf results vs
+        same : {o : Out FlatValue} → Same_out (Is_value h) (Val vs) o → Allows o f → (result : Datum) × (opened tuple vs ≡ components_of tuple result) × AreOf results (components_of tuple result) × Files_allow ps (program_of flat) (integer_at integers) budget entry.0 arguments tight (Gives result) f
         same (same_value {a' = v} s) x =
-            let fit = safe r.typed r.usable budget arguments of (Val v) f x in
-            let u = used r.typed r.usable budget arguments of in
-            data_allowed r.typed r.usable budget arguments of ps resolved vs f v x (results_are (N r.typed r.usable budget arguments of) (integer_at integers) (plain false) budget false fit.0 tuple results u.result u.results_are s fit.1)
+            let d = laid_data v f x in
+            (d.result, result_opened tuple results d.result d.are_of d.value s, d.are_of, result_of r.typed r.usable tight budget arguments of ps resolved d.result f (subst (λ z. Allows (Val z) f) d.value x))
 
-    fails_so : (k : Report) (f : ℕ) → Right (Is_value h) Allows (Fail k) f → Allows_report ps (program_of flat) (integer_at integers) budget entry.0 arguments k
+    fails_so : (k : Report) (f : ℕ) → Right (Is_value h) Allows (Fail k) f → Files_allow ps (program_of flat) (integer_at integers) budget entry.0 arguments tight (Fails k) f
     fails_so k f (right o x s) = same s x
       where
-        same : {o : Out FlatValue} → Same_out (Is_value h) (Fail k) o → Allows o f → Allows_report ps (program_of flat) (integer_at integers) budget entry.0 arguments k
-        same same_report x = report_of r.typed r.usable budget arguments of ps resolved k f x
+        same : {o : Out FlatValue} → Same_out (Is_value h) (Fail k) o → Allows o f → Files_allow ps (program_of flat) (integer_at integers) budget entry.0 arguments tight (Fails k) f
+        same same_report x = report_of r.typed r.usable tight budget arguments of ps resolved k f x
 
     -- ---- what the files allow, the blocks allow
 
-    came : (vs : List Scalar) (d : Datum) (f : ℕ) → Is_result tuple vs d → Left (Is_value h) (Program_means budget p arguments) (Val (as_value d)) f → (g : ℕ) × Program_means budget p arguments (Val vs) g
-    came vs d f is (left o x s) = same s x
+    came : (d : Datum) (f : ℕ) → Allows (Val (as_value d)) f → Left (Is_value h) (Program_means tight budget p arguments) (Val (as_value d)) f → (vs : List Datum) × (opened tuple vs ≡ components_of tuple d) × Program_means tight budget p arguments (Val vs) f
+    came d f allows (left o x s) = same s x
       where
-        same : {o : Out (List Component)} → Same_out (Is_value h) o (Val (as_value d)) → Program_means budget p arguments o f → (g : ℕ) × Program_means budget p arguments (Val vs) g
-        same (same_value s) x = (f, subst (λ z. Program_means budget p arguments (Val z) f) (result_is is s) x)
+        same : {o : Out (List Component)} → Same_out (Is_value h) o (Val (as_value d)) → Program_means tight budget p arguments o f → (vs : List Datum) × (opened tuple vs ≡ components_of tuple d) × Program_means tight budget p arguments (Val vs) f
+        same (same_value {a = vs} s) x =
+            let l = laid_data (as_value d) f allows in
+            (vs, result_opened tuple results d (subst (λ z. AreOf results (components_of tuple z)) (sym (same_datum d l.result l.value)) l.are_of) refl s, x)
 
-    failed : (k : Report) (f : ℕ) → Left (Is_value h) (Program_means budget p arguments) (Fail k) f → (g : ℕ) × Program_means budget p arguments (Fail k) g
+    failed : (k : Report) (f : ℕ) → Left (Is_value h) (Program_means tight budget p arguments) (Fail k) f → Program_means tight budget p arguments (Fail k) f
     failed k f (left o x s) = same s x
       where
-        same : {o : Out (List Component)} → Same_out (Is_value h) o (Fail k) → Program_means budget p arguments o f → (g : ℕ) × Program_means budget p arguments (Fail k) g
-        same same_report x = (f, x)
+        same : {o : Out (List Component)} → Same_out (Is_value h) o (Fail k) → Program_means tight budget p arguments o f → Program_means tight budget p arguments (Fail k) f
+        same same_report x = x
 
-    allowed : (o : Out FlatValue) (f : ℕ) → Named_means r.typed r.usable budget arguments of o f → Left (Is_value h) (Program_means budget p arguments) o f
-    allowed o f m = loses_no_outcome (plain false) (integer_at integers) budget (named_terms flat) entry hs h p r.unfolds (as_values (scalar_datums arguments)) arguments split o f (from_named r.typed r.usable budget arguments of o f m)
+    allowed : (o : Out FlatValue) (f : ℕ) → Named_means r.typed r.usable tight budget arguments of o f → Left (Is_value h) (Program_means tight budget p arguments) o f
+    allowed o f m = loses_no_outcome tight (integer_at integers) budget (named_terms flat) entry hs h p r.unfolds (as_values (datums arguments)) arguments split o f (from_named r.typed r.usable tight budget arguments of o f m)
 
-    result_comes : (vs : List Scalar) → Allows_result ps (program_of flat) (integer_at integers) budget entry.0 arguments tuple vs → (g : ℕ) × Program_means budget p arguments (Val vs) g
-    result_comes vs a = came vs a.result a.words a.is_result (allowed (Val (as_value a.result)) a.words ((same_results ps (program_of flat) resolved (no_size r.typed r.usable budget arguments of) (integer_at integers) false budget entry.0 (map Scalar_datum arguments) a.result a.words).1 a.means))
+    result_comes : (d : Datum) (f : ℕ) → Files_allow ps (program_of flat) (integer_at integers) budget entry.0 arguments tight (Gives d) f → (vs : List Datum) × (opened tuple vs ≡ components_of tuple d) × Program_means tight budget p arguments (Val vs) f
+    result_comes d f a =
+        let m = (same_results ps (program_of flat) resolved (no_size r.typed r.usable tight budget arguments of) (integer_at integers) tight budget entry.0 arguments d f).1 a in
+        came d f (from_named r.typed r.usable tight budget arguments of (Val (as_value d)) f m) (allowed (Val (as_value d)) f m)
 
-    report_comes : (k : Report) → Allows_report ps (program_of flat) (integer_at integers) budget entry.0 arguments k → (g : ℕ) × Program_means budget p arguments (Fail k) g
-    report_comes k a = failed k a.words (allowed (Fail k) a.words ((same_reports ps (program_of flat) resolved (no_size r.typed r.usable budget arguments of) (integer_at integers) false budget entry.0 (map Scalar_datum arguments) k a.words).1 a.means))
+    report_comes : (k : Report) (f : ℕ) → Files_allow ps (program_of flat) (integer_at integers) budget entry.0 arguments tight (Fails k) f → Program_means tight budget p arguments (Fail k) f
+    report_comes k f a = failed k f (allowed (Fail k) f ((same_reports ps (program_of flat) resolved (no_size r.typed r.usable tight budget arguments of) (integer_at integers) tight budget entry.0 arguments k f).1 a))
 
-  pub run_is : Runs_as flat integers entry tuple results p budget arguments
+  pub run_is : Runs_as flat integers entry tuple results p tight budget arguments
   run_is = record {
     never_wrong = λ f x. wrong_never f (flat_allows Wrong f x);
     gives = λ ps resolved vs f x. gives_so ps resolved vs f (flat_allows (Val vs) f x);
@@ -215,7 +223,7 @@ module _ {flat : Flat} {inference : Inference} {integers : List IntType} {entry 
   }
 
 pub blocks_mean_the_source : BlocksMeanTheSource
-blocks_mean_the_source flat inference integers entry params tuple results hs h p r budget arguments of split = run_is r budget arguments of split
+blocks_mean_the_source flat inference integers entry params tuple results hs h p r tight budget arguments of split = run_is r tight budget arguments of split
 
 pub files_allow_some : FilesAllowSome
-files_allow_some flat inference integers entry params tuple results typed usable ps resolved budget arguments of = some_allowed typed usable budget arguments of ps resolved
+files_allow_some flat inference integers entry params tuple results typed usable ps resolved tight budget arguments of = some_allowed typed usable tight budget arguments of ps resolved

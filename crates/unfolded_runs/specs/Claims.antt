@@ -4,16 +4,18 @@ use Rattle.std.specs.Prelude.{◌≡◌, ℕ, List, [], Bool, Ok, slice_index_or
 use Rattle.fut_scalar.specs.declared.place.BindId.{BindId}
 use Rattle.fut_scalar.specs.declared.report.Report.{Report}
 use Rattle.fut_scalar.specs.declared.scalar.IntType.{IntType}
-use Rattle.fut_scalar.specs.declared.scalar.Scalar.{Scalar}
-use Rattle.fut_scalar.specs.declared.scalar.ScalarType.{ScalarType}
+use Rattle.fut_scalar.specs.declared.sizes.DataType.{DataType}
 use Rattle.fut_ast.specs.declared.module.Program.{Program as SourceProgram}
 use Rattle.fut_flat.specs.declared.program.Definition.{Definition}
 use Rattle.fut_flat.specs.declared.program.Flat.{Flat}
 use Rattle.fut_meaning.specs.Flats.{named_terms, flat_tops}
+use Rattle.fut_meaning.specs.Answers.{Answer, Gives, Fails}
 use Rattle.fut_meaning.specs.Outcomes.{Val, Fail}
+use Rattle.fut_value.specs.Data.{Datum, datums}
 use Rattle.fut_meaning.specs.Datums.{as_values}
 use Rattle.fut_blocks.specs.declared.block.Program.{Program}
 use Rattle.fut_blocks.specs.Programs.{Program_means, NeverWrong, AreOf}
+use Rattle.elab_laws.specs.Answers.{Files_allow}
 use Rattle.elab_scopes.specs.Programs.{resolve_program}
 use Rattle.module_elab.specs.Elaborated.{program_of}
 use Rattle.type_infer.specs.Inferring.{Told_by}
@@ -22,11 +24,10 @@ use Rattle.typed_programs.specs.Entries.{May_be_used}
 use Rattle.typed_programs.specs.Typed.{Typed_by, integer_at}
 use Rattle.unfold.specs.Programs.{Program_unfolds}
 use Rattle.unfold.specs.Shapes.{Shape, Shapes, All_split}
-use Rattle.unfolded_runs.specs.Allowed.{Allows_result, Allows_report, Allows_some}
-use Rattle.unfolded_runs.specs.Results.{scalar_datums}
+use Rattle.unfolded_runs.specs.Results.{Are_arguments, components_of, opened}
 
--- the entry is one of the definitions, which takes and gives scalars of these types
-pub record Is_usable (flat : Flat) (inference : Inference) (entry : BindId) (params : List ScalarType) (tuple : Bool) (results : List ScalarType) : Type 0 where
+-- the entry is one of the definitions, which takes and gives data of these types
+pub record Is_usable (flat : Flat) (inference : Inference) (entry : BindId) (params : List DataType) (tuple : Bool) (results : List DataType) : Type 0 where
   pub at : ℕ
   pub definition : Definition
   pub is : (slice_index_or flat.definitions.now at definition).bind.0 ≡ entry.0
@@ -34,27 +35,32 @@ pub record Is_usable (flat : Flat) (inference : Inference) (entry : BindId) (par
 
 -- What is known of a run's program: its typing with the types of its integers, the number of an entry with its type, and the
 -- blocks to which it unfolds from there.
-pub record Is_run (flat : Flat) (inference : Inference) (integers : List IntType) (entry : BindId) (params : List ScalarType) (tuple : Bool) (results : List ScalarType) (hs : Shapes) (h : Shape) (p : Program) : Type 0 where
+pub record Is_run (flat : Flat) (inference : Inference) (integers : List IntType) (entry : BindId) (params : List DataType) (tuple : Bool) (results : List DataType) (hs : Shapes) (h : Shape) (p : Program) : Type 0 where
   pub typed : Told_by (Typed_by flat inference integers) inference
   pub usable : Is_usable flat inference entry params tuple results
   pub unfolds : Program_unfolds (integer_at integers) (flat_tops 0 (named_terms flat)) entry.0 hs h p
 
--- for scalars of the types of the parameters, and the files that resolve to the flat program
-pub record Runs_as (flat : Flat) (integers : List IntType) (entry : BindId) (tuple : Bool) (results : List ScalarType) (p : Program) (budget : ℕ) (arguments : List Scalar) : Type 0 where
-  pub never_wrong : NeverWrong budget p arguments
-  pub gives : (ps : List SourceProgram) → resolve_program ps ≡ Ok (program_of flat) → (vs : List Scalar) (f : ℕ) → Program_means budget p arguments (Val vs) f → Allows_result ps (program_of flat) (integer_at integers) budget entry.0 arguments tuple vs × AreOf results vs
-  pub fails : (ps : List SourceProgram) → resolve_program ps ≡ Ok (program_of flat) → (r : Report) (f : ℕ) → Program_means budget p arguments (Fail r) f → Allows_report ps (program_of flat) (integer_at integers) budget entry.0 arguments r
-  pub results_come : (ps : List SourceProgram) → resolve_program ps ≡ Ok (program_of flat) → (vs : List Scalar) → Allows_result ps (program_of flat) (integer_at integers) budget entry.0 arguments tuple vs → (f : ℕ) × Program_means budget p arguments (Val vs) f
-  pub reports_come : (ps : List SourceProgram) → resolve_program ps ≡ Ok (program_of flat) → (r : Report) → Allows_report ps (program_of flat) (integer_at integers) budget entry.0 arguments r → (f : ℕ) × Program_means budget p arguments (Fail r) f
+-- for arguments of the types of the parameters, tight or not, and the files that resolve to the flat program
+pub record Runs_as (flat : Flat) (integers : List IntType) (entry : BindId) (tuple : Bool) (results : List DataType) (p : Program) (tight : Bool) (budget : ℕ) (arguments : List Datum) : Type 0 where
+  pub never_wrong : NeverWrong tight budget p arguments
+  pub gives : (ps : List SourceProgram) → resolve_program ps ≡ Ok (program_of flat) → (vs : List Datum) (f : ℕ) → Program_means tight budget p arguments (Val vs) f → (result : Datum) × (opened tuple vs ≡ components_of tuple result) × AreOf results (components_of tuple result) × Files_allow ps (program_of flat) (integer_at integers) budget entry.0 arguments tight (Gives result) f
+  pub fails : (ps : List SourceProgram) → resolve_program ps ≡ Ok (program_of flat) → (r : Report) (f : ℕ) → Program_means tight budget p arguments (Fail r) f → Files_allow ps (program_of flat) (integer_at integers) budget entry.0 arguments tight (Fails r) f
+  pub results_come : (ps : List SourceProgram) → resolve_program ps ≡ Ok (program_of flat) → (result : Datum) (f : ℕ) → Files_allow ps (program_of flat) (integer_at integers) budget entry.0 arguments tight (Gives result) f → (vs : List Datum) × (opened tuple vs ≡ components_of tuple result) × Program_means tight budget p arguments (Val vs) f
+  pub reports_come : (ps : List SourceProgram) → resolve_program ps ≡ Ok (program_of flat) → (r : Report) (f : ℕ) → Files_allow ps (program_of flat) (integer_at integers) budget entry.0 arguments tight (Fails r) f → Program_means tight budget p arguments (Fail r) f
+
+-- an answer of an entry whose result has these types
+abbrev pub Answer_is_of : (tuple : Bool) → List DataType → Answer → Type 0
+Answer_is_of tuple results (Gives result) = AreOf results (components_of tuple result)
+Answer_is_of tuple results (Fails r) = Unit {0}
 
 abbrev pub BlocksMeanTheSource : Type 0
 BlocksMeanTheSource =
-    (flat : Flat) (inference : Inference) (integers : List IntType) (entry : BindId) (params : List ScalarType) (tuple : Bool) (results : List ScalarType) (hs : Shapes) (h : Shape) (p : Program) → Is_run flat inference integers entry params tuple results hs h p
-    → (budget : ℕ) (arguments : List Scalar) → AreOf params arguments → All_split hs (as_values (scalar_datums arguments)) arguments [] → Runs_as flat integers entry tuple results p budget arguments
+    (flat : Flat) (inference : Inference) (integers : List IntType) (entry : BindId) (params : List DataType) (tuple : Bool) (results : List DataType) (hs : Shapes) (h : Shape) (p : Program) → Is_run flat inference integers entry params tuple results hs h p
+    → (tight : Bool) (budget : ℕ) (arguments : List Datum) → Are_arguments params arguments → All_split hs (as_values (datums arguments)) arguments [] → Runs_as flat integers entry tuple results p tight budget arguments
 
--- The files that resolve to a typed program allow some outcome, from each entry that takes and gives scalars, for arguments of
+-- The files that resolve to a typed program allow some answer, from each entry that takes and gives data, for arguments of
 -- the types of its parameters and any budget of turns.
 abbrev pub FilesAllowSome : Type 0
 FilesAllowSome =
-    (flat : Flat) (inference : Inference) (integers : List IntType) (entry : BindId) (params : List ScalarType) (tuple : Bool) (results : List ScalarType) → Told_by (Typed_by flat inference integers) inference → Is_usable flat inference entry params tuple results
-    → (ps : List SourceProgram) → resolve_program ps ≡ Ok (program_of flat) → (budget : ℕ) (arguments : List Scalar) → AreOf params arguments → Allows_some ps (program_of flat) (integer_at integers) budget entry.0 arguments tuple results
+    (flat : Flat) (inference : Inference) (integers : List IntType) (entry : BindId) (params : List DataType) (tuple : Bool) (results : List DataType) → Told_by (Typed_by flat inference integers) inference → Is_usable flat inference entry params tuple results
+    → (ps : List SourceProgram) → resolve_program ps ≡ Ok (program_of flat) → (tight : Bool) (budget : ℕ) (arguments : List Datum) → Are_arguments params arguments → (answer : Answer) × (words : ℕ) × Answer_is_of tuple results answer × Files_allow ps (program_of flat) (integer_at integers) budget entry.0 arguments tight answer words

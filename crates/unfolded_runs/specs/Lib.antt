@@ -1,4 +1,3 @@
 pub mod Results
-pub mod Allowed
 pub mod Claims
 pub mod Prepared

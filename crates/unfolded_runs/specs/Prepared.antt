@@ -2,7 +2,7 @@
 use Rattle.std.specs.Prelude.{List, length, Ok, Err}
 use Rattle.fut_scalar.specs.declared.place.BindId.{BindId}
 use Rattle.fut_scalar.specs.declared.scalar.IntType.{IntType}
-use Rattle.fut_scalar.specs.declared.scalar.ScalarType.{ScalarType}
+use Rattle.fut_scalar.specs.declared.sizes.DataType.{DataType}
 use Rattle.fut_flat.specs.declared.program.Flat.{Flat}
 use Rattle.fut_meaning.specs.declared.measured.Measured.{Measured}
 use Rattle.fut_meaning.specs.declared.measured.MeasureErr.TheVariants as measure
@@ -17,18 +17,18 @@ use Rattle.unfolded_runs.specs.declared.preparing.PrepareErr.{PrepareErr}
 use Rattle.unfolded_runs.specs.declared.preparing.PrepareErr.TheVariants as err
 
 -- the program unfolds to these blocks, with these types of its integers
-pub record Is_blocks (flat : Flat) (integers : List IntType) (entry : BindId) (params : List ScalarType) (p : Program) : Type 0 where
+pub record Is_blocks (flat : Flat) (integers : List IntType) (entry : BindId) (params : List DataType) (p : Program) : Type 0 where
   pub shape : Shape
   pub unfolds : Program_unfolds (integer_at integers) (flat_tops 0 (named_terms flat)) entry.0 (scalars (length params)) shape p
 
 -- its walk is within the limits, and these are its blocks
-pub record Is_prepared (flat : Flat) (integers : List IntType) (entry : BindId) (params : List ScalarType) (p : Program) : Type 0 where
+pub record Is_prepared (flat : Flat) (integers : List IntType) (entry : BindId) (params : List DataType) (p : Program) : Type 0 where
   pub measured : Measured
   pub measures : Measures (flat_tops 0 (named_terms flat)) entry.0 (length params) (Ok measured)
   pub blocks : Is_blocks flat integers entry params p
 
 -- with its functions unfolded the program passes a limit; want of memory says nothing
-abbrev pub Is_past : Flat → BindId → List ScalarType → PrepareErr → Type 0
+abbrev pub Is_past : Flat → BindId → List DataType → PrepareErr → Type 0
 Is_past flat entry params err.Nodes = Measures (flat_tops 0 (named_terms flat)) entry.0 (length params) (Err measure.Nodes)
 Is_past flat entry params err.Depth = Measures (flat_tops 0 (named_terms flat)) entry.0 (length params) (Err measure.Depth)
 Is_past flat entry params err.Memory = Unit {0}

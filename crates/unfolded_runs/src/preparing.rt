@@ -1,6 +1,6 @@
 // From a typed program to its blocks.
 ghost use Rattle.std.specs.Prelude.{◌≡◌, List, Bool, IfOk, IfErr, length, Ok, Err};
-ghost use Rattle.fut_scalar.specs.declared.scalar.ScalarType.{ScalarType as Sort};
+ghost use Rattle.fut_scalar.specs.declared.sizes.DataType.{DataType as Sort};
 ghost use Rattle.fut_meaning.specs.Comes.{Program_lost};
 ghost use Rattle.fut_meaning.specs.Flats.{flat_tops, named_terms};
 ghost use Rattle.fut_meaning.specs.Measures.{Measures};
@@ -16,7 +16,7 @@ use bumpalo::Bump;
 use fut_blocks::Program;
 use fut_flat::Flat;
 use fut_meaning::{MeasureErr, Measured};
-use fut_scalar::{BindId, IntType, ScalarType};
+use fut_scalar::{BindId, DataType, IntType};
 use typed_programs::Accepted;
 use unfold_measure::measure;
 use unfold_program::{Refusal, unfold};
@@ -37,7 +37,7 @@ fn measured<'a>(
     bump: &'a Bump,
     flat: &Flat<'a>,
     entry: BindId,
-    params: &[ScalarType],
+    params: &[DataType],
 ) -> Result<Measured, PrepareErr>
     requires found { Program_lost entry.0 (length params.now) (flat_tops 0 (named_terms flat.now)) → ⊥ }
     ensures measures { IfOk result (λ m. Measures (flat_tops 0 (named_terms flat.now)) entry.0 (length params.now) (Ok m)) }
@@ -61,7 +61,7 @@ fn blocks<'a>(
     integers: &[IntType],
     flat: &Flat<'a>,
     entry: BindId,
-    params: &[ScalarType],
+    params: &[DataType],
 ) -> Result<Program<'a>, PrepareErr>
     requires unstuck { Program_stuck (integer_at integers.now) (flat_tops 0 (named_terms flat.now)) entry.0 (scalars (length params.now)) → ⊥ }
     ensures ok { IfOk result (Is_blocks flat.now integers.now entry params.now) }
@@ -80,12 +80,12 @@ fn blocks<'a>(
     }
 }
 
-/// The blocks of an accepted program from an entry on, whose parameters are scalars of these types. They lie in the arena.
+/// The blocks of an accepted program from an entry on, whose parameters are of these types. They lie in the arena.
 pub fn prepare<'a>(
     bump: &'a Bump,
     accepted: &Accepted<'a>,
     entry: BindId,
-    params: &[ScalarType],
+    params: &[DataType],
 ) -> Result<Program<'a>, PrepareErr>
     requires known { Is_known accepted.now }
     requires usable { (tuple : Bool) × (results : List Sort) × Is_usable accepted.now.flat accepted.now.inference entry params.now tuple results }

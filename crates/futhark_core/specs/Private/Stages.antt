@@ -1,16 +1,18 @@
 -- What each stage of a run answers.
-use Rattle.std.specs.Prelude.{◌≡◌, ◌⊎◌, ℕ, List}
+use Rattle.std.specs.Prelude.{◌≡◌, ◌⊎◌, ℕ, List, true}
 use Rattle.fut_scalar.specs.declared.report.FailKind.{FailKind}
 use Rattle.fut_scalar.specs.declared.report.FailKind.TheVariants as fail
 use Rattle.fut_scalar.specs.declared.report.Report.{Report}
-use Rattle.fut_scalar.specs.declared.scalar.Scalar.{Scalar}
-use Rattle.fut_scalar.specs.declared.scalar.ScalarType.{ScalarType}
+use Rattle.fut_scalar.specs.declared.sizes.DataType.{DataType}
 use Rattle.fut_token.specs.declared.token.Token.{Token}
 use Rattle.fut_io.specs.Outside.{LoaderSeen, Loaded}
 use Rattle.fut_lexer.specs.Lexing.{HasTokens}
-use Rattle.fut_meaning.specs.Outcomes.{Out, Val, Fail}
+use Rattle.fut_value.specs.Data.{Datum}
+use Rattle.fut_meaning.specs.Answers.{Gives, Fails}
+use Rattle.fut_meaning.specs.Outcomes.{Val, Fail}
 use Rattle.fut_blocks.specs.declared.block.Program.{Program}
-use Rattle.fut_blocks.specs.Programs.{Program_means, NeverWrong, AreOf}
+use Rattle.fut_blocks.specs.Programs.{Program_means, NeverWrong}
+use Rattle.unfolded_runs.specs.Results.{Are_arguments, components_of, opened}
 use Rattle.fut_eval.specs.declared.program.EvalErr.{EvalErr}
 use Rattle.fut_eval.specs.declared.program.EvalErr.TheVariants as eval
 use Rattle.front.specs.Acceptance.{named_file}
@@ -28,7 +30,7 @@ use Rattle.futhark_status.specs.declared.status.Why.TheVariants as why
 use Rattle.futhark_status.specs.declared.status.Status.{Status}
 use Rattle.futhark_status.specs.declared.status.Status.TheVariants.{Entry, Limit, Input, Failure, Turns, Memory}
 use Rattle.futhark_core.specs.Acceptance.{Source, AcceptedTokens, UnacceptedTokens, UnacceptedFile}
-use Rattle.futhark_core.specs.Meaning.{Entered, Outcome, Gives, Fails, Allows}
+use Rattle.futhark_core.specs.Meaning.{Entered, Allows}
 use Rattle.futhark_core.specs.Row.{Streams, ActionRow, status_for}
 
 -- ---- from a file to its tokens
@@ -83,19 +85,13 @@ IsUnentered err name status = (status ≡ Entry err name) ⊎ (status ≡ Memory
 
 -- ---- a program that is ready
 
--- this outcome as blocks have it
-abbrev pub in_blocks : Outcome → Out (List Scalar)
-in_blocks (Gives vs) = Val vs
-in_blocks (Fails r) = Fail r
-
--- what its blocks allow, the source allows, and the other way round
+-- what its blocks allow, the source allows: the components of a result may be a tuple
 pub record Runs_for (source : Source) (e : Entered) (turns : ℕ) (p : Program) : Type 0 where
-  pub gives : (arguments : List Scalar) → AreOf e.params arguments → (vs : List Scalar) (f : ℕ) → Program_means turns p arguments (Val vs) f → Allows source e turns arguments (Gives vs)
-  pub fails : (arguments : List Scalar) → AreOf e.params arguments → (r : Report) (f : ℕ) → Program_means turns p arguments (Fail r) f → Allows source e turns arguments (Fails r)
-  pub comes : (arguments : List Scalar) → AreOf e.params arguments → (outcome : Outcome) → Allows source e turns arguments outcome → (f : ℕ) × Program_means turns p arguments (in_blocks outcome) f
+  pub gives : (arguments : List Datum) → Are_arguments e.params arguments → (vs : List Datum) (f : ℕ) → Program_means true turns p arguments (Val vs) f → (result : Datum) × (opened e.tuple vs ≡ components_of e.tuple result) × Allows source e turns arguments true (Gives result) f
+  pub fails : (arguments : List Datum) → Are_arguments e.params arguments → (r : Report) (f : ℕ) → Program_means true turns p arguments (Fail r) f → Allows source e turns arguments true (Fails r) f
 
-abbrev pub Never_wrong_for : List ScalarType → ℕ → Program → Type 0
-Never_wrong_for params turns p = (arguments : List Scalar) → AreOf params arguments → NeverWrong turns p arguments
+abbrev pub Never_wrong_for : List DataType → ℕ → Program → Type 0
+Never_wrong_for params turns p = (arguments : List Datum) → Are_arguments params arguments → NeverWrong true turns p arguments
 
 -- ---- from tokens to a status
 

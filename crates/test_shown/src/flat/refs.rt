@@ -32,7 +32,8 @@ fn show_primitive(prim: Primitive, shown: &mut Shown) {
         | Primitive::Popc(ty)
         | Primitive::Lowest(ty)
         | Primitive::Highest(ty)
-        | Primitive::NumBits(ty) => shown.named(int_text(ty), "."),
+        | Primitive::NumBits(ty)
+        | Primitive::Fold(_, ty) => shown.named(int_text(ty), "."),
         _ => {}
     }
     shown.push(line_of(prim).name);

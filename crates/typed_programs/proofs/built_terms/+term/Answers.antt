@@ -1,11 +1,8 @@
-use Rattle.typed_programs.proofs.FormLaws.{was_use, was_strict, was_lambda, was_apply, was_lets, was_if, was_loop, loop_was, was_counted, was_while, never_over, none_more, built_use, built_strict, built_lambda, built_apply, built_lets, built_if, built_loop, loop_built, built_counted, built_while}
+use Rattle.typed_programs.proofs.FormLaws.{was_strict, was_lambda, was_apply, was_lets, was_if, was_loop, loop_was, was_counted, was_over, was_while, none_more, built_use, built_strict, built_lambda, built_apply, built_lets, built_if, built_loop, loop_built, built_counted, built_over, built_while}
 use Rattle.typed_programs.proofs.built_terms.+term.Goals as goal
 
-pub exp_is_built-returns-in-Use : goal.exp_is_built-returns-in-Use
-exp_is_built-returns-in-Use t c = record {
-  built = λ r. built_use c.args.exp.now c.in-Use.used c.in-Use.field-1 c.in-Use.is (c.use_is_built.ensures.built r);
-  unbuilt = λ r h. c.use_is_built.ensures.unbuilt r (was_use c.args.exp.now c.in-Use.used c.in-Use.field-1 c.in-Use.is h);
-}
+pub exp_is_built-returns-in-Use-clause-built : goal.exp_is_built-returns-in-Use-clause-built
+exp_is_built-returns-in-Use-clause-built t c r = built_use c.args.exp.now c.in-Use.field-0 c.in-Use.field-1 c.in-Use.is
 
 pub exp_is_built-returns-then-act_is_built : goal.exp_is_built-returns-then-act_is_built
 exp_is_built-returns-then-act_is_built t c = record {
@@ -88,5 +85,8 @@ loop_is_built-returns-then-not-exp_is_built-clause-unbuilt t c r h = c.exp_is_bu
 pub loop_is_built-returns-else-turns_are_built-clause-unbuilt : goal.loop_is_built-returns-else-turns_are_built-clause-unbuilt
 loop_is_built-returns-else-turns_are_built-clause-unbuilt t c r h = c.turns_are_built.ensures.unbuilt c.if-turns_are_built.false (loop_was c.args.turning.now h).2
 
-pub turns_are_built-returns-in-ForIn-clause-unbuilt : goal.turns_are_built-returns-in-ForIn-clause-unbuilt
-turns_are_built-returns-in-ForIn-clause-unbuilt t c r h = never_over c.args.turning.now.form c.in-ForIn.field-0 c.in-ForIn.field-1 c.in-ForIn.is h
+pub turns_are_built-returns-in-ForIn : goal.turns_are_built-returns-in-ForIn
+turns_are_built-returns-in-ForIn t c = record {
+  built = λ r. built_over c.args.turning.now.form c.in-ForIn.field-0 c.in-ForIn.array c.in-ForIn.is (c.exp_is_built-in-ForIn.ensures.built r);
+  unbuilt = λ r h. c.exp_is_built-in-ForIn.ensures.unbuilt r (was_over c.args.turning.now.form c.in-ForIn.field-0 c.in-ForIn.array c.in-ForIn.is h);
+}

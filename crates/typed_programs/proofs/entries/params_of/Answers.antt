@@ -10,8 +10,8 @@ loop-init c = record { within = c.requires.number; read = parameters_none (Gener
 pub loop-preserved : goal.loop-preserved
 loop-preserved c = let is = sym c.function_of.ensures ∙ c.in-Some.is in let one : suc c.in-Some.first ≡ c.in-Some.first + 1 = omega arith in record {
   within = function_within (length c.args.inference.now.nodes) c.loop.node c.general_type_at.result c.in-Some.first is c.general_type_at.ensures.within;
-  read = subst (Parameters_are (Generally c.args.inference.now.nodes) c.args.number c.push_scalar.new.scalars) one
-      (parameters_more (Generally c.args.inference.now.nodes) c.args.number c.loop.node c.in-Some.first c.loop.params c.push_scalar.new.scalars c.general_type_at.result c.loop.invariant.read c.general_type_at.ensures.made is c.in-Ok.ensures.ok);
+  read = subst (Parameters_are (Generally c.args.inference.now.nodes) c.args.number c.push_data.new.types) one
+      (parameters_more (Generally c.args.inference.now.nodes) c.args.number c.loop.node c.in-Some.first c.loop.params c.push_data.new.types c.general_type_at.result c.loop.invariant.read c.general_type_at.ensures.made is c.in-Ok.ensures.ok);
 }
 
 pub returns-in-Err-clause-err : goal.returns-in-Err-clause-err

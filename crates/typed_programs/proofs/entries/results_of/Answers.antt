@@ -8,13 +8,13 @@ pub returns-then-count-lt2-clause-err : goal.returns-then-count-lt2-clause-err
 returns-then-count-lt2-clause-err c = narrow_tuple (Generally c.args.inference.now.nodes) c.args.node c.general_type_at.result c.in-Some.first c.in-Some.count c.general_type_at.ensures.made (sym c.tuple_of.ensures ∙ c.in-Some.is) c.if-count-lt2.true
 
 pub returns-in-Ok-clause-ok : goal.returns-in-Ok-clause-ok
-returns-in-Ok-clause-ok c = tuple_results (Generally c.args.inference.now.nodes) c.args.node c.general_type_at.result c.in-Some.first c.in-Some.count c.scalars_of.new.scalars c.general_type_at.ensures.made (sym c.tuple_of.ensures ∙ c.in-Some.is) c.if-count-lt2.false c.in-Ok.ensures.ok
+returns-in-Ok-clause-ok c = tuple_results (Generally c.args.inference.now.nodes) c.args.node c.general_type_at.result c.in-Some.first c.in-Some.count c.row_of.new.types c.general_type_at.ensures.made (sym c.tuple_of.ensures ∙ c.in-Some.is) c.if-count-lt2.false c.in-Ok.ensures.ok
 
 pub returns-in-Err-clause-err : goal.returns-in-Err-clause-err
 returns-in-Err-clause-err c = because c.in-Err.error (odd_tuple (Generally c.args.inference.now.nodes) c.args.node c.general_type_at.result c.in-Some.first c.in-Some.count c.general_type_at.ensures.made (sym c.tuple_of.ensures ∙ c.in-Some.is)) c.in-Err.ensures.err
 
-pub returns-in-Ok-push_scalar-clause-ok : goal.returns-in-Ok-push_scalar-clause-ok
-returns-in-Ok-push_scalar-clause-ok c = one_result (Generally c.args.inference.now.nodes) c.args.node c.push_scalar.new.scalars (subst (λ old. Pushed (Generally c.args.inference.now.nodes) c.args.node old c.push_scalar.new.scalars) c.requires.none c.in-Ok-push_scalar.ensures.ok)
+pub returns-in-Ok-push_data-clause-ok : goal.returns-in-Ok-push_data-clause-ok
+returns-in-Ok-push_data-clause-ok c = one_result (Generally c.args.inference.now.nodes) c.args.node c.push_data.new.types (subst (λ old. Pushed (Generally c.args.inference.now.nodes) c.args.node old c.push_data.new.types) c.requires.none c.in-Ok-push_data.ensures.ok)
 
-pub returns-in-Err-push_scalar-clause-err : goal.returns-in-Err-push_scalar-clause-err
-returns-in-Err-push_scalar-clause-err c = because c.in-Err-push_scalar.error (no_data (Generally c.args.inference.now.nodes) c.args.node c.general_type_at.result c.general_type_at.ensures.made (sym c.tuple_of.ensures ∙ c.in-None.is)) c.in-Err-push_scalar.ensures.err
+pub returns-in-Err-push_data-clause-err : goal.returns-in-Err-push_data-clause-err
+returns-in-Err-push_data-clause-err c = because c.in-Err-push_data.error (no_data (Generally c.args.inference.now.nodes) c.args.node c.general_type_at.result c.general_type_at.ensures.made (sym c.tuple_of.ensures ∙ c.in-None.is)) c.in-Err-push_data.ensures.err

@@ -2,7 +2,7 @@ use Rattle.std.proofs.Common.{subst, ◌≡◌, suc, ◌+◌, take, arith}
 use Rattle.std.specs.List.{All}
 use Rattle.std.proofs.lemmas.List.{take_all}
 use Rattle.typed_programs.specs.Trees.{Is_digit}
-use mathlib.Core.Logic.{◌⊎◌, inl, inr}
+use mathlib.Core.Logic.{inl, inr}
 use Rattle.typed_programs.proofs.Digits.{digits_more, no_digit}
 use Rattle.typed_programs.proofs.positions.are_digits.Goals as goal
 use Rattle.typed_programs.proofs.positions.are_digits.Goals.{then-byte-lt48-via-then-byte-lt48, then-byte-lt48-via-else-byte-lt48+then-byte-gt57}

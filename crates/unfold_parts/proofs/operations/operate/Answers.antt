@@ -24,10 +24,10 @@ pub returns-in-Complement : goal.returns-in-Complement
 returns-in-Complement c = act_complement _ _ _ _ _ _ _ _ _ c.in-Complement.is c.unary-in-Complement.ensures
 
 pub returns-in-Project : goal.returns-in-Project
-returns-in-Project c = act_project _ _ _ _ _ _ _ _ c.in-Project.is c.project.ensures
+returns-in-Project c = act_project _ _ _ _ _ _ _ _ _ _ c.in-Project.is c.project.ensures
 
 pub returns-in-Replace : goal.returns-in-Replace
-returns-in-Replace c = act_replace _ _ _ _ _ _ _ _ c.in-Replace.is c.replace.ensures
+returns-in-Replace c = act_replace _ _ _ _ _ _ _ _ _ _ c.in-Replace.is c.replace.ensures
 
 pub returns-in-Ascribe : goal.returns-in-Ascribe
 returns-in-Ascribe c = act_ascribe _ _ _ _ _ _ _ _ c.in-Ascribe.is c.same.ensures
@@ -42,13 +42,13 @@ pub returns-in-Assert : goal.returns-in-Assert
 returns-in-Assert c = act_assert _ _ _ _ _ _ _ _ _ c.in-Assert.is c.assert_first.ensures
 
 pub returns-in-Array : goal.returns-in-Array
-returns-in-Array c = act_array _ _ _ _ _ _ _ _ c.in-Array.is
+returns-in-Array c = act_array _ _ _ _ _ _ _ _ _ c.in-Array.is c.make.ensures
 
 pub returns-in-Index : goal.returns-in-Index
-returns-in-Index c = act_index _ _ _ _ _ _ _ _ _ c.in-Index.is
+returns-in-Index c = act_index _ _ _ _ _ _ _ _ _ _ c.in-Index.is c.make-in-Index.ensures
 
 pub returns-in-Update : goal.returns-in-Update
-returns-in-Update c = act_update _ _ _ _ _ _ _ _ c.in-Update.is
+returns-in-Update c = act_update _ _ _ _ _ _ _ _ _ c.in-Update.is c.make-in-Update.ensures
 
 pub returns-in-Range : goal.returns-in-Range
-returns-in-Range c = act_range _ _ _ _ _ _ _ _ _ _ c.in-Range.is
+returns-in-Range c = act_range _ _ _ _ _ _ _ _ _ _ _ c.in-Range.is c.make-in-Range.ensures

@@ -1,10 +1,15 @@
 use Rattle.std.proofs.Common.{◌≡◌, map}
-use Rattle.unfold.specs.Held.{field_of, fields_known, scope_of}
-use Rattle.unfold_parts.proofs.Binding.{All_lead, Fields_lead}
+use Rattle.fut_flat.specs.Erased.{pattern_of, patterns}
+use Rattle.unfold.specs.Held.{scope_of}
+use Rattle.unfold_parts.specs.States.{steps_of}
+use Rattle.unfold_parts.proofs.Binding.{All_lead, pattern_size, patterns_size}
 use Rattle.unfold_parts.proofs.patterns.+bind.Given as goal
 
-abbrev pub invariant-bind_all-loop-part : goal.invariant-bind_all-loop-part
-invariant-bind_all-loop-part l = (l.part-index ≡ l.at) × All_lead l.parts l.given (scope_of l.scope) l.part-index l.at (scope_of l.names.scope.now)
+abbrev pub decreases-bind_known : goal.decreases-bind_known
+decreases-bind_known l = pattern_size (pattern_of l.pat.now)
 
-abbrev pub invariant-bind_fields-loop-field : goal.invariant-bind_fields-loop-field
-invariant-bind_fields-loop-field l = Fields_lead l.fields (fields_known (map field_of l.known_fields)) (scope_of l.scope) l.field-index (scope_of l.names.scope.now)
+abbrev pub decreases-bind_all : goal.decreases-bind_all
+decreases-bind_all l = patterns_size (patterns (map pattern_of l.parts.now))
+
+abbrev pub invariant-bind_all-loop-part : goal.invariant-bind_all-loop-part
+invariant-bind_all-loop-part l = (l.part-index ≡ l.at) × All_lead l.parts l.given (scope_of l.scope) l.fn.work.next l.part-index l.at l.work.next (steps_of l.fn.work) (steps_of l.work) (scope_of l.names.scope.now)

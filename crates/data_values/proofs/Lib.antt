@@ -1,0 +1,4 @@
+pub mod Shapes
+pub mod FromValues
+pub mod FromData
+pub mod ManyValues

@@ -1,0 +1,227 @@
+-- Primitives, by what their plans and functions give.
+use Rattle.std.proofs.Common.{◌≡◌, ℕ, ◌+◌, ◌≤◌, List, [], ◌∷◌, ◌++◌, length, get_or, Ok, Err, Result, Bool, true, false, refl, sym, ap, ◌∙◌, subst, arith}
+use Rattle.fut_scalar.specs.declared.place.Place.{Place}
+use Rattle.fut_scalar.specs.declared.report.Report.{Report}
+use Rattle.fut_flat.specs.declared.prim.Primitive.{Primitive}
+use Rattle.fut_value.specs.Data.{Shape, Datum, Unmet_shape, shape_of, array_words}
+use Rattle.fut_meaning.specs.Arrays.{Counted, array, all_fresh, fresh}
+use Rattle.fut_meaning.specs.Jobs.{Job, Done, Apply_each, Reduce_each, Applied, all_of, finished, prefixes_on, part_at, job}
+use Rattle.fut_meaning.specs.Outcomes.{Out, Val, Fail, Wrong, and_then, Rel, exact, gives, the, Then, goes_on, stops, sticks, Both, both, stops_left, sticks_left, each_of}
+use Rattle.fut_blocks.specs.declared.block.Atom.{Atom}
+use Rattle.fut_blocks.specs.Meaning.{Component, Names, Results, values_of, function_of, job_given, act_means, body_means}
+use Rattle.fut_blocks.specs.Numbered.{Upward, Act_numbered, Body_numbered}
+use Rattle.fut_blocks.specs.Plain.{Body}
+use Rattle.fut_blocks.specs.Plain as act
+use Rattle.array_data.specs.declared.built.Built.{Built}
+use Rattle.array_data.specs.declared.data.Data.{Data}
+use Rattle.array_data.specs.declared.form.Form.{Form}
+use Rattle.array_data.specs.declared.jobs.Finish.{Finish}
+use Rattle.array_data.specs.declared.jobs.Plan.{Plan}
+use Rattle.array_data.specs.declared.jobs.Plan.TheVariants as plan
+use Rattle.array_data.specs.declared.stop.Stop.{Stop}
+use Rattle.array_data.specs.declared.stop.Stop.TheVariants.{Failed, Memory}
+use Rattle.array_data.specs.Answers.{Does, does, does_fail, does_memory, does_lost}
+use Rattle.array_data.specs.Held.{held, held_all, as_held, rows_in, row_shape_in, shape_held}
+use Rattle.array_data.specs.Plans.{made_of, Source_is, first_fresh, Planned, plan_done, plan_each, plan_reduce, plan_scan, plan_fails, plan_memory, plan_lost, Counted_is, counted_is, counted_fails, counted_memory, counted_lost}
+use Rattle.array_data.proofs.Planning.{two_held}
+use Rattle.fut_eval.specs.Answers.{Answer, Tells, told, report_told, no_memory_told, lost, Stands, Kept, Runs, ran, failed, no_memory, gone, Pushed, pushed, not_pushed, Reads_data}
+use Rattle.fut_eval.specs.Primitives.{Gives, gave, gave_failure, gave_memory, gave_wrong, applies, Each_runs, reduction, Fold_runs, Scan_runs, Job_runs}
+use Rattle.fut_eval.specs.Runs.{Act_runs}
+use Rattle.fut_eval.proofs.Tells.{the_is, then_stop, then_next, kept_same}
+
+-- ---- a primitive, once its data is read
+
+module _ (budget : ℕ) (p : Primitive) (at : Place) (us : List Atom) (xs : List ℕ) (b : Body) (t s : List Component) where
+  pub data_stop : (e : Stop) → Reads_data t us (Err e) → Act_runs budget (act.Job p at us xs b) t t s s (Err e)
+  unfolding Reads_data Act_runs act_means
+  data_stop e h env n last st na l = then_stop n t t s s (values_of env us) (λ vs. Then (the (job false Unmet_shape p at vs)) (job_given true (function_of (body_means true budget b) xs env))) e (h env n st)
+
+  pub data_read : (ds : List Component) (t' s' : List Component) (r : Answer) → Reads_data t us (Ok ds) → Job_runs budget b xs (job false Unmet_shape p at ds) t t' s s' r → Act_runs budget (act.Job p at us xs b) t t' s s' r
+  unfolding Reads_data Act_runs Job_runs act_means Act_numbered
+  data_read ds t' s' r h k env n last st (mid, u, nb) l =
+      then_next n t t' s s' (values_of env us) (λ vs. Then (the (job false Unmet_shape p at vs)) (job_given true (function_of (body_means true budget b) xs env))) ds r (h env n st) (k env n mid last st u nb l)
+
+pub ruleset acts = (data_stop, data_read)
+
+-- ---- what a job gives
+
+module _ (budget : ℕ) (b : Body) (xs : List ℕ) (o : Out Job) where
+  job_memory : (t t' s s' : List Component) → Job_runs budget b xs o t t' s s' (Err Memory)
+  unfolding Job_runs
+  job_memory t t' s s' env n mid last st u nb l = no_memory
+
+  pub no_job_memory : (t t' s s' : List Component) → Job_runs budget b xs o t t' s s' (Err Memory)
+  no_job_memory t t' s s' = job_memory t t' s s'
+
+  job_lost : (t t' s s' : List Component) (r : Answer) → o ≡ Wrong → Job_runs budget b xs o t t' s s' r
+  unfolding Job_runs
+  job_lost t t' s s' r e env n mid last st u nb l = gone 0 (sticks (the_is o Wrong e))
+
+  pub plan_stop : (at : Place) (ds : List Datum) (t s : List Component) (e : Stop) → Planned o at ds (Err e) → Job_runs budget b xs o t t s s (Err e)
+  unfolding Job_runs
+  plan_stop at ds t s _ (plan_fails {r} q) env n mid last st u nb l = failed 0 (stops (the_is o (Fail r) q))
+  plan_stop at ds t s _ plan_memory env n mid last st u nb l = no_memory
+  plan_stop at ds t s e (plan_lost q) env n mid last st u nb l = gone 0 (sticks (the_is o Wrong q))
+
+  -- what a result that is put on the stack gives
+  result_runs : (env : Names Component) (n : ℕ) (t t' s s1 s2 : List Component) (d : Datum) (f : ℕ) (r : Answer) → Kept n t t' → s1 ≡ s → Then (the o) (job_given true (applies budget b xs env)) (Val (d ∷ [])) f → Pushed d s1 s2 r → Runs (Then (the o) (job_given true (applies budget b xs env))) n t t' s s2 r
+  result_runs env n t t' s s1 s2 d f _ k q h (pushed p) = ran (d ∷ []) f (p ∙ ap (λ z. z ++ d ∷ []) q) (tt, tt) k h
+  result_runs env n t t' s s1 s2 d f _ k q h not_pushed = no_memory
+
+  pub job_done : (at : Place) (ds : List Datum) (t s s1 : List Component) (v : Data) (r : Answer) → Planned o at ds (Ok (plan.Done v)) → Pushed (held v) s s1 r → Job_runs budget b xs o t t s s1 r
+  unfolding Job_runs
+  job_done at ds t s s1 v r (plan_lost q) h env n mid last st u nb l = gone 0 (sticks (the_is o Wrong q))
+  job_done at ds t s s1 v r (plan_done d) h env n mid last st u nb l = by_does d
+    where
+      by_does : Does o (Ok (held v)) → Runs (Then (the o) (job_given true (applies budget b xs env))) n t t s s1 r
+      by_does (does_lost q) = gone 0 (sticks (the_is o Wrong q))
+      by_does (does {c} {d} q) = result_runs env n t t s s s1 (held v) (0 + (c + 0)) r (kept_same n t) refl (goes_on (the_is o (Val (Done (c, held v))) q) (goes_on exact exact)) h
+
+  -- the function on each row
+  module _ (at : Place) (ds : List Datum) (f : Finish) (n : ℕ) (p : Planned o at ds (Ok (plan.Each f n))) (t t1 s s1 : List Component) where
+    pub each_rows_stop : (e : Stop) → Each_runs budget b xs f ds n t t1 s s1 (Err e) → Job_runs budget b xs o t t1 s s1 (Err e)
+    unfolding Each_runs Job_runs
+    each_rows_stop e h env k mid last st u nb l = by_plan p
+      where
+        by_each : {e : Stop} (rows : List (List Datum)) → o ≡ Val (Apply_each rows (made_of f at ds)) → Gives (each_of (applies budget b xs env) rows) k t t1 s s1 (Err e) → Runs (Then (the o) (job_given true (applies budget b xs env))) k t t1 s s1 (Err e)
+        by_each rows q (gave_failure c y) = failed (0 + c) (goes_on (the_is o (Val (Apply_each rows (made_of f at ds))) q) (stops (stops y)))
+        by_each rows q gave_memory = no_memory
+        by_each rows q (gave_wrong c y) = gone (0 + c) (goes_on (the_is o (Val (Apply_each rows (made_of f at ds))) q) (sticks (sticks y)))
+
+        by_plan : Planned o at ds (Ok (plan.Each f n)) → Runs (Then (the o) (job_given true (applies budget b xs env))) k t t1 s s1 (Err e)
+        by_plan (plan_each rows q m w) = by_each rows q (h rows m w env k mid last st u nb l)
+        by_plan (plan_lost q) = gone 0 (sticks (the_is o Wrong q))
+
+    module _ (es : List Datum) (h : Each_runs budget b xs f ds n t t1 s s1 (Ok es)) where
+      pub each_no_result : (e : Stop) → Counted_is (made_of f at ds es) (Err e) → Job_runs budget b xs o t t1 s s1 (Err e)
+      unfolding Each_runs Job_runs
+      each_no_result e g env k mid last st u nb l = by_plan p
+        where
+          by_made : {e : Stop} (rows : List (List Datum)) (c : ℕ) → o ≡ Val (Apply_each rows (made_of f at ds)) → each_of (applies budget b xs env) rows (Val es) c → Counted_is (made_of f at ds es) (Err e) → Runs (Then (the o) (job_given true (applies budget b xs env))) k t t1 s s1 (Err e)
+          by_made rows c q y (counted_fails {r} x) = failed (0 + (c + 0)) (goes_on (the_is o (Val (Apply_each rows (made_of f at ds))) q) (stops (goes_on y (stops (the_is (made_of f at ds es) (Fail r) x)))))
+          by_made rows c q y counted_memory = no_memory
+          by_made rows c q y (counted_lost x) = gone (0 + (c + 0)) (goes_on (the_is o (Val (Apply_each rows (made_of f at ds))) q) (sticks (goes_on y (sticks (the_is (made_of f at ds es) Wrong x)))))
+
+          by_each : (rows : List (List Datum)) → o ≡ Val (Apply_each rows (made_of f at ds)) → Gives (each_of (applies budget b xs env) rows) k t t1 s s1 (Ok es) → Runs (Then (the o) (job_given true (applies budget b xs env))) k t t1 s s1 (Err e)
+          by_each rows q (gave c y kr qr) = by_made rows c q y g
+          by_each rows q (gave_wrong c y) = gone (0 + c) (goes_on (the_is o (Val (Apply_each rows (made_of f at ds))) q) (sticks (sticks y)))
+
+          by_plan : Planned o at ds (Ok (plan.Each f n)) → Runs (Then (the o) (job_given true (applies budget b xs env))) k t t1 s s1 (Err e)
+          by_plan (plan_each rows q m w) = by_each rows q (h rows m w env k mid last st u nb l)
+          by_plan (plan_lost q) = gone 0 (sticks (the_is o Wrong q))
+
+      pub each_result : (d : Datum) (s2 : List Component) (r : Answer) → Counted_is (made_of f at ds es) (Ok d) → Pushed d s1 s2 r → Job_runs budget b xs o t t1 s s2 r
+      unfolding Each_runs Job_runs
+      each_result d s2 r g x env k mid last st u nb l = by_plan p
+        where
+          by_made : (rows : List (List Datum)) (c : ℕ) → o ≡ Val (Apply_each rows (made_of f at ds)) → each_of (applies budget b xs env) rows (Val es) c → Kept k t t1 → s1 ≡ s → Counted_is (made_of f at ds es) (Ok d) → Runs (Then (the o) (job_given true (applies budget b xs env))) k t t1 s s2 r
+          by_made rows c q y kr qr (counted_is {c = w} z) =
+              result_runs env k t t1 s s1 s2 d (0 + (c + (0 + w) + 0)) r kr qr
+              (goes_on (the_is o (Val (Apply_each rows (made_of f at ds))) q) (goes_on (goes_on y (goes_on (the_is (made_of f at ds es) (Val (w, d)) z) exact)) exact)) x
+          by_made rows c q y kr qr (counted_lost z) = gone (0 + (c + 0)) (goes_on (the_is o (Val (Apply_each rows (made_of f at ds))) q) (sticks (goes_on y (sticks (the_is (made_of f at ds es) Wrong z)))))
+
+          by_each : (rows : List (List Datum)) → o ≡ Val (Apply_each rows (made_of f at ds)) → Gives (each_of (applies budget b xs env) rows) k t t1 s s1 (Ok es) → Runs (Then (the o) (job_given true (applies budget b xs env))) k t t1 s s2 r
+          by_each rows q (gave c y kr qr) = by_made rows c q y kr qr g
+          by_each rows q (gave_wrong c y) = gone (0 + c) (goes_on (the_is o (Val (Apply_each rows (made_of f at ds))) q) (sticks (sticks y)))
+
+          by_plan : Planned o at ds (Ok (plan.Each f n)) → Runs (Then (the o) (job_given true (applies budget b xs env))) k t t1 s s2 r
+          by_plan (plan_each rows q m w) = by_each rows q (h rows m w env k mid last st u nb l)
+          by_plan (plan_lost q) = gone 0 (sticks (the_is o Wrong q))
+
+-- ---- reductions
+
+-- both arguments are what the plan says
+same_two : (ds : List Data) (k m : Data) (ne d : Datum) → length ds ≡ 2 → held_all ds ≡ ne ∷ d ∷ [] → (held (get_or ds 0 k) ≡ ne) × (held (get_or ds 1 m) ≡ d)
+same_two ds k m ne d l e = let q : held (get_or ds 0 k) ∷ held (get_or ds 1 m) ∷ [] ≡ ne ∷ d ∷ [] = sym (two_held ds k m l) ∙ e in (let x : held (get_or ds 0 k) ≡ ne = cc in x, let y : held (get_or ds 1 m) ≡ d = cc in y)
+
+module _ (budget : ℕ) (b : Body) (xs : List ℕ) (o : Out Job) (at : Place) (ds : List Data) (k m : Data) (two : length ds ≡ 2) (t t1 s s1 : List Component) where
+  module _ (p : Planned o at (held_all ds) (Ok plan.Reduce)) where
+    pub fold_no_result : (e : Stop) → Fold_runs budget b xs (held (get_or ds 0 k)) (held (get_or ds 1 m)) t t1 s s1 (Err e) → Job_runs budget b xs o t t1 s s1 (Err e)
+    unfolding Fold_runs Job_runs
+    fold_no_result e h env n mid last st u nb l = by_plan p
+      where
+        by_fold : {e : Stop} (any : Bool) (ne d : Datum) → o ≡ Val (Reduce_each any ne (rows_in d ∷ []) first_fresh) → Gives (reduction any (applies budget b xs env) ne (rows_in d)) n t t1 s s1 (Err e) → Runs (Then (the o) (job_given true (applies budget b xs env))) n t t1 s s1 (Err e)
+        by_fold any ne d q (gave_failure c y) = failed (0 + c) (goes_on (the_is o (Val (Reduce_each any ne (rows_in d ∷ []) first_fresh)) q) (stops (stops (stops_left y))))
+        by_fold any ne d q gave_memory = no_memory
+        by_fold any ne d q (gave_wrong c y) = gone (0 + c) (goes_on (the_is o (Val (Reduce_each any ne (rows_in d ∷ []) first_fresh)) q) (sticks (sticks (sticks_left y))))
+
+        by_plan : Planned o at (held_all ds) (Ok plan.Reduce) → Runs (Then (the o) (job_given true (applies budget b xs env))) n t t1 s s1 (Err e)
+        by_plan (plan_reduce any ne d i q) =
+            let x = same_two ds k m ne d two i in
+            by_fold any ne d q (subst (λ z. Gives (reduction any (applies budget b xs env) ne (rows_in z)) n t t1 s s1 (Err e)) x.1 (subst (λ z. Gives (reduction any (applies budget b xs env) z (rows_in (held (get_or ds 1 m)))) n t t1 s s1 (Err e)) x.0 (h any env n mid last st u nb l)))
+        by_plan (plan_lost q) = gone 0 (sticks (the_is o Wrong q))
+
+    pub fold_result : (v : Datum) (s2 : List Component) (r : Answer) → Fold_runs budget b xs (held (get_or ds 0 k)) (held (get_or ds 1 m)) t t1 s s1 (Ok v) → Pushed v s1 s2 r → Job_runs budget b xs o t t1 s s2 r
+    unfolding Fold_runs Job_runs
+    fold_result v s2 r h x env n mid last st u nb l = by_plan p
+      where
+        by_fold : (any : Bool) (ne d : Datum) → o ≡ Val (Reduce_each any ne (rows_in d ∷ []) first_fresh) → Gives (reduction any (applies budget b xs env) ne (rows_in d)) n t t1 s s1 (Ok v) → Runs (Then (the o) (job_given true (applies budget b xs env))) n t t1 s s2 r
+        by_fold any ne d q (gave c y kr qr) =
+            result_runs budget b xs o env n t t1 s s1 s2 v (0 + (c + 0 + 0 + (0 + array_words (shape_of v)) + 0)) r kr qr
+            (goes_on (the_is o (Val (Reduce_each any ne (rows_in d ∷ []) first_fresh)) q) (goes_on (goes_on (both y exact exact) (goes_on (the_is (fresh v) (Val (array_words (shape_of v), v)) refl) exact)) exact)) x
+        by_fold any ne d q (gave_wrong c y) = gone (0 + c) (goes_on (the_is o (Val (Reduce_each any ne (rows_in d ∷ []) first_fresh)) q) (sticks (sticks (sticks_left y))))
+
+        by_plan : Planned o at (held_all ds) (Ok plan.Reduce) → Runs (Then (the o) (job_given true (applies budget b xs env))) n t t1 s s2 r
+        by_plan (plan_reduce any ne d i q) =
+            let w = same_two ds k m ne d two i in
+            by_fold any ne d q (subst (λ z. Gives (reduction any (applies budget b xs env) ne (rows_in z)) n t t1 s s1 (Ok v)) w.1 (subst (λ z. Gives (reduction any (applies budget b xs env) z (rows_in (held (get_or ds 1 m)))) n t t1 s s1 (Ok v)) w.0 (h any env n mid last st u nb l)))
+        by_plan (plan_lost q) = gone 0 (sticks (the_is o Wrong q))
+
+  -- what a scan makes of its values
+  abbrev scan_job : (ne d : Datum) → Job
+  scan_job ne d = Reduce_each false ne (prefixes_on [] (rows_in d)) (λ es. all_fresh (array false at (row_shape_in d) es))
+
+  module _ (p : Planned o at (held_all ds) (Ok plan.Scan)) where
+    pub scan_no_result : (e : Stop) → Scan_runs budget b xs (held (get_or ds 0 k)) (held (get_or ds 1 m)) t t1 s s1 (Err e) → Job_runs budget b xs o t t1 s s1 (Err e)
+    unfolding Scan_runs Job_runs
+    scan_no_result e h env n mid last st u nb l = by_plan p
+      where
+        by_scan : {e : Stop} (ne d : Datum) → o ≡ Val (scan_job ne d) → Gives (all_of (reduction false (applies budget b xs env) ne) (prefixes_on [] (rows_in d))) n t t1 s s1 (Err e) → Runs (Then (the o) (job_given true (applies budget b xs env))) n t t1 s s1 (Err e)
+        by_scan ne d q (gave_failure c y) = failed (0 + c) (goes_on (the_is o (Val (scan_job ne d)) q) (stops (stops y)))
+        by_scan ne d q gave_memory = no_memory
+        by_scan ne d q (gave_wrong c y) = gone (0 + c) (goes_on (the_is o (Val (scan_job ne d)) q) (sticks (sticks y)))
+
+        by_plan : Planned o at (held_all ds) (Ok plan.Scan) → Runs (Then (the o) (job_given true (applies budget b xs env))) n t t1 s s1 (Err e)
+        by_plan (plan_scan ne d i q) =
+            let x = same_two ds k m ne d two i in
+            by_scan ne d q (subst (λ z. Gives (all_of (reduction false (applies budget b xs env) ne) (prefixes_on [] (rows_in z))) n t t1 s s1 (Err e)) x.1 (subst (λ z. Gives (all_of (reduction false (applies budget b xs env) z) (prefixes_on [] (rows_in (held (get_or ds 1 m))))) n t t1 s s1 (Err e)) x.0 (h env n mid last st u nb l)))
+        by_plan (plan_lost q) = gone 0 (sticks (the_is o Wrong q))
+
+    module _ (es : List Datum) (h : Scan_runs budget b xs (held (get_or ds 0 k)) (held (get_or ds 1 m)) t t1 s s1 (Ok es)) (g : Shape) (i : g ≡ row_shape_in (held (get_or ds 1 m))) where
+      scan_told : (r : Result Datum Stop) → Tells (array false at g es) r → (env : Names Component) (n mid last : ℕ) → Stands env n t → Upward n xs mid → Body_numbered mid b last → last ≤ length t
+          → (s2 : List Component) (a : Answer) → ((v : Datum) (f : ℕ) → r ≡ Ok v → Kept n t t1 → s1 ≡ s → Then (the o) (job_given true (applies budget b xs env)) (Val (v ∷ [])) f → Runs (Then (the o) (job_given true (applies budget b xs env))) n t t1 s s2 a)
+          → ((q : Report) (f : ℕ) → r ≡ Err (Failed q) → Then (the o) (job_given true (applies budget b xs env)) (Fail q) f → Runs (Then (the o) (job_given true (applies budget b xs env))) n t t1 s s2 a)
+          → (r ≡ Err Memory → Runs (Then (the o) (job_given true (applies budget b xs env))) n t t1 s s2 a)
+          → Runs (Then (the o) (job_given true (applies budget b xs env))) n t t1 s s2 a
+      unfolding Scan_runs
+      scan_told r y env n mid last st u nb l s2 a good bad none = by_plan p
+        where
+          by_array : (ne d : Datum) (c : ℕ) (r : Result Datum Stop) → o ≡ Val (scan_job ne d) → all_of (reduction false (applies budget b xs env) ne) (prefixes_on [] (rows_in d)) (Val es) c → Kept n t t1 → s1 ≡ s
+              → ((v : Datum) (f : ℕ) → r ≡ Ok v → Kept n t t1 → s1 ≡ s → Then (the o) (job_given true (applies budget b xs env)) (Val (v ∷ [])) f → Runs (Then (the o) (job_given true (applies budget b xs env))) n t t1 s s2 a)
+              → ((q : Report) (f : ℕ) → r ≡ Err (Failed q) → Then (the o) (job_given true (applies budget b xs env)) (Fail q) f → Runs (Then (the o) (job_given true (applies budget b xs env))) n t t1 s s2 a)
+              → (r ≡ Err Memory → Runs (Then (the o) (job_given true (applies budget b xs env))) n t t1 s s2 a)
+              → Tells (array false at (row_shape_in d) es) r → Runs (Then (the o) (job_given true (applies budget b xs env))) n t t1 s s2 a
+          by_array ne d c _ q z kr qr good bad none (told {a = v} x) = good v (0 + (c + (0 + array_words (shape_of v)) + 0)) refl kr qr (goes_on (the_is o (Val (scan_job ne d)) q) (goes_on (goes_on z (goes_on (the_is (all_fresh (array false at (row_shape_in d) es)) (Val (array_words (shape_of v), v)) (ap all_fresh x)) exact)) exact))
+          by_array ne d c _ q z kr qr good bad none (report_told {r} x) = bad r (0 + (c + 0)) refl (goes_on (the_is o (Val (scan_job ne d)) q) (stops (goes_on z (stops (the_is (all_fresh (array false at (row_shape_in d) es)) (Fail r) (ap all_fresh x))))))
+          by_array ne d c _ q z kr qr good bad none no_memory_told = none refl
+          by_array ne d c r q z kr qr good bad none (lost x) = gone (0 + (c + 0)) (goes_on (the_is o (Val (scan_job ne d)) q) (sticks (goes_on z (sticks (the_is (all_fresh (array false at (row_shape_in d) es)) Wrong (ap all_fresh x))))))
+
+          by_scan : (ne d : Datum) → o ≡ Val (scan_job ne d) → held (get_or ds 1 m) ≡ d → Gives (all_of (reduction false (applies budget b xs env) ne) (prefixes_on [] (rows_in d))) n t t1 s s1 (Ok es) → Runs (Then (the o) (job_given true (applies budget b xs env))) n t t1 s s2 a
+          by_scan ne d q j (gave c z kr qr) = by_array ne d c r q z kr qr good bad none (subst (λ w. Tells (array false at w es) r) (i ∙ ap row_shape_in j) y)
+          by_scan ne d q j (gave_wrong c z) = gone (0 + c) (goes_on (the_is o (Val (scan_job ne d)) q) (sticks (sticks z)))
+
+          by_plan : Planned o at (held_all ds) (Ok plan.Scan) → Runs (Then (the o) (job_given true (applies budget b xs env))) n t t1 s s2 a
+          by_plan (plan_scan ne d j q) =
+              let x = same_two ds k m ne d two j in
+              by_scan ne d q x.1 (subst (λ z. Gives (all_of (reduction false (applies budget b xs env) ne) (prefixes_on [] (rows_in z))) n t t1 s s1 (Ok es)) x.1 (subst (λ z. Gives (all_of (reduction false (applies budget b xs env) z) (prefixes_on [] (rows_in (held (get_or ds 1 m))))) n t t1 s s1 (Ok es)) x.0 (h env n mid last st u nb l)))
+          by_plan (plan_lost q) = gone 0 (sticks (the_is o Wrong q))
+
+      pub scan_misfits : (e : Stop) → Tells (array false at g es) (Err e) → Job_runs budget b xs o t t1 s s1 (Err e)
+      unfolding Job_runs
+      scan_misfits e y env n mid last st u nb l = scan_told (Err e) y env n mid last st u nb l s1 (Err e) (λ v f q kr qr z. cc) (λ r f q z. let x : e ≡ Failed r = cc in subst (λ w. Runs (Then (the o) (job_given true (applies budget b xs env))) n t t1 s s1 (Err w)) (sym x) (failed f z)) (λ q. let x : e ≡ Memory = cc in subst (λ w. Runs (Then (the o) (job_given true (applies budget b xs env))) n t t1 s s1 (Err w)) (sym x) no_memory)
+
+      pub scan_result : (v : Datum) (s2 : List Component) (a : Answer) → Tells (array false at g es) (Ok v) → Pushed v s1 s2 a → Job_runs budget b xs o t t1 s s2 a
+      unfolding Job_runs
+      scan_result v s2 a y x env n mid last st u nb l = scan_told (Ok v) y env n mid last st u nb l s2 a (λ w f q kr qr z. let j : v ≡ w = cc in result_runs budget b xs o env n t t1 s s1 s2 w f a kr qr z (subst (λ w. Pushed w s1 s2 a) j x)) (λ r f q z. cc) (λ q. cc)
+
+pub ruleset jobs = (no_job_memory, plan_stop, job_done, each_rows_stop, each_no_result, each_result, fold_no_result, fold_result, scan_no_result, scan_misfits, scan_result)

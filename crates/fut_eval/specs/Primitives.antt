@@ -1,0 +1,75 @@
+-- What runs of primitives answer: of functions on rows, one after the other, and of folds.
+use Rattle.std.specs.Prelude.{◌≡◌, ℕ, zero, suc, ◌≤◌, Bool, true, false, List, [], ◌∷◌, ◌++◌, length, Result, Ok, Err}
+use Rattle.fut_scalar.specs.declared.report.Report.{Report}
+use Rattle.fut_value.specs.Data.{Datum}
+use Rattle.fut_meaning.specs.Jobs.{Job, Applied, Reduces, all_of, prefixes_on}
+use Rattle.fut_meaning.specs.Outcomes.{Out, Val, Fail, Wrong, Rel, gives, the, Then, each_of}
+use Rattle.fut_blocks.specs.Plain.{Body}
+use Rattle.fut_blocks.specs.Meaning.{Component, Names, Results, function_of, job_given, body_means}
+use Rattle.fut_blocks.specs.Numbered.{Upward, Body_numbered}
+use Rattle.array_data.specs.declared.built.Built.{Built}
+use Rattle.array_data.specs.declared.jobs.Finish.{Finish}
+use Rattle.array_data.specs.declared.stop.Stop.{Stop}
+use Rattle.array_data.specs.declared.stop.Stop.TheVariants.{Failed, Memory}
+use Rattle.array_data.specs.Held.{built_rows, rows_in}
+use Rattle.array_data.specs.Plans.{Source_is}
+use Rattle.fut_eval.specs.Answers.{Answer, Stands, Kept, Runs}
+
+abbrev pub as_built : Result Built Stop → Result (List Datum) Stop
+as_built (Ok b) = Ok (built_rows b)
+as_built (Err e) = Err e
+
+-- what one or several uses of a function give, which leave nothing on the stack
+pub data Gives {A : Type 0} (m : Rel A) (next : ℕ) (table table' stack stack' : List Component) : Result A Stop → Type 0 where
+  gave : {v : A} (f : ℕ) → m (Val v) f → Kept next table table' → stack' ≡ stack → Gives m next table table' stack stack' (Ok v)
+  gave_failure : {r : Report} (f : ℕ) → m (Fail r) f → Gives m next table table' stack stack' (Err (Failed r))
+  gave_memory : Gives m next table table' stack stack' (Err Memory)
+  gave_wrong : {r : Result A Stop} (f : ℕ) → m Wrong f → Gives m next table table' stack stack' r
+
+-- the function of a body
+abbrev pub applies : ℕ → Body → List ℕ → Names Component → Applied
+applies budget b xs env = function_of (body_means true budget b) xs env
+
+-- the function on the arguments that lie on the stack from the mark on
+unfoldable pub Applied_runs : ℕ → Body → List ℕ → ℕ → (table table' stack stack' : List Component) → Result Datum Stop → Type 0
+Applied_runs budget b xs mark table table' stack stack' r =
+    (env : Names Component) (next mid last : ℕ) (below args : List Component) → Stands env next table → Upward next xs mid → Body_numbered mid b last → last ≤ length table
+    → stack ≡ below ++ args → length below ≡ mark → Gives (applies budget b xs env args) next table table' below stack' r
+
+-- one step of a fold
+abbrev pub next_of : ℕ → Applied → Datum → Datum → Rel Datum
+next_of zero f acc x = gives 0 x
+next_of (suc i) f acc x = f (acc ∷ x ∷ [])
+
+unfoldable pub Next_runs : ℕ → Body → List ℕ → ℕ → (acc x : Datum) → (table table' stack stack' : List Component) → Result Datum Stop → Type 0
+Next_runs budget b xs i acc x table table' stack stack' r =
+    (env : Names Component) (next mid last : ℕ) → Stands env next table → Upward next xs mid → Body_numbered mid b last → last ≤ length table
+    → Gives (next_of i (applies budget b xs env) acc x) next table table' stack stack' r
+
+-- the function on each row
+unfoldable pub Each_runs : ℕ → Body → List ℕ → Finish → List Datum → ℕ → (table table' stack stack' : List Component) → Result (List Datum) Stop → Type 0
+Each_runs budget b xs f ds n table table' stack stack' r =
+    (rows : List (List Datum)) → n ≡ length rows → Source_is f ds rows
+    → (env : Names Component) (next mid last : ℕ) → Stands env next table → Upward next xs mid → Body_numbered mid b last → last ≤ length table
+    → Gives (each_of (applies budget b xs env) rows) next table table' stack stack' r
+
+-- a reduction of which nothing is asked but that it is tight
+abbrev pub reduction : Bool → Applied → Datum → List Datum → Rel Datum
+reduction any f ne ds = Reduces true any (λ ne ds. Unit {0}) f ne ds
+
+-- in any order or in theirs
+unfoldable pub Fold_runs : ℕ → Body → List ℕ → (ne d : Datum) → (table table' stack stack' : List Component) → Result Datum Stop → Type 0
+Fold_runs budget b xs ne d table table' stack stack' r =
+    (any : Bool) (env : Names Component) (next mid last : ℕ) → Stands env next table → Upward next xs mid → Body_numbered mid b last → last ≤ length table
+    → Gives (reduction any (applies budget b xs env) ne (rows_in d)) next table table' stack stack' r
+
+unfoldable pub Scan_runs : ℕ → Body → List ℕ → (ne d : Datum) → (table table' stack stack' : List Component) → Result (List Datum) Stop → Type 0
+Scan_runs budget b xs ne d table table' stack stack' r =
+    (env : Names Component) (next mid last : ℕ) → Stands env next table → Upward next xs mid → Body_numbered mid b last → last ≤ length table
+    → Gives (all_of (reduction false (applies budget b xs env) ne) (prefixes_on [] (rows_in d))) next table table' stack stack' r
+
+-- a job, whose result is put on the stack
+unfoldable pub Job_runs : ℕ → Body → List ℕ → Out Job → (table table' stack stack' : List Component) → Answer → Type 0
+Job_runs budget b xs o table table' stack stack' r =
+    (env : Names Component) (next mid last : ℕ) → Stands env next table → Upward next xs mid → Body_numbered mid b last → last ≤ length table
+    → Runs (Then (the o) (job_given true (applies budget b xs env))) next table table' stack stack' r

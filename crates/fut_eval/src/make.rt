@@ -1,0 +1,81 @@
+// What is made of the values of names: tuples, arrays, records and parts of them.
+ghost use Rattle.std.specs.Prelude.{◌≡◌, [], ◌∷◌, true};
+ghost use Rattle.fut_flat.specs.declared.act.Part.TheVariants as part;
+ghost use Rattle.fut_blocks.specs.Plain.{making_form};
+ghost use Rattle.array_data.specs.Held.{held_all};
+ghost use Rattle.fut_eval.specs.Runs.{Made_runs};
+
+use crate::names::{push, read, read_data};
+use crate::records::{make_fields, make_part, make_record, make_replaced};
+use array_data::{Data, Stop, array_of_parts, part_at, range, row_at, tuple, update};
+use fut_blocks::{Atom, Making};
+use fut_flat::Part;
+use fut_scalar::Place;
+use std::alloc::Global;
+
+/// Puts on the stack what is made of the values of atoms, for names of its own.
+#[tactic(auto, using(crate::proofs::Makings::makings, crate::proofs::Recording::record_makings))]
+pub fn make(
+    alloc: Global,
+    making: Making,
+    place: Place,
+    atoms: &[Atom],
+    own: &[u32],
+    table: &[Data],
+    stack: &mut Vec<Data>,
+) -> Result<(), Stop>
+    ensures { Made_runs (making_form making.entry place atoms.now) (held_all table.now) (held_all stack.old.items) (held_all stack.new.items) result }
+{
+    match making {
+        Making::Tuple => {
+            let values = read_data(alloc, atoms, table)?;
+            let whole = tuple(alloc, values)?;
+            push(stack, whole)
+        }
+        Making::Array => {
+            let values = read_data(alloc, atoms, table)?;
+            let whole = array_of_parts(alloc, place, values.as_slice())?;
+            push(stack, whole)
+        }
+        Making::Index(parts) => {
+            if !is_one_index(parts) || atoms.len() != 2 {
+                let values = read_data(alloc, atoms, table)?;
+                let found = part_at(alloc, place, parts, values.as_slice())?;
+                return push(stack, found);
+            }
+            let whole = read(table, atoms[0])?;
+            let index = read(table, atoms[1])?;
+            let found = row_at(alloc, place, &whole, &index)?;
+            push(stack, found)
+        }
+        Making::Update => {
+            let values = read_data(alloc, atoms, table)?;
+            let whole = update(alloc, place, values.as_slice())?;
+            push(stack, whole)
+        }
+        Making::Range { stepped, end } => {
+            let values = read_data(alloc, atoms, table)?;
+            let whole = range(alloc, place, stepped, end, values.as_slice())?;
+            push(stack, whole)
+        }
+        Making::Record(names) => make_record(alloc, names, atoms, own, table, stack),
+        Making::Part(name) => make_part(name, atoms, table, stack),
+        Making::Replace(name) => make_replaced(alloc, name, atoms, table, stack),
+        Making::Fields(names) => make_fields(names, atoms, table, stack),
+    }
+}
+
+/// Whether an index has one part, which is no slice.
+#[tactic(auto, using(crate::proofs::Makings::one_index))]
+fn is_one_index(parts: &[Part]) -> bool
+    ensures { result ≡ true → parts.now ≡ part.At ∷ [] }
+{
+    if parts.len() != 1 {
+        return false;
+    }
+    match parts[0] {
+        Part::At => true,
+        Part::Slice { .. } => false,
+        Part::Backwards => false,
+    }
+}

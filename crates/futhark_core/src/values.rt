@@ -1,0 +1,102 @@
+// The input as data of a run, and the data of a result as text.
+ghost use Rattle.std.specs.Prelude.{◌≡◌, List as Values, IfOk, IfErr, map};
+ghost use Rattle.fut_value.specs.Values.{datum_of};
+ghost use Rattle.fut_value.specs.declared.value.Value.{Value as TheValue};
+ghost use Rattle.array_data.specs.Held.{held_all};
+ghost use Rattle.data_values.specs.Met.{each_met};
+ghost use Rattle.value_text.specs.Arguments.{Explains, Reads};
+ghost use Rattle.value_text.specs.Printing.{data_output};
+ghost use Rattle.unfolded_runs.specs.Results.{Are_arguments, opened};
+ghost use Rattle.futhark_core.specs.Inputs.{any_sizes, of_any_size, wanted};
+
+use array_data::Data;
+use data_values::{data_of_all, values_of};
+use fut_scalar::{ArgType, DataType, Dim, List, NoMemory, NodeId};
+use std::alloc::Global;
+use value_text::{TextErr, print_values, read_args};
+
+/// Sizes of which nothing is said.
+#[tactic(auto, using(crate::proofs::Reading::one_more))]
+fn any_sizes(alloc: Global, rank: u32) -> Result<List<Dim>, NoMemory>
+    ensures { IfOk result (λ dims. dims ≡ any_sizes rank) }
+{
+    let mut dims = List::new(alloc);
+    for _ in 0..rank {
+        dims.push(Dim::Unknown(NodeId { file: 0, number: 0 }, 0))?;
+    }
+    Ok(dims)
+}
+
+/// What is wanted for a parameter: a value of its type, of any sizes.
+fn of_any_size(alloc: Global, ty: DataType) -> Result<ArgType, NoMemory>
+    ensures { IfOk result (λ arg. arg ≡ of_any_size ty) }
+{
+    Ok(ArgType {
+        elem: ty.elem,
+        dims: any_sizes(alloc, ty.rank)?,
+        name: None,
+    })
+}
+
+/// What is wanted of the input.
+fn wanted(alloc: Global, types: &[DataType]) -> Result<List<ArgType>, NoMemory>
+    ensures { IfOk result (λ args. args ≡ wanted types.now) }
+{
+    let mut args = List::new(alloc);
+    for ty in types {
+        args.push(of_any_size(alloc, *ty)?)?;
+    }
+    Ok(args)
+}
+
+/// The arguments that a text reads as, one for each parameter, as data of a run.
+pub fn read_data(alloc: Global, types: &[DataType], text: &[u8]) -> Result<List<Data>, TextErr>
+    ensures read { IfOk result (λ all. (values : Values TheValue) × Reads (wanted types.now) text.now values × (held_all all ≡ map datum_of values) × Are_arguments types.now (map datum_of values)) }
+    ensures refused { IfErr result (Explains (wanted types.now) text.now) }
+{
+    let Ok(args) = wanted(alloc, types) else {
+        return Err(TextErr::Memory);
+    };
+    let values = match read_args(alloc, &args, text) {
+        Ok(values) => values,
+        Err(err) => return Err(err),
+    };
+    match data_of_all(alloc, values) {
+        Ok(all) => Ok(all),
+        Err(_) => Err(TextErr::Memory),
+    }
+}
+
+/// The components of a result, of which a tuple may be the only one.
+#[tactic(auto, using(crate::proofs::Opening::openings))]
+fn opened(tuple: bool, results: &[Data]) -> &[Data]
+    ensures { held_all result.now ≡ opened tuple (held_all results.now) }
+{
+    if !tuple {
+        return results;
+    }
+    if results.len() != 1 {
+        return results;
+    }
+    match &results[0] {
+        Data::Tuple(_, parts) => parts.get().as_slice(),
+        Data::Scalar(_) => results,
+        Data::Words(_, _) => results,
+        Data::Rows(_, _, _) => results,
+        Data::Record(_, _, _) => results,
+    }
+}
+
+/// The text of a result of these types: a line for each of its components.
+pub fn print_result(
+    alloc: Global,
+    tuple: bool,
+    types: &[DataType],
+    results: &[Data],
+) -> Result<Vec<u8>, NoMemory>
+    ensures { IfOk result (λ text. text.items ≡ data_output (each_met types.now (opened tuple (held_all results.now)))) }
+{
+    let components = opened(tuple, results);
+    let values = values_of(alloc, types, components)?;
+    print_values(alloc, values.as_slice())
+}

@@ -1,0 +1,6 @@
+-- Runs of equal values, as each run's value and its length.
+-- A run begins where a value differs from the one before it, and ends where the next one begins.
+def main (xs: []i32): ([]i32, []i64) =
+  let starts = filter (\i -> i == 0 || xs[i] != xs[i - 1]) (indices xs)
+  let ends = if null starts then [] else concat (tail starts) [length xs]
+  in (map (\i -> xs[i]) starts, map2 (-) ends starts)
