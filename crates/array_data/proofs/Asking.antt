@@ -16,7 +16,6 @@ use Rattle.array_data.specs.declared.cuts.Cut.{Cut as Held_cut}
 use Rattle.array_data.specs.declared.cuts.Cut.TheVariants as run
 use Rattle.array_data.specs.declared.data.Data.{Data}
 use Rattle.array_data.specs.declared.form.Form.{Form}
-use Rattle.array_data.specs.declared.form.Form.TheVariants as form
 use Rattle.array_data.specs.declared.sizes.Exact.{Exact}
 use Rattle.array_data.specs.declared.sizes.Exact.TheVariants as exact
 use Rattle.array_data.specs.declared.stop.Stop.{Stop}
@@ -25,7 +24,6 @@ use Rattle.array_data.specs.Answers.{Tells, report_told, no_memory_told, lost, E
 use Rattle.array_data.specs.Held.{held, held_all, shape_held}
 use Rattle.array_data.specs.Slices.{cuts_asked, cut_held, cuts_held, Cut_is, cut_is, cut_fails, if_written, all_written, End_read, end_read, no_memory_end, First_cut, first_cut, first_fails, no_memory_first, Cuts_added, cuts_added, cuts_fail, cuts_memory, cuts_lost}
 use Rattle.array_data.proofs.Forms.{map_push, held_length, drop_past}
-use Rattle.array_data.proofs.Holding.{form_array}
 
 -- ---- one cut
 
@@ -302,22 +300,9 @@ none_asked at ps ds h cs l k = cuts_added [] (no_parts at ps ds h l k) (sym (not
     nothing [] = refl
     nothing (c ∷ cs) = ap (λ z. c ∷ z) (nothing cs)
 
-module _ (at : Place) (ps : List Part) (p : Part) (l : length ps ≡ 0 → ⊥) (ds : List Data) (f k : Form) (n : ℕ) (g : f ≡ form.Array n k) where
-  sized : size (shape_held f) ≡ n
-  sized = ap (λ f. size (shape_held f)) g ∙ ap size (form_array n k)
-
-  inside : inner (shape_held f) ≡ shape_held k
-  inside = ap (λ f. inner (shape_held f)) g ∙ ap inner (form_array n k)
-
-  pub asked_first : (c : Held_cut × ℕ) (qs : List Part) (es : List Data) → qs ≡ drop 1 ps → es ≡ drop c.1 ds → First_cut at (get_or ps 0 p) (held_all ds) n (Ok c)
-      → cuts_asked at ps (held_all ds) (shape_held f) ≡ and_then (cuts_asked at qs (held_all es) (shape_held k)) (λ cs. Val (cut_held c.0 ∷ cs))
-  asked_first c qs es x y (first_cut m h) = ap (λ ps. cuts_asked at ps (held_all ds) (shape_held f)) (first_part ps p l) ∙ h (drop 1 ps) (shape_held f) sized
-      ∙ ap (λ h. and_then (cuts_asked at (drop 1 ps) (drop c.1 (held_all ds)) h) (λ cs. Val (cut_held c.0 ∷ cs))) inside
-      ∙ ap (λ is. and_then (cuts_asked at (drop 1 ps) is (shape_held k)) (λ cs. Val (cut_held c.0 ∷ cs))) (sym (ap held_all y ∙ held_drop ds c.1))
-      ∙ ap (λ ps. and_then (cuts_asked at ps (held_all es) (shape_held k)) (λ cs. Val (cut_held c.0 ∷ cs))) (sym x)
-
+module _ (at : Place) (ps : List Part) (p : Part) (l : length ps ≡ 0 → ⊥) (ds : List Data) (f : Form) (n : ℕ) (s : n ≡ size (shape_held f)) where
   pub first_refused : (e : Stop) → First_cut at (get_or ps 0 p) (held_all ds) n (Err e) → Tells (cuts_asked at ps (held_all ds) (shape_held f)) (Err e)
-  first_refused _ (first_fails {r} h) = subst (λ ps. Tells (cuts_asked at ps (held_all ds) (shape_held f)) (Err (Failed r))) (sym (first_part ps p l)) (h (drop 1 ps) (shape_held f) sized)
+  first_refused _ (first_fails {r} h) = subst (λ ps. Tells (cuts_asked at ps (held_all ds) (shape_held f)) (Err (Failed r))) (sym (first_part ps p l)) (h (drop 1 ps) (shape_held f) (sym s))
   first_refused _ no_memory_first = no_memory_told
 
   pub push_refused : (e : Stop) (cs cs' : List Cut) → First_cut at (get_or ps 0 p) (held_all ds) n (Err e) → Cuts_added (cuts_asked at ps (held_all ds) (shape_held f)) cs cs' (Err e)
@@ -328,24 +313,32 @@ module _ (at : Place) (ps : List Part) (p : Part) (l : length ps ≡ 0 → ⊥) 
       by_told _ no_memory_told = cuts_memory
       by_told _ (lost q) = cuts_lost q
 
-  push_more : (c : Held_cut × ℕ) (qs : List Part) (es : List Data) (cs cs' : List Held_cut) (cs'' : List Held_cut) (r : Result (Unit {0}) Stop) → qs ≡ drop 1 ps → es ≡ drop c.1 ds → First_cut at (get_or ps 0 p) (held_all ds) n (Ok c)
-      → cs' ≡ cs ++ c.0 ∷ [] → Cuts_added (cuts_asked at qs (held_all es) (shape_held k)) (cuts_held cs') (cuts_held cs'') r → Cuts_added (cuts_asked at ps (held_all ds) (shape_held f)) (cuts_held cs) (cuts_held cs'') r
-  unfolding cuts_held
-  push_more c qs es cs cs' cs'' r x y h u a = by_added r a
-    where
-      here : cuts_asked at ps (held_all ds) (shape_held f) ≡ and_then (cuts_asked at qs (held_all es) (shape_held k)) (λ cs. Val (cut_held c.0 ∷ cs))
-      here = asked_first c qs es x y h
+  module _ (k : Form) (i : shape_held k ≡ inner (shape_held f)) where
+    pub asked_first : (c : Held_cut × ℕ) (qs : List Part) (es : List Data) → qs ≡ drop 1 ps → es ≡ drop c.1 ds → First_cut at (get_or ps 0 p) (held_all ds) n (Ok c)
+        → cuts_asked at ps (held_all ds) (shape_held f) ≡ and_then (cuts_asked at qs (held_all es) (shape_held k)) (λ cs. Val (cut_held c.0 ∷ cs))
+    asked_first c qs es x y (first_cut m h) = ap (λ ps. cuts_asked at ps (held_all ds) (shape_held f)) (first_part ps p l) ∙ h (drop 1 ps) (shape_held f) (sym s)
+        ∙ ap (λ h. and_then (cuts_asked at (drop 1 ps) (drop c.1 (held_all ds)) h) (λ cs. Val (cut_held c.0 ∷ cs))) (sym i)
+        ∙ ap (λ is. and_then (cuts_asked at (drop 1 ps) is (shape_held k)) (λ cs. Val (cut_held c.0 ∷ cs))) (sym (ap held_all y ∙ held_drop ds c.1))
+        ∙ ap (λ ps. and_then (cuts_asked at ps (held_all es) (shape_held k)) (λ cs. Val (cut_held c.0 ∷ cs))) (sym x)
 
-      by_added : (r : Result (Unit {0}) Stop) → Cuts_added (cuts_asked at qs (held_all es) (shape_held k)) (cuts_held cs') (cuts_held cs'') r → Cuts_added (cuts_asked at ps (held_all ds) (shape_held f)) (cuts_held cs) (cuts_held cs'') r
-      by_added _ (cuts_added more q e) = cuts_added (cut_held c.0 ∷ more) (here ∙ ap (λ o. and_then o (λ cs. Val (cut_held c.0 ∷ cs))) q)
-          (e ∙ ap (λ z. z ++ more) (ap (map cut_held) u ∙ map_push cut_held cs c.0) ∙ append_assoc (map cut_held cs) (cut_held c.0 ∷ []) more)
-      by_added _ (cuts_fail q) = cuts_fail (here ∙ ap (λ o. and_then o (λ cs. Val (cut_held c.0 ∷ cs))) q)
-      by_added _ cuts_memory = cuts_memory
-      by_added r (cuts_lost q) = cuts_lost (here ∙ ap (λ o. and_then o (λ cs. Val (cut_held c.0 ∷ cs))) q)
+    push_more : (c : Held_cut × ℕ) (qs : List Part) (es : List Data) (cs cs' : List Held_cut) (cs'' : List Held_cut) (r : Result (Unit {0}) Stop) → qs ≡ drop 1 ps → es ≡ drop c.1 ds → First_cut at (get_or ps 0 p) (held_all ds) n (Ok c)
+        → cs' ≡ cs ++ c.0 ∷ [] → Cuts_added (cuts_asked at qs (held_all es) (shape_held k)) (cuts_held cs') (cuts_held cs'') r → Cuts_added (cuts_asked at ps (held_all ds) (shape_held f)) (cuts_held cs) (cuts_held cs'') r
+    unfolding cuts_held
+    push_more c qs es cs cs' cs'' r x y h u a = by_added r a
+      where
+        here : cuts_asked at ps (held_all ds) (shape_held f) ≡ and_then (cuts_asked at qs (held_all es) (shape_held k)) (λ cs. Val (cut_held c.0 ∷ cs))
+        here = asked_first c qs es x y h
 
-  pub push_next : (b : Held_cut) (u : ℕ) (k' : Form) (cs cs' cs'' : List Held_cut) (r : Result (Unit {0}) Stop) → First_cut at (get_or ps 0 p) (held_all ds) n (Ok (b, u)) → cs' ≡ cs ++ b ∷ [] → k' ≡ k
-      → Cuts_added (cuts_asked at (take (length ps - 1) (drop 1 ps)) (held_all (take (length ds - u) (drop u ds))) (shape_held k')) (cuts_held cs') (cuts_held cs'') r → Cuts_added (cuts_asked at ps (held_all ds) (shape_held f)) (cuts_held cs) (cuts_held cs'') r
-  push_next b u k' cs cs' cs'' r h e q a = push_more (b, u) (take (length ps - 1) (drop 1 ps)) (take (length ds - u) (drop u ds)) cs cs' cs'' r (rest_of ps 1) (rest_of ds u) h e
-      (subst (λ k. Cuts_added (cuts_asked at (take (length ps - 1) (drop 1 ps)) (held_all (take (length ds - u) (drop u ds))) (shape_held k)) (cuts_held cs') (cuts_held cs'') r) q a)
+        by_added : (r : Result (Unit {0}) Stop) → Cuts_added (cuts_asked at qs (held_all es) (shape_held k)) (cuts_held cs') (cuts_held cs'') r → Cuts_added (cuts_asked at ps (held_all ds) (shape_held f)) (cuts_held cs) (cuts_held cs'') r
+        by_added _ (cuts_added more q e) = cuts_added (cut_held c.0 ∷ more) (here ∙ ap (λ o. and_then o (λ cs. Val (cut_held c.0 ∷ cs))) q)
+            (e ∙ ap (λ z. z ++ more) (ap (map cut_held) u ∙ map_push cut_held cs c.0) ∙ append_assoc (map cut_held cs) (cut_held c.0 ∷ []) more)
+        by_added _ (cuts_fail q) = cuts_fail (here ∙ ap (λ o. and_then o (λ cs. Val (cut_held c.0 ∷ cs))) q)
+        by_added _ cuts_memory = cuts_memory
+        by_added r (cuts_lost q) = cuts_lost (here ∙ ap (λ o. and_then o (λ cs. Val (cut_held c.0 ∷ cs))) q)
+
+    pub push_next : (b : Held_cut) (u : ℕ) (k' : Form) (cs cs' cs'' : List Held_cut) (r : Result (Unit {0}) Stop) → First_cut at (get_or ps 0 p) (held_all ds) n (Ok (b, u)) → cs' ≡ cs ++ b ∷ [] → k' ≡ k
+        → Cuts_added (cuts_asked at (take (length ps - 1) (drop 1 ps)) (held_all (take (length ds - u) (drop u ds))) (shape_held k')) (cuts_held cs') (cuts_held cs'') r → Cuts_added (cuts_asked at ps (held_all ds) (shape_held f)) (cuts_held cs) (cuts_held cs'') r
+    push_next b u k' cs cs' cs'' r h e q a = push_more (b, u) (take (length ps - 1) (drop 1 ps)) (take (length ds - u) (drop u ds)) cs cs' cs'' r (rest_of ps 1) (rest_of ds u) h e
+        (subst (λ k. Cuts_added (cuts_asked at (take (length ps - 1) (drop 1 ps)) (held_all (take (length ds - u) (drop u ds))) (shape_held k)) (cuts_held cs') (cuts_held cs'') r) q a)
 
 pub ruleset all_asked = (none_asked, push_refused, push_next, cuts_memory, first_within)

@@ -3,7 +3,7 @@ use Rattle.std.proofs.Common.{◌≡◌, ℕ, zero, suc, ◌+◌, ◌-◌, ◌<�
 use Rattle.std.specs.Prelude.{reverse}
 use Rattle.std.proofs.lemmas.List.{reverse-append}
 use Rattle.fut_value.specs.Data.{Shape, Datum, Scalar_datum, Tuple_datum, Record_datum, Array_datum, Array_shape, datums}
-use Rattle.fut_meaning.specs.Arrays.{each_out, Cut, Cut_at, Cut_slice, Cut_backwards, cut, cut_shape, rows_of, row_or_wrong}
+use Rattle.fut_meaning.specs.Arrays.{each_out, Cut, Cut_at, Cut_slice, Cut_backwards, cut, cut_shape, inner, rows_of, row_or_wrong, size}
 use Rattle.fut_meaning.specs.Outcomes.{Out, Val, Fail, Wrong, and_then}
 use Rattle.array_data.specs.declared.cuts.Cut.{Cut as Held_cut}
 use Rattle.array_data.specs.declared.cuts.Cut.TheVariants as run
@@ -34,25 +34,26 @@ first_cut_is (b ∷ cs) ks c d l e x = ap (λ z. cut_held z ∷ map cut_held cs)
 pub form_whole : (cs : List Held_cut) (f g : Form) → length cs ≡ 0 → g ≡ f → shape_held g ≡ cut_shape (cuts_held cs) (shape_held f)
 form_whole cs f g l e = ap shape_held e ∙ ap (λ z. cut_shape z (shape_held f)) (sym (no_cuts cs l))
 
-module _ (cs : List Held_cut) (f f' k g : Form) (n : ℕ) (d : Held_cut) (l : length cs ≡ 0 → ⊥) (z : f' ≡ f) (e : f' ≡ form.Array n k) (h : shape_held g ≡ cut_shape (cuts_held (take (length cs - 1) (drop 1 cs))) (shape_held k)) where
+module _ (cs : List Held_cut) (f k g : Form) (n : ℕ) (d : Held_cut) (l : length cs ≡ 0 → ⊥) (e : shape_held k ≡ inner (shape_held f)) (h : shape_held g ≡ cut_shape (cuts_held (take (length cs - 1) (drop 1 cs))) (shape_held k)) where
   ks : List Held_cut
   ks = take (length cs - 1) (drop 1 cs)
 
-  cut_so : (c : Held_cut) → get_or cs 0 d ≡ c → cut_shape (cuts_held cs) (shape_held f) ≡ cut_shape (cut_held c ∷ cuts_held ks) (Array_shape n (shape_held k))
+  cut_so : (c : Held_cut) → get_or cs 0 d ≡ c → cut_shape (cuts_held cs) (shape_held f) ≡ cut_shape (cut_held c ∷ cuts_held ks) (shape_held f)
   unfolding ks
-  cut_so c q = ap (λ z. cut_shape z (shape_held f)) (first_cut_is cs ks c d l q (rest_of cs 1)) ∙ ap (λ z. cut_shape (cut_held c ∷ cuts_held ks) (shape_held z)) (sym z ∙ e) ∙ ap (cut_shape (cut_held c ∷ cuts_held ks)) (form_array n k)
+  cut_so c q = ap (λ z. cut_shape z (shape_held f)) (first_cut_is cs ks c d l q (rest_of cs 1))
+
+  inside : shape_held g ≡ cut_shape (cuts_held ks) (inner (shape_held f))
+  unfolding ks
+  inside = h ∙ ap (cut_shape (cuts_held ks)) e
 
   pub form_row : (i : ℕ) → get_or cs 0 d ≡ run.At i → shape_held g ≡ cut_shape (cuts_held cs) (shape_held f)
-  unfolding ks
-  form_row i q = h ∙ sym (cut_so (run.At i) q)
+  form_row i q = inside ∙ sym (cut_so (run.At i) q)
 
   pub form_slice : (i j m : ℕ) (w v : Form) → get_or cs 0 d ≡ run.Slice i j → m ≡ j - i → v ≡ g → w ≡ form.Array m v → shape_held w ≡ cut_shape (cuts_held cs) (shape_held f)
-  unfolding ks
-  form_slice i j m w v q p u y = ap shape_held y ∙ form_array m v ∙ ap (λ z. Array_shape z (shape_held v)) p ∙ ap (λ z. Array_shape (j - i) (shape_held z)) u ∙ ap (Array_shape (j - i)) h ∙ sym (cut_so (run.Slice i j) q)
+  form_slice i j m w v q p u y = ap shape_held y ∙ form_array m v ∙ ap (λ z. Array_shape z (shape_held v)) p ∙ ap (λ z. Array_shape (j - i) (shape_held z)) u ∙ ap (Array_shape (j - i)) inside ∙ sym (cut_so (run.Slice i j) q)
 
-  pub form_back : (w v : Form) → get_or cs 0 d ≡ run.Backwards → v ≡ g → w ≡ form.Array n v → shape_held w ≡ cut_shape (cuts_held cs) (shape_held f)
-  unfolding ks
-  form_back w v q u y = ap shape_held y ∙ form_array n v ∙ ap (λ z. Array_shape n (shape_held z)) u ∙ ap (Array_shape n) h ∙ sym (cut_so run.Backwards q)
+  pub form_back : (w v : Form) → n ≡ size (shape_held f) → get_or cs 0 d ≡ run.Backwards → v ≡ g → w ≡ form.Array n v → shape_held w ≡ cut_shape (cuts_held cs) (shape_held f)
+  form_back w v s q u y = ap shape_held y ∙ form_array n v ∙ ap (λ z. Array_shape n (shape_held z)) u ∙ ap (λ z. Array_shape z (shape_held g)) s ∙ ap (Array_shape (size (shape_held f))) inside ∙ sym (cut_so run.Backwards q)
 
 pub ruleset forms = (form_whole, form_row, form_slice, form_back)
 

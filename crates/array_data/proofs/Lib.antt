@@ -1,5 +1,6 @@
 pub mod Holding
 pub mod Forms
+pub mod InnerForms
 pub mod RecordForms
 pub mod Weights
 pub mod RowsRead
@@ -25,3 +26,4 @@ pub mod Recording
 pub mod Combining
 pub mod Nesting
 pub mod Unzipping
+pub mod Scattering

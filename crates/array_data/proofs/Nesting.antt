@@ -6,8 +6,6 @@ use Rattle.std.proofs.lemmas.Bool.{eqb-true, eq-eqb, ne_eqb}
 use Rattle.std.proofs.lemmas.List.{append-nil, take_all}
 use Rattle.fut_scalar.specs.declared.place.Place.{Place}
 use Rattle.fut_scalar.specs.declared.report.FailKind.TheVariants as kind
-use Rattle.fut_scalar.specs.declared.scalar.ScalarType.{ScalarType}
-use Rattle.fut_ast.specs.Sorts.{Text}
 use Rattle.fut_flat.specs.declared.prim.Primitive.TheVariants as prim
 use Rattle.fut_value.specs.Data.{Shape, Array_shape, Unmet_shape, Datum, Array_datum, datums, weight, shape_of, array_words}
 use Rattle.fut_meaning.specs.Arrays.{rows_of, each_out, array_of, all_fresh, inner, size, most_words, checked, fresh, shared}
@@ -26,49 +24,13 @@ use Rattle.array_data.specs.Held.{shape_held, held, held_all, rows_in, row_shape
 use Rattle.array_data.specs.Nested.{Column_of}
 use Rattle.array_data.proofs.Columning.{each_more}
 use Rattle.array_data.proofs.Forms.{map_push, listed_datums, held_length}
-use Rattle.array_data.proofs.Holding.{held_rows, form_unmet, form_scalar, form_tuple, form_record, form_array}
+use Rattle.array_data.proofs.Holding.{held_rows, form_array}
 use Rattle.array_data.proofs.Jobbing.{rows_stop, rows_go, exact_stop, exact_go, rows_counted, done_fresh, all_there, array_told}
 use Rattle.array_data.proofs.Joining.{all_within}
 use Rattle.array_data.proofs.RowsRead.{get_held}
 use Rattle.array_data.proofs.Tupling.{taken_more}
 
--- ---- forms
-
-module _ (h f : Form) where
-  pub inner_array : (n : ℕ) (k : Form) → h ≡ form.Array n k → f ≡ k → shape_held f ≡ inner (shape_held h)
-  inner_array n k e q = ap shape_held q ∙ sym (ap inner (ap shape_held e ∙ form_array n k))
-
-  pub inner_unmet : h ≡ form.Unmet → f ≡ form.Unmet → shape_held f ≡ inner (shape_held h)
-  inner_unmet e q = ap shape_held q ∙ form_unmet ∙ sym (ap inner (ap shape_held e ∙ form_unmet))
-
-  pub inner_scalar : (t : ScalarType) → h ≡ form.Scalar t → f ≡ form.Unmet → shape_held f ≡ inner (shape_held h)
-  inner_scalar t e q = ap shape_held q ∙ form_unmet ∙ sym (ap inner (ap shape_held e ∙ form_scalar t))
-
-  pub inner_tuple : (hs : List Form) → h ≡ form.Tuple hs → f ≡ form.Unmet → shape_held f ≡ inner (shape_held h)
-  inner_tuple hs e q = ap shape_held q ∙ form_unmet ∙ sym (ap inner (ap shape_held e ∙ form_tuple hs))
-
-  pub inner_record : (fs : List Text) (hs : List Form) → h ≡ form.Record fs hs → f ≡ form.Unmet → shape_held f ≡ inner (shape_held h)
-  inner_record fs hs e q = ap shape_held q ∙ form_unmet ∙ sym (ap inner (ap shape_held e ∙ form_record fs hs))
-
-pub ruleset inner_forms = (inner_array, inner_unmet, inner_scalar, inner_tuple, inner_record)
-
-module _ (h : Form) where
-  pub array_size : (n : ℕ) (k : Form) → h ≡ form.Array n k → n ≡ size (shape_held h)
-  array_size n k e = sym (ap size (ap shape_held e ∙ form_array n k))
-
-  pub unmet_size : h ≡ form.Unmet → 0 ≡ size (shape_held h)
-  unmet_size e = sym (ap size (ap shape_held e ∙ form_unmet))
-
-  pub scalar_size : (t : ScalarType) → h ≡ form.Scalar t → 0 ≡ size (shape_held h)
-  scalar_size t e = sym (ap size (ap shape_held e ∙ form_scalar t))
-
-  pub tuple_size : (hs : List Form) → h ≡ form.Tuple hs → 0 ≡ size (shape_held h)
-  tuple_size hs e = sym (ap size (ap shape_held e ∙ form_tuple hs))
-
-  pub record_size : (fs : List Text) (hs : List Form) → h ≡ form.Record fs hs → 0 ≡ size (shape_held h)
-  record_size fs hs e = sym (ap size (ap shape_held e ∙ form_record fs hs))
-
-pub ruleset form_sizes = (array_size, unmet_size, scalar_size, tuple_size, record_size)
+-- ---- weights
 
 pub light_is : (w k h : Form) (n : ℕ) (b : Bool) → k ≡ h → w ≡ form.Array n k → b ≡ nat_le (weight (shape_held w)) most_words → b ≡ nat_le (weight (Array_shape n (shape_held h))) most_words
 light_is w k h n b e q p = p ∙ ap (λ z. nat_le (weight z) most_words) (ap shape_held q ∙ form_array n k ∙ ap (λ z. Array_shape n (shape_held z)) e)

@@ -19,6 +19,7 @@ use Rattle.array_data.specs.Held.{held, held_all, rows_in, shape_held}
 use Rattle.array_data.specs.Slices.{part_of, cuts_asked, taken, cut_held, cuts_held, First_cut, Cuts_added, cuts_added, cuts_fail, cuts_memory, cuts_lost}
 use Rattle.array_data.proofs.Asking.{asked_first, first_refused, first_within, rest_of}
 use Rattle.array_data.proofs.CutRows.{row_cut}
+use Rattle.array_data.proofs.InnerForms.{array_size, inner_array}
 
 -- ---- the weight
 
@@ -52,7 +53,7 @@ pub ruleset slices = (slices_refused, slices_taken, no_memory_told)
 module _ (at : Place) (ps : List Part) (p : Part) (l : length ps ≡ 0 → ⊥) (ds : List Data) (f k : Form) (n : ℕ) (g : f ≡ form.Array n k) (d : Datum) where
   pub parts_refused : (e : Stop) → First_cut at (get_or ps 0 p) (held_all ds) n (Err e) → Tells (taken at ps (shape_held f) d (held_all ds)) (Err e)
   unfolding taken
-  parts_refused e h = by_told e (first_refused at ps p l ds f k n g e h)
+  parts_refused e h = by_told e (first_refused at ps p l ds f n (array_size f n k g) e h)
     where
       by_told : (e : Stop) → Tells (cuts_asked at ps (held_all ds) (shape_held f)) (Err e) → Tells (and_then (cuts_asked at ps (held_all ds) (shape_held f)) (λ cs. and_then (cut cs d) (within_weight at))) (Err e)
       by_told _ (report_told q) = report_told (ap (λ o. and_then o (λ cs. and_then (cut cs d) (within_weight at))) q)
@@ -62,7 +63,7 @@ module _ (at : Place) (ps : List Part) (p : Part) (l : length ps ≡ 0 → ⊥) 
   module _ (c : Held_cut × ℕ) (i : ℕ) (qs : List Part) (es : List Data) (a : c.0 ≡ run.At i) (x : qs ≡ drop 1 ps) (y : es ≡ drop c.1 ds) (h : First_cut at (get_or ps 0 p) (held_all ds) n (Ok c)) where
     walked : (v : Datum) → slice_get (rows_in d) i ≡ Some v → taken at ps (shape_held f) d (held_all ds) ≡ taken at qs (shape_held k) v (held_all es)
     unfolding taken
-    walked v s = ap (λ o. and_then o (λ cs. and_then (cut cs d) (within_weight at))) (asked_first at ps p l ds f k n g c qs es x y h ∙ ap (λ b. and_then (cuts_asked at qs (held_all es) (shape_held k)) (λ cs. Val (cut_held b ∷ cs))) a)
+    walked v s = ap (λ o. and_then o (λ cs. and_then (cut cs d) (within_weight at))) (asked_first at ps p l ds f n (array_size f n k g) k (inner_array f k n k g refl) c qs es x y h ∙ ap (λ b. and_then (cuts_asked at qs (held_all es) (shape_held k)) (λ cs. Val (cut_held b ∷ cs))) a)
         ∙ by_asked (cuts_asked at qs (held_all es) (shape_held k))
       where
         by_asked : (o : Out (List Cut)) → and_then (and_then o (λ cs. Val (Cut_at i ∷ cs))) (λ cs. and_then (cut cs d) (within_weight at)) ≡ and_then o (λ cs. and_then (cut cs v) (within_weight at))

@@ -6,3 +6,4 @@ pub mod Ranges
 pub mod Slices
 pub mod Updates
 pub mod Nested
+pub mod Writes

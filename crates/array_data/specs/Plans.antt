@@ -15,6 +15,7 @@ use Rattle.array_data.specs.declared.stop.Stop.{Stop}
 use Rattle.array_data.specs.declared.stop.Stop.TheVariants.{Failed, Stuck, Memory}
 use Rattle.array_data.specs.Answers.{each_at, Does}
 use Rattle.array_data.specs.Held.{held, rows_in, row_shape_in}
+use Rattle.array_data.specs.Writes.{Scatters}
 
 -- the truth value of a word
 abbrev pub odd : ℕ → Bool
@@ -47,6 +48,7 @@ first_fresh ds = and_then (part_at 0 ds) fresh
 -- what is left to do of a job
 pub data Planned (o : Out Job) (at : Place) (ds : List Datum) : Result Plan Stop → Type 0 where
   plan_done : {v : Data} → Does o (Ok (held v)) → Planned o at ds (Ok (plan.Done v))
+  plan_chosen : {v : Data} → Scatters o (Ok (held v)) → Planned o at ds (Ok (plan.Done v))
   plan_each : {f : Finish} {n : ℕ} (rows : List (List Datum)) → o ≡ Val (Apply_each rows (made_of f at ds)) → n ≡ length rows → Source_is f ds rows → Planned o at ds (Ok (plan.Each f n))
   plan_reduce : (any : Bool) (ne d : Datum) → ds ≡ ne ∷ d ∷ [] → o ≡ Val (Reduce_each any ne (rows_in d ∷ []) first_fresh) → Planned o at ds (Ok plan.Reduce)
   plan_scan : (ne d : Datum) → ds ≡ ne ∷ d ∷ [] → o ≡ Val (Reduce_each false ne (prefixes_on [] (rows_in d)) (λ es. all_fresh (array false at (row_shape_in d) es))) → Planned o at ds (Ok plan.Scan)

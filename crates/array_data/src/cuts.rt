@@ -9,7 +9,7 @@ ghost use Rattle.array_data.specs.Slices.{Cut_is, Cuts_added, End_read, First_cu
 use crate::arrays::untested;
 use crate::built::Built;
 use crate::data::{Data, copy};
-use crate::form::{Form, form_of, is_light};
+use crate::form::{Form, form_of, inner_form, is_light, size_of};
 use crate::rows::{count, row, row_depth, row_form};
 use crate::sizes::{Exact, failed, whole_number};
 use crate::stop::Stop;
@@ -104,6 +104,7 @@ fn first_cut(at: Place, part: Part, values: &[Data], size: u64) -> Result<(Cut, 
 /// Puts what the parts of an index ask for behind other cuts.
 #[tactic(auto, using(crate::proofs::Asking::all_asked))]
 fn push_cuts(
+    alloc: Global,
     at: Place,
     parts: &[Part],
     values: &[Data],
@@ -118,14 +119,12 @@ fn push_cuts(
         }
         return Err(Stop::Memory);
     }
-    let Form::Array(size, inner) = form else {
-        return Err(Stop::Memory);
-    };
-    let (cut, used) = first_cut(at, parts[0], values, *size)?;
+    let (cut, used) = first_cut(at, parts[0], values, size_of(form))?;
     let Ok(()) = cuts.push(cut) else {
         return Err(Stop::Memory);
     };
-    push_cuts(at, &parts[1..], &values[used..], inner.get(), cuts)
+    let inner = inner_form(alloc, form)?;
+    push_cuts(alloc, at, &parts[1..], &values[used..], inner.get(), cuts)
 }
 
 /// What data of a form looks like once it is cut.
@@ -136,17 +135,15 @@ fn cut_form(alloc: Global, cuts: &[Cut], form: &Shared<Form>) -> Result<Shared<F
     if cuts.len() == 0 {
         return form.share();
     }
-    let Form::Array(size, inner) = form.get() else {
-        return Err(NoMemory);
-    };
-    let inner = cut_form(alloc, &cuts[1..], inner)?;
+    let size = size_of(form.get());
+    let inner = cut_form(alloc, &cuts[1..], &inner_form(alloc, form.get())?)?;
     match cuts[0] {
         Cut::At(_) => Ok(inner),
         Cut::Slice(from, to) => {
             let size = to.saturating_sub(from);
             Ok(Shared::new(alloc, Form::Array(size, inner))?)
         }
-        Cut::Backwards => Ok(Shared::new(alloc, Form::Array(*size, inner))?),
+        Cut::Backwards => Ok(Shared::new(alloc, Form::Array(size, inner))?),
     }
 }
 
@@ -280,7 +277,7 @@ fn take_slices(
     ensures { Tells (taken at parts.now (shape_held form.now) (held whole.now) (held_all values.now)) (as_held result) }
 {
     let mut cuts = List::new(alloc);
-    push_cuts(at, parts, values, form, &mut cuts)?;
+    push_cuts(alloc, at, parts, values, form, &mut cuts)?;
     let found = cut_whole(alloc, cuts.as_slice(), whole)?;
     weighed(alloc, at, found)
 }

@@ -2,7 +2,7 @@
 ghost use Rattle.std.specs.Prelude.{◌≡◌, ◌≤◌, IfOk, map, min, nat_le, length};
 ghost use Rattle.fut_arithmetic.specs.Types.{type_of};
 ghost use Rattle.fut_value.specs.Data.{heaviest, heaviest_of, is_unmet, all_unmet, same_sizes, all_same_sizes, shape_of, weight, words, all_words};
-ghost use Rattle.fut_meaning.specs.Arrays.{most_words};
+ghost use Rattle.fut_meaning.specs.Arrays.{inner, most_words, size};
 ghost use Rattle.array_data.specs.Held.{held, held_shapes, shape_held, shapes_held};
 
 use crate::data::Data;
@@ -103,6 +103,34 @@ fn forms_of(alloc: Global, parts: &[Data]) -> Result<List<Form>, NoMemory>
         forms.push(form_of(alloc, part)?)?;
     }
     Ok(forms)
+}
+
+/// What the rows of arrays of a form look like.
+#[tactic(auto, using(crate::proofs::InnerForms::inner_forms))]
+pub fn inner_form(alloc: Global, form: &Form) -> Result<Shared<Form>, NoMemory>
+    ensures { IfOk result (λ row. shape_held row ≡ inner (shape_held form.now)) }
+{
+    match form {
+        Form::Array(_, row) => row.share(),
+        Form::Unmet => Shared::new(alloc, Form::Unmet),
+        Form::Scalar(_) => Shared::new(alloc, Form::Unmet),
+        Form::Tuple(_) => Shared::new(alloc, Form::Unmet),
+        Form::Record(_, _) => Shared::new(alloc, Form::Unmet),
+    }
+}
+
+/// How many rows arrays of a form have.
+#[tactic(auto, using(crate::proofs::InnerForms::form_sizes))]
+pub fn size_of(form: &Form) -> u64
+    ensures { result ≡ size (shape_held form.now) }
+{
+    match form {
+        Form::Array(many, _) => *many,
+        Form::Unmet => 0,
+        Form::Scalar(_) => 0,
+        Form::Tuple(_) => 0,
+        Form::Record(_, _) => 0,
+    }
 }
 
 /// Whether each size of a form is 0.

@@ -22,6 +22,7 @@ use crate::sizes::{Exact, failed, whole_number};
 use crate::stop::Stop;
 use crate::summaries::fold;
 use crate::unzips::{unzip, unzip3};
+use crate::writes::scatter;
 use crate::zips::zip;
 use fut_flat::Primitive;
 use fut_scalar::{FailKind, Place, Shared};
@@ -195,6 +196,18 @@ fn plan_sieve(primitive: Primitive, at: Place, args: &[Data]) -> Result<Plan, St
     }
 }
 
+/// What a scatter comes to, which applies no function.
+#[tactic(auto, using(crate::proofs::Scattering::scatter_plans))]
+fn plan_scatter(alloc: Global, primitive: Primitive, at: Place, args: &[Data]) -> Result<Plan, Stop>
+    requires { primitive ≡ prim.Scatter }
+    ensures { Planned (job false Unmet_shape primitive at (held_all args.now)) at (held_all args.now) result }
+{
+    if args.len() != 3 {
+        return Err(Stop::Memory);
+    }
+    Ok(Plan::Done(scatter(alloc, at, &args[0], &args[1], &args[2])?))
+}
+
 /// Whether the arguments are some data and an array.
 #[tactic(auto, using(crate::proofs::Planning::two_arguments))]
 fn two_rows(args: &[Data]) -> Result<(), Stop>
@@ -239,6 +252,7 @@ pub fn plan_of(alloc: Global, primitive: Primitive, at: Place, args: &[Data]) ->
                 Err(Stop::Memory)
             }
         }
+        Primitive::Scatter => plan_scatter(alloc, primitive, at, args),
         Primitive::Zip => Ok(Plan::Done(done_zip(alloc, primitive, at, args)?)),
         Primitive::Zip3 => Ok(Plan::Done(done_zip(alloc, primitive, at, args)?)),
         _ => Ok(Plan::Done(done(alloc, primitive, at, args)?)),

@@ -19,7 +19,7 @@ use std::alloc::Global;
 
 /// Whether the rows of two arrays fit, where both have some.
 #[tactic(auto, using(crate::proofs::Joining::fits))]
-fn do_fit(n: usize, m: usize, first: &Form, second: &Form) -> bool
+pub fn do_fit(n: usize, m: usize, first: &Form, second: &Form) -> bool
     ensures { result ≡ (nat_eq n 0 || (nat_eq m 0 || same_sizes (shape_held first.now) (shape_held second.now))) }
 {
     if n == 0 {

@@ -26,6 +26,7 @@ mod summaries;
 mod tuples;
 mod unzips;
 mod updates;
+mod writes;
 mod zips;
 
 pub use arrays::{array, array_of_form, untested};

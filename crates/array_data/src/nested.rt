@@ -2,7 +2,7 @@
 ghost use Rattle.std.specs.Prelude.{◌≡◌, ◌≤◌, ◌+◌, ◌*◌, false, [], ◌∷◌, drop, length, map, nat_eq, nat_le, take, IfOk, Some};
 ghost use Rattle.fut_flat.specs.declared.prim.Primitive.TheVariants as prim;
 ghost use Rattle.fut_value.specs.Data.{Array_shape, Array_datum, Unmet_shape, datums, weight};
-ghost use Rattle.fut_meaning.specs.Arrays.{inner, most_words, size};
+ghost use Rattle.fut_meaning.specs.Arrays.{most_words};
 ghost use Rattle.fut_meaning.specs.Jobs.{crossed, grouped, inner_rows, job, joined, transposed, unflattened};
 ghost use Rattle.fut_meaning.specs.Outcomes.{Val};
 ghost use Rattle.array_data.specs.Answers.{Does, each_at};
@@ -12,41 +12,13 @@ ghost use Rattle.array_data.specs.Nested.{Column_of};
 use crate::arrays::{array_of_form, untested};
 use crate::built::Built;
 use crate::data::Data;
-use crate::form::{Form, is_light};
+use crate::form::{Form, inner_form, is_light, size_of};
 use crate::parts::push_part;
 use crate::rows::{count, row, row_depth, row_form};
 use crate::sizes::{Exact, failed, whole_number};
 use crate::stop::Stop;
 use fut_scalar::{FailKind, NoMemory, Place, Shared};
 use std::alloc::Global;
-
-/// What the rows of arrays of a form look like.
-#[tactic(auto, using(crate::proofs::Nesting::inner_forms))]
-fn inner_form(alloc: Global, form: &Form) -> Result<Shared<Form>, NoMemory>
-    ensures { IfOk result (λ row. shape_held row ≡ inner (shape_held form.now)) }
-{
-    match form {
-        Form::Array(_, row) => row.share(),
-        Form::Unmet => Shared::new(alloc, Form::Unmet),
-        Form::Scalar(_) => Shared::new(alloc, Form::Unmet),
-        Form::Tuple(_) => Shared::new(alloc, Form::Unmet),
-        Form::Record(_, _) => Shared::new(alloc, Form::Unmet),
-    }
-}
-
-/// How many rows arrays of a form have.
-#[tactic(auto, using(crate::proofs::Nesting::form_sizes))]
-fn size_of(form: &Form) -> u64
-    ensures { result ≡ size (shape_held form.now) }
-{
-    match form {
-        Form::Array(many, _) => *many,
-        Form::Unmet => 0,
-        Form::Scalar(_) => 0,
-        Form::Tuple(_) => 0,
-        Form::Record(_, _) => 0,
-    }
-}
 
 /// Whether the weight of so many rows of a form is no greater than the greatest.
 #[tactic(auto, using(crate::proofs::Nesting::light_arrays))]

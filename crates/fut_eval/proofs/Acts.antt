@@ -4,7 +4,6 @@ use Rattle.fut_scalar.specs.Integers.{width_of}
 use Rattle.fut_scalar.specs.declared.place.Place.{Place}
 use Rattle.fut_scalar.specs.declared.report.FailKind.TheVariants as kind
 use Rattle.fut_scalar.specs.declared.scalar.IntType.{IntType}
-use Rattle.fut_scalar.specs.declared.scalar.Scalar.{Scalar}
 use Rattle.fut_meaning.specs.Meaning.{counts}
 use Rattle.fut_meaning.specs.Operations.{report}
 use Rattle.fut_meaning.specs.Outcomes.{Val, and_then, the, Then, stops, sticks, choose, turns, while_turns}

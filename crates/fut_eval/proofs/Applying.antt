@@ -1,16 +1,13 @@
 -- A function on arguments that lie on the stack.
-use Rattle.std.proofs.Common.{◌≡◌, ℕ, zero, suc, ◌+◌, ◌<◌, ◌≤◌, List, [], ◌∷◌, ◌++◌, length, Some, Ok, Err, Result, true, refl, sym, ap, ◌∙◌, subst, arith, append_assoc}
+use Rattle.std.proofs.Common.{◌≡◌, ℕ, zero, suc, ◌+◌, ◌≤◌, List, [], ◌∷◌, ◌++◌, length, Some, Ok, Err, Result, true, refl, sym, ap, ◌∙◌, subst, arith, append_assoc}
 use Rattle.fut_value.specs.Data.{Datum}
-use Rattle.fut_meaning.specs.Jobs.{Applied}
-use Rattle.fut_meaning.specs.Outcomes.{Out, Val, Fail, Wrong, and_then, Rel, exact, gives, the, Then, goes_on, stops, sticks, each_of}
-use Rattle.fut_blocks.specs.Meaning.{Component, Names, Results, bound, under, the_one, function_of, body_means}
-use Rattle.fut_blocks.specs.Numbered.{Upward, Body_numbered}
+use Rattle.fut_meaning.specs.Outcomes.{Val, Fail, Wrong, exact, goes_on, stops, sticks}
+use Rattle.fut_blocks.specs.Meaning.{Component, Names, bound, under, the_one, body_means}
 use Rattle.fut_blocks.specs.Plain.{Body}
 use Rattle.array_data.specs.declared.data.Data.{Data}
 use Rattle.array_data.specs.declared.stop.Stop.{Stop}
-use Rattle.array_data.specs.declared.stop.Stop.TheVariants.{Failed, Memory}
-use Rattle.array_data.specs.Held.{held, held_all, as_held}
-use Rattle.fut_eval.specs.Answers.{Answer, Tells, told, report_told, no_memory_told, lost, IfDone, done, not_done, Fit, Stands, Kept, Runs, ran, failed, no_memory, gone, Bound, is_bound, no_memory_bound, unbound, Takes, Pushed, pushed, not_pushed, Pops_one}
+use Rattle.array_data.specs.Held.{held_all}
+use Rattle.fut_eval.specs.Answers.{Tells, told, report_told, no_memory_told, lost, IfDone, done, Kept, Runs, ran, failed, no_memory, gone, Bound, is_bound, no_memory_bound, unbound, Takes, Pushed, pushed, not_pushed, Pops_one}
 use Rattle.fut_eval.specs.Primitives.{Gives, gave, gave_failure, gave_memory, gave_wrong, applies, Applied_runs, next_of, Next_runs}
 use Rattle.fut_eval.specs.Runs.{Body_runs}
 use Rattle.fut_eval.proofs.Holding.{held_length}

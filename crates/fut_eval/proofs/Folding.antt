@@ -1,18 +1,18 @@
 -- A fold from the left is the value of a tree, and where the operator fails so does a tree; and what each prefix comes to.
-use Rattle.std.proofs.Common.{◌≡◌, ℕ, zero, suc, ◌+◌, ◌<◌, ◌≤◌, List, [], ◌∷◌, ◌++◌, length, drop, take, slice_get, Some, Ok, Err, Result, Bool, true, false, refl, sym, ap, ◌∙◌, subst, arith, add-one, append_assoc}
-use Rattle.std.proofs.lemmas.List.{length-append, append-nil, take_all, length-take}
+use Rattle.std.proofs.Common.{◌≡◌, ℕ, zero, suc, ◌+◌, ◌≤◌, List, [], ◌∷◌, ◌++◌, length, drop, take, slice_get, Some, Ok, Err, Bool, true, false, refl, sym, ap, ◌∙◌, subst, arith, add-one, append_assoc}
+use Rattle.std.proofs.lemmas.List.{length-append, append-nil, take_all}
 use Rattle.fut_scalar.specs.declared.report.Report.{Report}
-use Rattle.fut_meaning.specs.Jobs.{Applied, In_order, order_kept, two_of, Reduces, reduces, all_of, prefixes_on}
-use Rattle.fut_meaning.specs.Outcomes.{Out, Val, Fail, Wrong, Rel, exact, gives, Then, goes_on, stops, sticks, Both, both, stops_left, stops_right, sticks_left, sticks_right, Tree, element, neutral, node, elements, neutrals, tree_gives, IsTight, Bracket, bracket}
+use Rattle.fut_meaning.specs.Jobs.{Applied, In_order, order_kept, two_of, reduces, all_of, prefixes_on}
+use Rattle.fut_meaning.specs.Outcomes.{Out, Val, Fail, Wrong, Rel, exact, gives, Then, goes_on, stops, sticks, both, stops_left, stops_right, sticks_left, sticks_right, Tree, element, neutral, node, elements, neutrals, tree_gives, IsTight, bracket}
 use Rattle.fut_value.specs.Data.{Datum}
-use Rattle.fut_blocks.specs.Meaning.{Component, Names, Results, body_means}
+use Rattle.fut_blocks.specs.Meaning.{Component, Names}
 use Rattle.fut_blocks.specs.Numbered.{Upward, Body_numbered}
 use Rattle.fut_blocks.specs.Plain.{Body}
 use Rattle.array_data.specs.declared.data.Data.{Data}
 use Rattle.array_data.specs.declared.stop.Stop.{Stop}
-use Rattle.array_data.specs.declared.stop.Stop.TheVariants.{Failed, Memory}
-use Rattle.array_data.specs.Held.{held, held_all, as_held, rows_in}
-use Rattle.array_data.specs.Answers.{Added, added, not_added, Copied, copied, not_copied, Counts, counts, no_array, Row_is, row_is, no_memory_row}
+use Rattle.array_data.specs.declared.stop.Stop.TheVariants.{Memory}
+use Rattle.array_data.specs.Held.{held, rows_in}
+use Rattle.array_data.specs.Answers.{Added, added, not_added, Copied, copied, not_copied, Counts, counts, Row_is, row_is, no_memory_row}
 use Rattle.array_data.proofs.RowsRead.{take_row, drop_row}
 use Rattle.array_data.proofs.Forms.{drop_past}
 use Rattle.fut_eval.specs.Answers.{Stands, Kept}

@@ -1,8 +1,7 @@
 -- What code holds, and what it stands for.
-use Rattle.std.proofs.Common.{◌≡◌, ℕ, zero, suc, List, [], ◌∷◌, ◌++◌, map, length, get_or, take, drop, slice_set, Ok, Err, refl, sym, ap, ◌∙◌}
+use Rattle.std.proofs.Common.{◌≡◌, ℕ, zero, suc, List, [], ◌∷◌, ◌++◌, length, get_or, take, drop, slice_set, refl, sym, ap, ◌∙◌}
 use Rattle.fut_scalar.specs.declared.scalar.Scalar.{Scalar}
 use Rattle.fut_scalar.specs.declared.scalar.Scalar.TheVariants as scalar
-use Rattle.fut_scalar.specs.declared.scalar.ScalarType.{ScalarType}
 use Rattle.fut_meaning.specs.Accessors.{truth_of_scalar}
 use Rattle.fut_meaning.specs.Arrays.{truth_of_datum}
 use Rattle.array_data.specs.declared.data.Data.{Data}

@@ -1,28 +1,26 @@
 -- Primitives, by what their plans and functions give.
-use Rattle.std.proofs.Common.{◌≡◌, ℕ, ◌+◌, ◌≤◌, List, [], ◌∷◌, ◌++◌, length, get_or, Ok, Err, Result, Bool, true, false, refl, sym, ap, ◌∙◌, subst, arith}
+use Rattle.std.proofs.Common.{◌≡◌, ℕ, ◌+◌, ◌≤◌, List, [], ◌∷◌, ◌++◌, length, get_or, Ok, Err, Result, Bool, true, false, refl, sym, ap, ◌∙◌, subst}
 use Rattle.fut_scalar.specs.declared.place.Place.{Place}
 use Rattle.fut_scalar.specs.declared.report.Report.{Report}
 use Rattle.fut_flat.specs.declared.prim.Primitive.{Primitive}
-use Rattle.fut_value.specs.Data.{Shape, Datum, Unmet_shape, shape_of, array_words}
-use Rattle.fut_meaning.specs.Arrays.{Counted, array, all_fresh, fresh}
-use Rattle.fut_meaning.specs.Jobs.{Job, Done, Apply_each, Reduce_each, Applied, all_of, finished, prefixes_on, part_at, job}
-use Rattle.fut_meaning.specs.Outcomes.{Out, Val, Fail, Wrong, and_then, Rel, exact, gives, the, Then, goes_on, stops, sticks, Both, both, stops_left, sticks_left, each_of}
+use Rattle.fut_value.specs.Data.{Shape, Datum, Array_datum, Unmet_shape, datums, shape_of, array_words}
+use Rattle.fut_meaning.specs.Arrays.{array, all_fresh, fresh}
+use Rattle.fut_meaning.specs.Jobs.{Job, Done, Apply_each, Reduce_each, Choose_each, Some_of, some_of, shown, places, or_old, all_of, prefixes_on, job}
+use Rattle.fut_meaning.specs.Outcomes.{Out, Val, Fail, Wrong, exact, gives, the, Then, goes_on, stops, sticks, both, stops_left, sticks_left, each_of}
 use Rattle.fut_blocks.specs.declared.block.Atom.{Atom}
-use Rattle.fut_blocks.specs.Meaning.{Component, Names, Results, values_of, function_of, job_given, act_means, body_means}
+use Rattle.fut_blocks.specs.Meaning.{Component, Names, values_of, function_of, job_given, act_means, body_means}
 use Rattle.fut_blocks.specs.Numbered.{Upward, Act_numbered, Body_numbered}
 use Rattle.fut_blocks.specs.Plain.{Body}
 use Rattle.fut_blocks.specs.Plain as act
-use Rattle.array_data.specs.declared.built.Built.{Built}
 use Rattle.array_data.specs.declared.data.Data.{Data}
-use Rattle.array_data.specs.declared.form.Form.{Form}
 use Rattle.array_data.specs.declared.jobs.Finish.{Finish}
-use Rattle.array_data.specs.declared.jobs.Plan.{Plan}
 use Rattle.array_data.specs.declared.jobs.Plan.TheVariants as plan
 use Rattle.array_data.specs.declared.stop.Stop.{Stop}
 use Rattle.array_data.specs.declared.stop.Stop.TheVariants.{Failed, Memory}
-use Rattle.array_data.specs.Answers.{Does, does, does_fail, does_memory, does_lost}
-use Rattle.array_data.specs.Held.{held, held_all, as_held, rows_in, row_shape_in, shape_held}
-use Rattle.array_data.specs.Plans.{made_of, Source_is, first_fresh, Planned, plan_done, plan_each, plan_reduce, plan_scan, plan_fails, plan_memory, plan_lost, Counted_is, counted_is, counted_fails, counted_memory, counted_lost}
+use Rattle.array_data.specs.Answers.{Does, does, does_lost}
+use Rattle.array_data.specs.Held.{held, held_all, rows_in, row_shape_in}
+use Rattle.array_data.specs.Plans.{made_of, first_fresh, Planned, plan_done, plan_chosen, plan_each, plan_reduce, plan_scan, plan_fails, plan_memory, plan_lost, Counted_is, counted_is, counted_fails, counted_memory, counted_lost}
+use Rattle.array_data.specs.Writes.{All_chosen, none_chosen, one_chosen, in_array, Scatters, scatters, scatter_lost}
 use Rattle.array_data.proofs.Planning.{two_held}
 use Rattle.fut_eval.specs.Answers.{Answer, Tells, told, report_told, no_memory_told, lost, Stands, Kept, Runs, ran, failed, no_memory, gone, Pushed, pushed, not_pushed, Reads_data}
 use Rattle.fut_eval.specs.Primitives.{Gives, gave, gave_failure, gave_memory, gave_wrong, applies, Each_runs, reduction, Fold_runs, Scan_runs, Job_runs}
@@ -68,9 +66,21 @@ module _ (budget : ℕ) (b : Body) (xs : List ℕ) (o : Out Job) where
   result_runs env n t t' s s1 s2 d f _ k q h (pushed p) = ran (d ∷ []) f (p ∙ ap (λ z. z ++ d ∷ []) q) (tt, tt) k h
   result_runs env n t t' s s1 s2 d f _ k q h not_pushed = no_memory
 
+  all_chosen : (xss : List (List Datum)) (ys : List Datum) → All_chosen xss ys → (c : ℕ) × all_of Some_of xss (Val ys) c
+  all_chosen _ _ none_chosen = (0, exact)
+  all_chosen _ _ (one_chosen {xss = xss} {ys = ys} h a) = let c = all_chosen xss ys a in (0 + c.0 + 0, both (some_of h) c.1 exact)
+
   pub job_done : (at : Place) (ds : List Datum) (t s s1 : List Component) (v : Data) (r : Answer) → Planned o at ds (Ok (plan.Done v)) → Pushed (held v) s s1 r → Job_runs budget b xs o t t s s1 r
   unfolding Job_runs
   job_done at ds t s s1 v r (plan_lost q) h env n mid last st u nb l = gone 0 (sticks (the_is o Wrong q))
+  job_done at ds t s s1 v r (plan_chosen c) h env n mid last st u nb l = by_chosen c
+    where
+      by_chosen : Scatters o (Ok (held v)) → Runs (Then (the o) (job_given true (applies budget b xs env))) n t t s s1 r
+      by_chosen (scatter_lost q) = gone 0 (sticks (the_is o Wrong q))
+      by_chosen (scatters ws old row es q a e) = let c = all_chosen (places or_old 0 old ws) es a in
+          result_runs env n t t s s s1 (held v) (0 + (c.0 + (0 + 0) + 0)) r (kept_same n t) refl
+          (goes_on (the_is o (Val (Choose_each ws old (in_array row))) q)
+          (goes_on (goes_on (shown tt c.1) (goes_on exact (subst (λ d. gives 0 (Array_datum row (datums es)) (Val d) 0) (sym e) exact))) exact)) h
   job_done at ds t s s1 v r (plan_done d) h env n mid last st u nb l = by_does d
     where
       by_does : Does o (Ok (held v)) → Runs (Then (the o) (job_given true (applies budget b xs env))) n t t s s1 r

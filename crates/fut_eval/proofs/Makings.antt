@@ -1,14 +1,13 @@
 -- Tuples and arrays that are made.
-use Rattle.std.proofs.Common.{◌≡◌, ℕ, ◌+◌, List, [], ◌∷◌, ◌++◌, length, get_or, Ok, Err, Result, Bool, true, false, refl, sym, ap, ◌∙◌, subst, arith, Bor}
+use Rattle.std.proofs.Common.{◌≡◌, ℕ, List, [], ◌∷◌, length, get_or, Ok, Err, Bool, true, false, refl, sym, ap, ◌∙◌, subst, arith, Bor}
 use Rattle.fut_ast.specs.declared.node.End.{End}
 use Rattle.fut_flat.specs.declared.act.Part.{Part}
 use Rattle.fut_flat.specs.declared.act.Part.TheVariants as part
 use Rattle.fut_scalar.specs.declared.place.Place.{Place}
-use Rattle.fut_scalar.specs.declared.report.Report.{Report}
-use Rattle.fut_value.specs.Data.{Datum, Tuple_datum, Unmet_shape, datums, shape_of, array_words}
+use Rattle.fut_value.specs.Data.{Tuple_datum, Unmet_shape, datums, shape_of, array_words}
 use Rattle.fut_meaning.specs.Arrays as arrays
 use Rattle.fut_meaning.specs.Arrays.{Counted, Make_array, Make_index, Make_range, Make_update, each_out, exact_of, last_apart, updated, array, range, all_fresh, fresh, all_shared, shared, indexed, made}
-use Rattle.fut_meaning.specs.Outcomes.{Out, Val, Fail, Wrong, and_then, exact, the, Then, goes_on, stops, sticks}
+use Rattle.fut_meaning.specs.Outcomes.{Out, Val, Fail, Wrong, and_then, exact, the, Then}
 use Rattle.fut_blocks.specs.declared.block.Atom.{Atom}
 use Rattle.fut_blocks.specs.declared.block.Making.{Making}
 use Rattle.fut_blocks.specs.declared.block.Making.TheVariants as make
@@ -18,8 +17,8 @@ use Rattle.fut_blocks.specs.Plain as act
 use Rattle.array_data.specs.Slices.{part_of}
 use Rattle.array_data.specs.Updates.{updated_at, updated_of}
 use Rattle.array_data.specs.declared.stop.Stop.{Stop}
-use Rattle.array_data.specs.declared.stop.Stop.TheVariants.{Failed, Memory}
-use Rattle.fut_eval.specs.Answers.{Answer, Tells, told, report_told, no_memory_told, lost, Stands, Kept, Runs, ran, failed, no_memory, gone, Pushed, pushed, not_pushed, Reads, Reads_data}
+use Rattle.array_data.specs.declared.stop.Stop.TheVariants.{Memory}
+use Rattle.fut_eval.specs.Answers.{Answer, Tells, told, report_told, no_memory_told, lost, Stands, Runs, ran, no_memory, Pushed, pushed, not_pushed, Reads, Reads_data}
 use Rattle.fut_eval.specs.Runs.{Made_runs}
 use Rattle.fut_eval.proofs.Tells.{the_is, tells_stop, tells_then, runs_stop, runs_next, then_stop, then_next, kept_same}
 

@@ -1,24 +1,24 @@
 -- Records and parts that are made.
-use Rattle.std.proofs.Common.{◌≡◌, ℕ, ◌+◌, List, [], ◌∷◌, ◌++◌, length, get_or, Ok, Err, Result, true, refl, sym, ap, ◌∙◌, subst, arith, Bor}
+use Rattle.std.proofs.Common.{◌≡◌, ◌+◌, List, [], ◌∷◌, ◌++◌, length, get_or, Ok, Err, Result, refl, sym, ap, ◌∙◌, subst, arith, Bor}
 use Rattle.fut_scalar.specs.declared.place.Place.{Place}
 use Rattle.fut_ast.specs.Sorts.{Text}
 use Rattle.fut_flat.specs.Erased.{texts}
-use Rattle.fut_value.specs.Data.{Datum, Record_datum}
-use Rattle.fut_meaning.specs.Outcomes.{Out, Val, Fail, Wrong, and_then, the}
+use Rattle.fut_value.specs.Data.{Record_datum}
+use Rattle.fut_meaning.specs.Outcomes.{Out, Val, Fail, Wrong, and_then}
 use Rattle.fut_blocks.specs.declared.block.Atom.{Atom}
 use Rattle.fut_blocks.specs.declared.block.Making.{Making}
 use Rattle.fut_blocks.specs.declared.block.Making.TheVariants as make
-use Rattle.fut_blocks.specs.Meaning.{Component, Names, value_of, values_of, act_means}
-use Rattle.fut_blocks.specs.Plain.{Action, Reading, Read, Record_with, Part_at, Replace_at, Fields_at, making_form}
-use Rattle.fut_blocks.specs.Records.{reads, datum_part, datum_fields, datum_parts, named_data}
+use Rattle.fut_blocks.specs.Meaning.{Component, value_of, values_of, act_means}
+use Rattle.fut_blocks.specs.Plain.{Reading, Read, Record_with, Part_at, Replace_at, Fields_at, making_form}
+use Rattle.fut_blocks.specs.Records.{reads, datum_part, datum_fields, named_data}
 use Rattle.array_data.specs.declared.data.Data.{Data}
 use Rattle.array_data.specs.declared.stop.Stop.{Stop}
 use Rattle.array_data.specs.declared.stop.Stop.TheVariants.{Memory}
-use Rattle.array_data.specs.Held.{held, held_all, as_held}
+use Rattle.array_data.specs.Held.{held, held_all}
 use Rattle.array_data.specs.Records.{Comes_to, comes_to, no_memory_comes, All_put, all_put, not_all_put, replaced_of, fields_of}
-use Rattle.fut_eval.specs.Answers.{Answer, Tells, told, report_told, no_memory_told, lost, Stands, Runs, ran, no_memory, Pushed, pushed, not_pushed, Reads, Reads_data, as_only}
+use Rattle.fut_eval.specs.Answers.{Answer, Tells, told, report_told, no_memory_told, lost, ran, no_memory, Pushed, pushed, not_pushed, Reads, Reads_data, as_only}
 use Rattle.fut_eval.specs.Runs.{Made_runs}
-use Rattle.fut_eval.proofs.Tells.{the_is, tells_stop, tells_then, runs_stop, runs_next, kept_same, fit_any}
+use Rattle.fut_eval.proofs.Tells.{the_is, runs_stop, runs_next, kept_same, fit_any}
 
 -- ---- one atom
 

@@ -1,25 +1,25 @@
 -- A function on rows, one after the other.
-use Rattle.std.proofs.Common.{◌≡◌, ℕ, zero, suc, ◌+◌, ◌<◌, ◌≤◌, List, [], ◌∷◌, ◌++◌, length, drop, slice_get, Option, Some, Ok, Err, Result, refl, sym, ap, ◌∙◌, subst, arith, add-one, append_assoc}
+use Rattle.std.proofs.Common.{◌≡◌, ℕ, suc, ◌+◌, ◌<◌, ◌≤◌, List, [], ◌∷◌, ◌++◌, length, drop, slice_get, Some, Ok, Err, refl, sym, ◌∙◌, subst, arith, add-one, append_assoc}
 use Rattle.std.proofs.lemmas.List.{append-nil}
 use Rattle.fut_value.specs.Data.{Datum}
 use Rattle.fut_meaning.specs.Jobs.{Applied}
-use Rattle.fut_meaning.specs.Outcomes.{Out, Val, Fail, Wrong, and_then, Rel, exact, gives, the, Then, goes_on, stops, sticks, each_of}
-use Rattle.fut_blocks.specs.Meaning.{Component, Names, Results, bound, under, the_one, function_of, body_means}
+use Rattle.fut_meaning.specs.Outcomes.{Out, Val, Fail, Wrong, Rel, exact, gives, Then, goes_on, stops, sticks, each_of}
+use Rattle.fut_blocks.specs.Meaning.{Component, Names}
 use Rattle.fut_blocks.specs.Numbered.{Upward, Body_numbered}
 use Rattle.fut_blocks.specs.Plain.{Body}
 use Rattle.array_data.specs.declared.data.Data.{Data}
 use Rattle.array_data.specs.declared.stop.Stop.{Stop}
-use Rattle.array_data.specs.declared.stop.Stop.TheVariants.{Failed, Memory}
-use Rattle.array_data.specs.Held.{held, held_all, as_held}
-use Rattle.fut_eval.specs.Answers.{Answer, Tells, told, report_told, no_memory_told, lost, IfDone, done, not_done, Fit, Stands, Kept, Runs, ran, failed, no_memory, gone, Bound, is_bound, no_memory_bound, unbound, Takes, Pushed, pushed, not_pushed, Pops_one}
+use Rattle.array_data.specs.declared.stop.Stop.TheVariants.{Memory}
+use Rattle.array_data.specs.Held.{held_all}
+use Rattle.fut_eval.specs.Answers.{Stands, Kept}
 use Rattle.array_data.specs.declared.jobs.Finish.{Finish}
 use Rattle.array_data.specs.Answers.{Added, added, not_added}
-use Rattle.array_data.specs.Plans.{source_row, Source_is, Put_row, put_row, no_row_put}
+use Rattle.array_data.specs.Plans.{Source_is, Put_row, put_row, no_row_put}
 use Rattle.array_data.proofs.RowsRead.{drop_row}
 use Rattle.array_data.proofs.Forms.{drop_past}
 use Rattle.fut_eval.specs.Primitives.{Gives, gave, gave_failure, gave_memory, gave_wrong, applies, Applied_runs, Each_runs}
 use Rattle.fut_eval.proofs.Holding.{held_length}
-use Rattle.fut_eval.proofs.Tells.{Leads, leads_same, leads_trans, kept_same, kept_trans, stands_kept}
+use Rattle.fut_eval.proofs.Tells.{Leads, leads_trans, kept_same, kept_trans, stands_kept}
 
 -- some are done: what the rest comes to, the whole may
 pub data Going {A : Type 0} (whole rest : Rel A) (n : ℕ) (t0 t s0 s : List Component) : Type 0 where

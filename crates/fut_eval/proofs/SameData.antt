@@ -1,6 +1,7 @@
 -- Whether data is equal.
-use Rattle.std.proofs.Common.{◌≡◌, ℕ, zero, suc, ◌+◌, ◌<◌, ◌≤◌, List, [], ◌∷◌, map, length, get_or, drop, Option, Some, None, Ok, Err, Result, Bool, true, false, cond, not, refl, sym, ap, ◌∙◌, subst, arith, add-one}
-use Rattle.std.specs.Prelude.{◌&&◌}
+use Rattle.std.proofs.Common.{◌≡◌, ℕ, suc, ◌+◌, ◌<◌, ◌≤◌, List, [], ◌∷◌, map, length, get_or, drop, Option, Some, None, Ok, Err, Result, Bool, true, false, cond, not, refl, sym, ap, ◌∙◌, subst, arith, add-one, inl, inr}
+use Rattle.std.specs.Prelude.{◌&&◌, ◌⊎◌}
+use Rattle.std.specs.Str.{bytes_eq}
 use Rattle.std.proofs.Math.Seq.{drop-cons}
 use Rattle.fut_scalar.specs.declared.operator.BinOp.{BinOp}
 use Rattle.fut_scalar.specs.declared.operator.BinOp.TheVariants as binary
@@ -9,23 +10,26 @@ use Rattle.fut_scalar.specs.declared.place.Place.{Place}
 use Rattle.fut_scalar.specs.declared.report.FailKind.{FailKind}
 use Rattle.fut_scalar.specs.declared.scalar.Scalar.{Scalar}
 use Rattle.fut_scalar.specs.declared.scalar.Scalar.TheVariants as scalar
+use Rattle.fut_ast.specs.Sorts.{Text}
 use Rattle.fut_flat.specs.declared.prim.Ref.{Ref}
-use Rattle.fut_value.specs.Data.{Datum, Scalar_datum, Tuple_datum, datums}
+use Rattle.fut_value.specs.Data.{Datum, Scalar_datum, Tuple_datum, Record_datum, datums}
 use Rattle.fut_meaning.specs.Accessors.{or_wrong, truth_of_scalar}
-use Rattle.fut_meaning.specs.Operations.{reported, truth_result, equal_scalars, both_hold, equal, all_equal}
+use Rattle.fut_meaning.specs.Datums.{as_fields}
+use Rattle.fut_meaning.specs.Operations.{reported, truth_result, equal_scalars, both_hold, equal, fields_equal}
 use Rattle.fut_meaning.specs.Operators.{binary_result}
 use Rattle.fut_meaning.specs.Outcomes.{Out, Val, Fail, Wrong, and_then, the}
+use Rattle.fut_meaning.specs.Values.{Fields}
 use Rattle.fut_blocks.specs.declared.block.Atom.{Atom}
 use Rattle.fut_blocks.specs.declared.block.Operation.{Operation}
 use Rattle.fut_blocks.specs.declared.block.Operation.TheVariants as operation
-use Rattle.fut_blocks.specs.Meaning.{Component, Names, value_of, one, binary_scalar, operated}
+use Rattle.fut_blocks.specs.Meaning.{Component, Names, as_flat, value_of, one, binary_scalar, operated}
 use Rattle.array_data.specs.declared.data.Data.{Data}
 use Rattle.array_data.specs.declared.data.Data.TheVariants as hold
 use Rattle.array_data.specs.declared.stop.Stop.{Stop}
 use Rattle.array_data.specs.declared.stop.Stop.TheVariants.{Memory}
-use Rattle.array_data.specs.Held.{held, held_all, fitted}
+use Rattle.array_data.specs.Held.{held, held_all, fitted, first_name, other_names, named_parts}
 use Rattle.array_data.proofs.Forms.{drop_past}
-use Rattle.array_data.proofs.Holding.{held_scalar, held_tuple}
+use Rattle.array_data.proofs.Holding.{held_scalar, held_tuple, held_record}
 use Rattle.fut_eval.specs.Answers.{Answer, Tells, told, report_told, no_memory_told, lost, Runs, ran, no_memory, Reads, Operates, Pushed, pushed, not_pushed, data_equal, parts_equal, Same_at}
 use Rattle.fut_eval.proofs.Tells.{the_is, tells_then, tells_stop, runs_next, runs_stop, kept_same}
 
@@ -65,7 +69,45 @@ pub whole_tuples : (d e : Data) (n m : ℕ) (ds es : List Data) (r : Result Bool
 unfolding data_equal parts_equal equal
 whole_tuples d e n m ds es r p q t = subst (λ o. Tells o r) (sym (ap (λ z. data_equal z (held e)) (ap held p ∙ held_tuple n ds) ∙ ap (data_equal (Tuple_datum (datums (held_all ds)))) (ap held q ∙ held_tuple m es))) t
 
-pub ruleset wholes = (whole_scalars, whole_tuples, no_memory_told)
+-- ---- records
+
+abbrev flat_fields : List Text → List Datum → Fields Ref BindId (Unit {0})
+flat_fields fs ds = as_fields (named_parts fs ds)
+
+-- records with the same names are equal where all parts are; others have no equality
+both_or_wrong : (o p q : Out Bool) → (p ≡ q) ⊎ (p ≡ Wrong) → (both_hold o p ≡ both_hold o q) ⊎ (both_hold o p ≡ Wrong)
+both_or_wrong o p q (inl e) = inl (ap (both_hold o) e)
+both_or_wrong (Val a) p q (inr e) = inr (ap (both_hold (Val a)) e)
+both_or_wrong (Fail r) p q (inr e) = inl refl
+both_or_wrong Wrong p q (inr e) = inr refl
+
+if_named : (b : Bool) (p q : Out Bool) → (p ≡ q) ⊎ (p ≡ Wrong) → (cond b p Wrong ≡ q) ⊎ (cond b p Wrong ≡ Wrong)
+if_named true p q h = h
+if_named false p q h = inr refl
+
+same_or_wrong : (fs gs : List Text) (ds es : List Datum) → (fields_equal (flat_fields fs ds) (flat_fields gs es) ≡ parts_equal ds es) ⊎ (fields_equal (flat_fields fs ds) (flat_fields gs es) ≡ Wrong)
+unfolding parts_equal equal
+same_or_wrong fs gs [] [] = inl refl
+same_or_wrong fs gs [] (e ∷ es) = inr refl
+same_or_wrong fs gs (d ∷ ds) [] = inr refl
+same_or_wrong fs gs (d ∷ ds) (e ∷ es) = if_named (bytes_eq (first_name fs) (first_name gs)) (both_hold (equal (as_flat d) (as_flat e)) (fields_equal (flat_fields (other_names fs) ds) (flat_fields (other_names gs) es)))
+    (both_hold (equal (as_flat d) (as_flat e)) (parts_equal ds es))
+    (both_or_wrong (equal (as_flat d) (as_flat e)) (fields_equal (flat_fields (other_names fs) ds) (flat_fields (other_names gs) es)) (parts_equal ds es) (same_or_wrong (other_names fs) (other_names gs) ds es))
+
+fields_told : (fs gs : List Text) (ds es : List Datum) (r : Result Bool Stop) → Tells (parts_equal ds es) r → Tells (fields_equal (flat_fields fs ds) (flat_fields gs es)) r
+fields_told fs gs ds es r t = by_case (same_or_wrong fs gs ds es)
+  where
+    by_case : (fields_equal (flat_fields fs ds) (flat_fields gs es) ≡ parts_equal ds es) ⊎ (fields_equal (flat_fields fs ds) (flat_fields gs es) ≡ Wrong) → Tells (fields_equal (flat_fields fs ds) (flat_fields gs es)) r
+    by_case (inl e) = subst (λ o. Tells o r) (sym e) t
+    by_case (inr e) = lost e
+
+pub whole_records : (d e : Data) (n m : ℕ) (fs gs : List Text) (ds es : List Data) (r : Result Bool Stop) → d ≡ hold.Record n fs ds → e ≡ hold.Record m gs es → Tells (parts_equal (held_all ds) (held_all es)) r → Tells (data_equal (held d) (held e)) r
+unfolding data_equal equal
+whole_records d e n m fs gs ds es r p q t = subst (λ o. Tells o r)
+    (sym (ap (λ z. data_equal z (held e)) (ap held p ∙ held_record n fs ds) ∙ ap (data_equal (Record_datum (named_parts fs (held_all ds)))) (ap held q ∙ held_record m gs es)))
+    (fields_told fs gs (held_all ds) (held_all es) r t)
+
+pub ruleset wholes = (whole_scalars, whole_tuples, whole_records, no_memory_told)
 
 -- ---- all parts
 

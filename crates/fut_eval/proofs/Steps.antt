@@ -1,7 +1,6 @@
 -- Steps of a block, one after the other.
 use Rattle.std.proofs.Common.{◌≡◌, ℕ, zero, suc, ◌+◌, ◌<◌, ◌≤◌, List, [], ◌∷◌, length, get_or, map, drop, Some, None, Ok, Err, refl, sym, ap, ◌∙◌, subst, arith, add-one, true}
 use Rattle.std.proofs.Math.Seq.{drop-cons}
-use Rattle.fut_scalar.specs.declared.scalar.Scalar.{Scalar}
 use Rattle.fut_meaning.specs.Accessors.{or_wrong}
 use Rattle.fut_meaning.specs.Outcomes.{Val, Fail, Wrong, Rel, Then, goes_on, stops, sticks}
 use Rattle.fut_blocks.specs.declared.block.Block.{Block, out-Block}

@@ -5,7 +5,6 @@ use Rattle.std.proofs.lemmas.Bool.{eqb-true, eqb-false}
 use Rattle.std.proofs.lemmas.List.{length-append, length-drop, length-set, take_all, get_or_default}
 use Rattle.fut_scalar.specs.declared.scalar.Scalar.{Scalar}
 use Rattle.fut_meaning.specs.Arrays.{truth_of_datum}
-use Rattle.fut_value.specs.Data.{Scalar_datum}
 use Rattle.array_data.specs.declared.data.Data.{Data}
 use Rattle.array_data.specs.declared.data.Data.TheVariants as hold
 use Rattle.array_data.specs.Held.{held, held_all, as_held}

@@ -1,8 +1,6 @@
 -- A whole run.
-use Rattle.std.proofs.Common.{◌≡◌, ℕ, zero, suc, List, [], ◌∷◌, ◌++◌, length, All, Ok, Err, sym, ap, ◌∙◌, subst, arith, true}
-use Rattle.fut_scalar.specs.Integers.{FitsType}
+use Rattle.std.proofs.Common.{◌≡◌, ℕ, List, [], ◌∷◌, length, Ok, Err, sym, subst, arith, true}
 use Rattle.fut_scalar.specs.declared.report.Report.{Report}
-use Rattle.fut_scalar.specs.declared.scalar.Scalar.{Scalar}
 use Rattle.fut_blocks.specs.declared.block.Program.{Program}
 use Rattle.fut_blocks.specs.Plain.{body_of}
 use Rattle.fut_blocks.specs.Meaning.{under, body_means, Component}

@@ -12,7 +12,7 @@ use Rattle.fut_meaning.specs.Values.{Values}
 use Rattle.fut_meaning.specs.Outcomes.{Out, Val, Fail, Wrong, and_then, the}
 use Rattle.fut_blocks.specs.declared.block.Atom.{Atom}
 use Rattle.fut_blocks.specs.declared.block.Operation.{Operation}
-use Rattle.fut_blocks.specs.Meaning.{Component, Names, as_flat, look, bound, fitted, value_of, values_of, operated, truth_of_atom, turns_of_datum, holds, the_one, Results}
+use Rattle.fut_blocks.specs.Meaning.{Component, Names, as_flat, look, bound, value_of, values_of, operated, truth_of_atom, turns_of_datum, holds, the_one, Results}
 use Rattle.fut_blocks.specs.Numbered.{Upward}
 pub use Rattle.array_data.specs.Answers.{Tells, told, report_told, no_memory_told, lost, Copied, copied, not_copied}
 use Rattle.fut_value.specs.Data.{Datum, Scalar_datum, datums}

@@ -5,7 +5,7 @@ use Rattle.fut_value.specs.Data.{Datum}
 use Rattle.fut_meaning.specs.Jobs.{Job, Applied, Reduces, all_of, prefixes_on}
 use Rattle.fut_meaning.specs.Outcomes.{Out, Val, Fail, Wrong, Rel, gives, the, Then, each_of}
 use Rattle.fut_blocks.specs.Plain.{Body}
-use Rattle.fut_blocks.specs.Meaning.{Component, Names, Results, function_of, job_given, body_means}
+use Rattle.fut_blocks.specs.Meaning.{Component, Names, function_of, job_given, body_means}
 use Rattle.fut_blocks.specs.Numbered.{Upward, Body_numbered}
 use Rattle.array_data.specs.declared.built.Built.{Built}
 use Rattle.array_data.specs.declared.jobs.Finish.{Finish}

@@ -1,4 +1,4 @@
-// Whether data is equal: scalars, and tuples part by part.
+// Whether data is equal: scalars, and tuples and records part by part.
 ghost use Rattle.std.specs.Prelude.{◌≡◌};
 ghost use Rattle.fut_scalar.specs.Integers.{FitsType};
 ghost use Rattle.fut_meaning.specs.Operations.{equal_scalars};
@@ -40,11 +40,18 @@ fn same_data(at: Place, left: &Data, right: &Data) -> Result<bool, Stop>
             }
             _ => Err(Stop::Memory),
         },
+        // Records of one type have the same fields in the same order.
+        Data::Record(_, _, lefts) => match right {
+            Data::Record(_, _, rights) => {
+                same_parts(at, lefts.get().as_slice(), rights.get().as_slice())
+            }
+            _ => Err(Stop::Memory),
+        },
         _ => Err(Stop::Memory),
     }
 }
 
-/// Whether all parts of two tuples are equal.
+/// Whether all parts of two tuples or records are equal.
 #[tactic(auto, using(crate::proofs::SameData::all_parts))]
 #[cycle(same)]
 fn same_parts(at: Place, lefts: &[Data], rights: &[Data]) -> Result<bool, Stop>

@@ -1,7 +1,6 @@
 -- A row of a run in which no fault rose agrees with all that the run comes to.
 use Rattle.std.proofs.Common.{◌≡◌, ◌≤◌, ◌<◌, ℕ, List, length, map, true, refl, sym, ap, subst, ◌∙◌, arith, inl, inr, ◌⊎◌}
 use Rattle.std.specs.Prelude.{Option, None, Some, IfSome, Result, Ok, Err}
-use Rattle.fut_value.specs.Data.{Datum}
 use Rattle.fut_value.specs.Values.{datum_of}
 use Rattle.fut_value.specs.declared.value.Value.{Value}
 use Rattle.fut_meaning.specs.Answers.{Answer, Gives, Fails}

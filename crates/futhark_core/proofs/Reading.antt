@@ -1,17 +1,17 @@
 -- What a text reads as is of the types that are asked for.
-use Rattle.std.proofs.Common.{◌≡◌, ℕ, zero, suc, ◌+◌, List, [], ◌∷◌, ◌++◌, map, length, refl, ap, ◌∙◌, subst, sym, arith}
+use Rattle.std.proofs.Common.{◌≡◌, ℕ, zero, suc, ◌+◌, List, [], ◌∷◌, ◌++◌, map, length, refl, ap, ◌∙◌, subst, arith}
 use Rattle.std.specs.Prelude.{Result, Ok, Err}
 use Rattle.fut_scalar.specs.declared.sizes.DataType.{DataType}
 use Rattle.fut_scalar.specs.declared.sizes.Dim.{Dim}
 use Rattle.fut_value.specs.Values.{datum_of, datum_with}
 use Rattle.fut_value.specs.declared.value.Value.{Value}
-use Rattle.value_text.specs.Arguments.{Reads, arguments_in, in_agreement, values_on}
+use Rattle.value_text.specs.Arguments.{Reads, in_agreement, values_on}
 use Rattle.value_text.specs.Gives.{HaveTypes}
 use Rattle.value_text.specs.declared.reading.TextErr.{TextErr}
 use Rattle.value_text.specs.Arrays.{and_then}
 use Rattle.value_text.specs.Sizes.{Known, values_for}
 use Rattle.value_text.proofs.Formed.{are_read}
-use Rattle.unfolded_runs.specs.Results.{Are_arguments, Is_argument}
+use Rattle.unfolded_runs.specs.Results.{Are_arguments}
 use Rattle.futhark_core.specs.Inputs.{nothing_said, any_sizes, wanted}
 
 long : (rank : ℕ) → length (any_sizes rank) ≡ rank

@@ -1,5 +1,5 @@
 -- A prepared program is one that the row speaks of: its entry is typed, and what its blocks allow, the source allows.
-use Rattle.std.proofs.Common.{◌≡◌, ◌<◌, inl, inr, ℕ, List, [], ◌∷◌, Bool, true, false, length, refl, sym, ap, ◌∙◌, subst, arith}
+use Rattle.std.proofs.Common.{◌≡◌, inl, inr, ℕ, List, [], ◌∷◌, Bool, true, false, length, refl, sym, ap, ◌∙◌, subst, arith}
 use Rattle.std.proofs.lemmas.Option.{get_or_from_slice_get, slice_get_within}
 use Rattle.std.specs.Prelude.{Ok, Err, slice_index_or}
 use Rattle.fut_scalar.specs.declared.place.BindId.{BindId}
@@ -43,7 +43,6 @@ use Rattle.fut_meaning.specs.Measures.{Measures}
 use Rattle.fut_flat.specs.Erased.{parameters}
 use Rattle.fut_flat.specs.declared.program.Definition.{Definition}
 use Rattle.fut_typing.specs.Free.{has_types}
-use Rattle.fut_meaning.specs.Answers.{Answer}
 use Rattle.unfolded_runs.specs.Results.{Are_arguments}
 use Rattle.unfolded_runs.proofs.Runs.{run_is, some_allowed}
 use Rattle.futhark_core.specs.Acceptance.{Source}

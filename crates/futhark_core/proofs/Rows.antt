@@ -10,10 +10,8 @@ use Rattle.fut_value.specs.Data.{Datum}
 use Rattle.fut_value.specs.Values.{datum_of}
 use Rattle.fut_value.specs.declared.value.Value.{Value}
 use Rattle.fut_blocks.specs.declared.block.Program.{Program}
-use Rattle.fut_blocks.specs.Programs.{Program_means}
 use Rattle.fut_meaning.specs.Answers.{Answer, Gives, Fails}
 use Rattle.elab_laws.proofs.Answers.{lawful_files_have_one_answer}
-use Rattle.fut_meaning.specs.Outcomes.{Val, Fail}
 use Rattle.array_data.specs.Held.{held_all}
 use Rattle.array_data.specs.declared.data.Data.{Data}
 use Rattle.data_values.specs.Met.{each_met}

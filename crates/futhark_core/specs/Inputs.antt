@@ -1,6 +1,5 @@
 -- What is wanted of the input: a value for each parameter of the entry, of any sizes.
 use Rattle.std.specs.Prelude.{ℕ, zero, suc, List, [], ◌∷◌, None, map}
-use Rattle.fut_scalar.specs.declared.place.NodeId.{NodeId}
 use Rattle.fut_scalar.specs.declared.sizes.ArgType.{ArgType}
 use Rattle.fut_scalar.specs.declared.sizes.DataType.{DataType}
 use Rattle.fut_scalar.specs.declared.sizes.Dim.{Dim}

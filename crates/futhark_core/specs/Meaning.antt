@@ -1,5 +1,5 @@
 -- From which definition of an accepted source a run begins, and what the source means from there.
-use Rattle.std.specs.Prelude.{◌≡◌, ℕ, List, [], ◌∷◌, Bool, true, false, map}
+use Rattle.std.specs.Prelude.{◌≡◌, ℕ, List, Bool, true, false}
 use Rattle.fut_scalar.specs.declared.scalar.IntType.{IntType}
 use Rattle.fut_scalar.specs.declared.sizes.DataType.{DataType}
 use Rattle.fut_ast.specs.Sorts.{Text}
