@@ -1,0 +1,3 @@
+pub mod Erasing
+pub mod Examples
+pub mod Programs

@@ -1,0 +1,125 @@
+-- Applications (Futhark Language Reference, "Size Types"): a function's arguments are matched with its parameters, first those
+-- that are no functions, then those that are, each from left to right. A lambda is sized last, with the sizes that are wanted
+-- of its parameters.
+use Rattle.std.specs.Prelude.{ℕ, suc, ◌+◌, Bool, true, false, cond, nat_eq, nat_lt, List, [], ◌∷◌, ◌++◌, Option, Some, None, Ok}
+use Rattle.fut_flat.specs.declared.prim.Ref.TheVariants as ref
+use Rattle.fut_flat.specs.Terms.{Integer, Use, Strict, no_term}
+use Rattle.fut_flat.specs.Erased.{FlatTerm}
+use Rattle.fut_types.specs.Types.{Ty, Made}
+use Rattle.fut_types.specs.declared.Head.TheVariants as head
+use Rattle.fut_sizes.specs.Sizes.{Free, Const, Name, Unknown, Slot, Dim, At, Variable, Size, Hole, Open, Level, Built, Fun, Sizes, no_size, size_and, levels}
+use Rattle.fut_sizes.specs.Agreeing.{type_levels, of_type, Answer, then_do}
+use Rattle.fut_sizes.specs.Matching.{Found, type_found, counted, read, Opened, none_opened, inside, in_opened, meet, data_way, function_way}
+use Rattle.fut_sizes.specs.Functions.{quantified}
+use Rattle.fut_sizes.specs.Steps.{Step, give, ask, and_then}
+
+-- what an application at a node wants of a lambda
+pub record Want : Type 0 where
+  pub node : ℕ
+  pub is_regular : Bool
+  pub size : Size
+
+pub record Met : Type 0 where
+  pub size : Size
+  pub found : Found
+
+-- a term that may be a part of an application: applied to arguments so far, or a lambda, which waits for what is wanted of it
+pub data Argument : Type 0 where
+  -- its node, its value as a size if it is a name or a constant, and its sized type
+  Early : ℕ → Option Free → Size → Argument
+  Late : ℕ → (Option Want → Found → Step Met) → Argument
+
+pub data Part : Type 0 where
+  Applied : Size → Bool → List Argument → Part
+  Waiting : (Option Want → Found → Step Met) → Part
+
+abbrev pub whole : Size → Part
+whole t = Applied t false []
+
+abbrev pub named_value : FlatTerm → Option Free
+named_value (Use (ref.Bound b) at k) = Some (Name b.0)
+named_value (Strict (Integer c t) mark no_term) = Some (Const c)
+named_value e = None
+
+abbrev pub is_function_type : Ty → Bool
+is_function_type (Made head.Fun ts) = true
+is_function_type t = false
+
+abbrev pub is_function : Size → Bool
+is_function (Fun k p r) = true
+is_function (Open n v u) = is_function_type u
+is_function t = false
+
+-- ---- variables that are still open get sizes of their own
+
+abbrev pub own_type : ℕ → Variable → Ty → Found → Found
+own_type n v u σ = type_found n v (of_type (λ i. At (Slot (σ.next + i))) 0 u) (counted (type_levels u) σ)
+
+abbrev pub still_open : ℕ → Variable → Size → Found → Found
+still_open n v (Open m w u) σ = own_type m w u σ
+still_open n v t σ = σ
+
+unfoldable mutual
+  pub all_settled : Size → Found → Found
+  all_settled (Hole v) σ = σ
+  all_settled (Open n v u) σ = still_open n v (σ.type n v u) σ
+  all_settled (Level d t) σ = all_settled t σ
+  all_settled (Built h ts) σ = parts_settled ts σ
+  all_settled (Fun k p r) σ = all_settled r (all_settled p σ)
+
+  pub parts_settled : Sizes → Found → Found
+  parts_settled no_size σ = σ
+  parts_settled (size_and t ts) σ = parts_settled ts (all_settled t σ)
+
+-- what is given at a node, with nothing open
+unfoldable pub settled : ℕ → Found → Size → Size
+settled n σ t = quantified n (read (all_settled t σ) t)
+
+-- ---- one argument after another
+
+pub record Wanting : Type 0 where
+  pub argument : Argument
+  pub opened : Opened
+  pub wanted : Size
+
+abbrev pub value_or : Option Free → Free → Dim
+value_or (Some d) e = At d
+value_or None e = At e
+
+abbrev pub argument_value : Argument → Free → Dim
+argument_value (Early at value t) e = value_or value e
+argument_value (Late at f) e = At e
+
+-- the positions of the function that is applied: slots, the argument's value, and what is met at the node
+abbrev pub applied_frame : ℕ → ℕ → ℕ → Argument → ℕ → Dim
+applied_frame n next k a i = cond (nat_lt i k) (At (Slot (next + i))) (cond (nat_eq i k) (argument_value a (Unknown n (next + k))) (At (Unknown n (next + i))))
+
+module _ (n : ℕ) where
+  unfoldable pub data_met : List Wanting → Found → Answer Found
+  data_met [] σ = Ok σ
+  data_met (w ∷ ws) σ = then_do (one w.argument) (λ found. data_met ws found)
+    where
+      one : Argument → Answer Found
+      one (Early at value t) = cond (is_function t) (Ok σ) (meet n data_way at w.opened w.wanted none_opened t σ)
+      one (Late at f) = Ok σ
+
+  unfoldable pub functions_met : Bool → List Wanting → Found → Step Found
+  functions_met regular [] σ = give σ
+  functions_met regular (w ∷ ws) σ = and_then (one w.argument) (λ found. functions_met regular ws found)
+    where
+      one : Argument → Step Found
+      one (Early at value t) = cond (is_function t) (ask (meet n (function_way regular) at w.opened w.wanted none_opened t σ)) (give σ)
+      one (Late at f) = and_then (f (Some (record { node = n; is_regular = regular; size = read σ (in_opened w.opened w.wanted) })) σ) (λ m. give m.found)
+
+  unfoldable pub all_matched : Bool → List Wanting → Found → Step Found
+  all_matched regular ws σ = and_then (ask (data_met ws σ)) (λ found. functions_met regular ws found)
+
+  -- the rest of the arguments; those that wait are matched where no arrow is left
+  unfoldable pub applied : Bool → List Argument → List Wanting → Opened → Size → Found → Step Met
+  applied regular [] ws φ t σ = and_then (all_matched regular ws σ) (λ found. give (record { size = read found (in_opened φ t); found = found }))
+  applied regular (a ∷ rest) ws φ (Fun k p r) σ = applied regular rest (ws ++ record { argument = a; opened = inside (applied_frame n σ.next k a) φ; wanted = p } ∷ []) (inside (applied_frame n σ.next k a) φ) r (counted (suc k + levels r) σ)
+  applied regular (a ∷ rest) ws φ t σ = and_then (all_matched regular ws σ) (λ found. again (read found (in_opened φ t)) found (applied regular rest))
+    where
+      again : Size → Found → (List Wanting → Opened → Size → Found → Step Met) → Step Met
+      again (Fun k p r) found go = go (record { argument = a; opened = inside (applied_frame n found.next k a) none_opened; wanted = p } ∷ []) (inside (applied_frame n found.next k a) none_opened) r (counted (suc k + levels r) found)
+      again u found go = give (record { size = u; found = found })

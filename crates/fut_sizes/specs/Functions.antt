@@ -1,0 +1,126 @@
+-- The sized types of functions (Futhark Language Reference, "Size Types"): each size of a parameter that nothing around has is
+-- chosen by the caller, a parameter's name is the argument's value, and what the body's nodes meet is met when the function
+-- runs.
+use Rattle.std.specs.Prelude.{ℕ, suc, ◌+◌, Bool, true, false, ◌||◌, ◌&&◌, not, cond, nat_eq, nat_lt, nat_le, List, [], ◌∷◌, ◌++◌, length, Option, Some, None}
+use Rattle.fut_scalar.specs.declared.place.BindId.{BindId}
+use Rattle.fut_flat.specs.Terms.{Bound_pattern, Typed_pattern, Parameter, Size_parameter, Type_parameter}
+use Rattle.fut_flat.specs.Erased.{FlatPattern}
+use Rattle.fut_sizes.specs.Sizes.{Free, Name, Own, Unknown, Slot, Dim, At, Bound, Size, Hole, Open, Level, Built, Fun, Sizes, no_size, size_and, is_free, replaced, bound, renamed}
+use Rattle.fut_sizes.specs.Agreeing.{is_among}
+
+-- ---- the sizes of some property that stand in a sized type, each once, as they are read
+
+abbrev pub stands_among : List Free → Free → Bool
+stands_among [] d = false
+stands_among (e ∷ es) d = is_free e d || stands_among es d
+
+abbrev pub with_free : (Free → Bool) → Dim → List Free → List Free
+with_free q (At d) ds = cond (q d && not (stands_among ds d)) (ds ++ d ∷ []) ds
+with_free q (Bound j i) ds = ds
+
+unfoldable mutual
+  pub collected : (Free → Bool) → Size → List Free → List Free
+  collected q (Hole v) ds = ds
+  collected q (Open n v u) ds = ds
+  collected q (Level d t) ds = collected q t (with_free q d ds)
+  collected q (Built h ts) ds = all_collected q ts ds
+  collected q (Fun k p r) ds = collected q r (collected q p ds)
+
+  pub all_collected : (Free → Bool) → Sizes → List Free → List Free
+  all_collected q no_size ds = ds
+  all_collected q (size_and t ts) ds = all_collected q ts (collected q t ds)
+
+unfoldable pub sizes_in : (Free → Bool) → Size → List Free
+sizes_in q t = collected q t []
+
+abbrev pub position_from : ℕ → List Free → Free → Option ℕ
+position_from i [] d = None
+position_from i (e ∷ es) d = cond (is_free e d) (Some i) (position_from (suc i) es d)
+
+abbrev pub or_position : Option ℕ → Option ℕ → Option ℕ
+or_position (Some i) j = Some i
+or_position None j = j
+
+-- ---- one parameter
+
+-- the name that is the argument's value
+abbrev pub value_name : FlatPattern → Option ℕ
+value_name (Bound_pattern b) = Some b.0
+value_name (Typed_pattern p e) = value_name p
+value_name p = None
+
+abbrev pub value_position : ℕ → Option ℕ → Free → Option ℕ
+value_position k (Some b) (Name c) = cond (nat_eq b c) (Some k) None
+value_position k b d = None
+
+-- what a parameter at a node chooses, where these are the size names that nothing has chosen before
+abbrev pub is_own : List ℕ → ℕ → Free → Bool
+is_own bs q (Own n i) = nat_eq n q
+is_own bs q (Name b) = is_among bs b
+is_own bs q d = false
+
+abbrev pub without : List Free → List ℕ → List ℕ
+without ds [] = []
+without ds (b ∷ bs) = cond (stands_among ds (Name b)) (without ds bs) (b ∷ without ds bs)
+
+-- a parameter of a function: its pattern, its node, and its sized type inside the function
+pub record Taking : Type 0 where
+  pub pattern : FlatPattern
+  pub node : ℕ
+  pub size : Size
+
+abbrev pub chosen_by : List ℕ → Taking → List Free
+chosen_by bs p = sizes_in (is_own bs p.node) p.size
+
+-- made by a node from one on, up to another
+abbrev pub is_met : ℕ → ℕ → Free → Bool
+is_met from to (Unknown n i) = nat_le from n && nat_lt n to
+is_met from to d = false
+
+-- the function type of one parameter: what it chooses, its value, what is met
+abbrev pub frame_of : List Free → Option ℕ → List Free → Free → Option ℕ
+frame_of chosen value met d = or_position (position_from 0 chosen d) (or_position (value_position (length chosen) value d) (position_from (suc (length chosen)) met d))
+
+abbrev pub arrow : List Free → Option ℕ → List Free → Size → Size → Size
+arrow chosen value met p r = Fun (length chosen) (bound (frame_of chosen value met) p) (bound (frame_of chosen value met) r)
+
+-- the type of a function of these parameters, whose body has the nodes from one on, up to another, and gives this; the last
+-- arrow has what is met
+unfoldable pub function_size : List ℕ → ℕ → ℕ → List Taking → Size → Size
+function_size bs from to [] r = r
+function_size bs from to (p ∷ []) r = arrow (chosen_by bs p) (value_name p.pattern) (sizes_in (is_met from to) r) p.size r
+function_size bs from to (p ∷ ps) r = arrow (chosen_by bs p) (value_name p.pattern) [] p.size (function_size (without (chosen_by bs p) bs) from to ps r)
+
+-- the size names of a head that no parameter chooses
+abbrev pub unchosen : List ℕ → List Taking → List ℕ
+unchosen bs [] = bs
+unchosen bs (p ∷ ps) = unchosen (without (chosen_by bs p) bs) ps
+
+abbrev pub size_names : List (Parameter BindId) → List ℕ
+size_names [] = []
+size_names (Size_parameter b ∷ ps) = b.0 ∷ size_names ps
+size_names (Type_parameter b lifted ∷ ps) = size_names ps
+
+-- ---- what is still open in the result of an application at a node: where it is the parameter of a function, that function's
+-- caller chooses it; else it is unknown
+
+abbrev pub is_slot : Free → Bool
+is_slot (Slot i) = true
+is_slot d = false
+
+abbrev pub unknown_slot : ℕ → Free → Free
+unknown_slot n (Slot i) = Unknown n i
+unknown_slot n d = d
+
+-- positions from k on make room
+abbrev pub at_slot : ℕ → ℕ → Option ℕ → Free → Dim
+at_slot j k (Some i) d = Bound j (k + i)
+at_slot j k None d = At d
+
+abbrev pub chosen_again : ℕ → List Free → ℕ → Dim → Dim
+chosen_again k ds j (At d) = at_slot j k (position_from 0 ds d) d
+chosen_again k ds j (Bound l i) = Bound l (cond (nat_eq l j) (cond (nat_lt i k) i (length ds + i)) i)
+
+unfoldable pub quantified : ℕ → Size → Size
+quantified n (Fun k p r) = Fun (length (sizes_in is_slot p) + k) (replaced (chosen_again k (sizes_in is_slot p)) 0 p) (renamed (unknown_slot n) (replaced (chosen_again k (sizes_in is_slot p)) 0 r))
+quantified n t = renamed (unknown_slot n) t

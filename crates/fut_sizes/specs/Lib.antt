@@ -1,0 +1,13 @@
+pub mod Sizes
+pub mod Primitives
+pub mod Agreeing
+pub mod WrittenSizes
+pub mod Operations
+pub mod Matching
+pub mod Scopes
+pub mod Functions
+pub mod Steps
+pub mod Applications
+pub mod Sizing
+pub mod Programs
+pub mod Suiting

@@ -1,0 +1,313 @@
+-- The sizing of a term: by structure, in the order of evaluation, the sized type of each node or the first refusal (Futhark
+-- Language Reference, "Size Types", "Causality restriction"). A term's numbers begin at lo.
+use Rattle.std.specs.Prelude.{ℕ, zero, suc, ◌+◌, nat_eq, Bool, true, false, ◌&&◌, ◌||◌, cond, List, [], ◌∷◌, ◌++◌, map, Option, Some, None, Ok, Err}
+use Rattle.fut_ast.specs.Sorts.{Text}
+use Rattle.fut_scalar.specs.declared.place.BindId.{BindId}
+use Rattle.fut_flat.specs.declared.prim.Ref.{Ref}
+use Rattle.fut_flat.specs.declared.prim.Ref.TheVariants as ref
+use Rattle.fut_flat.specs.Terms.{Bound_pattern, Tuple_pattern, Record_pattern, Typed_pattern, Patterns, no_pattern, pattern_and, Binding, Use, Strict, Lambda, Apply, Let, If, Loop, Terms, no_term, term_and, Counted, Over, While}
+use Rattle.fut_flat.specs.Numbers.{pattern_numbers, all_pattern_numbers, own_numbers, numbers, turn_numbers}
+use Rattle.fut_flat.specs.Erased.{FlatTerm, FlatTurns, FlatPattern}
+use Rattle.fut_types.specs.Types.{Sub}
+use Rattle.fut_typing.specs.Names.{Names}
+use Rattle.fut_sizes.specs.Sizes.{Free, Name, Own, Unknown, Dim, At, Bound, Size, Hole, Open, Level, Built, Fun, Sizes, no_size, size_and, is_dim, levels, renamed, has}
+use Rattle.fut_sizes.specs.Primitives.{prim_size, is_regular}
+use Rattle.fut_sizes.specs.Agreeing.{Escapes, Irregular, Answer, then_do, kept, no_size_of, is_among, leaving, of_type}
+use Rattle.fut_sizes.specs.WrittenSizes.{part_of, coerced, same_dim, parameter_size}
+use Rattle.fut_sizes.specs.Operations.{operation}
+use Rattle.fut_sizes.specs.Matching.{Found, nothing_found, counted, none_opened, inside, in_opened, wanted_frame, is_unknown, data_way, function_way, to_result, meet}
+use Rattle.fut_sizes.specs.Scopes.{Known, Scope, with_known, with_name, i64_size, used, names, as_taken, bound_by}
+use Rattle.fut_sizes.specs.Functions.{value_name, Taking, function_size, unchosen, size_names, is_slot}
+use Rattle.fut_sizes.specs.Steps.{Step, give, ask, and_then, note, drop, dropped_by}
+use Rattle.fut_sizes.specs.Applications.{Want, Met, Argument, Early, Late, Part, Applied, Waiting, whole, named_value, settled, applied}
+
+-- ---- parameters of functions
+
+-- what has been entered, and what is left of the type that is wanted
+pub record Entered : Type 0 where
+  pub scope : Scope
+  pub parameters : List Taking
+  pub wanted : Option Size
+  -- what the names that are arguments' values stand for in the wanted type
+  pub values : Free → Free
+  pub found : Found
+
+abbrev pub has_open_slot : Dim → Bool
+has_open_slot (At d) = is_slot d
+has_open_slot (Bound j i) = false
+
+unfoldable mutual
+  pub is_open : Size → Bool
+  is_open (Hole v) = false
+  is_open (Open n v u) = true
+  is_open (Level d t) = has_open_slot d || is_open t
+  is_open (Built h ts) = some_open ts
+  is_open (Fun k p r) = is_open p || is_open r
+
+  pub some_open : Sizes → Bool
+  some_open no_size = false
+  some_open (size_and t ts) = is_open t || some_open ts
+
+-- whether the wanted type says all of the parameters
+abbrev pub says_all : Patterns Ref BindId → Size → Bool
+says_all no_pattern t = true
+says_all (pattern_and p ps) (Fun k q r) = cond (is_open q) false (says_all ps r)
+says_all (pattern_and p ps) t = false
+
+abbrev pub if_said : Bool → Want → Option Want
+if_said true w = Some w
+if_said false w = None
+
+abbrev pub said : Patterns Ref BindId → Option Want → Option Want
+said ps (Some w) = if_said (says_all ps w.size) w
+said ps None = None
+
+abbrev pub wanted_size : Option Want → Option Size
+wanted_size (Some w) = Some w.size
+wanted_size None = None
+
+abbrev pub want_node : ℕ → Option Want → ℕ
+want_node lo (Some w) = w.node
+want_node lo None = lo
+
+abbrev pub with_value : Option ℕ → Free → (Free → Free) → Free → Free
+with_value (Some b) d values (Name c) = cond (nat_eq b c) d (values (Name c))
+with_value b d values e = values e
+
+-- the names of a parameter that are parts of its argument
+abbrev pub part_names : FlatPattern → List ℕ
+part_names (Bound_pattern b) = []
+part_names (Typed_pattern p e) = part_names p
+part_names p = names p
+
+abbrev pub all_part_names : Patterns Ref BindId → List ℕ
+all_part_names no_pattern = []
+all_part_names (pattern_and p ps) = part_names p ++ all_part_names ps
+
+abbrev pub field_noted : Option Size → (Size → Step (Unit {0})) → Step (Unit {0})
+field_noted (Some t) do_note = do_note t
+field_noted None do_note = give tt
+
+module _ (N : Names) (types : Sub) where
+  -- a parameter has the sizes that are written, and where none is those that it comes with
+  abbrev mutual
+    pub in_pattern : FlatPattern → Size → Size
+    in_pattern (Typed_pattern p e) t = in_pattern p (parameter_size N same_dim e t)
+    in_pattern (Tuple_pattern ps) (Built h ts) = Built h (in_patterns ps ts)
+    in_pattern p t = t
+
+    pub in_patterns : Patterns Ref BindId → Sizes → Sizes
+    in_patterns (pattern_and p ps) (size_and t ts) = size_and (in_pattern p t) (in_patterns ps ts)
+    in_patterns ps ts = ts
+
+  -- a parameter at a node, which comes with this sized type
+  abbrev pub entered : FlatPattern → ℕ → Size → Option Size → (Free → Free) → Found → Entered → Answer Entered
+  entered p q t rest values σ E = then_do (bound_by N [] q p (in_pattern p t) E.scope)
+      (λ k. Ok (record { scope = k.scope; parameters = E.parameters ++ record { pattern = p; node = q; size = in_pattern p t } ∷ []; wanted = rest; values = values; found = σ }))
+
+  -- what the lambda at lo is wanted for, at the node n, says the sizes of its parameters, with which those that are written have
+  -- to agree; else they have sizes of their own
+  abbrev pub wanted_frame_of : ℕ → ℕ → Entered → ℕ → Dim
+  wanted_frame_of n k E = wanted_frame n E.found.next k
+
+  abbrev pub enter_wanted : ℕ → FlatPattern → ℕ → Size → Size → (Free → Free) → Found → Entered → Answer Entered
+  enter_wanted lo p q t r values σ E = then_do (meet lo data_way lo none_opened (in_pattern p t) none_opened t σ) (λ found. entered p q t (Some r) values found E)
+
+  abbrev pub enter : ℕ → ℕ → FlatPattern → ℕ → Option Size → Entered → Answer Entered
+  enter n lo p q (Some (Fun k t r)) E = enter_wanted lo p q (in_opened (inside (wanted_frame_of n k E) none_opened) t) (in_opened (inside (wanted_frame_of n k E) none_opened) r) (with_value (value_name p) (Unknown n (E.found.next + k)) E.values) (counted (suc k + levels r) E.found) E
+  enter n lo p q w E = entered p q (of_type (λ i. At (Own q i)) 0 (types q)) None E.values E.found E
+
+  abbrev pub all_entered : ℕ → ℕ → Patterns Ref BindId → ℕ → Entered → Answer Entered
+  all_entered n lo no_pattern q E = Ok E
+  all_entered n lo (pattern_and p ps) q E = then_do (enter n lo p q E.wanted E) (λ next. all_entered n lo ps (q + pattern_numbers p) next)
+
+  abbrev pub none_left : ℕ → List ℕ → Answer (Unit {0})
+  none_left at [] = Ok tt
+  none_left at (b ∷ bs) = Err (Escapes at)
+
+  -- ---- what a lambda gives, whose body gave this, where it is wanted and where it is not
+
+  unfoldable pub given_back : ℕ → Option Want → Size → Size → Entered → Answer Met
+  given_back lo None own body E = Ok (record { size = own; found = E.found })
+  given_back lo (Some w) own body E = result_met (renamed E.values body) E.wanted
+    where
+      result_met : Size → Option Size → Answer Met
+      result_met r (Some t) = cond (w.is_regular && has is_unknown r) (Err (Irregular lo)) (then_do (meet w.node (to_result (function_way w.is_regular)) lo none_opened t none_opened r E.found) (λ found. Ok (record { size = own; found = found })))
+      result_met r None = Ok (record { size = own; found = E.found })
+
+  -- a lambda that was sized by itself is matched with what is wanted of it
+  unfoldable pub matched_late : ℕ → Option Want → Option Want → Met → Answer Met
+  matched_late lo (Some w) None m = then_do (meet w.node (function_way w.is_regular) lo none_opened w.size none_opened m.size m.found) (λ found. Ok (record { size = m.size; found = found }))
+  matched_late lo w said_of m = Ok m
+
+  -- ---- loops
+
+  -- the levels of a sized type from i on that are among those dropped are the loop's own unknowns
+  abbrev pub lacking_dim : ℕ → List ℕ → ℕ → Dim → Dim
+  lacking_dim n ds i d = cond (is_among ds i) (At (Unknown n i)) d
+
+  unfoldable mutual
+    pub lacking : ℕ → List ℕ → ℕ → Size → Size
+    lacking n ds i (Level d t) = Level (lacking_dim n ds i d) (lacking n ds (suc i) t)
+    lacking n ds i (Built h ts) = Built h (all_lacking n ds i ts)
+    lacking n ds i t = t
+
+    pub all_lacking : ℕ → List ℕ → ℕ → Sizes → Sizes
+    all_lacking n ds i no_size = no_size
+    all_lacking n ds i (size_and t ts) = size_and (lacking n ds i t) (all_lacking n ds (levels t + i) ts)
+
+  -- the levels kept so far in which what a turn gives differs
+  abbrev pub differing_level : List ℕ → ℕ → Dim → Dim → List ℕ → List ℕ
+  differing_level ds i d e rest = cond (is_among ds i || is_dim d e) rest (i ∷ rest)
+
+  unfoldable mutual
+    pub differing : List ℕ → ℕ → Size → Size → List ℕ
+    differing ds i (Level d t) (Level e u) = differing_level ds i d e (differing ds (suc i) t u)
+    differing ds i (Built h ts) (Built g us) = all_differing ds i ts us
+    differing ds i t u = []
+
+    pub all_differing : List ℕ → ℕ → Sizes → Sizes → List ℕ
+    all_differing ds i (size_and t ts) (size_and u us) = differing ds i t u ++ all_differing ds (levels t + i) ts us
+    all_differing ds i ts us = []
+
+  -- a turn keeps all that were kept, or those that differ are dropped and there is another; a loop inside another goes on from
+  -- what it kept. There are at most as many turns as levels and one.
+  abbrev pub another : ℕ → List ℕ → Size → Step Size → Step Size
+  another n [] t again = give t
+  another n (i ∷ is) t again = and_then (drop n (i ∷ is)) (λ z. again)
+
+  unfoldable pub turns_from : ℕ → ℕ → Size → (Size → Step Size) → Step Size
+  turns_from zero n t turn = and_then (dropped_by n) (λ ds. give (lacking n ds 0 t))
+  turns_from (suc left) n t turn = and_then (dropped_by n) (λ ds. and_then (turn (lacking n ds 0 t)) (λ u. another n (differing ds 0 (lacking n ds 0 t) u) (lacking n ds 0 t) (turns_from left n t turn)))
+
+  abbrev pub row_of : Size → Size
+  row_of (Level d t) = t
+  row_of t = t
+
+  -- ---- terms
+
+  -- what a use of a name gives at a node
+  abbrev pub use_known : ℕ → Option Known → Size
+  use_known lo (Some k) = cond k.is_general (used lo (types lo) k.size) k.size
+  use_known lo None = of_type (no_size_of lo) 0 (types lo)
+
+  abbrev pub use_of : ℕ → Scope → Ref → Part
+  use_of lo scope (ref.Bound b) = whole (use_known lo (scope b.0))
+  use_of lo scope (ref.Prim p) = Applied (used lo (types lo) (prim_size p)) (is_regular p) []
+  use_of lo scope (ref.Scalar s) = whole (of_type (no_size_of lo) 0 (types lo))
+
+  -- the nodes of a pattern, which takes this
+
+  unfoldable mutual
+    pub pattern_noted : FlatPattern → ℕ → Size → Step (Unit {0})
+    pattern_noted (Typed_pattern p e) q t = pattern_noted p q (coerced N e t)
+    pattern_noted (Tuple_pattern ps) q (Built h ts) = and_then (note q (Built h ts)) (λ z. patterns_noted ps (1 + q) ts)
+    pattern_noted (Record_pattern fs ps) q t = and_then (note q t) (λ z. fields_noted fs ps (1 + q) t)
+    pattern_noted p q t = and_then (note q t) (λ z. give tt)
+
+    pub patterns_noted : Patterns Ref BindId → ℕ → Sizes → Step (Unit {0})
+    patterns_noted (pattern_and p ps) q (size_and t ts) = and_then (pattern_noted p q t) (λ z. patterns_noted ps (q + pattern_numbers p) ts)
+    patterns_noted ps q ts = give tt
+
+    pub fields_noted : List Text → Patterns Ref BindId → ℕ → Size → Step (Unit {0})
+    fields_noted (f ∷ fs) (pattern_and p ps) q t = and_then (field_noted (part_of N f t) (pattern_noted p q)) (λ z. fields_noted fs ps (q + pattern_numbers p) t)
+    fields_noted fs ps q t = give tt
+
+  abbrev pub parameters_noted : List Taking → Step (Unit {0})
+  parameters_noted [] = give tt
+  parameters_noted (p ∷ ps) = and_then (pattern_noted p.pattern p.node p.size) (λ z. parameters_noted ps)
+
+  -- a part at a node by itself: its function is applied to the arguments so far
+  abbrev pub finished : ℕ → Part → Step Size
+  finished lo (Applied t regular arguments) = and_then (applied lo regular arguments [] none_opened t nothing_found) (λ m. note lo (settled lo m.found m.size))
+  finished lo (Waiting f) = and_then (f None nothing_found) (λ m. note lo m.size)
+
+  -- as an argument: a name that is not applied stays open, and a lambda waits
+  abbrev pub as_argument : ℕ → Option Free → Part → Step Argument
+  as_argument lo value (Applied t regular []) = and_then (note lo (settled lo nothing_found t)) (λ z. give (Early lo value t))
+  as_argument lo value (Applied t regular (a ∷ rest)) = and_then (finished lo (Applied t regular (a ∷ rest))) (λ u. give (Early lo value u))
+  as_argument lo value (Waiting f) = give (Late lo f)
+
+  abbrev pub with_argument : Part → Argument → Step Part
+  with_argument (Applied t regular before) a = give (Applied t regular (before ++ a ∷ []))
+  with_argument (Waiting f) a = and_then (f None nothing_found) (λ m. give (Applied m.size false (a ∷ [])))
+
+  -- the size names of a head are chosen by parameters
+  abbrev pub has_parameters : List ℕ → FlatTerm → ℕ → Answer (Unit {0})
+  has_parameters bs (Lambda ps e) lo = Ok tt
+  has_parameters bs e lo = none_left lo bs
+
+  abbrev pub bind_ids : List BindId → List ℕ
+  bind_ids = map (λ (b : BindId). b.0)
+
+  abbrev pub with_head : List ℕ → Scope → Scope
+  with_head [] scope = scope
+  with_head (b ∷ bs) scope = with_head bs (with_name b i64_size scope)
+
+  -- what a let binds: a function's name is general, any other pattern takes the value
+  abbrev pub with_general : FlatPattern → Size → Scope → Scope
+  with_general (Bound_pattern b) t scope = with_known b.0 (record { size = t; is_general = true }) scope
+  with_general p t scope = scope
+
+  abbrev pub let_scope : Binding Ref BindId → ℕ → Size → Scope → Answer Scope
+  let_scope b at t scope = cond b.is_function (Ok (with_general b.pattern t scope)) (then_do (bound_by N b.sizes at b.pattern t scope) (λ k. Ok k.scope))
+
+  unfoldable mutual
+    -- bs are the size names of the head that a function's parameters are to choose
+    pub sized : FlatTerm → List ℕ → ℕ → Scope → Step Part
+    sized (Use r at k) bs lo scope = give (use_of lo scope r)
+    sized (Strict o mark ts) bs lo scope = and_then (all_sized ts (lo + own_numbers o) scope)
+        (λ us. and_then (ask (operation N types o lo (lo + own_numbers o) ts us)) (λ t. give (whole t)))
+    sized (Lambda ps e) bs lo scope = give (Waiting (λ w σ.
+        and_then (ask (all_entered (want_node lo (said ps w)) lo ps (1 + lo) (record { scope = scope; parameters = []; wanted = wanted_size (said ps w); values = λ d. d; found = σ }))) (λ E.
+        and_then (ask (none_left (1 + lo + all_pattern_numbers ps) (unchosen bs E.parameters))) (λ z.
+        and_then (parameters_noted E.parameters) (λ y.
+        and_then (sized e [] (1 + lo + all_pattern_numbers ps) E.scope) (λ part.
+        and_then (finished (1 + lo + all_pattern_numbers ps) part) (λ body.
+        and_then (ask (leaving lo (all_part_names ps) body)) (λ r.
+        and_then (note lo (function_size bs lo (1 + lo + all_pattern_numbers ps + numbers e) E.parameters r)) (λ own.
+        and_then (ask (given_back lo (said ps w) own r E)) (λ m. ask (matched_late lo w (said ps w) m)))))))))))
+    sized (Apply f e) bs lo scope = and_then (sized f [] (1 + lo) scope) (λ part.
+        and_then (sized e [] (1 + lo + numbers f) scope) (λ given.
+        and_then (as_argument (1 + lo + numbers f) (named_value e) given) (λ a. with_argument part a)))
+    sized (Let b v e) bs lo scope =
+        and_then (ask (has_parameters (size_names b.parameters) v (1 + lo + pattern_numbers b.pattern))) (λ z.
+        and_then (sized v (size_names b.parameters) (1 + lo + pattern_numbers b.pattern) (with_head (size_names b.parameters) scope)) (λ value.
+        and_then (finished (1 + lo + pattern_numbers b.pattern) value) (λ t.
+        and_then (ask (let_scope b (1 + lo + pattern_numbers b.pattern) t scope)) (λ inner.
+        and_then (pattern_noted b.pattern (1 + lo) t) (λ y.
+        and_then (sized e [] (1 + lo + pattern_numbers b.pattern + numbers v) inner) (λ part.
+        and_then (finished (1 + lo + pattern_numbers b.pattern + numbers v) part) (λ u.
+        and_then (ask (leaving lo (names b.pattern ++ bind_ids b.sizes) u)) (λ r. give (whole r)))))))))
+    sized (If c t e) bs lo scope =
+        and_then (sized c [] (1 + lo) scope) (λ first. and_then (finished (1 + lo) first) (λ z.
+        and_then (sized t [] (1 + lo + numbers c) scope) (λ second. and_then (finished (1 + lo + numbers c) second) (λ u.
+        and_then (sized e [] (1 + lo + numbers c + numbers t) scope) (λ third. and_then (finished (1 + lo + numbers c + numbers t) third) (λ x.
+        give (whole (kept lo 0 u x))))))))
+    sized (Loop mark sizes p first turns body) bs lo scope =
+        and_then (sized first [] (1 + lo + pattern_numbers p) scope) (λ part.
+        and_then (finished (1 + lo + pattern_numbers p) part) (λ t.
+        and_then (turns_sized turns (1 + lo + pattern_numbers p + numbers first) scope) (λ each.
+        and_then (turns_from (suc (levels t)) lo t (λ carried.
+        and_then (ask (bound_by N sizes (1 + lo + pattern_numbers p) p carried scope)) (λ k.
+        and_then (pattern_noted p (1 + lo) carried) (λ y.
+        and_then (ask (each k.scope)) (λ inner.
+        and_then (condition_sized turns (1 + lo + pattern_numbers p + numbers first) inner) (λ z.
+        and_then (sized body [] (1 + lo + pattern_numbers p + numbers first + turn_numbers turns) inner) (λ given.
+        and_then (finished (1 + lo + pattern_numbers p + numbers first + turn_numbers turns) given) (λ u.
+        give (renamed (as_taken sizes k.found) u))))))))) (λ r. give (whole r)))))
+
+    pub all_sized : Terms Ref BindId → ℕ → Scope → Step Sizes
+    all_sized no_term lo scope = give no_size
+    all_sized (term_and t ts) lo scope = and_then (sized t [] lo scope) (λ part. and_then (finished lo part) (λ u. and_then (all_sized ts (lo + numbers t) scope) (λ us. give (size_and u us))))
+
+    -- what is counted or gone over is sized once; it says what each turn's names are
+    pub turns_sized : FlatTurns → ℕ → Scope → Step (Scope → Answer Scope)
+    turns_sized (Counted i m) lo scope = and_then (sized m [] (1 + lo) scope) (λ part. and_then (finished (1 + lo) part) (λ t. and_then (note lo t) (λ z. give (λ inner. Ok (with_name i.0 t inner)))))
+    turns_sized (Over p e) lo scope = and_then (sized e [] (lo + pattern_numbers p) scope) (λ part. and_then (finished (lo + pattern_numbers p) part) (λ t. and_then (pattern_noted p lo (row_of t)) (λ z. give (λ inner. then_do (bound_by N [] (lo + pattern_numbers p) p (row_of t) inner) (λ k. Ok k.scope)))))
+    turns_sized (While c) lo scope = give (λ inner. Ok inner)
+
+    -- a condition sees what the loop carries
+    pub condition_sized : FlatTurns → ℕ → Scope → Step (Unit {0})
+    condition_sized (While c) lo inner = and_then (sized c [] lo inner) (λ part. and_then (finished lo part) (λ z. give tt))
+    condition_sized turns lo inner = give tt
