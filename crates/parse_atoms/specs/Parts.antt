@@ -7,7 +7,7 @@ use Rattle.fut_token.specs.declared.token.Token.{Token}
 use Rattle.fut_ast.specs.Behind.{begins_operand}
 use Rattle.fut_ast.specs.Nodes.{use_of}
 use Rattle.fut_ast.specs.Parts.{going_back, without}
-use Rattle.fut_ast.specs.Sorts.{Sort, Tree, Text, Path, SourceExp, Let_item, Operands, Whole}
+use Rattle.fut_ast.specs.Sorts.{Sort, Tree, Text, SourceExp, Let_item, Operands, Whole}
 use Rattle.fut_ast.specs.Tokens.{spot_of, starts, tail}
 use Rattle.fut_ast.specs.declared.exp.Bind.{Bind}
 use Rattle.fut_ast.specs.declared.exp.Ix.{Ix as PlainIx}

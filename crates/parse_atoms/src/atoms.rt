@@ -4,17 +4,18 @@ ghost use Rattle.fut_ast.specs.Behind.{behind_atom};
 ghost use Rattle.fut_ast.specs.Rows.{field_digits, field_name, indexed, suffix_parts, suffix_tree};
 ghost use Rattle.fut_ast.specs.Sorts.{Atom};
 ghost use Rattle.fut_ast.specs.Tokens.{spot_of, starts};
-ghost use Rattle.fut_grammar.specs.Phrases.{again_at, atom_at, atom_suffix, phrases, read_at};
-ghost use Rattle.fut_grammar.specs.Reading.{Gives, parts_at, suffix_at};
+ghost use Rattle.fut_grammar.specs.Phrases.{atom_at, atom_suffix, phrases, read_at};
+ghost use Rattle.fut_grammar.specs.Reading.{Gives, parts_at};
 ghost use Rattle.parse_types.specs.Found.{tree_found};
 
 use crate::brackets::base_below;
 use crate::indices::index_list;
 use crate::made::{made, made_before};
+use crate::suffixes::{ReadSuffix, suffixes_behind};
 use crate::tie::ReadExp;
 use bumpalo::Bump;
 use fut_ast::{Spot, What};
-use fut_grammar::{Fault, Stop};
+use fut_grammar::Stop;
 use fut_token::{Fixed, Token};
 use fut_tree::Exp;
 use parse_nodes::exp_nodes::{field, index};
@@ -35,60 +36,49 @@ pub fn atom_below<'a, R: ReadExp<'a>>(
     ensures exact { Gives tree_found result (atom_at (phrases (read_at inner)) (suc inner) tokens.now) }
     ensures low { IfOk result (λ x. x.height ≤ inner + 1) }
 {
-    match base_below(bump, read, inner, tokens) {
-        Ok(base) => suffixes_behind(bump, read, inner, next_spot(tokens), base),
-        Err(stop) => Err(stop),
-    }
+    let base = base_below(bump, read, inner, tokens)?;
+    suffixes_behind(bump, AtomSuffixes { read }, inner, next_spot(tokens), base)
 }
 
-fn suffixes_behind<'a, R: ReadExp<'a>>(
-    bump: &'a Bump,
+#[derive(Clone, Copy)]
+struct AtomSuffixes<R> {
     read: R,
-    inner: u32,
-    at: Spot,
-    base: Found<'a, &'a Exp<'a>>,
-) -> Result<Found<'a, &'a Exp<'a>>, Stop>
-    requires law { R.reads read inner }
-    requires room { (inner < 1000) × (base.height ≤ inner + 1) }
-    ensures exact { Gives tree_found result (again_at (phrases (read_at inner)) (suc inner) behind_atom atom_suffix at (suc inner) base.entry.tree.now base.entry.height base.entry.rest.now) }
-    ensures low { IfOk result (λ x. x.height ≤ inner + 1) }
-{
-    let mut found = base;
-    let mut turns = inner + 1;
-    'behind: while goes_on_atom(found.rest) {
-        if turns == 0 {
-            return Err(Stop::Fault(Fault::TooDeep(found.rest.len())));
+}
+
+impl<'a, R: ReadExp<'a>> ReadSuffix<'a, &'a Exp<'a>> for AtomSuffixes<R> {
+    ghost sort = { Atom };
+
+    ghost seen = { λ e. e.now };
+
+    ghost test = { λ ts. behind_atom ts };
+
+    ghost choose = { λ ts. atom_suffix ts };
+
+    ghost reads = { λ s d. R.reads s.read d };
+
+    fn begins(self, tokens: &'a [Token]) -> bool {
+        goes_on_atom(tokens)
+    }
+
+    fn goes_on_tighter(self, first: &Found<'a, &'a Exp<'a>>) -> bool {
+        let _first = first;
+        false
+    }
+
+    fn longer(
+        self,
+        bump: &'a Bump,
+        inner: u32,
+        at: Spot,
+        first: &Found<'a, &'a Exp<'a>>,
+    ) -> Result<Found<'a, &'a Exp<'a>>, Stop> {
+        if starts_with(first.rest, Fixed::OpenBracket) {
+            index_behind(bump, self.read, inner, at, *first)
+        } else if starts_with(first.rest, Fixed::Dot) {
+            field_behind(bump, inner, at, *first)
+        } else {
+            digits_behind(bump, inner, at, *first)
         }
-        turns -= 1;
-        found = match suffix_behind(bump, read, inner, at, found) {
-            Ok(longer) => longer,
-            Err(stop) => return Err(stop),
-        };
-    }
-    Ok(found)
-}
-
-fn suffix_behind<'a, R: ReadExp<'a>>(
-    bump: &'a Bump,
-    read: R,
-    inner: u32,
-    at: Spot,
-    first: Found<'a, &'a Exp<'a>>,
-) -> Result<Found<'a, &'a Exp<'a>>, Stop>
-    requires law { R.reads read inner }
-    requires room { (inner < 1000) × (first.height ≤ inner + 1) }
-    ensures exact { Gives tree_found result (suffix_at (phrases (read_at inner)) (atom_suffix first.entry.rest.now) (suc inner) at first.entry.tree.now first.entry.height first.entry.rest.now) }
-    ensures low { IfOk result (λ x. x.height ≤ inner + 1) }
-{
-    if first.height > inner {
-        return Err(Stop::Fault(Fault::TooDeep(first.rest.len())));
-    }
-    if starts_with(first.rest, Fixed::OpenBracket) {
-        index_behind(bump, read, inner, at, first)
-    } else if starts_with(first.rest, Fixed::Dot) {
-        field_behind(bump, inner, at, first)
-    } else {
-        digits_behind(bump, inner, at, first)
     }
 }
 

@@ -14,5 +14,6 @@ mod leaves;
 pub mod lets;
 pub mod made;
 mod parens;
+pub mod suffixes;
 pub mod tie;
 pub mod written;

@@ -1,11 +1,11 @@
 -- What stands behind an expression as a suffix of it, and what a field inside is replaced by.
-use Rattle.std.proofs.Common.{◌≡◌, ◌≤◌, ℕ, suc, max, Bool, true, false, cond, ◌||◌, List, [], ◌∷◌, length, Some, Result, Ok, Err, nat_lt, refl, sym, ap, ◌∙◌}
+use Rattle.std.proofs.Common.{◌≡◌, ℕ, suc, max, Bool, true, false, cond, ◌||◌, List, [], ◌∷◌, length, Some, Result, Ok, Err, nat_lt, refl}
 use Rattle.std.proofs.Math.Nat.{zero-max}
-use Rattle.std.proofs.lemmas.Bool.{ltb-false, ltb-true}
+use Rattle.std.proofs.lemmas.Bool.{ltb-true}
 use Rattle.fut_token.specs.declared.token.Fixed.{Fixed}
 use Rattle.fut_token.specs.declared.token.Fixed.TheVariants as fixed
 use Rattle.fut_token.specs.declared.token.Token.{Token}
-use Rattle.fut_ast.specs.Behind.{behind_app, behind_atom, behind_chain, behind_range, behind_updated, begins_argument, goes_on, goes_range}
+use Rattle.fut_ast.specs.Behind.{behind_app, behind_chain, behind_range, behind_updated, begins_argument, goes_on, goes_range}
 use Rattle.fut_ast.specs.ExpRows.{further_replaced, last_replaced}
 use Rattle.fut_ast.specs.Nodes.{exp_at, joined, node, replaced}
 use Rattle.fut_ast.specs.Operators.{right_level}
@@ -22,8 +22,9 @@ use Rattle.fut_grammar.specs.declared.fault.Fault.{Fault}
 use Rattle.fut_grammar.specs.declared.fault.Fault.TheVariants.{TooDeep}
 use Rattle.fut_grammar.specs.Phrases.{goes_typed, once_at, operand_too_deep, operation_at, range_behind, replacing_at, typed_suffix, with_suffix}
 use Rattle.fut_grammar.specs.Reading.{◌>>=◌, Read, argument_at, expect, has_at, look_at, parts_at, refuse, row_at, sub_at, suffix_at, word_at}
-use Rattle.fut_grammar.proofs.Bools.{or_false_left, or_false_right}
+use Rattle.fut_grammar.proofs.Bools.{or_false_left}
 use Rattle.parse_types.proofs.ReadLaws.{above, below}
+use Rattle.parse_atoms.proofs.SuffixLaws.{is_low, suffix_free, suffix_full}
 
 -- by the outcome of reading, and of a test
 by_read : {A C : Type 0} (r : Result A Fault) → ((y : A) → r ≡ Ok y → C) → ((f : Fault) → r ≡ Err f → C) → C
@@ -34,29 +35,23 @@ by_test : {C : Type 0} (b : Bool) → (b ≡ true → C) → (b ≡ false → C)
 by_test true holds fails = holds refl
 by_test false holds fails = fails refl
 
--- where nothing tighter goes on, and one more node fits on top
-is_low : (b : Bool) {h d : ℕ} → (b || nat_lt d h) ≡ false → h ≤ d
-is_low b {h} {d} free = ltb-false d h (or_false_right b (nat_lt d h) free)
+-- what is tighter than an update, and than a type
+pub update_tighter : (ts : List Token) (a : Ending) → goes_on (with_suffix ts) a ts ≡ behind_range a.1 ts
+update_tighter ts a = go (starts fixed.OpenBracket (tail ts)) (starts fixed.Dot (tail (tail ts)))
+  where
+    go : (b c : Bool) → goes_on {n = Updated} {m = Updated} (cond b Suffix.with_index (cond c Suffix.with_path Suffix.with_field)) a ts ≡ behind_range a.1 ts
+    go true c = refl
+    go false true = refl
+    go false false = refl
 
--- what a test of both has shown
-pub tested : {r g b v : Bool} (l : Bool) → r ≡ (g || l) → g ≡ b → r ≡ v → (b || l) ≡ v
-tested l full same is = ap (λ x. x || l) (sym same) ∙ sym full ∙ is
+pub type_tighter : (ts : List Token) (a : Ending) → goes_on (typed_suffix ts) a ts ≡ behind_updated a.1 ts
+type_tighter ts a = go (starts fixed.Colon ts)
+  where
+    go : (b : Bool) → goes_on {n = Typed} {m = Typed} (cond b Suffix.ascribed Suffix.coerced) a ts ≡ behind_updated a.1 ts
+    go true = refl
+    go false = refl
 
 module _ (read : (n : Sort) → List Token → Read (Tree n)) where
-  module _ {n m : Sort} (s : Suffix n m) (d : ℕ) (from : Spot) (a : Tree m) (h : ℕ) (ts : List Token) where
-    pub suffix_full : (goes_on s a ts || nat_lt d h) ≡ true → suffix_at read s (suc d) from a h ts ≡ Err (cond (goes_on s a ts) (refuse ts) (TooDeep (length ts)))
-    unfolding suffix_at
-    suffix_full full = go (goes_on s a ts) (nat_lt d h) refl full
-      where
-        go : (b c : Bool) → nat_lt d h ≡ c → (b || c) ≡ true → cond {A = Read (Tree n)} b (Err (refuse ts)) (cond {A = Read (Tree n)} (nat_lt h (suc d)) (parts_at read true n (suffix_parts s) (suffix_tree s from (spot_of ts) a) h ts) (Err (TooDeep (length ts)))) ≡ Err (cond b (refuse ts) (TooDeep (length ts)))
-        go true c high full = refl
-        go false true high full = rw (above (ltb-true d h high)) refl
-        go false false high full = absurd cc
-
-    pub suffix_free : (goes_on s a ts || nat_lt d h) ≡ false → suffix_at read s (suc d) from a h ts ≡ parts_at read true n (suffix_parts s) (suffix_tree s from (spot_of ts) a) h ts
-    unfolding suffix_at
-    suffix_free free = rw (or_false_left (goes_on s a ts) (nat_lt d h) free, below (is_low (goes_on s a ts) free)) refl
-
   -- a sign and a phrase
   module _ (n m : Sort) (sign : Fixed) (made : Tree m → Tree n) (h : ℕ) (ts : List Token) where
     pub behind_sign : starts sign ts ≡ true → parts_at read true n (Sign sign ∷ Sub m ∷ []) (λ at y. made y) h ts ≡ (read m (tail ts) >>= λ y. Ok (made y.0, suc (max h y.1), y.2))
@@ -66,12 +61,9 @@ module _ (read : (n : Sort) → List Token → Read (Tree n)) where
 
   module _ (d : ℕ) (from : Spot) (h : ℕ) (ts : List Token) where
     -- an argument
-    pub argument_free : (e : SourceExp) → begins_argument ts ≡ true → (behind_atom ts || nat_lt d h) ≡ false → suffix_at read Suffix.applied (suc d) from e h ts ≡ (read Atom ts >>= λ y. Ok (exp_at from.place (form.Apply e y.0), suc (max h y.1), y.2))
+    pub argument_parts : (e : SourceExp) → begins_argument ts ≡ true → parts_at read true App (suffix_parts Suffix.applied) (suffix_tree Suffix.applied from (spot_of ts) e) h ts ≡ (read Atom ts >>= λ y. Ok (exp_at from.place (form.Apply e y.0), suc (max h y.1), y.2))
     unfolding parts_at has_at argument_at sub_at
-    argument_free e begun free = suffix_free Suffix.applied d from e h ts free ∙ go
-      where
-        go : parts_at read true App (suffix_parts Suffix.applied) (suffix_tree Suffix.applied from (spot_of ts) e) h ts ≡ (read Atom ts >>= λ y. Ok (exp_at from.place (form.Apply e y.0), suc (max h y.1), y.2))
-        go = by_read (read Atom ts) (λ y phrase. rw (begun, phrase) refl) (λ f phrase. rw (begun, phrase) refl)
+    argument_parts e begun = by_read (read Atom ts) (λ y phrase. rw (begun, phrase) refl) (λ f phrase. rw (begun, phrase) refl)
 
     module _ (a : Ending) where
       -- an operator
@@ -107,13 +99,13 @@ module _ (read : (n : Sort) → List Token → Read (Tree n)) where
       range_full begun full = go (starts fixed.DotDot ts) (goes_range ts) begun
         where
           go : (b c : Bool) → c ≡ true → cond b (suffix_at read Suffix.range_by (suc d) from a h ts) (cond c (suffix_at read Suffix.range_to (suc d) from a h ts) (Ok (a, h, ts))) ≡ Err (cond (behind_chain 1 a.1 ts) (refuse ts) (TooDeep (length ts)))
-          go true c g = suffix_full Suffix.range_by d from a h ts full
-          go false true g = suffix_full Suffix.range_to d from a h ts full
+          go true c g = suffix_full read Suffix.range_by d from a h ts full
+          go false true g = suffix_full read Suffix.range_to d from a h ts full
           go false false g = absurd cc
 
       pub range_by_step : starts fixed.DotDot ts ≡ true → (behind_chain 1 a.1 ts || nat_lt d h) ≡ false → range_behind read (suc d) from a h ts ≡ parts_at read true Range (suffix_parts Suffix.range_by) (suffix_tree Suffix.range_by from (spot_of ts) a) h ts
       unfolding range_behind
-      range_by_step dots free = rw dots (suffix_free Suffix.range_by d from a h ts free)
+      range_by_step dots free = rw dots (suffix_free read Suffix.range_by d from a h ts free)
 
       pub range_to_end : goes_range ts ≡ true → starts fixed.DotDot ts ≡ false → (behind_chain 1 a.1 ts || nat_lt d h) ≡ false → range_behind read (suc d) from a h ts ≡ parts_at read true Range (suffix_parts Suffix.range_to) (suffix_tree Suffix.range_to from (spot_of ts) a) h ts
       unfolding range_behind once_at
@@ -121,41 +113,22 @@ module _ (read : (n : Sort) → List Token → Read (Tree n)) where
         where
           go : (b c : Bool) → b ≡ false → c ≡ true → cond b (suffix_at read Suffix.range_by (suc d) from a h ts) (cond c (suffix_at read Suffix.range_to (suc d) from a h ts) (Ok (a, h, ts))) ≡ parts_at read true Range (suffix_parts Suffix.range_to) (suffix_tree Suffix.range_to from (spot_of ts) a) h ts
           go true c e g = absurd cc
-          go false true e g = suffix_free Suffix.range_to d from a h ts free
+          go false true e g = suffix_free read Suffix.range_to d from a h ts free
           go false false e g = absurd cc
 
       -- a type
-      pub type_full : (behind_updated a.1 ts || nat_lt d h) ≡ true → suffix_at read (typed_suffix ts) (suc d) from a h ts ≡ Err (cond (behind_updated a.1 ts) (refuse ts) (TooDeep (length ts)))
-      type_full full = go (starts fixed.Colon ts)
+      pub type_parts : goes_typed ts ≡ true → parts_at read true Typed (suffix_parts (typed_suffix ts)) (suffix_tree (typed_suffix ts) from (spot_of ts) a) h ts ≡ (read Whole_type (tail ts) >>= λ y. Ok ((cond (starts fixed.Colon ts) (exp_at from.place (form.Ascribe a.0 y.0)) (node from.place (spot_of ts).place (form.Coerce a.0 y.0)), ending.Type), suc (max h y.1), y.2))
+      type_parts begun = go (starts fixed.Colon ts) (starts fixed.ColonGreater ts) refl refl begun
         where
-          go : (b : Bool) → suffix_at read {n = Typed} {m = Typed} (cond b Suffix.ascribed Suffix.coerced) (suc d) from a h ts ≡ Err (cond (behind_updated a.1 ts) (refuse ts) (TooDeep (length ts)))
-          go true = suffix_full Suffix.ascribed d from a h ts full
-          go false = suffix_full Suffix.coerced d from a h ts full
+          chosen : Bool → Suffix Typed Typed
+          chosen b = cond b Suffix.ascribed Suffix.coerced
 
-      pub type_free : goes_typed ts ≡ true → (behind_updated a.1 ts || nat_lt d h) ≡ false → suffix_at read (typed_suffix ts) (suc d) from a h ts ≡ (read Whole_type (tail ts) >>= λ y. Ok ((cond (starts fixed.Colon ts) (exp_at from.place (form.Ascribe a.0 y.0)) (node from.place (spot_of ts).place (form.Coerce a.0 y.0)), ending.Type), suc (max h y.1), y.2))
-      type_free begun free = go (starts fixed.Colon ts) (starts fixed.ColonGreater ts) refl refl begun
-        where
-          go : (b c : Bool) → starts fixed.Colon ts ≡ b → starts fixed.ColonGreater ts ≡ c → (b || c) ≡ true → suffix_at read {n = Typed} {m = Typed} (cond b Suffix.ascribed Suffix.coerced) (suc d) from a h ts ≡ (read Whole_type (tail ts) >>= λ y. Ok ((cond b (exp_at from.place (form.Ascribe a.0 y.0)) (node from.place (spot_of ts).place (form.Coerce a.0 y.0)), ending.Type), suc (max h y.1), y.2))
-          go true c e g one = suffix_free Suffix.ascribed d from a h ts free ∙ behind_sign Typed Whole_type fixed.Colon (λ t. (exp_at from.place (form.Ascribe a.0 t), ending.Type)) h ts e
-          go false true e g one = suffix_free Suffix.coerced d from a h ts free ∙ behind_sign Typed Whole_type fixed.ColonGreater (λ t. (node from.place (spot_of ts).place (form.Coerce a.0 t), ending.Type)) h ts g
+          go : (b c : Bool) → starts fixed.Colon ts ≡ b → starts fixed.ColonGreater ts ≡ c → (b || c) ≡ true → parts_at read true Typed (suffix_parts (chosen b)) (suffix_tree (chosen b) from (spot_of ts) a) h ts ≡ (read Whole_type (tail ts) >>= λ y. Ok ((cond b (exp_at from.place (form.Ascribe a.0 y.0)) (node from.place (spot_of ts).place (form.Coerce a.0 y.0)), ending.Type), suc (max h y.1), y.2))
+          go true c e g one = behind_sign Typed Whole_type fixed.Colon (λ t. (exp_at from.place (form.Ascribe a.0 t), ending.Type)) h ts e
+          go false true e g one = behind_sign Typed Whole_type fixed.ColonGreater (λ t. (node from.place (spot_of ts).place (form.Coerce a.0 t), ending.Type)) h ts g
           go false false e g one = absurd cc
 
       -- an update
-      pub update_full : (behind_range a.1 ts || nat_lt d h) ≡ true → suffix_at read (with_suffix ts) (suc d) from a h ts ≡ Err (cond (behind_range a.1 ts) (refuse ts) (TooDeep (length ts)))
-      update_full full = go (starts fixed.OpenBracket (tail ts)) (starts fixed.Dot (tail (tail ts)))
-        where
-          go : (b c : Bool) → suffix_at read {n = Updated} {m = Updated} (cond b Suffix.with_index (cond c Suffix.with_path Suffix.with_field)) (suc d) from a h ts ≡ Err (cond (behind_range a.1 ts) (refuse ts) (TooDeep (length ts)))
-          go true c = suffix_full Suffix.with_index d from a h ts full
-          go false true = suffix_full Suffix.with_path d from a h ts full
-          go false false = suffix_full Suffix.with_field d from a h ts full
-
-      pub index_free : starts fixed.OpenBracket (tail ts) ≡ true → (behind_range a.1 ts || nat_lt d h) ≡ false → suffix_at read (with_suffix ts) (suc d) from a h ts ≡ parts_at read true Updated (suffix_parts Suffix.with_index) (suffix_tree Suffix.with_index from (spot_of ts) a) h ts
-      index_free bracket free = go (starts fixed.OpenBracket (tail ts)) bracket
-        where
-          go : (b : Bool) → b ≡ true → suffix_at read {n = Updated} {m = Updated} (cond b Suffix.with_index (cond (starts fixed.Dot (tail (tail ts))) Suffix.with_path Suffix.with_field)) (suc d) from a h ts ≡ parts_at read true Updated (suffix_parts Suffix.with_index) (suffix_tree Suffix.with_index from (spot_of ts) a) h ts
-          go true e = suffix_free Suffix.with_index d from a h ts free
-          go false e = absurd cc
-
       abbrev on_record : Read (Tree Replacing) → Read Ending
       on_record r = r >>= λ y. Ok ((replaced from.place a.0 y.0.0 y.0.1, ending.Update), suc (max h y.1), y.2)
 
@@ -179,13 +152,16 @@ module _ (read : (n : Sort) → List Token → Read (Tree n)) where
           (λ f look. rw (begun, word, look) refl))
           (λ f word. rw (begun, word) refl)
 
-      pub field_free : starts fixed.KeyWith ts ≡ true → starts fixed.OpenBracket (tail ts) ≡ false → (behind_range a.1 ts || nat_lt d h) ≡ false → suffix_at read (with_suffix ts) (suc d) from a h ts ≡ on_record (replaced_at read (tail ts))
-      field_free begun bracket free = go (starts fixed.OpenBracket (tail ts)) (starts fixed.Dot (tail (tail ts))) bracket
+      pub record_parts : starts fixed.KeyWith ts ≡ true → starts fixed.OpenBracket (tail ts) ≡ false → parts_at read true Updated (suffix_parts (with_suffix ts)) (suffix_tree (with_suffix ts) from (spot_of ts) a) h ts ≡ on_record (replaced_at read (tail ts))
+      record_parts begun bracket = go (starts fixed.OpenBracket (tail ts)) (starts fixed.Dot (tail (tail ts))) bracket
         where
-          go : (b c : Bool) → b ≡ false → suffix_at read {n = Updated} {m = Updated} (cond b Suffix.with_index (cond c Suffix.with_path Suffix.with_field)) (suc d) from a h ts ≡ on_record (cond c (unraised_at read further_replaced (tail ts)) (unraised_at read last_replaced (tail ts)))
+          chosen : Bool → Bool → Suffix Updated Updated
+          chosen b c = cond b Suffix.with_index (cond c Suffix.with_path Suffix.with_field)
+
+          go : (b c : Bool) → b ≡ false → parts_at read true Updated (suffix_parts (chosen b c)) (suffix_tree (chosen b c) from (spot_of ts) a) h ts ≡ on_record (cond c (unraised_at read further_replaced (tail ts)) (unraised_at read last_replaced (tail ts)))
           go true c e = absurd cc
-          go false true e = suffix_free Suffix.with_path d from a h ts free ∙ path_parts begun
-          go false false e = suffix_free Suffix.with_field d from a h ts free ∙ field_parts begun
+          go false true e = path_parts begun
+          go false false e = field_parts begun
 
   -- a node on top of a production
   raised : (n : Sort) (ps : List Part) (b : Builds ps n) (h : ℕ) (ts : List Token) → parts_at read true n ps b h ts ≡ (parts_at read false n ps b h ts >>= λ y. Ok (y.0, suc y.1, y.2))

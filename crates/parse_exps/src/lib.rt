@@ -3,7 +3,7 @@
 //! `whole_expression` is the one call: the tree of an expression, its height, and the tokens behind it.
 #![tactic(auto)]
 
-mod behind;
+mod arguments;
 mod expressions;
 mod insides;
 mod operators;

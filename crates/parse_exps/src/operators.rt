@@ -1,6 +1,6 @@
 // Operands, applications and operators.
 ghost use Rattle.std.specs.Prelude.{◌≡◌, ◌≤◌, ◌<◌, ◌+◌, suc, true, if◌then◌else◌, [], ◌∷◌, Err, IfOk, List, ℕ};
-ghost use Rattle.fut_ast.specs.Behind.{begins_argument, behind_app};
+ghost use Rattle.fut_ast.specs.Behind.{behind_app};
 ghost use Rattle.fut_ast.specs.ExpRows.{assertion};
 ghost use Rattle.fut_ast.specs.Nodes.{exp_at};
 ghost use Rattle.fut_ast.specs.Parts.{Sign, Sub};
@@ -9,13 +9,13 @@ ghost use Rattle.fut_ast.specs.Sorts.{SourceExp, Unary};
 ghost use Rattle.fut_ast.specs.declared.exp.Form.TheVariants as form;
 ghost use Rattle.fut_ast.specs.declared.node.Ended.{Ended};
 ghost use Rattle.fut_ast.specs.Tokens.{spot_of, starts};
-ghost use Rattle.fut_ast.specs.Rows.{applied, of_exp};
+ghost use Rattle.fut_ast.specs.Rows.{of_exp};
 ghost use Rattle.parse_atoms.specs.Tie.{ending_found};
 ghost use Rattle.parse_types.specs.Found.{tree_found};
-ghost use Rattle.fut_grammar.specs.Phrases.{again_at, app_at, chain_at, graded_at, operand_too_deep, operation_at, operators_at, phrases, read_at, unary_at};
-ghost use Rattle.fut_grammar.specs.Reading.{Fails, Gives, parts_at, refuse, row_at, suffix_at};
+ghost use Rattle.fut_grammar.specs.Phrases.{app_at, chain_at, graded_at, operand_too_deep, operation_at, operators_at, phrases, read_at, unary_at};
+ghost use Rattle.fut_grammar.specs.Reading.{Fails, Gives, parts_at, refuse, row_at};
 
-use crate::behind::{is_full, too_high};
+use crate::arguments::Arguments;
 use bumpalo::Bump;
 use fut_ast::{Ended, Oper, Spot};
 use fut_grammar::{Fault, Stop};
@@ -23,11 +23,12 @@ use fut_token::{Fixed, Token};
 use fut_tree::Exp;
 use parse_atoms::atoms::atom_below;
 use parse_atoms::made::{ending_made, made};
+use parse_atoms::suffixes::{is_full, suffixes_behind};
 use parse_atoms::tie::{Ending, ExpSort, ReadExp, read_behind};
-use parse_nodes::exp_nodes::{assertion, call, unary as unary_node};
+use parse_nodes::exp_nodes::{assertion, unary as unary_node};
 use parse_nodes::exp_tokens::{
     begins_exp_argument, begins_exp_atom, begins_exp_big, begins_exp_operand, goes_on_app,
-    goes_on_atom, next_between, right_level_of, take_operator,
+    next_between, right_level_of, take_operator,
 };
 use parse_nodes::joins::join;
 use parse_types::found::Found;
@@ -126,65 +127,8 @@ pub fn app_below<'a, R: ReadExp<'a>>(
     ensures exact { Gives tree_found result (app_at (phrases (read_at inner)) (suc inner) tokens.now) }
     ensures low { IfOk result (λ x. x.height ≤ inner + 1) }
 {
-    match atom_below(bump, read, inner, tokens) {
-        Ok(first) => arguments_behind(bump, read, inner, next_spot(tokens), first),
-        Err(stop) => Err(stop),
-    }
-}
-
-fn arguments_behind<'a, R: ReadExp<'a>>(
-    bump: &'a Bump,
-    read: R,
-    inner: u32,
-    at: Spot,
-    first: Found<'a, &'a Exp<'a>>,
-) -> Result<Found<'a, &'a Exp<'a>>, Stop>
-    requires law { R.reads read inner }
-    requires room { (inner < 1000) × (first.height ≤ inner + 1) }
-    ensures exact { Gives tree_found result (again_at (phrases (read_at inner)) (suc inner) begins_argument (λ us. applied) at (suc inner) first.entry.tree.now first.entry.height first.entry.rest.now) }
-    ensures low { IfOk result (λ x. x.height ≤ inner + 1) }
-{
-    let mut found = first;
-    let mut turns = inner + 1;
-    'behind: while begins_exp_argument(found.rest) {
-        if turns == 0 {
-            return Err(Stop::Fault(too_high(goes_on_atom(found.rest), found.rest)));
-        }
-        turns -= 1;
-        found = match argument_behind(bump, read, inner, at, found) {
-            Ok(longer) => longer,
-            Err(stop) => return Err(stop),
-        };
-    }
-    Ok(found)
-}
-
-fn argument_behind<'a, R: ReadExp<'a>>(
-    bump: &'a Bump,
-    read: R,
-    inner: u32,
-    at: Spot,
-    first: Found<'a, &'a Exp<'a>>,
-) -> Result<Found<'a, &'a Exp<'a>>, Stop>
-    requires sign { begins_argument first.rest.now ≡ true }
-    requires law { R.reads read inner }
-    requires room { (inner < 1000) × (first.height ≤ inner + 1) }
-    ensures exact { Gives tree_found result (suffix_at (phrases (read_at inner)) applied (suc inner) at first.entry.tree.now first.entry.height first.entry.rest.now) }
-    ensures low { IfOk result (λ x. x.height ≤ inner + 1) }
-{
-    let tokens = first.rest;
-    let goes_on = goes_on_atom(tokens);
-    if is_full(goes_on, first.height, inner) {
-        return Err(Stop::Fault(too_high(goes_on, tokens)));
-    }
-    match read.read(inner, ExpSort::Atom, tokens) {
-        Ok(value) => made(
-            call(bump, at.place, at.place, first.tree, value.tree.exp),
-            greater(first.height, value.height) + 1,
-            value.rest,
-        ),
-        Err(stop) => Err(stop),
-    }
+    let first = atom_below(bump, read, inner, tokens)?;
+    suffixes_behind(bump, Arguments { read }, inner, next_spot(tokens), first)
 }
 
 /// Operands and operators of a level or tighter.

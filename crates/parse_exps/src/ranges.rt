@@ -7,13 +7,13 @@ ghost use Rattle.parse_atoms.specs.Tie.{ending_found};
 ghost use Rattle.fut_grammar.specs.Phrases.{phrases, range_at, range_behind, read_at};
 ghost use Rattle.fut_grammar.specs.Reading.{Gives, parts_at};
 
-use crate::behind::{is_full, too_high};
 use crate::operators::chain_below;
 use bumpalo::Bump;
 use fut_ast::{Ended, Spot};
 use fut_grammar::Stop;
 use fut_token::{Fixed, Token};
 use parse_atoms::made::ending_made;
+use parse_atoms::suffixes::{is_full, too_high};
 use parse_atoms::tie::{Ending, ExpSort, ReadExp};
 use parse_nodes::exp_nodes::range;
 use parse_nodes::exp_tokens::{goes_on_chain, goes_on_to_range, take_end};

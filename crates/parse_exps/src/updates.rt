@@ -1,22 +1,23 @@
 // Updates of arrays and records.
-ghost use Rattle.std.specs.Prelude.{◌≡◌, ◌≤◌, ◌<◌, ◌+◌, suc, true, IfOk, Ok};
+ghost use Rattle.std.specs.Prelude.{◌≡◌, ◌≤◌, ◌<◌, ◌+◌, true, IfOk, Ok};
 ghost use Rattle.fut_ast.specs.ExpRows.{further_replaced, last_replaced};
 ghost use Rattle.fut_ast.specs.Rows.{suffix_parts, suffix_tree, with_index};
 ghost use Rattle.fut_ast.specs.Sorts.{Path, Updated};
 ghost use Rattle.fut_ast.specs.Tokens.{spot_of, starts, tail};
 ghost use Rattle.parse_atoms.specs.Tie.{ending_found, replacing_found};
 ghost use Rattle.parse_exps.specs.Replaced.{replaced_at, unraised_at};
-ghost use Rattle.fut_grammar.specs.Phrases.{again_at, phrases, read_at, with_suffix};
-ghost use Rattle.fut_grammar.specs.Reading.{Gives, parts_at, suffix_at};
+ghost use Rattle.fut_grammar.specs.Phrases.{phrases, read_at, with_suffix};
+ghost use Rattle.fut_grammar.specs.Reading.{Gives, parts_at};
+ghost use Rattle.fut_token.specs.declared.token.Fixed.TheVariants as fixed;
 ghost use Rattle.fut_tree.specs.Names.{names};
 
-use crate::behind::{is_full, too_high};
 use bumpalo::Bump;
 use fut_ast::{Ended, Spot, What};
 use fut_grammar::Stop;
 use fut_scalar::NoMemory;
 use fut_token::{Fixed, Token};
 use parse_atoms::made::ending_made;
+use parse_atoms::suffixes::ReadSuffix;
 use parse_atoms::tie::{AnyExp, Ending, ExpSort, ReadExp, Replacement, read_behind};
 use parse_atoms::written::written_list;
 use parse_nodes::binds::path_behind;
@@ -28,67 +29,47 @@ use parse_types::tokens::{
     greater, next_spot, rest_of, starts_with, take, take_word, without_form,
 };
 
-/// Updates, as many as stand there.
-pub fn updates_again<'a, R: ReadExp<'a>>(
-    bump: &'a Bump,
-    read: R,
-    inner: u32,
-    at: Spot,
-    first: Found<'a, Ending<'a>>,
-) -> Result<Found<'a, Ending<'a>>, Stop>
-    requires law { R.reads read inner }
-    requires room { (inner < 1000) × (first.height ≤ inner + 1) }
-    ensures exact { Gives ending_found result (again_at (phrases (read_at inner)) (suc inner) (starts Fixed.KeyWith) with_suffix at (suc inner) (first.entry.tree.exp.now, first.entry.tree.ended) first.entry.height first.entry.rest.now) }
-    ensures low { IfOk result (λ x. x.height ≤ inner + 1) }
-{
-    let mut found = first;
-    let mut turns = inner + 1;
-    'behind: while starts_with(found.rest, Fixed::KeyWith) {
-        if turns == 0 {
-            return Err(Stop::Fault(too_high(
-                goes_on_range(found.tree.ended, found.rest),
-                found.rest,
-            )));
-        }
-        turns -= 1;
-        found = match update_behind(bump, read, inner, at, found) {
-            Ok(longer) => longer,
-            Err(stop) => return Err(stop),
-        };
-    }
-    Ok(found)
+/// Updates, of an array or of a record.
+#[derive(Clone, Copy)]
+pub struct Updates<R> {
+    pub read: R,
 }
 
-fn update_behind<'a, R: ReadExp<'a>>(
-    bump: &'a Bump,
-    read: R,
-    inner: u32,
-    at: Spot,
-    first: Found<'a, Ending<'a>>,
-) -> Result<Found<'a, Ending<'a>>, Stop>
-    requires sign { starts Fixed.KeyWith first.rest.now ≡ true }
-    requires law { R.reads read inner }
-    requires room { (inner < 1000) × (first.height ≤ inner + 1) }
-    ensures exact { Gives ending_found result (suffix_at (phrases (read_at inner)) (with_suffix first.entry.rest.now) (suc inner) at (first.entry.tree.exp.now, first.entry.tree.ended) first.entry.height first.entry.rest.now) }
-    ensures low { IfOk result (λ x. x.height ≤ inner + 1) }
-{
-    let tokens = first.rest;
-    let goes_on = goes_on_range(first.tree.ended, tokens);
-    if is_full(goes_on, first.height, inner) {
-        return Err(Stop::Fault(too_high(goes_on, tokens)));
+impl<'a, R: ReadExp<'a>> ReadSuffix<'a, Ending<'a>> for Updates<R> {
+    ghost sort = { Updated };
+
+    ghost seen = { λ t. (t.exp.now, t.ended) };
+
+    ghost test = { λ ts. starts fixed.KeyWith ts };
+
+    ghost choose = { λ ts. with_suffix ts };
+
+    ghost reads = { λ s d. R.reads s.read d };
+
+    fn begins(self, tokens: &'a [Token]) -> bool {
+        starts_with(tokens, Fixed::KeyWith)
     }
-    let behind = rest_of(tokens);
-    if starts_with(behind, Fixed::OpenBracket) {
-        return index_replaced(bump, read, inner, at, first);
+
+    fn goes_on_tighter(self, first: &Found<'a, Ending<'a>>) -> bool {
+        goes_on_range(first.tree.ended, first.rest)
     }
-    match replacement(bump, read, inner, behind) {
-        Ok(found) => {
-            let new = found.tree;
-            let node = with_field_replaced(bump, at.place, first.tree.exp, new.path, new.exp);
-            let height = greater(first.height, found.height);
-            ending_made(node, Ended::Update, height + 1, found.rest)
+
+    fn longer(
+        self,
+        bump: &'a Bump,
+        inner: u32,
+        at: Spot,
+        first: &Found<'a, Ending<'a>>,
+    ) -> Result<Found<'a, Ending<'a>>, Stop> {
+        let behind = rest_of(first.rest);
+        if starts_with(behind, Fixed::OpenBracket) {
+            return index_replaced(bump, self.read, inner, at, *first);
         }
-        Err(stop) => Err(stop),
+        let found = replacement(bump, self.read, inner, behind)?;
+        let new = found.tree;
+        let node = with_field_replaced(bump, at.place, first.tree.exp, new.path, new.exp);
+        let height = greater(first.height, found.height);
+        ending_made(node, Ended::Update, height + 1, found.rest)
     }
 }
 

@@ -3,7 +3,8 @@ use Rattle.std.proofs.Common.{nat_lt, ◌≡◌, ◌+◌, ◌≤◌, max, suc, s
 use Rattle.fut_ast.specs.Sorts.{Ending}
 use Rattle.fut_grammar.specs.Phrases.{phrases, read_at}
 use Rattle.fut_grammar.specs.Reading.{Fails, Read, has_at, parts_at, sub_at}
-use Rattle.parse_exps.proofs.SuffixLaws.{operation_free, operation_full, tested}
+use Rattle.parse_atoms.proofs.SuffixLaws.{tested}
+use Rattle.parse_exps.proofs.SuffixLaws.{operation_free, operation_full}
 use Rattle.parse_types.proofs.ReadLaws.{fails_as, low_as}
 use Rattle.parse_exps.proofs.operators.operation.Goals as goal
 

@@ -1,7 +1,8 @@
 -- The end of a range, behind what nothing goes on with.
 use Rattle.std.proofs.Common.{nat_lt, sym, ◌∙◌, refl}
 use Rattle.fut_grammar.specs.Phrases.{phrases, read_at}
-use Rattle.parse_exps.proofs.SuffixLaws.{tested, no_range, range_by_step, range_full, range_to_end}
+use Rattle.parse_atoms.proofs.SuffixLaws.{tested}
+use Rattle.parse_exps.proofs.SuffixLaws.{no_range, range_by_step, range_full, range_to_end}
 use Rattle.parse_exps.proofs.ranges.end_behind.Goals as goal
 
 pub returns-then-not-goes_on_to_range : goal.returns-then-not-goes_on_to_range
