@@ -27,6 +27,7 @@ pub fn scalar_of(walked: Walked<'_>) -> Result<WalkedScalar, Refusal>
 }
 
 /// A first value in components, and new names for its parameters.
+#[inline(never)]
 pub fn enter<'a>(known: Known<'a>, state: &mut Unfolding<'a>) -> Result<Entered<'a>, Refusal>
     ensures entered { Entered_to (known_of known.entry) state.old.next state.new.next result }
     ensures steps { steps_of state.new ≡ steps_of state.old }
@@ -54,6 +55,7 @@ fn named<'a>(name: u32) -> Known<'a>
 }
 
 /// The names of a counted turn, whose number has the name `name`.
+#[inline(never)]
 pub fn bind_turn<'a>(
     pat: &'a Pat<'a>,
     index: BindId,
@@ -72,6 +74,7 @@ pub fn bind_turn<'a>(
 }
 
 /// The names of a turn for a row, which has the name `name`.
+#[inline(never)]
 pub fn bind_row<'a>(
     pat: &'a Pat<'a>,
     row: &'a Pat<'a>,

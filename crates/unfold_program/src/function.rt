@@ -12,6 +12,7 @@ use unfold_parts::Refusal;
 
 /// A function of these parameters. The first node of its body has the number `first`.
 #[tactic(auto, using(unfold::proofs::Mirror::known_function))]
+#[inline(never)]
 pub fn function_known<'a>(
     bump: &'a Bump,
     parameters: &'a [Pat<'a>],

@@ -21,6 +21,7 @@ use unfold::{Function, Known, KnownForm, Scope};
 use unfold_parts::{Refusal, Tops, Unfolding, bind, known_use, lay, operate, pack};
 
 /// One more step, which gives data of the shape of `like` under new names. The node behind it has the number `at`.
+#[inline(never)]
 pub fn give<'a>(
     state: &mut Unfolding<'a>,
     like: Known<'a>,
@@ -75,6 +76,7 @@ pub fn is_component(known: &Known<'_>) -> bool
 }
 
 /// What has been walked, as one component.
+#[inline(never)]
 pub fn packed<'a>(state: &mut Unfolding<'a>, walked: Walked<'a>) -> Result<Walked<'a>, Refusal>
     ensures { Packed_walk walked.entry state.old state.new result }
 {
@@ -92,6 +94,7 @@ pub fn packed<'a>(state: &mut Unfolding<'a>, walked: Walked<'a>) -> Result<Walke
 /// The steps from the mark on as a block, which gives what has been walked as data of the shape of `like`: where that is one
 /// component, it is packed. `None` where it is of another shape, or has too many components. The mark is no more than there are
 /// steps.
+#[inline(never)]
 pub fn close<'a>(
     state: &mut Unfolding<'a>,
     mark: usize,
@@ -147,6 +150,7 @@ fn close_packed<'a>(
 }
 
 /// The steps from the mark on as a block, which gives a scalar.
+#[inline(never)]
 pub fn close_scalar<'a>(
     state: &mut Unfolding<'a>,
     mark: usize,
@@ -169,6 +173,7 @@ pub fn close_scalar<'a>(
 }
 
 /// The state as it was at the mark, with `next` as the next name. From now on the node of that number packs what it gives.
+#[inline(never)]
 pub fn again<'a>(
     state: &mut Unfolding<'a>,
     mark: usize,
@@ -205,6 +210,7 @@ pub fn walked_to<'a>(known: Result<Known<'a>, Refusal>, at: u32) -> Result<Walke
 }
 
 /// An operation on its parts. The type `ty` is that of an integer without a suffix.
+#[inline(never)]
 pub fn operated<'a>(
     state: &mut Unfolding<'a>,
     ty: IntType,
@@ -224,6 +230,7 @@ pub fn operated<'a>(
 }
 
 /// What is known of a use, whose node has the number `at`.
+#[inline(never)]
 pub fn used<'a>(
     tops: &Tops<'a>,
     scope: &'a Scope<'a>,
@@ -241,6 +248,7 @@ pub fn used<'a>(
 }
 
 /// The names around the body of a function whose first parameter is bound to an argument.
+#[inline(never)]
 pub fn with_argument<'a>(
     state: &mut Unfolding<'a>,
     lambda: &Function<'a>,

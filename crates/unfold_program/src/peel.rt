@@ -26,6 +26,7 @@ fn is_declared(act: &Act<'_>) -> bool
 
 /// What an expression is without declared types and empty rows of `let`s around it.
 #[tactic(auto, using(crate::proofs::Peeling::peel_bare))]
+#[inline(never)]
 pub fn stripped<'a>(at: u32, exp: &'a Exp<'a>) -> Result<Peeled<'a>, Refusal>
     ensures peeled { Peeled_to at (term_of exp.now) result }
     ensures inside { IfOk result (λ r. r.inside ≡ r.at + 1) }

@@ -1,4 +1,6 @@
-// The walk over terms: an application of a known function becomes its body, and each operation on scalars a step.
+// The walk over terms: an application of a known function becomes its body, and each operation on scalars a step. The walk goes
+// as deep as terms lie inside each other, up to 2,000 levels: functions stand apart (`inline(never)`), so that the frame of a
+// level holds what this level needs and not what every form may need.
 ghost use Rattle.std.specs.Prelude.{◌≡◌, ◌≤◌, ◌+◌, length, map};
 ghost use Rattle.fut_flat.specs.Erased.{operation_of, pattern_of, patterns, term_of, terms};
 ghost use Rattle.fut_flat.specs.Terms.{Apply, Counted, If, Over, Strict, While};
@@ -80,6 +82,7 @@ fn walk_form<'a>(
 }
 
 // A function is known by its parameters and its body, which are unfolded where it is applied.
+#[inline(never)]
 fn walk_lambda<'a>(
     bump: &'a Bump,
     scope: &'a Scope<'a>,
@@ -101,6 +104,7 @@ fn walk_lambda<'a>(
 
 // Parts from left to right, then the operation.
 #[cycle(walk)]
+#[inline(never)]
 fn walk_strict<'a>(
     setting: Setting<'_, 'a>,
     at: u32,
@@ -156,6 +160,7 @@ fn walk_parts<'a>(
 }
 
 #[cycle(walk)]
+#[inline(never)]
 fn walk_apply<'a>(
     setting: Setting<'_, 'a>,
     inside: u32,
@@ -201,6 +206,7 @@ fn walk_scalar<'a>(
 
 // Both branches give data of one shape, whose components get new names. Where they do not, they are unfolded once more and packed.
 #[cycle(walk)]
+#[inline(never)]
 fn walk_if<'a>(
     setting: Setting<'_, 'a>,
     inside: u32,
@@ -292,6 +298,7 @@ fn walk_block<'a>(
 
 // A loop whose turns do not give data of the shape of its first value is unfolded once more, with that value packed.
 #[cycle(walk)]
+#[inline(never)]
 fn walk_loop<'a>(
     setting: Setting<'_, 'a>,
     inside: u32,
@@ -375,6 +382,7 @@ fn walk_turns<'a>(
 }
 
 #[cycle(walk)]
+#[inline(never)]
 fn walk_for<'a>(
     setting: Setting<'_, 'a>,
     whole: &'a Loop<'a>,
@@ -425,6 +433,7 @@ fn walk_for<'a>(
 }
 
 #[cycle(walk)]
+#[inline(never)]
 fn walk_rows<'a>(
     setting: Setting<'_, 'a>,
     whole: &'a Loop<'a>,
@@ -475,6 +484,7 @@ fn walk_rows<'a>(
 }
 
 #[cycle(walk)]
+#[inline(never)]
 fn walk_while<'a>(
     setting: Setting<'_, 'a>,
     whole: &'a Loop<'a>,
@@ -543,6 +553,7 @@ fn walk_test<'a>(
 
 // Rows of `let`s and the body behind them.
 #[cycle(walk)]
+#[inline(never)]
 fn walk_lets<'a>(
     setting: Setting<'_, 'a>,
     at: u32,
@@ -655,6 +666,7 @@ pub fn apply<'a>(
 
 // A primitive with the arguments that it has, applied to one more.
 #[cycle(walk)]
+#[inline(never)]
 fn apply_to<'a>(
     context: &Context<'a>,
     level: u32,
@@ -677,6 +689,7 @@ fn apply_to<'a>(
 
 // A primitive on arrays with all its arguments: its function is unfolded once, on new names.
 #[cycle(walk)]
+#[inline(never)]
 fn walk_job<'a>(
     context: &Context<'a>,
     level: u32,
