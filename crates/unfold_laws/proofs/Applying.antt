@@ -1,120 +1,167 @@
 -- Functions and primitives: each is known by its type.
 use Rattle.std.proofs.Common.{◌≡◌, true, false, ℕ, ◌≤◌, ◌++◌, refl, sym, ◌∙◌, subst, List, [], ◌∷◌, Some, None, length, nat_lt, arith}
+use Rattle.fut_scalar.specs.Integers.{width_of}
+use Rattle.fut_scalar.specs.declared.operator.BinOp.TheVariants as op
+use Rattle.fut_scalar.specs.declared.operator.UnOp.TheVariants as unary
 use Rattle.fut_scalar.specs.declared.place.Place.{Place}
 use Rattle.fut_scalar.specs.declared.scalar.IntType.{IntType}
 use Rattle.fut_scalar.specs.declared.scalar.IntType.TheVariants as int
 use Rattle.fut_scalar.specs.declared.scalar.Scalar.{Scalar}
+use Rattle.fut_scalar.specs.declared.scalar.Scalar.TheVariants as scalar
 use Rattle.fut_scalar.specs.declared.scalar.ScalarType.{ScalarType}
 use Rattle.fut_scalar.specs.declared.scalar.ScalarType.TheVariants as types
 use Rattle.fut_flat.specs.declared.prim.Folding.TheVariants as folding
 use Rattle.fut_flat.specs.declared.prim.Primitive.{Primitive}
 use Rattle.fut_flat.specs.declared.prim.Primitive.TheVariants as prim
 use Rattle.fut_types.specs.declared.Kind.TheVariants as kind
-use Rattle.fut_types.specs.Types.{Ty, Sub, Kinds, HasKind, scalar_ty, fun_ty, applied, all_applied}
-use Rattle.fut_typing.specs.Names.{Names}
+use Rattle.fut_types.specs.Types.{Ty, none, more, Sub, Kinds, HasKind, rank, least, scalar_ty, fun_ty, applied, all_applied}
+use Rattle.fut_typing.specs.Names.{Names, AreNames}
 use Rattle.fut_typing.specs.Primitives.{prim_type}
 use Rattle.fut_meaning.specs.Operations.{arity, is_of_scalars}
+use Rattle.fut_meaning.specs.Operators.{lowest, highest}
 use Rattle.fut_blocks.specs.declared.block.Atom.{Atom}
-use Rattle.unfold.specs.Knowns.{Known, Scalar_known, Primitive_known, Knowns, no_known, known_and, Tops, listed}
+use Rattle.fut_blocks.specs.declared.block.Operation.{Operation}
+use Rattle.fut_blocks.specs.declared.block.Operation.TheVariants as operation
+use Rattle.fut_blocks.specs.Meaning.{fitted}
+use Rattle.fut_blocks.specs.Plain.{Operate}
+use Rattle.unfold.specs.Knowns.{Known, Scalar_known, Primitive_known, Knowns, no_known, known_and, listed}
 use Rattle.unfold.specs.Stuck.{No_primitive, Stuck_run, no_function, no_primitive, no_arguments, stuck_job, job_function}
-use Rattle.unfold.specs.Unfolding.{Bindings, constant, constant_of, Primitive_operates, p_convert, p_min, p_max, p_abs, p_popc, Applies, a_primitive_waits, a_primitive, a_job}
-use Rattle.unfold_laws.specs.Fits.{On_scalar, Fits}
-use Rattle.unfold_laws.proofs.Shaping.{scalar_is}
+use Rattle.unfold.specs.Unfolding.{Bindings, step, named, constant, constant_of, Primitive_operates, p_convert, p_min, p_max, p_abs, p_popc, Applies, a_primitive_waits, a_primitive, a_job}
+use Rattle.unfold_laws.specs.Fits.{World, types_of, Learns, Comes, Is_data, Fits}
+use Rattle.unfold_laws.specs.Typed.{Act_typed}
+use Rattle.unfold_laws.proofs.Fitting.{some_same, fits_learn, fits_data}
 use Rattle.unfold_laws.proofs.Functions.{fits_function}
+use Rattle.unfold_laws.proofs.Operating.{constant_type, fits_constant, scalar_fits, step_gives}
 use Rattle.unfold_laws.proofs.Primitives.{all_applied_so, arrays_fit}
+use Rattle.unfold_laws.proofs.TypedSteps.{comes_none}
 
-primitive_scalar : (p : Primitive) (at : Place) (ss : List Known) (n n' : ℕ) (bs : Bindings) (s : Known) → Primitive_operates p at ss n bs s n' → On_scalar s
-primitive_scalar _ at _ _ _ _ _ (p_convert le) = tt
-primitive_scalar _ at _ _ _ _ _ (p_min le) = tt
-primitive_scalar _ at _ _ _ _ _ (p_max le) = tt
-primitive_scalar _ at _ _ _ _ _ (p_abs le) = tt
-primitive_scalar _ at _ _ _ _ _ (p_popc le) = tt
+module _ (N : Names) (are : AreNames N) (integer_at : ℕ → IntType) (K : Kinds) where
+  abbrev At : World → Ty → Known → Type 0
+  At world t s = Fits N integer_at K t world s
 
-module _ (N : Names) (integer_at : ℕ → IntType) (K : Kinds) where
-  abbrev At : Tops → Ty → Known → Type 0
-  At tops t s = Fits N integer_at t tops s
+  scalar_data : (x : ScalarType) → Is_data N (scalar_ty x)
+  unfolding Is_data
+  scalar_data x = tt
 
-  scalar_inside : (x : ScalarType) (tops : Tops) (s : Known) → At tops (scalar_ty x) s → On_scalar s
-  unfolding Fits
-  scalar_inside x tops s h = h
+  scalar_kind : (x : ScalarType) → HasKind K kind.Scalar (scalar_ty x)
+  unfolding rank least
+  scalar_kind (types.Int i) = omega arith
+  scalar_kind types.Bool = omega arith
 
-  scalar_fits : (x : ScalarType) (tops : Tops) (s : Known) → On_scalar s → At tops (scalar_ty x) s
-  unfolding Fits
-  scalar_fits x tops s h = h
+  integer_kind : (i : IntType) → HasKind K kind.Integer (scalar_ty (types.Int i))
+  unfolding rank least
+  integer_kind i = omega arith
+
+  atom_is : (x : ScalarType) (world : World) (s : Known) → At world (scalar_ty x) s → (u : Atom) × (s ≡ Scalar_known u)
+  atom_is x world s h = scalar_fits N integer_at K world x (scalar_ty x) s refl h
 
   -- ---- primitives
   module _ (p : Primitive) (at : Place) where
-    -- with all arguments but the last one
-    last_argument : (given : Knowns) (x y : ScalarType) (tops : Tops) → is_of_scalars p ≡ true → ((s : Known) → nat_lt (length (listed given ++ s ∷ [])) (arity p) ≡ false) → ((s : Known) → On_scalar s → No_primitive p at (listed given ++ s ∷ []) → ⊥) → At tops (fun_ty (scalar_ty x) (scalar_ty y)) (Primitive_known p at given)
-    last_argument given x y tops of full takes = fits_function N integer_at (scalar_ty x) (scalar_ty y) tops (Primitive_known p at given) refl (λ tops' g s h. (
-      (λ w. stuck tops' s (scalar_inside x tops' s h) w),
-      (λ n n' bs r a. scalar_fits y tops' r (result tops' s n n' bs r a)),
-    ))
-      where
-        stuck : (tops' : Tops) (s : Known) → On_scalar s → Stuck_run integer_at tops' (Primitive_known p at given) s → ⊥
-        stuck tops' s h (no_function f) = let z : true ≡ false = f in cc
-        stuck tops' s h (no_primitive f i lacks) = takes s h lacks
-        stuck tops' s h (no_arguments f i lacks) = let z : true ≡ false = sym of ∙ i in cc
-        stuck tops' s h (stuck_job xs f i l w) = let z : true ≡ false = sym of ∙ i in cc
-        stuck tops' s h (job_function xs f i l a lacks) = let z : true ≡ false = sym of ∙ i in cc
+    -- with all arguments: its steps are typed, and it gives a scalar of this type
+    abbrev Operated : Ty → World → List Known → Type 0
+    Operated y world ss = (n n' : ℕ) (bs : Bindings) (r : Known) → Primitive_operates p at ss n bs r n' → Comes N K world bs (λ there. At there y r)
 
-        result : (tops' : Tops) (s : Known) (n n' : ℕ) (bs : Bindings) (r : Known) → Applies integer_at tops' (Primitive_known p at given) s n bs r n' → On_scalar r
-        result tops' s _ _ _ _ (a_primitive_waits f) = absurd (let z : true ≡ false = sym f ∙ full s in cc)
-        result tops' s n n' bs r (a_primitive f i o) = primitive_scalar p at (listed given ++ s ∷ []) n n' bs r o
-        result tops' s _ _ _ _ (a_job xs f i e r up l a k le) = absurd (let z : true ≡ false = sym of ∙ i in cc)
+    -- with all arguments but the last one
+    last_argument : (given : Knowns) (x : ScalarType) (y : Ty) (world : World) → is_of_scalars p ≡ true → ((s : Known) → nat_lt (length (listed given ++ s ∷ [])) (arity p) ≡ false) → ((world' : World) (s : Known) → Learns N K world world' → At world' (scalar_ty x) s → No_primitive p at (listed given ++ s ∷ []) → ⊥)
+        → ((world' : World) (s : Known) → Learns N K world world' → At world' (scalar_ty x) s → Operated y world' (listed given ++ s ∷ [])) → At world (fun_ty (scalar_ty x) y) (Primitive_known p at given)
+    last_argument given x y world of full takes gives = fits_function N integer_at K (scalar_ty x) y world (Primitive_known p at given) refl (λ world' g s h. ((λ w. stuck world' s g h w), (λ n n' bs r a. result world' s g h n n' bs r a)))
+      where
+        stuck : (world' : World) (s : Known) → Learns N K world world' → At world' (scalar_ty x) s → Stuck_run integer_at world'.0 (Primitive_known p at given) s → ⊥
+        stuck world' s g h (no_function f) = let z : true ≡ false = f in cc
+        stuck world' s g h (no_primitive f i lacks) = takes world' s g h lacks
+        stuck world' s g h (no_arguments f i lacks) = let z : true ≡ false = sym of ∙ i in cc
+        stuck world' s g h (stuck_job xs f i l w) = let z : true ≡ false = sym of ∙ i in cc
+        stuck world' s g h (job_function xs f i l a lacks) = let z : true ≡ false = sym of ∙ i in cc
+
+        result : (world' : World) (s : Known) → Learns N K world world' → At world' (scalar_ty x) s → (n n' : ℕ) (bs : Bindings) (r : Known) → Applies integer_at world'.0 (Primitive_known p at given) s n bs r n' → Comes N K world' bs (λ there. At there y r)
+        result world' s g h _ _ _ _ (a_primitive_waits f) = absurd (let z : true ≡ false = sym f ∙ full s in cc)
+        result world' s g h n n' bs r (a_primitive f i o) = gives world' s g h n n' bs r o
+        result world' s g h _ _ _ _ (a_job xs f i e r up l a k le) = absurd (let z : true ≡ false = sym of ∙ i in cc)
 
     -- with none, where it takes two
-    first_argument : (x : ScalarType) (u : Ty) (tops : Tops) → ((s : Known) → nat_lt (length (s ∷ [])) (arity p) ≡ true) → ((tops' : Tops) (s : Known) → On_scalar s → At tops' u (Primitive_known p at (known_and s no_known))) → At tops (fun_ty (scalar_ty x) u) (Primitive_known p at no_known)
-    first_argument x u tops waits rest = fits_function N integer_at (scalar_ty x) u tops (Primitive_known p at no_known) refl (λ tops' g s h. (
-      (λ w. stuck tops' s w),
-      (λ n n' bs r a. result tops' s (scalar_inside x tops' s h) n n' bs r a),
-    ))
+    first_argument : (x : ScalarType) (u : Ty) (world : World) → ((s : Known) → nat_lt (length (s ∷ [])) (arity p) ≡ true) → ((world' : World) (s : Known) → Learns N K world world' → At world' (scalar_ty x) s → At world' u (Primitive_known p at (known_and s no_known))) → At world (fun_ty (scalar_ty x) u) (Primitive_known p at no_known)
+    first_argument x u world waits rest = fits_function N integer_at K (scalar_ty x) u world (Primitive_known p at no_known) refl (λ world' g s h. ((λ w. stuck world' s w), (λ n n' bs r a. result world' s g h n n' bs r a)))
       where
-        stuck : (tops' : Tops) (s : Known) → Stuck_run integer_at tops' (Primitive_known p at no_known) s → ⊥
-        stuck tops' s (no_function f) = let z : true ≡ false = f in cc
-        stuck tops' s (no_primitive f i lacks) = let z : true ≡ false = sym (waits s) ∙ f in cc
-        stuck tops' s (no_arguments f i lacks) = let z : true ≡ false = sym (waits s) ∙ f in cc
-        stuck tops' s (stuck_job xs f i l w) = let z : true ≡ false = sym (waits s) ∙ f in cc
-        stuck tops' s (job_function xs f i l a lacks) = let z : true ≡ false = sym (waits s) ∙ f in cc
+        stuck : (world' : World) (s : Known) → Stuck_run integer_at world'.0 (Primitive_known p at no_known) s → ⊥
+        stuck world' s (no_function f) = let z : true ≡ false = f in cc
+        stuck world' s (no_primitive f i lacks) = let z : true ≡ false = sym (waits s) ∙ f in cc
+        stuck world' s (no_arguments f i lacks) = let z : true ≡ false = sym (waits s) ∙ f in cc
+        stuck world' s (stuck_job xs f i l w) = let z : true ≡ false = sym (waits s) ∙ f in cc
+        stuck world' s (job_function xs f i l a lacks) = let z : true ≡ false = sym (waits s) ∙ f in cc
 
-        result : (tops' : Tops) (s : Known) → On_scalar s → (n n' : ℕ) (bs : Bindings) (r : Known) → Applies integer_at tops' (Primitive_known p at no_known) s n bs r n' → At tops' u r
-        result tops' s h _ _ _ _ (a_primitive_waits f) = rest tops' s h
-        result tops' s h _ _ _ _ (a_primitive f i o) = absurd (let z : true ≡ false = sym (waits s) ∙ f in cc)
-        result tops' s h _ _ _ _ (a_job xs f i e r up l a k le) = absurd (let z : true ≡ false = sym (waits s) ∙ f in cc)
+        result : (world' : World) (s : Known) → Learns N K world world' → At world' (scalar_ty x) s → (n n' : ℕ) (bs : Bindings) (r : Known) → Applies integer_at world'.0 (Primitive_known p at no_known) s n bs r n' → Comes N K world' bs (λ there. At there u r)
+        result world' s g h _ _ _ _ (a_primitive_waits f) = comes_none N K world' (λ there. At there u (Primitive_known p at (known_and s no_known))) (rest world' s g h)
+        result world' s g h _ _ _ _ (a_primitive f i o) = absurd (let z : true ≡ false = sym (waits s) ∙ f in cc)
+        result world' s g h _ _ _ _ (a_job xs f i e r up l a k le) = absurd (let z : true ≡ false = sym (waits s) ∙ f in cc)
 
-  one_scalar : (p : Primitive) (at : Place) → ((u : Atom) → No_primitive p at (Scalar_known u ∷ []) → ⊥) → (s : Known) → On_scalar s → No_primitive p at (s ∷ []) → ⊥
-  one_scalar p at takes s h = let r = scalar_is s h in subst (λ y. No_primitive p at (y ∷ []) → ⊥) (sym r.1) (takes r.0)
+    one_scalar : (x : ScalarType) → ((u : Atom) → No_primitive p at (Scalar_known u ∷ []) → ⊥) → (world : World) (s : Known) → At world (scalar_ty x) s → No_primitive p at (s ∷ []) → ⊥
+    one_scalar x takes world s h = let r = atom_is x world s h in subst (λ y. No_primitive p at (y ∷ []) → ⊥) (sym r.1) (takes r.0)
 
-  two_scalars : (p : Primitive) (at : Place) → ((u w : Atom) → No_primitive p at (Scalar_known u ∷ Scalar_known w ∷ []) → ⊥) → (s : Known) → On_scalar s → (r : Known) → On_scalar r → No_primitive p at (s ∷ r ∷ []) → ⊥
-  two_scalars p at takes s h r k = let a = scalar_is s h in let b = scalar_is r k in
-      subst (λ y. No_primitive p at (y ∷ r ∷ []) → ⊥) (sym a.1) (subst (λ y. No_primitive p at (Scalar_known a.0 ∷ y ∷ []) → ⊥) (sym b.1) (takes a.0 b.0))
+    two_scalars : (x : ScalarType) → ((u w : Atom) → No_primitive p at (Scalar_known u ∷ Scalar_known w ∷ []) → ⊥) → (world : World) (s r : Known) → At world (scalar_ty x) s → At world (scalar_ty x) r → No_primitive p at (s ∷ r ∷ []) → ⊥
+    two_scalars x takes world s r h k = let a = atom_is x world s h in let b = atom_is x world r k in
+        subst (λ y. No_primitive p at (y ∷ r ∷ []) → ⊥) (sym a.1) (subst (λ y. No_primitive p at (Scalar_known a.0 ∷ y ∷ []) → ⊥) (sym b.1) (takes a.0 b.0))
 
-  pub primitive_fits : (p : Primitive) (given : Sub) → ((n : ℕ) → HasKind K kind.Data (given n)) → (at : Place) (tops : Tops) → constant_of p ≡ None → At tops (applied given (prim_type p)) (Primitive_known p at no_known)
+  step_of : (world : World) (x : ScalarType) (y : ℕ) (o : Operation) → Act_typed N K (Operate o) (types_of N K world.1) (more (scalar_ty x) none) → Comes N K world (step (y ∷ []) (Operate o)) (λ there. At there (scalar_ty x) (named y))
+  step_of world x y o h = step_gives N integer_at K world (scalar_ty x) (scalar_data x) y (Operate o) h
+
+  typed : (world : World) (x : ScalarType) (u : Atom) → At world (scalar_ty x) (Scalar_known u) → types_of N K world.1 u (scalar_ty x)
+  typed world x u h = (fits_data N integer_at K (scalar_ty x) world u h).1
+
+  convert_comes : (to from : ScalarType) (at : Place) (world : World) (s : Known) → At world (scalar_ty from) s → Operated (prim.Convert to from) at (scalar_ty to) world (s ∷ [])
+  unfolding Act_typed
+  convert_comes to from at world _ h _ _ _ _ (p_convert {x = x} {u = u} le) = step_of world to x (operation.Convert to u) (scalar_ty from, scalar_kind from, typed world from u h, refl)
+
+  min_comes : (i : IntType) (at : Place) (world : World) (s r : Known) → At world (scalar_ty (types.Int i)) s → At world (scalar_ty (types.Int i)) r → Operated (prim.Min i) at (scalar_ty (types.Int i)) world (s ∷ r ∷ [])
+  unfolding Act_typed
+  min_comes i at world _ _ h k _ _ _ _ (p_min {x = x} {u = u} {w = w} le) = step_of world (types.Int i) x (operation.Binary op.Min at u w) (scalar_ty (types.Int i), scalar_ty (types.Int i), (refl, integer_kind i), typed world (types.Int i) u h, typed world (types.Int i) w k, refl)
+
+  max_comes : (i : IntType) (at : Place) (world : World) (s r : Known) → At world (scalar_ty (types.Int i)) s → At world (scalar_ty (types.Int i)) r → Operated (prim.Max i) at (scalar_ty (types.Int i)) world (s ∷ r ∷ [])
+  unfolding Act_typed
+  max_comes i at world _ _ h k _ _ _ _ (p_max {x = x} {u = u} {w = w} le) = step_of world (types.Int i) x (operation.Binary op.Max at u w) (scalar_ty (types.Int i), scalar_ty (types.Int i), (refl, integer_kind i), typed world (types.Int i) u h, typed world (types.Int i) w k, refl)
+
+  abs_comes : (i : IntType) (at : Place) (world : World) (s : Known) → At world (scalar_ty (types.Int i)) s → Operated (prim.Abs i) at (scalar_ty (types.Int i)) world (s ∷ [])
+  unfolding Act_typed
+  abs_comes i at world _ h _ _ _ _ (p_abs {x = x} {u = u} le) = step_of world (types.Int i) x (operation.Unary unary.Abs u) (scalar_ty (types.Int i), scalar_ty (types.Int i), (refl, integer_kind i), typed world (types.Int i) u h, refl)
+
+  popc_comes : (i : IntType) (at : Place) (world : World) (s : Known) → At world (scalar_ty (types.Int i)) s → Operated (prim.Popc i) at (scalar_ty (types.Int int.I32)) world (s ∷ [])
+  unfolding Act_typed
+  popc_comes i at world _ h _ _ _ _ (p_popc {x = x} {u = u} le) = step_of world (types.Int int.I32) x (operation.Unary unary.Popc u) (scalar_ty (types.Int int.I32), scalar_ty (types.Int i), (refl, integer_kind i), typed world (types.Int i) u h, refl)
+
+  -- of one scalar, and of two of one type
+  unary_fits : (p : Primitive) (x y : ScalarType) (at : Place) (world : World) → is_of_scalars p ≡ true → ((s : Known) → nat_lt (length (s ∷ [])) (arity p) ≡ false) → ((u : Atom) → No_primitive p at (Scalar_known u ∷ []) → ⊥) → ((there : World) (s : Known) → At there (scalar_ty x) s → Operated p at (scalar_ty y) there (s ∷ [])) → At world (fun_ty (scalar_ty x) (scalar_ty y)) (Primitive_known p at no_known)
+  unary_fits p x y at world of full takes gives = last_argument p at no_known x (scalar_ty y) world of full (λ world' s g h. one_scalar p at x takes world' s h) (λ world' s g h. gives world' s h)
+
+  binary_fits : (p : Primitive) (x : ScalarType) (at : Place) (world : World) → is_of_scalars p ≡ true → ((s : Known) → nat_lt (length (s ∷ [])) (arity p) ≡ true) → ((s r : Known) → nat_lt (length (s ∷ r ∷ [])) (arity p) ≡ false) → ((u w : Atom) → No_primitive p at (Scalar_known u ∷ Scalar_known w ∷ []) → ⊥)
+      → ((there : World) (s r : Known) → At there (scalar_ty x) s → At there (scalar_ty x) r → Operated p at (scalar_ty x) there (s ∷ r ∷ [])) → At world (fun_ty (scalar_ty x) (fun_ty (scalar_ty x) (scalar_ty x))) (Primitive_known p at no_known)
+  binary_fits p x at world of few full takes gives = first_argument p at x (fun_ty (scalar_ty x) (scalar_ty x)) world few (λ world' s g h.
+      last_argument p at (known_and s no_known) x (scalar_ty x) world' of (full s)
+      (λ world'' r g' k. two_scalars p at x takes world'' s r (fits_learn N integer_at K (scalar_ty x) world' world'' g' s h) k)
+      (λ world'' r g' k. gives world'' s r (fits_learn N integer_at K (scalar_ty x) world' world'' g' s h) k))
+
+  pub primitive_fits : (p : Primitive) (given : Sub) → ((n : ℕ) → HasKind K kind.Data (given n)) → (at : Place) (world : World) → constant_of p ≡ None → At world (applied given (prim_type p)) (Primitive_known p at no_known)
   unfolding applied all_applied
-  primitive_fits (prim.Convert to from) given kinds at tops e = last_argument (prim.Convert to from) at no_known from to tops refl (λ s. refl) (one_scalar (prim.Convert to from) at (λ u f. f 0 1 _ _ (p_convert (let z : 0 ≤ 0 = omega arith in z))))
-  primitive_fits (prim.Min i) given kinds at tops e = first_argument (prim.Min i) at (types.Int i) (fun_ty (scalar_ty (types.Int i)) (scalar_ty (types.Int i))) tops (λ s. refl) (λ tops' s h.
-      last_argument (prim.Min i) at (known_and s no_known) (types.Int i) (types.Int i) tops' refl (λ r. refl) (two_scalars (prim.Min i) at (λ u w f. f 0 1 _ _ (p_min (let z : 0 ≤ 0 = omega arith in z))) s h))
-  primitive_fits (prim.Max i) given kinds at tops e = first_argument (prim.Max i) at (types.Int i) (fun_ty (scalar_ty (types.Int i)) (scalar_ty (types.Int i))) tops (λ s. refl) (λ tops' s h.
-      last_argument (prim.Max i) at (known_and s no_known) (types.Int i) (types.Int i) tops' refl (λ r. refl) (two_scalars (prim.Max i) at (λ u w f. f 0 1 _ _ (p_max (let z : 0 ≤ 0 = omega arith in z))) s h))
-  primitive_fits (prim.Abs i) given kinds at tops e = last_argument (prim.Abs i) at no_known (types.Int i) (types.Int i) tops refl (λ s. refl) (one_scalar (prim.Abs i) at (λ u f. f 0 1 _ _ (p_abs (let z : 0 ≤ 0 = omega arith in z))))
-  primitive_fits (prim.Popc i) given kinds at tops e = last_argument (prim.Popc i) at no_known (types.Int i) (types.Int int.I32) tops refl (λ s. refl) (one_scalar (prim.Popc i) at (λ u f. f 0 1 _ _ (p_popc (let z : 0 ≤ 0 = omega arith in z))))
-  primitive_fits (prim.Lowest i) given kinds at tops e = absurd (let z : Some _ ≡ None = e in cc)
-  primitive_fits (prim.Highest i) given kinds at tops e = absurd (let z : Some _ ≡ None = e in cc)
-  primitive_fits (prim.NumBits i) given kinds at tops e = absurd (let z : Some _ ≡ None = e in cc)
-  primitive_fits (prim.Fold folding.Sum i) given kinds at tops e = arrays_fit N integer_at K (prim.Fold folding.Sum i) at given kinds tops _ _ refl refl (all_applied_so (prim.Fold folding.Sum i))
-  primitive_fits (prim.Fold folding.Product i) given kinds at tops e = arrays_fit N integer_at K (prim.Fold folding.Product i) at given kinds tops _ _ refl refl (all_applied_so (prim.Fold folding.Product i))
-  primitive_fits (prim.Fold folding.Minimum i) given kinds at tops e = arrays_fit N integer_at K (prim.Fold folding.Minimum i) at given kinds tops _ _ refl refl (all_applied_so (prim.Fold folding.Minimum i))
-  primitive_fits (prim.Fold folding.Maximum i) given kinds at tops e = arrays_fit N integer_at K (prim.Fold folding.Maximum i) at given kinds tops _ _ refl refl (all_applied_so (prim.Fold folding.Maximum i))
-  primitive_fits p given kinds at tops e = arrays_fit N integer_at K p at given kinds tops _ _ refl refl (all_applied_so p)
+  primitive_fits (prim.Convert to from) given kinds at world e = unary_fits (prim.Convert to from) from to at world refl (λ s. refl) (λ u f. f 0 1 _ _ (p_convert (let z : 0 ≤ 0 = omega arith in z))) (convert_comes to from at)
+  primitive_fits (prim.Min i) given kinds at world e = binary_fits (prim.Min i) (types.Int i) at world refl (λ s. refl) (λ s r. refl) (λ u w f. f 0 1 _ _ (p_min (let z : 0 ≤ 0 = omega arith in z))) (min_comes i at)
+  primitive_fits (prim.Max i) given kinds at world e = binary_fits (prim.Max i) (types.Int i) at world refl (λ s. refl) (λ s r. refl) (λ u w f. f 0 1 _ _ (p_max (let z : 0 ≤ 0 = omega arith in z))) (max_comes i at)
+  primitive_fits (prim.Abs i) given kinds at world e = unary_fits (prim.Abs i) (types.Int i) (types.Int i) at world refl (λ s. refl) (λ u f. f 0 1 _ _ (p_abs (let z : 0 ≤ 0 = omega arith in z))) (abs_comes i at)
+  primitive_fits (prim.Popc i) given kinds at world e = unary_fits (prim.Popc i) (types.Int i) (types.Int int.I32) at world refl (λ s. refl) (λ u f. f 0 1 _ _ (p_popc (let z : 0 ≤ 0 = omega arith in z))) (popc_comes i at)
+  primitive_fits (prim.Lowest i) given kinds at world e = absurd (let z : Some _ ≡ None = e in cc)
+  primitive_fits (prim.Highest i) given kinds at world e = absurd (let z : Some _ ≡ None = e in cc)
+  primitive_fits (prim.NumBits i) given kinds at world e = absurd (let z : Some _ ≡ None = e in cc)
+  primitive_fits (prim.Fold folding.Sum i) given kinds at world e = arrays_fit N are integer_at K (prim.Fold folding.Sum i) at given kinds world _ _ refl refl (all_applied_so (prim.Fold folding.Sum i))
+  primitive_fits (prim.Fold folding.Product i) given kinds at world e = arrays_fit N are integer_at K (prim.Fold folding.Product i) at given kinds world _ _ refl refl (all_applied_so (prim.Fold folding.Product i))
+  primitive_fits (prim.Fold folding.Minimum i) given kinds at world e = arrays_fit N are integer_at K (prim.Fold folding.Minimum i) at given kinds world _ _ refl refl (all_applied_so (prim.Fold folding.Minimum i))
+  primitive_fits (prim.Fold folding.Maximum i) given kinds at world e = arrays_fit N are integer_at K (prim.Fold folding.Maximum i) at given kinds world _ _ refl refl (all_applied_so (prim.Fold folding.Maximum i))
+  primitive_fits p given kinds at world e = arrays_fit N are integer_at K p at given kinds world _ _ refl refl (all_applied_so p)
 
-  pub number_fits : (p : Primitive) (given : Sub) (tops : Tops) (c d : Scalar) → constant_of p ≡ Some c → At tops (applied given (prim_type p)) (constant d)
+  pub number_fits : (p : Primitive) (given : Sub) (world : World) (c : Scalar) → constant_of p ≡ Some (fitted c) → At world (applied given (prim_type p)) (constant c)
   unfolding applied all_applied
-  number_fits (prim.Convert to from) given tops c d e = absurd (let z : None ≡ Some c = e in cc)
-  number_fits (prim.Min i) given tops c d e = absurd (let z : None ≡ Some c = e in cc)
-  number_fits (prim.Max i) given tops c d e = absurd (let z : None ≡ Some c = e in cc)
-  number_fits (prim.Abs i) given tops c d e = absurd (let z : None ≡ Some c = e in cc)
-  number_fits (prim.Popc i) given tops c d e = absurd (let z : None ≡ Some c = e in cc)
-  number_fits (prim.Lowest i) given tops c d e = scalar_fits (types.Int i) tops (constant d) tt
-  number_fits (prim.Highest i) given tops c d e = scalar_fits (types.Int i) tops (constant d) tt
-  number_fits (prim.NumBits i) given tops c d e = scalar_fits (types.Int int.I32) tops (constant d) tt
-  number_fits p given tops c d e = absurd (let z : None ≡ Some c = e in cc)
+  number_fits (prim.Convert to from) given world c e = absurd (let z : None ≡ Some (fitted c) = e in cc)
+  number_fits (prim.Min i) given world c e = absurd (let z : None ≡ Some (fitted c) = e in cc)
+  number_fits (prim.Max i) given world c e = absurd (let z : None ≡ Some (fitted c) = e in cc)
+  number_fits (prim.Abs i) given world c e = absurd (let z : None ≡ Some (fitted c) = e in cc)
+  number_fits (prim.Popc i) given world c e = absurd (let z : None ≡ Some (fitted c) = e in cc)
+  number_fits (prim.Lowest i) given world c e = fits_constant N integer_at K world (types.Int i) (scalar_ty (types.Int i)) c refl (constant_type c (scalar.Int i (lowest i)) (types.Int i) (sym (some_same e)) refl)
+  number_fits (prim.Highest i) given world c e = fits_constant N integer_at K world (types.Int i) (scalar_ty (types.Int i)) c refl (constant_type c (scalar.Int i (highest i)) (types.Int i) (sym (some_same e)) refl)
+  number_fits (prim.NumBits i) given world c e = fits_constant N integer_at K world (types.Int int.I32) (scalar_ty (types.Int int.I32)) c refl (constant_type c (scalar.Int int.I32 (width_of i)) (types.Int int.I32) (sym (some_same e)) refl)
+  number_fits p given world c e = absurd (let z : None ≡ Some (fitted c) = e in cc)

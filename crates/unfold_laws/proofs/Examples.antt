@@ -1,6 +1,6 @@
 -- Small blocks with their types: a map with its function, and an array without rows, whose name has several types.
 use Rattle.std.proofs.Common.{[], ◌∷◌, refl, arith}
-use mathlib.Core.Logic.{inl}
+use mathlib.Core.Logic.{inl, inr}
 use Rattle.fut_scalar.specs.declared.operator.BinOp.TheVariants as binary
 use Rattle.fut_scalar.specs.declared.place.Place.{Place}
 use Rattle.fut_scalar.specs.declared.scalar.IntType.TheVariants.{U8}
@@ -14,7 +14,7 @@ use Rattle.fut_meaning.specs.Arrays.{Make_array}
 use Rattle.fut_blocks.specs.declared.block.Atom.TheVariants as atom
 use Rattle.fut_blocks.specs.declared.block.Operation.TheVariants as operation
 use Rattle.fut_blocks.specs.Plain.{Action, Operate, Make, Job, Give, Let}
-use Rattle.unfold_laws.specs.Typed.{Types, with_each, with_name, Act_typed, Body_typed}
+use Rattle.unfold_laws.specs.Typed.{Types, of_constants, with_each, with_name, Act_typed, Body_typed}
 
 here : Place
 here = record { file = 0; line = 1; column = 1 }
@@ -22,15 +22,12 @@ here = record { file = 0; line = 1; column = 1 }
 abbrev byte : Ty
 byte = scalar_ty (sort.Int U8)
 
-abbrev nothing : Types
-nothing x t = ⊥
-
 module _ (N : Names) (K : Kinds) where
   -- `map (\z -> z + 1) x`, where x has the name 0
   abbrev next : Action
   next = Job prim.Map here (atom.Name 0 ∷ []) (1 ∷ []) (Let (2 ∷ []) (Operate (operation.Binary binary.Add here (atom.Name 1) (atom.Constant (scalar.Int U8 1)))) (Give (atom.Name 2 ∷ [])))
 
-  maps_are_typed : Act_typed N K next (with_name 0 (array_ty byte) nothing) (more (array_ty byte) none)
+  maps_are_typed : Act_typed N K next (with_name 0 (array_ty byte) of_constants) (more (array_ty byte) none)
   unfolding Act_typed Body_typed applied all_applied rank least
   maps_are_typed = (
     more (array_ty byte) none,
@@ -49,8 +46,8 @@ module _ (N : Names) (K : Kinds) where
       of_function = refl;
     },
     (
-      (more byte none, (byte, byte, (refl, omega arith), inl (inl (refl, refl)), refl, refl), refl),
-      (inl (more byte none, (byte, byte, (refl, omega arith), inl (inl (refl, refl)), refl, refl), inl (refl, refl)), tt),
+      (more byte none, (byte, byte, (refl, omega arith), inl (inl (refl, refl)), inr (inr refl), refl), refl),
+      (inl (more byte none, (byte, byte, (refl, omega arith), inl (inl (refl, refl)), inr (inr refl), refl), inl (refl, refl)), tt),
     ),
     refl,
     refl,
@@ -58,12 +55,12 @@ module _ (N : Names) (K : Kinds) where
 
   -- `[]`, which gets the name 3
   abbrev empty : Types
-  empty = with_each (3 ∷ []) (Act_typed N K (Make Make_array here []) nothing) nothing
+  empty = with_each (3 ∷ []) (Act_typed N K (Make Make_array here []) of_constants) of_constants
 
-  of_bytes : empty 3 (array_ty byte)
+  of_bytes : empty (atom.Name 3) (array_ty byte)
   unfolding Act_typed rank least
   of_bytes = inl (more (array_ty byte) none, (none, array_ty byte, tt, (byte, (byte, (refl, omega arith), tt)), refl), inl (refl, refl))
 
-  and_of_truth_values : empty 3 (array_ty bool_ty)
+  and_of_truth_values : empty (atom.Name 3) (array_ty bool_ty)
   unfolding Act_typed rank least
   and_of_truth_values = inl (more (array_ty bool_ty) none, (none, array_ty bool_ty, tt, (bool_ty, (bool_ty, (refl, omega arith), tt)), refl), inl (refl, refl))

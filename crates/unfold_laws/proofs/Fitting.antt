@@ -1,6 +1,6 @@
 -- What is known stays where more definitions are known, the part of a record is known by its label, and one component may be
 -- data of each type.
-use Rattle.std.proofs.Common.{◌≡◌, Bool, true, false, cond, ℕ, zero, suc, ◌≤◌, min, arith, refl, sym, ◌∙◌, subst, List, [], ◌∷◌, Option, Some, None, if◌then◌else◌, ◌==◌, eq-eqb}
+use Rattle.std.proofs.Common.{◌≡◌, Bool, true, false, cond, ℕ, zero, suc, ◌≤◌, min, arith, refl, sym, ap, ◌∙◌, subst, List, [], ◌∷◌, Option, Some, None, if◌then◌else◌, ◌==◌, eq-eqb}
 use native.Mathlib.Decide.{ℕ_discrete}
 use Rattle.std.specs.Str.{bytes_eq}
 use Rattle.std.proofs.lemmas.Slice.Eq.{bytes_eq-Decides}
@@ -16,7 +16,8 @@ use Rattle.fut_blocks.specs.declared.block.Atom.{Atom}
 use Rattle.fut_blocks.specs.Meaning.{look}
 use Rattle.fut_meaning.specs.Knowns.{or_else}
 use Rattle.unfold.specs.Knowns.{Known, Scalar_known, Tuple_known, Record_known, Function_known, Primitive_known, Knowns, no_known, known_and, Known_fields, no_known_field, known_field_and, Scope as Seen, Tops, local, find, field}
-use Rattle.unfold_laws.specs.Fits.{Learns, Each_field, Is_data, All_data, Part_data, Fits, All_fit, Keyed}
+use Rattle.unfold_laws.specs.Fits.{World, Keeps_tops, types_of, Learns, On_component, Each_field, Is_data, All_data, Part_data, Fits, All_fit, Keyed}
+use Rattle.unfold_laws.proofs.TypedSteps.{learns_more}
 
 pub some_same : {A : Type 0} {x y : A} → Some x ≡ Some y → x ≡ y
 some_same e = cc
@@ -24,19 +25,20 @@ some_same e = cc
 pub none_some : {A C : Type 0} {o : Option A} {x : A} → o ≡ Some x → o ≡ None → C
 none_some {x = x} e f = absurd (let z : None ≡ Some x = sym f ∙ e in cc)
 
-pub learns_self : (tops : Tops) → Learns tops tops
-learns_self tops k s e = e
-
-pub learns_more : (tops tops' tops'' : Tops) → Learns tops tops' → Learns tops' tops'' → Learns tops tops''
-learns_more tops tops' tops'' g h k s e = h k s (g k s e)
-
-pub find_learns : (tops tops' : Tops) → Learns tops tops' → (sc : Seen) (b : ℕ) (s : Known) → find tops sc b ≡ Some s → find tops' sc b ≡ Some s
+pub find_learns : (tops tops' : Tops) → Keeps_tops tops tops' → (sc : Seen) (b : ℕ) (s : Known) → find tops sc b ≡ Some s → find tops' sc b ≡ Some s
 unfolding find
 find_learns tops tops' g sc b s e = known (local sc b) e
   where
     known : (o : Option Known) → or_else o (look tops b) ≡ Some s → or_else o (look tops' b) ≡ Some s
     known None e = g b s e
     known (Some u) e = e
+
+component_map : (P Q : Atom → Type 0) → ((u : Atom) → P u → Q u) → (s : Known) → On_component P s → On_component Q s
+component_map P Q go (Scalar_known u) h = go u h
+component_map P Q go (Tuple_known ss) h = absurd h
+component_map P Q go (Record_known fs) h = absurd h
+component_map P Q go (Function_known ps e lo sc) h = absurd h
+component_map P Q go (Primitive_known p at ss) h = absurd h
 
 -- ---- fields
 pub each_map : (P Q : Text → Known → Type 0) → ((g : Text) (s : Known) → P g s → Q g s) → (fs : Known_fields) → Each_field P fs → Each_field Q fs
@@ -51,68 +53,78 @@ each_found P f s (known_field_and g u fs) h e = known (bytes_eq g f) refl (each_
     known true is rec e = subst (λ x. P x s) ((bytes_eq-Decides g f).0 is) (subst (λ y. P g y) (some_same e) h.0)
     known false is rec e = rec e
 
-module _ (N : Names) (integer_at : ℕ → IntType) where
+module _ (N : Names) (integer_at : ℕ → IntType) (K : Kinds) where
   -- ---- a label's part
-  pub keyed_found : (l : ℕ) (u : Ty) (tops : Tops) (s : Known) (ls : List ℕ) (ts : Tys) → part_at (place_from 0 l ls) ts ≡ Some u → Keyed N integer_at ls ts tops l s → Fits N integer_at u tops s
+  pub keyed_found : (l : ℕ) (u : Ty) (world : World) (s : Known) (ls : List ℕ) (ts : Tys) → part_at (place_from 0 l ls) ts ≡ Some u → Keyed N integer_at K ls ts world l s → Fits N integer_at K u world s
   unfolding Keyed place_from part_at
-  keyed_found l u tops s [] ts e h = absurd h
-  keyed_found l u tops s (x ∷ xs) none e h = absurd h
-  keyed_found l u tops s (x ∷ xs) (more t ts) e h = elim (ℕ_discrete x l) as (λ d. Fits N integer_at u tops s) [
+  keyed_found l u world s [] ts e h = absurd h
+  keyed_found l u world s (x ∷ xs) none e h = absurd h
+  keyed_found l u world s (x ∷ xs) (more t ts) e h = elim (ℕ_discrete x l) as (λ d. Fits N integer_at K u world s) [
     | yes same ↦
         let here : Some t ≡ Some u = subst (λ b. part_at (if b then Some 0 else place_from 1 l xs) (more t ts) ≡ Some u) (eq-eqb x l same) e in
-        subst (λ w. Fits N integer_at w tops s) (some_same here) (h.0 same)
-    | no ne ↦ keyed_found l u tops s xs ts (sym (there_place l x xs t ts ne) ∙ e) (h.1 ne)
+        subst (λ w. Fits N integer_at K w world s) (some_same here) (h.0 same)
+    | no ne ↦ keyed_found l u world s xs ts (sym (there_place l x xs t ts ne) ∙ e) (h.1 ne)
   ]
 
-  pub keyed_from : (l : ℕ) (u : Ty) (tops : Tops) (s : Known) (ls : List ℕ) (ts : Tys) → part_at (place_from 0 l ls) ts ≡ Some u → Fits N integer_at u tops s → Keyed N integer_at ls ts tops l s
+  -- there is such a part
+  pub keyed_part : (l : ℕ) (world : World) (s : Known) (ls : List ℕ) (ts : Tys) → Keyed N integer_at K ls ts world l s → (u : Ty) × (part_at (place_from 0 l ls) ts ≡ Some u) × Fits N integer_at K u world s
   unfolding Keyed place_from part_at
-  keyed_from l u tops s [] none e h = absurd (let z : None ≡ Some u = e in cc)
-  keyed_from l u tops s [] (more t ts) e h = absurd (let z : None ≡ Some u = e in cc)
-  keyed_from l u tops s (x ∷ xs) none e h = absurd (none_at (if x == l then Some 0 else place_from 1 l xs) e)
+  keyed_part l world s [] ts h = absurd h
+  keyed_part l world s (x ∷ xs) none h = absurd h
+  keyed_part l world s (x ∷ xs) (more t ts) h = elim (ℕ_discrete x l) as (λ d. (u : Ty) × (part_at (place_from 0 l (x ∷ xs)) (more t ts) ≡ Some u) × Fits N integer_at K u world s) [
+    | yes same ↦ (t, ap (λ b. part_at (if b then Some 0 else place_from 1 l xs) (more t ts)) (eq-eqb x l same), h.0 same)
+    | no ne ↦ let r = keyed_part l world s xs ts (h.1 ne) in (r.0, there_place l x xs t ts ne ∙ r.1, r.2)
+  ]
+
+  pub keyed_from : (l : ℕ) (u : Ty) (world : World) (s : Known) (ls : List ℕ) (ts : Tys) → part_at (place_from 0 l ls) ts ≡ Some u → Fits N integer_at K u world s → Keyed N integer_at K ls ts world l s
+  unfolding Keyed place_from part_at
+  keyed_from l u world s [] none e h = absurd (let z : None ≡ Some u = e in cc)
+  keyed_from l u world s [] (more t ts) e h = absurd (let z : None ≡ Some u = e in cc)
+  keyed_from l u world s (x ∷ xs) none e h = absurd (none_at (if x == l then Some 0 else place_from 1 l xs) e)
     where
       none_at : (o : Option ℕ) → part_at o none ≡ Some u → ⊥
       none_at None e = let z : None ≡ Some u = e in cc
       none_at (Some i) e = let z : None ≡ Some u = e in cc
-  keyed_from l u tops s (x ∷ xs) (more t ts) e h = (
-    (λ same. subst (λ w. Fits N integer_at w tops s) (sym (some_same (subst (λ b. part_at (if b then Some 0 else place_from 1 l xs) (more t ts) ≡ Some u) (eq-eqb x l same) e))) h),
-    (λ ne. keyed_from l u tops s xs ts (sym (there_place l x xs t ts ne) ∙ e) h),
+  keyed_from l u world s (x ∷ xs) (more t ts) e h = (
+    (λ same. subst (λ w. Fits N integer_at K w world s) (sym (some_same (subst (λ b. part_at (if b then Some 0 else place_from 1 l xs) (more t ts) ≡ Some u) (eq-eqb x l same) e))) h),
+    (λ ne. keyed_from l u world s xs ts (sym (there_place l x xs t ts ne) ∙ e) h),
   )
 
   -- ---- more definitions
   mutual
     unfolding Fits All_fit Keyed
 
-    pub fits_learn : (t : Ty) (tops tops' : Tops) → Learns tops tops' → (s : Known) → Fits N integer_at t tops s → Fits N integer_at t tops' s
-    fits_learn (Var n) tops tops' g s h = h
-    fits_learn (Made (head.Scalar x) ts) tops tops' g s h = h
-    fits_learn (Made head.Array ts) tops tops' g s h = h
-    fits_learn (Made head.Tuple ts) tops tops' g (Tuple_known ss) h = (h.0, all_fit_learn ts tops tops' g ss h.1)
-    fits_learn (Made head.Tuple ts) tops tops' g (Scalar_known u) h = h
-    fits_learn (Made head.Tuple ts) tops tops' g (Record_known fs) h = absurd h
-    fits_learn (Made head.Tuple ts) tops tops' g (Function_known ps e lo sc) h = absurd h
-    fits_learn (Made head.Tuple ts) tops tops' g (Primitive_known p at ss) h = absurd h
-    fits_learn (Made (head.Record n) ts) tops tops' g (Record_known fs) h =
-        (h.0, each_map (λ f u. Keyed N integer_at (N.shapes.fields n) ts tops (N.label f) u) (λ f u. Keyed N integer_at (N.shapes.fields n) ts tops' (N.label f) u) (λ f u k. keyed_learn (N.shapes.fields n) ts tops tops' g (N.label f) u k) fs h.1)
-    fits_learn (Made (head.Record n) ts) tops tops' g (Scalar_known u) h = h
-    fits_learn (Made (head.Record n) ts) tops tops' g (Tuple_known ss) h = absurd h
-    fits_learn (Made (head.Record n) ts) tops tops' g (Function_known ps e lo sc) h = absurd h
-    fits_learn (Made (head.Record n) ts) tops tops' g (Primitive_known p at ss) h = absurd h
-    fits_learn (Made head.Fun none) tops tops' g s h = h
-    fits_learn (Made head.Fun (more t none)) tops tops' g s h = h
-    fits_learn (Made head.Fun (more t (more u none))) tops tops' g s h = (h.0, λ tops'' g'. h.1 tops'' (learns_more tops tops' tops'' g g'))
-    fits_learn (Made head.Fun (more t (more u (more w ts)))) tops tops' g s h = h
-    fits_learn (Made (head.Rigid n k) ts) tops tops' g s h = h
-    fits_learn (Made (head.Abstract n d) ts) tops tops' g s h = h
+    pub fits_learn : (t : Ty) (world world' : World) → Learns N K world world' → (s : Known) → Fits N integer_at K t world s → Fits N integer_at K t world' s
+    fits_learn (Var n) world world' g s h = component_map _ _ (λ u. g.1 u (Var n)) s h
+    fits_learn (Made (head.Scalar x) ts) world world' g s h = component_map _ _ (λ u. g.1 u (Made (head.Scalar x) ts)) s h
+    fits_learn (Made head.Array ts) world world' g s h = (h.0, component_map _ _ (λ u. g.1 u (Made head.Array ts)) s h.1)
+    fits_learn (Made head.Tuple ts) world world' g (Tuple_known ss) h = (h.0, all_fit_learn ts world world' g ss h.1)
+    fits_learn (Made head.Tuple ts) world world' g (Scalar_known u) h = (h.0, g.1 u (Made head.Tuple ts) h.1)
+    fits_learn (Made head.Tuple ts) world world' g (Record_known fs) h = absurd h
+    fits_learn (Made head.Tuple ts) world world' g (Function_known ps e lo sc) h = absurd h
+    fits_learn (Made head.Tuple ts) world world' g (Primitive_known p at ss) h = absurd h
+    fits_learn (Made (head.Record n) ts) world world' g (Record_known fs) h =
+        (h.0, h.1, each_map (λ f u. Keyed N integer_at K (N.shapes.fields n) ts world (N.label f) u) (λ f u. Keyed N integer_at K (N.shapes.fields n) ts world' (N.label f) u) (λ f u k. keyed_learn (N.shapes.fields n) ts world world' g (N.label f) u k) fs h.2)
+    fits_learn (Made (head.Record n) ts) world world' g (Scalar_known u) h = (h.0, g.1 u (Made (head.Record n) ts) h.1)
+    fits_learn (Made (head.Record n) ts) world world' g (Tuple_known ss) h = absurd h
+    fits_learn (Made (head.Record n) ts) world world' g (Function_known ps e lo sc) h = absurd h
+    fits_learn (Made (head.Record n) ts) world world' g (Primitive_known p at ss) h = absurd h
+    fits_learn (Made head.Fun none) world world' g s h = h
+    fits_learn (Made head.Fun (more t none)) world world' g s h = h
+    fits_learn (Made head.Fun (more t (more u none))) world world' g s h = (h.0, λ world'' g'. h.1 world'' (learns_more N K world world' world'' g g'))
+    fits_learn (Made head.Fun (more t (more u (more w ts)))) world world' g s h = h
+    fits_learn (Made (head.Rigid n k) ts) world world' g s h = component_map _ _ (λ u. g.1 u (Made (head.Rigid n k) ts)) s h
+    fits_learn (Made (head.Abstract n d) ts) world world' g s h = component_map _ _ (λ u. g.1 u (Made (head.Abstract n d) ts)) s h
 
-    all_fit_learn : (ts : Tys) (tops tops' : Tops) → Learns tops tops' → (ss : Knowns) → All_fit N integer_at ts tops ss → All_fit N integer_at ts tops' ss
-    all_fit_learn none tops tops' g ss h = h
-    all_fit_learn (more t ts) tops tops' g no_known h = absurd h
-    all_fit_learn (more t ts) tops tops' g (known_and s ss) h = (fits_learn t tops tops' g s h.0, all_fit_learn ts tops tops' g ss h.1)
+    pub all_fit_learn : (ts : Tys) (world world' : World) → Learns N K world world' → (ss : Knowns) → All_fit N integer_at K ts world ss → All_fit N integer_at K ts world' ss
+    all_fit_learn none world world' g ss h = h
+    all_fit_learn (more t ts) world world' g no_known h = absurd h
+    all_fit_learn (more t ts) world world' g (known_and s ss) h = (fits_learn t world world' g s h.0, all_fit_learn ts world world' g ss h.1)
 
-    keyed_learn : (ls : List ℕ) (ts : Tys) (tops tops' : Tops) → Learns tops tops' → (l : ℕ) (s : Known) → Keyed N integer_at ls ts tops l s → Keyed N integer_at ls ts tops' l s
-    keyed_learn [] ts tops tops' g l s h = absurd h
-    keyed_learn (x ∷ ls) none tops tops' g l s h = absurd h
-    keyed_learn (x ∷ ls) (more t ts) tops tops' g l s h = ((λ e. fits_learn t tops tops' g s (h.0 e)), (λ ne. keyed_learn ls ts tops tops' g l s (h.1 ne)))
+    pub keyed_learn : (ls : List ℕ) (ts : Tys) (world world' : World) → Learns N K world world' → (l : ℕ) (s : Known) → Keyed N integer_at K ls ts world l s → Keyed N integer_at K ls ts world' l s
+    keyed_learn [] ts world world' g l s h = absurd h
+    keyed_learn (x ∷ ls) none world world' g l s h = absurd h
+    keyed_learn (x ∷ ls) (more t ts) world world' g l s h = ((λ e. fits_learn t world world' g s (h.0 e)), (λ ne. keyed_learn ls ts world world' g l s (h.1 ne)))
 
 -- ---- data
 module _ (N : Names) (K : Kinds) where
@@ -138,31 +150,32 @@ module _ (N : Names) (K : Kinds) where
     kind_parts (l ∷ ls) none g k = tt
     kind_parts (l ∷ ls) (more t ts) g k = let z : 1 ≤ min (rank K t) (least K ts) = k in ((λ e. kind_data t (omega (arith, z))), (λ ne. kind_parts ls ts g (omega (arith, z))))
 
-module _ (N : Names) (integer_at : ℕ → IntType) where
-  pub data_fits : (t : Ty) (tops : Tops) (u : Atom) → Is_data N t → Fits N integer_at t tops (Scalar_known u)
+module _ (N : Names) (integer_at : ℕ → IntType) (K : Kinds) where
+  -- one component of a type
+  pub data_fits : (t : Ty) (world : World) (u : Atom) → Is_data N t → types_of N K world.1 u t → Fits N integer_at K t world (Scalar_known u)
   unfolding Fits Is_data
-  data_fits (Var n) tops u d = tt
-  data_fits (Made (head.Scalar x) ts) tops u d = tt
-  data_fits (Made head.Array ts) tops u d = (d, tt)
-  data_fits (Made head.Tuple ts) tops u d = d
-  data_fits (Made (head.Record n) ts) tops u d = d
-  data_fits (Made head.Fun ts) tops u d = absurd d
-  data_fits (Made (head.Rigid n k) ts) tops u d = tt
-  data_fits (Made (head.Abstract n k) ts) tops u d = tt
+  data_fits (Var n) world u d h = h
+  data_fits (Made (head.Scalar x) ts) world u d h = h
+  data_fits (Made head.Array ts) world u d h = (d, h)
+  data_fits (Made head.Tuple ts) world u d h = (d, h)
+  data_fits (Made (head.Record n) ts) world u d h = (d, h)
+  data_fits (Made head.Fun ts) world u d h = absurd d
+  data_fits (Made (head.Rigid n k) ts) world u d h = h
+  data_fits (Made (head.Abstract n k) ts) world u d h = h
 
-  pub fits_data : (t : Ty) (tops : Tops) (u : Atom) → Fits N integer_at t tops (Scalar_known u) → Is_data N t
+  pub fits_data : (t : Ty) (world : World) (u : Atom) → Fits N integer_at K t world (Scalar_known u) → Is_data N t × types_of N K world.1 u t
   unfolding Fits Is_data
-  fits_data (Var n) tops u h = tt
-  fits_data (Made (head.Scalar x) ts) tops u h = tt
-  fits_data (Made head.Array ts) tops u h = h.0
-  fits_data (Made head.Tuple ts) tops u h = h
-  fits_data (Made (head.Record n) ts) tops u h = h
-  fits_data (Made head.Fun none) tops u h = h
-  fits_data (Made head.Fun (more t none)) tops u h = h
-  fits_data (Made head.Fun (more t (more v none))) tops u h = let z : false ≡ true = h.0 in cc
-  fits_data (Made head.Fun (more t (more v (more w ts)))) tops u h = h
-  fits_data (Made (head.Rigid n k) ts) tops u h = tt
-  fits_data (Made (head.Abstract n k) ts) tops u h = tt
+  fits_data (Var n) world u h = (tt, h)
+  fits_data (Made (head.Scalar x) ts) world u h = (tt, h)
+  fits_data (Made head.Array ts) world u h = h
+  fits_data (Made head.Tuple ts) world u h = h
+  fits_data (Made (head.Record n) ts) world u h = h
+  fits_data (Made head.Fun none) world u h = absurd h
+  fits_data (Made head.Fun (more t none)) world u h = absurd h
+  fits_data (Made head.Fun (more t (more v none))) world u h = absurd (let z : false ≡ true = h.0 in cc)
+  fits_data (Made head.Fun (more t (more v (more w ts)))) world u h = absurd h
+  fits_data (Made (head.Rigid n k) ts) world u h = (tt, h)
+  fits_data (Made (head.Abstract n k) ts) world u h = (tt, h)
 
   -- ---- parts of data
   pub all_data_part : (ts : Tys) (i : ℕ) (u : Ty) → part_at (Some i) ts ≡ Some u → All_data N ts → Is_data N u

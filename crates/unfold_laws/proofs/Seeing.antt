@@ -18,17 +18,21 @@ use Rattle.fut_typing.specs.Patterns.{pattern_types, with_pattern, with_patterns
 use Rattle.fut_typing.proofs.Local.{AllLocal, Agree}
 use Rattle.fut_blocks.specs.declared.block.Atom.{Atom}
 use Rattle.fut_blocks.specs.declared.block.Atom.TheVariants as atom
+use Rattle.fut_blocks.specs.declared.block.Operation.TheVariants as operation
 use Rattle.fut_blocks.specs.Numbered.{Upward}
+use Rattle.fut_blocks.specs.Plain.{Action, Operate}
+use Rattle.fut_blocks.specs.Plain as act
 use Rattle.type_soundness.specs.Fits.{widest}
 use Rattle.type_soundness.specs.Meant.{No_sizes}
 use Rattle.unfold.proofs.Names.{found_here, found_on}
-use Rattle.unfold.specs.Knowns.{Known, Scalar_known, Tuple_known, Record_known, Knowns, no_known, known_and, Known_fields, Scope as Seen, name_and, Tops, listed, find, record_parts}
-use Rattle.unfold.specs.Stuck.{Binds_to}
-use Rattle.unfold.specs.Unfolding.{Bindings, named, Binds, b_bound, b_wild, b_tuple, b_parts, b_record, b_fields, b_typed, All_bind, b_none, b_more}
-use Rattle.unfold_laws.specs.Fits.{Learns, All_data, Fits, All_fit, Names_fit}
-use Rattle.unfold_laws.proofs.Fitting.{some_same, find_learns, fits_learn, data_fits}
-use Rattle.unfold_laws.proofs.Recording.{Each_fits, record_parts_fit, known_parts_fit, component_parts}
+use Rattle.unfold.specs.Knowns.{Known, Scalar_known, Tuple_known, Record_known, Knowns, no_known, known_and, Known_fields, Scope as Seen, name_and, listed, find, record_parts}
+use Rattle.unfold.specs.Unfolding.{Bindings, step, names, named, Binds, b_bound, b_wild, b_tuple, b_parts, b_record, b_fields, b_typed, All_bind, b_none, b_more}
+use Rattle.unfold_laws.specs.Fits.{Given, Bound, World, types_of, Learns, Comes, All_data, Fits, All_fit, Names_fit}
+use Rattle.unfold_laws.specs.Typed.{Are, Act_typed}
+use Rattle.unfold_laws.proofs.Fitting.{some_same, find_learns, fits_learn, fits_data, data_fits}
+use Rattle.unfold_laws.proofs.Recording.{Each_fits, each_learn, each_listed, record_parts_fit, known_parts_fit, component_parts}
 use Rattle.unfold_laws.proofs.Shaping.{tuple_is}
+use Rattle.unfold_laws.proofs.TypedSteps.{comes_none, comes_then, comes_step, stand_are, names_length}
 
 -- a pattern binds its names, whatever they stand before
 abbrev pub Bindable : FlatPattern → Known → Type 0
@@ -43,88 +47,89 @@ some_names zero n = ([], n, (let z : n ≤ n = omega arith in z), refl)
 some_names (suc k) n = let r = some_names k (suc n) in (n ∷ r.0, r.1, ((let z : n ≤ n = omega arith in z), r.2), ap suc r.3)
 
 module _ (N : Names) (integer_at : ℕ → IntType) (P : ℕ → Type 0) (K : Kinds) where
-  pub names_learn : (tops tops' : Tops) → Learns tops tops' → (scope : Scope) (a : Sub) (sc : Seen) → Names_fit N integer_at tops P scope K a sc → Names_fit N integer_at tops' P scope K a sc
-  names_learn tops tops' g scope a sc h b p t u = let r = h b p t u in (r.0, find_learns tops tops' g sc b r.0 r.1, fits_learn N integer_at t tops tops' g r.0 r.2)
+  pub names_learn : (world world' : World) → Learns N K world world' → (scope : Scope) (a : Sub) (sc : Seen) → Names_fit N integer_at world P scope K a sc → Names_fit N integer_at world' P scope K a sc
+  names_learn world world' g scope a sc h b p t u = let r = h b p t u in (r.0, find_learns world.0 world'.0 g.0 sc b r.0 r.1, fits_learn N integer_at K t world world' g r.0 r.2)
 
   -- types of other numbers do not matter
-  pub names_move : (tops : Tops) (scope : Scope) (lo : ℕ) (a a' : Sub) (sc : Seen) → AllLocal (λ n. n < lo) scope → Agree (λ n. n < lo) a' a → Names_fit N integer_at tops P scope K a sc → Names_fit N integer_at tops P scope K a' sc
-  names_move tops scope lo a a' sc all same h b p t u = h b p t (all b K a' a t same u)
+  pub names_move : (world : World) (scope : Scope) (lo : ℕ) (a a' : Sub) (sc : Seen) → AllLocal (λ n. n < lo) scope → Agree (λ n. n < lo) a' a → Names_fit N integer_at world P scope K a sc → Names_fit N integer_at world P scope K a' sc
+  names_move world scope lo a a' sc all same h b p t u = h b p t (all b K a' a t same u)
 
-  pub names_sizes : (tops : Tops) (bs : List BindId) (ps : List (Parameter BindId)) (scope : Scope) (a : Sub) (sc : Seen) → No_sizes bs ps → Names_fit N integer_at tops P scope K a sc → Names_fit N integer_at tops P (with_sizes bs scope) K a sc
-  names_sizes tops [] ps scope a sc s h = h
-  names_sizes tops (b ∷ bs) ps scope a sc s h = absurd s
+  pub names_sizes : (world : World) (bs : List BindId) (ps : List (Parameter BindId)) (scope : Scope) (a : Sub) (sc : Seen) → No_sizes bs ps → Names_fit N integer_at world P scope K a sc → Names_fit N integer_at world P (with_sizes bs scope) K a sc
+  names_sizes world [] ps scope a sc s h = h
+  names_sizes world (b ∷ bs) ps scope a sc s h = absurd s
 
-  pub names_types : (tops : Tops) (bs : List BindId) (ps : List (Parameter BindId)) (c : Sub) (scope : Scope) (a : Sub) (sc : Seen) → No_sizes bs ps → Names_fit N integer_at tops P scope K a sc → Names_fit N integer_at tops P (with_parameters ps c scope) K a sc
-  names_types tops [] [] c scope a sc s h = h
-  names_types tops [] (Size_parameter b ∷ ps) c scope a sc s h = absurd s
-  names_types tops [] (Type_parameter b lifted ∷ ps) c scope a sc s h = names_types tops [] ps c (with_type b.0 (c b.0) scope) a sc s h
-  names_types tops (b ∷ bs) ps c scope a sc s h = absurd s
+  pub names_types : (world : World) (bs : List BindId) (ps : List (Parameter BindId)) (c : Sub) (scope : Scope) (a : Sub) (sc : Seen) → No_sizes bs ps → Names_fit N integer_at world P scope K a sc → Names_fit N integer_at world P (with_parameters ps c scope) K a sc
+  names_types world [] [] c scope a sc s h = h
+  names_types world [] (Size_parameter b ∷ ps) c scope a sc s h = absurd s
+  names_types world [] (Type_parameter b lifted ∷ ps) c scope a sc s h = names_types world [] ps c (with_type b.0 (c b.0) scope) a sc s h
+  names_types world (b ∷ bs) ps c scope a sc s h = absurd s
 
-  module _ (tops : Tops) (a : Sub) where
-    abbrev At : Ty → Known → Type 0
-    At t s = Fits N integer_at t tops s
+  module _ (a : Sub) where
+    abbrev At : World → Ty → Known → Type 0
+    At world t s = Fits N integer_at K t world s
 
-    abbrev Sees : Scope → Seen → Type 0
-    Sees scope sc = Names_fit N integer_at tops P scope K a sc
+    abbrev Sees : World → Scope → Seen → Type 0
+    Sees world scope sc = Names_fit N integer_at world P scope K a sc
 
-    pub name_fits : (b : BindId) (v : Known) (u : Uses) (scope : Scope) (sc : Seen) → ((t : Ty) → u K a t → At t v) → Sees scope sc → Sees (with_uses b.0 u scope) (name_and b v sc)
-    name_fits b v u scope sc here rest n p t = elim (ℕ_discrete n b.0) as (λ d. (elim d as (λ d. Uses) [ yes e ↦ u | no ne ↦ scope.uses n ]) K a t → (s : Known) × (find tops (name_and b v sc) n ≡ Some s) × At t s) [
-      | yes e ↦ λ h. (v, found_here tops b v sc n (sym e), here t h)
-      | no ne ↦ λ h. let r = rest n p t h in (r.0, found_on tops b v sc n (λ e. ne (sym e)) ∙ r.1, r.2)
+    pub name_fits : (world : World) (b : BindId) (v : Known) (u : Uses) (scope : Scope) (sc : Seen) → ((t : Ty) → u K a t → At world t v) → Sees world scope sc → Sees world (with_uses b.0 u scope) (name_and b v sc)
+    name_fits world b v u scope sc here rest n p t = elim (ℕ_discrete n b.0) as (λ d. (elim d as (λ d. Uses) [ yes e ↦ u | no ne ↦ scope.uses n ]) K a t → (s : Known) × (find world.0 (name_and b v sc) n ≡ Some s) × At world t s) [
+      | yes e ↦ λ h. (v, found_here world.0 b v sc n (sym e), here t h)
+      | no ne ↦ λ h. let r = rest n p t h in (r.0, found_on world.0 b v sc n (λ e. ne (sym e)) ∙ r.1, r.2)
     ]
 
-    pub same_fits : (t u : Ty) (s : Known) → t ≡ u → At t s → At u s
-    same_fits t u s e h = subst (λ x. At x s) e h
+    pub same_fits : (world : World) (t u : Ty) (s : Known) → t ≡ u → At world t s → At world u s
+    same_fits world t u s e h = subst (λ x. At world x s) e h
 
-    each_listed : (ts : Tys) (ss : Knowns) → All_fit N integer_at ts tops ss → Each_fits N integer_at tops ts (listed ss)
-    unfolding All_fit
-    each_listed none no_known h = tt
-    each_listed none (known_and s ss) h = absurd h
-    each_listed (more t ts) no_known h = absurd h
-    each_listed (more t ts) (known_and s ss) h = (h.0, each_listed ts ss h.1)
-
-    tuple_known_parts : (ts : Tys) (t : Ty) (ss : Knowns) → t ≡ Made head.Tuple ts → At t (Tuple_known ss) → Each_fits N integer_at tops ts (listed ss)
+    tuple_known_parts : (world : World) (ts : Tys) (t : Ty) (ss : Knowns) → t ≡ Made head.Tuple ts → At world t (Tuple_known ss) → Each_fits N integer_at K world ts (listed ss)
     unfolding Fits
-    tuple_known_parts ts t ss e h = let k : At (Made head.Tuple ts) (Tuple_known ss) = same_fits t (Made head.Tuple ts) (Tuple_known ss) e h in each_listed ts ss k.1
+    tuple_known_parts world ts t ss e h = let k : At world (Made head.Tuple ts) (Tuple_known ss) = same_fits world t (Made head.Tuple ts) (Tuple_known ss) e h in each_listed N integer_at K world ts ss k.1
 
-    tuple_component : (ts : Tys) (t : Ty) (w : Atom) → t ≡ Made head.Tuple ts → At t (Scalar_known w) → All_data N ts
+    tuple_component : (world : World) (ts : Tys) (t : Ty) (w : Atom) → t ≡ Made head.Tuple ts → At world t (Scalar_known w) → All_data N ts × types_of N K world.1 w (Made head.Tuple ts)
     unfolding Fits
-    tuple_component ts t w e h = same_fits t (Made head.Tuple ts) (Scalar_known w) e h
+    tuple_component world ts t w e h = same_fits world t (Made head.Tuple ts) (Scalar_known w) e h
 
-    abbrev Tuple_parts : Tys → Known → Type 0
-    Tuple_parts ts s = ((w : Atom) × (s ≡ Scalar_known w) × All_data N ts) ⊎ ((ss : Knowns) × (s ≡ Tuple_known ss) × Each_fits N integer_at tops ts (listed ss))
+    abbrev Tuple_parts : World → Tys → Known → Type 0
+    Tuple_parts world ts s = ((w : Atom) × (s ≡ Scalar_known w) × All_data N ts) ⊎ ((ss : Knowns) × (s ≡ Tuple_known ss) × Each_fits N integer_at K world ts (listed ss))
 
-    tuple_parts : (ts : Tys) (t : Ty) (s : Known) → t ≡ Made head.Tuple ts → At t s → Tuple_parts ts s
+    tuple_parts : (world : World) (ts : Tys) (t : Ty) (s : Known) → t ≡ Made head.Tuple ts → At world t s → Tuple_parts world ts s
     unfolding Fits
-    tuple_parts ts t s e h =
-        let k : At (Made head.Tuple ts) s = same_fits t (Made head.Tuple ts) s e h in
-        elim (tuple_is (All_data N ts) (λ ss. (count ts < widest) × All_fit N integer_at ts tops ss) s k) as (λ d. Tuple_parts ts s) [ inl r ↦ inl (r.0, r.1, r.2) | inr r ↦ inr (r.0, r.1, each_listed ts r.0 r.2.1) ]
+    tuple_parts world ts t s e h =
+        let k : At world (Made head.Tuple ts) s = same_fits world t (Made head.Tuple ts) s e h in
+        elim (tuple_is (λ u. All_data N ts × types_of N K world.1 u (Made head.Tuple ts)) (λ ss. (count ts < widest) × All_fit N integer_at K ts world ss) s k) as (λ d. Tuple_parts world ts s) [ inl r ↦ inl (r.0, r.1, r.2.0) | inr r ↦ inr (r.0, r.1, each_listed N integer_at K world ts r.0 r.2.1) ]
 
-    -- new names for parts that are data
-    named_each : (ts : Tys) (xs : List ℕ) → All_data N ts → length xs ≡ count ts → Each_fits N integer_at tops ts (map named xs)
+    -- names of parts that are data
+    named_each : (world : World) (ts : Tys) (xs : List ℕ) → All_data N ts → Are (types_of N K world.1) (names xs) ts → Each_fits N integer_at K world ts (map named xs)
     unfolding All_data
-    named_each none [] d e = tt
-    named_each none (x ∷ xs) d e = let z : suc (length xs) ≡ 0 = e in omega (arith, z)
-    named_each (more t ts) [] d e = let z : 0 ≡ 1 + count ts = e in omega (arith, z)
-    named_each (more t ts) (x ∷ xs) d e = (data_fits N integer_at t tops (atom.Name x) d.0, named_each ts xs d.1 (let z : suc (length xs) ≡ 1 + count ts = e in omega (arith, z)))
+    named_each world none [] d h = tt
+    named_each world none (x ∷ xs) d h = absurd h
+    named_each world (more t ts) [] d h = absurd h
+    named_each world (more t ts) (x ∷ xs) d h = (data_fits N integer_at K t world (atom.Name x) d.0 h.0, named_each world ts xs d.1 h.1)
 
-    named_bound : (ps : Patterns Ref BindId) (lo : ℕ) (xs : List ℕ) {sc inner : Seen} {n m : ℕ} {bs : Bindings} → All_bind ps (map named xs) sc n bs inner m → All_data N (pattern_types a ps lo) → Each_fits N integer_at tops (pattern_types a ps lo) (map named xs)
-    unfolding All_data
-    named_bound no_pattern lo [] b d = tt
-    named_bound no_pattern lo (x ∷ xs) b d = elim b [ ]
-    named_bound (pattern_and p ps) lo [] b d = elim b [ ]
-    named_bound (pattern_and p ps) lo (x ∷ xs) (b_more b bs) d = (data_fits N integer_at (a lo) tops (atom.Name x) d.0, named_bound ps (lo + pattern_numbers p) xs bs d.1)
+    -- with new ones
+    given_each : (world : World) (ts : Tys) (xs : List ℕ) → All_data N ts → length xs ≡ count ts → Each_fits N integer_at K (world.0, Given (names xs) ts ∷ world.1) ts (map named xs)
+    given_each world ts xs d e = named_each (world.0, Given (names xs) ts ∷ world.1) ts xs d (stand_are (types_of N K (Given (names xs) ts ∷ world.1)) (names xs) ts (λ u t h. inl h) (names_length xs ∙ e))
 
-    tuple_binds : (ps : Patterns Ref BindId) (ts : Tys) (s : Known) → ((ss : List Known) → Each_fits N integer_at tops ts ss → All_bindable ps ss) → Tuple_parts ts s → Bindable (Tuple_pattern ps) s
-    tuple_binds ps ts s each (inl (w, e, d)) = subst (Bindable (Tuple_pattern ps)) (sym e) (λ sc n. let x = some_names (count ts) n in let q = each (map named x.0) (named_each ts x.0 d x.3) sc x.1 in (q.0, _, q.2, b_parts x.0 x.2 q.3))
-    tuple_binds ps ts s each (inr (ss, e, h)) = subst (Bindable (Tuple_pattern ps)) (sym e) (λ sc n. let q = each (listed ss) h sc n in (q.0, q.1, q.2, b_tuple q.3))
+    step_each : (world : World) (ts : Tys) (xs : List ℕ) (b : Action) → All_data N ts → Act_typed N K b (types_of N K world.1) ts → length xs ≡ count ts → Comes N K world (step xs b) (λ there. Each_fits N integer_at K there ts (map named xs))
+    step_each world ts xs b d h e =
+        comes_step N K world xs b ts (λ there. Each_fits N integer_at K there ts (map named xs)) h e
+        (named_each (world.0, Bound xs b ∷ world.1) ts xs d (stand_are (types_of N K (Bound xs b ∷ world.1)) (names xs) ts (λ u t s. inl (ts, h, s)) (names_length xs ∙ e)))
 
-    abbrev Record_parts : List Text → Tys → Known → Type 0
-    Record_parts names us s = ((w : Atom) × (s ≡ Scalar_known w) × All_data N us) ⊎ ((fs : Known_fields) × (s ≡ Record_known fs) × ((ss : List Known) × (record_parts names fs ≡ Some ss) × Each_fits N integer_at tops us ss))
+    bound_length : (ps : Patterns Ref BindId) (lo : ℕ) (xs : List ℕ) {sc inner : Seen} {n m : ℕ} {bs : Bindings} → All_bind ps (map named xs) sc n bs inner m → length xs ≡ count (pattern_types a ps lo)
+    bound_length no_pattern lo [] b = refl
+    bound_length no_pattern lo (x ∷ xs) b = elim b [ ]
+    bound_length (pattern_and p ps) lo [] b = elim b [ ]
+    bound_length (pattern_and p ps) lo (x ∷ xs) (b_more b bs) = let r : length xs ≡ count (pattern_types a ps (lo + pattern_numbers p)) = bound_length ps (lo + pattern_numbers p) xs bs in omega (arith, r)
 
-    record_binds : (names : List Text) (ps : Patterns Ref BindId) (us : Tys) (s : Known) → length names ≡ count us → ((ss : List Known) → Each_fits N integer_at tops us ss → All_bindable ps ss) → Record_parts names us s → Bindable (Record_pattern names ps) s
-    record_binds names ps us s long each (inl (w, e, d)) = subst (Bindable (Record_pattern names ps)) (sym e) (λ sc n. let x = some_names (length names) n in let q = each (map named x.0) (named_each us x.0 d (x.3 ∙ long)) sc x.1 in (q.0, _, q.2, b_fields x.0 x.2 x.3 q.3))
-    record_binds names ps us s long each (inr (fs, e, r)) = subst (Bindable (Record_pattern names ps)) (sym e) (λ sc n. let q = each r.0 r.2 sc n in (q.0, q.1, q.2, b_record r.1 q.3))
+    tuple_binds : (world : World) (ps : Patterns Ref BindId) (ts : Tys) (s : Known) → ((there : World) (ss : List Known) → Each_fits N integer_at K there ts ss → All_bindable ps ss) → Tuple_parts world ts s → Bindable (Tuple_pattern ps) s
+    tuple_binds world ps ts s each (inl (w, e, d)) = subst (Bindable (Tuple_pattern ps)) (sym e) (λ sc n. let x = some_names (count ts) n in let q = each _ (map named x.0) (given_each world ts x.0 d x.3) sc x.1 in (q.0, _, q.2, b_parts x.0 x.2 q.3))
+    tuple_binds world ps ts s each (inr (ss, e, h)) = subst (Bindable (Tuple_pattern ps)) (sym e) (λ sc n. let q = each world (listed ss) h sc n in (q.0, q.1, q.2, b_tuple q.3))
+
+    abbrev Record_parts : World → List Text → Tys → Known → Type 0
+    Record_parts world names us s = ((w : Atom) × (s ≡ Scalar_known w) × All_data N us) ⊎ ((fs : Known_fields) × (s ≡ Record_known fs) × ((ss : List Known) × (record_parts names fs ≡ Some ss) × Each_fits N integer_at K world us ss))
+
+    record_binds : (world : World) (names : List Text) (ps : Patterns Ref BindId) (us : Tys) (s : Known) → length names ≡ count us → ((there : World) (ss : List Known) → Each_fits N integer_at K there us ss → All_bindable ps ss) → Record_parts world names us s → Bindable (Record_pattern names ps) s
+    record_binds world names ps us s long each (inl (w, e, d)) = subst (Bindable (Record_pattern names ps)) (sym e) (λ sc n. let x = some_names (length names) n in let q = each _ (map named x.0) (given_each world us x.0 d (x.3 ∙ long)) sc x.1 in (q.0, _, q.2, b_fields x.0 x.2 x.3 q.3))
+    record_binds world names ps us s long each (inr (fs, e, r)) = subst (Bindable (Record_pattern names ps)) (sym e) (λ sc n. let q = each world r.0 r.2 sc n in (q.0, q.1, q.2, b_record r.1 q.3))
 
     named_count : (names : List Text) (t : Ty) (us : Tys) → Parts_named N names t us → length names ≡ count us
     named_count [] t none h = refl
@@ -134,43 +139,49 @@ module _ (N : Names) (integer_at : ℕ → IntType) (P : ℕ → Type 0) (K : Ki
 
     module _ (are : AreNames N) (places : Kind) where
       mutual
-        pub bindable : (p : FlatPattern) (lo : ℕ) (inside : Scope) (s : Known) → Pattern_typed N places K a p lo inside → At (a lo) s → Bindable p s
-        bindable (Bound_pattern b) lo inside s typed h sc n = (name_and b s sc, [], n, b_bound)
-        bindable Wild_pattern lo inside s typed h sc n = (sc, [], n, b_wild)
-        bindable (Tuple_pattern ps) lo inside s typed h sc n =
-            tuple_binds ps (pattern_types a ps (1 + lo)) s (λ ss k. all_bindable ps (1 + lo) inside ss typed.0 k) (tuple_parts (pattern_types a ps (1 + lo)) (a lo) s typed.1 h) sc n
-        bindable (Record_pattern names ps) lo inside s typed h sc n =
-            record_binds names ps (pattern_types a ps (1 + lo)) s (named_count names (a lo) (pattern_types a ps (1 + lo)) typed.1.named) (λ ss k. all_bindable ps (1 + lo) inside ss typed.0 k) (record_parts_fit N integer_at tops are names (a lo) (pattern_types a ps (1 + lo)) s typed.1 h) sc n
-        bindable (Typed_pattern p t) lo inside s typed h sc n = let q = bindable p lo inside s typed.0 h sc n in (q.0, q.1, q.2, b_typed q.3)
+        pub bindable : (p : FlatPattern) (lo : ℕ) (inside : Scope) (world : World) (s : Known) → Pattern_typed N places K a p lo inside → At world (a lo) s → Bindable p s
+        bindable (Bound_pattern b) lo inside world s typed h sc n = (name_and b s sc, [], n, b_bound)
+        bindable Wild_pattern lo inside world s typed h sc n = (sc, [], n, b_wild)
+        bindable (Tuple_pattern ps) lo inside world s typed h sc n =
+            tuple_binds world ps (pattern_types a ps (1 + lo)) s (λ there ss k. all_bindable ps (1 + lo) inside there ss typed.0 k) (tuple_parts world (pattern_types a ps (1 + lo)) (a lo) s typed.1 h) sc n
+        bindable (Record_pattern names ps) lo inside world s typed h sc n =
+            record_binds world names ps (pattern_types a ps (1 + lo)) s (named_count names (a lo) (pattern_types a ps (1 + lo)) typed.1.named) (λ there ss k. all_bindable ps (1 + lo) inside there ss typed.0 k) (record_parts_fit N integer_at K world are names (a lo) (pattern_types a ps (1 + lo)) s typed.1 h) sc n
+        bindable (Typed_pattern p t) lo inside world s typed h sc n = let q = bindable p lo inside world s typed.0 h sc n in (q.0, q.1, q.2, b_typed q.3)
 
-        all_bindable : (ps : Patterns Ref BindId) (lo : ℕ) (inside : Scope) (ss : List Known) → Patterns_typed N places K a ps lo inside → Each_fits N integer_at tops (pattern_types a ps lo) ss → All_bindable ps ss
-        all_bindable no_pattern lo inside [] typed h sc n = (sc, [], n, b_none)
-        all_bindable no_pattern lo inside (s ∷ ss) typed h sc n = absurd h
-        all_bindable (pattern_and p ps) lo inside [] typed h sc n = absurd h
-        all_bindable (pattern_and p ps) lo inside (s ∷ ss) typed h sc n =
-            let q = bindable p lo inside s typed.0 h.0 sc n in
-            let r = all_bindable ps (lo + pattern_numbers p) inside ss typed.1 h.1 q.0 q.2 in (r.0, _, r.2, b_more q.3 r.3)
+        all_bindable : (ps : Patterns Ref BindId) (lo : ℕ) (inside : Scope) (world : World) (ss : List Known) → Patterns_typed N places K a ps lo inside → Each_fits N integer_at K world (pattern_types a ps lo) ss → All_bindable ps ss
+        all_bindable no_pattern lo inside world [] typed h sc n = (sc, [], n, b_none)
+        all_bindable no_pattern lo inside world (s ∷ ss) typed h sc n = absurd h
+        all_bindable (pattern_and p ps) lo inside world [] typed h sc n = absurd h
+        all_bindable (pattern_and p ps) lo inside world (s ∷ ss) typed h sc n =
+            let q = bindable p lo inside world s typed.0 h.0 sc n in
+            let r = all_bindable ps (lo + pattern_numbers p) inside world ss typed.1 h.1 q.0 q.2 in (r.0, _, r.2, b_more q.3 r.3)
 
-      -- and its names are known by their types
+      -- its steps are typed, and its names are known by their types
       mutual
-        binds_to_fit : (p : FlatPattern) (lo : ℕ) (inside scope : Scope) (s : Known) (sc inner : Seen) {n m : ℕ} {bs : Bindings} → Pattern_typed N places K a p lo inside → At (a lo) s → Sees scope sc → Binds p s sc n bs inner m → Sees (with_pattern the_one p lo scope) inner
-        binds_to_fit (Bound_pattern b) lo inside scope s sc _ typed h rest b_bound = name_fits b s (the_one lo) scope sc (λ t e. same_fits (a lo) t s (sym e) h) rest
-        binds_to_fit Wild_pattern lo inside scope s sc _ typed h rest b_wild = rest
-        binds_to_fit (Tuple_pattern ps) lo inside scope _ sc inner typed h rest (b_tuple {ss = ss} b) =
-            all_binds_fit ps (1 + lo) inside scope (listed ss) sc inner typed.0 (tuple_known_parts (pattern_types a ps (1 + lo)) (a lo) ss typed.1 h) rest b
-        binds_to_fit (Tuple_pattern ps) lo inside scope _ sc inner typed h rest (b_parts {u = u} xs up b) =
-            all_binds_fit ps (1 + lo) inside scope (map named xs) sc inner typed.0 (named_bound ps (1 + lo) xs b (tuple_component (pattern_types a ps (1 + lo)) (a lo) u typed.1 h)) rest b
-        binds_to_fit (Record_pattern names ps) lo inside scope _ sc inner typed h rest (b_record {known = fs} {ss = ss} e b) =
-            let r = known_parts_fit N integer_at tops are names (a lo) (pattern_types a ps (1 + lo)) fs typed.1 h in
-            all_binds_fit ps (1 + lo) inside scope ss sc inner typed.0 (subst (Each_fits N integer_at tops (pattern_types a ps (1 + lo))) (some_same (sym r.1 ∙ e)) r.2) rest b
-        binds_to_fit (Record_pattern names ps) lo inside scope _ sc inner typed h rest (b_fields {u = u} xs up l b) =
-            all_binds_fit ps (1 + lo) inside scope (map named xs) sc inner typed.0 (named_bound ps (1 + lo) xs b (component_parts N integer_at tops are names (a lo) (pattern_types a ps (1 + lo)) u typed.1 h)) rest b
-        binds_to_fit (Typed_pattern p t) lo inside scope s sc inner typed h rest (b_typed b) = binds_to_fit p lo inside scope s sc inner typed.0 h rest b
+        unfolding Act_typed
 
-        all_binds_fit : (ps : Patterns Ref BindId) (lo : ℕ) (inside scope : Scope) (ss : List Known) (sc inner : Seen) {n m : ℕ} {bs : Bindings} → Patterns_typed N places K a ps lo inside → Each_fits N integer_at tops (pattern_types a ps lo) ss → Sees scope sc → All_bind ps ss sc n bs inner m → Sees (with_patterns the_one ps lo scope) inner
-        all_binds_fit no_pattern lo inside scope _ sc _ typed h rest b_none = rest
-        all_binds_fit (pattern_and p ps) lo inside scope _ sc inner typed h rest (b_more {s = s} {ss = ss} {sc' = sc'} b bs) =
-            all_binds_fit ps (lo + pattern_numbers p) inside (with_pattern the_one p lo scope) ss sc' inner typed.1 h.1 (binds_to_fit p lo inside scope s sc sc' typed.0 h.0 rest b) bs
+        pub binds_fit : (p : FlatPattern) (lo : ℕ) (inside scope : Scope) (world : World) (s : Known) (sc inner : Seen) (n m : ℕ) (bs : Bindings) → Pattern_typed N places K a p lo inside → At world (a lo) s → Sees world scope sc → Binds p s sc n bs inner m → Comes N K world bs (λ there. Sees there (with_pattern the_one p lo scope) inner)
+        binds_fit (Bound_pattern b) lo inside scope world s sc _ _ _ _ typed h rest b_bound = comes_none N K world (λ there. Sees there (with_uses b.0 (the_one lo) scope) (name_and b s sc)) (name_fits world b s (the_one lo) scope sc (λ t e. same_fits world (a lo) t s (sym e) h) rest)
+        binds_fit Wild_pattern lo inside scope world s sc _ _ _ _ typed h rest b_wild = comes_none N K world (λ there. Sees there scope sc) rest
+        binds_fit (Tuple_pattern ps) lo inside scope world _ sc inner n m bs typed h rest (b_tuple {ss = ss} b) =
+            all_binds_fit ps (1 + lo) inside scope world (listed ss) sc inner n m bs typed.0 (tuple_known_parts world (pattern_types a ps (1 + lo)) (a lo) ss typed.1 h) rest b
+        binds_fit (Tuple_pattern ps) lo inside scope world _ sc inner n m _ typed h rest (b_parts {u = u} {k = k} {bs = bs} xs up b) =
+            let d = tuple_component world (pattern_types a ps (1 + lo)) (a lo) u typed.1 h in
+            comes_then N K world (step xs (Operate (operation.Parts u))) bs (λ there. Each_fits N integer_at K there (pattern_types a ps (1 + lo)) (map named xs)) (λ there. Sees there (with_patterns the_one ps (1 + lo) scope) inner)
+            (step_each world (pattern_types a ps (1 + lo)) xs (Operate (operation.Parts u)) d.0 d.1 (bound_length ps (1 + lo) xs b))
+            (λ C g e. all_binds_fit ps (1 + lo) inside scope (world.0, C) (map named xs) sc inner k m bs typed.0 e (names_learn world (world.0, C) g scope a sc rest) b)
+        binds_fit (Record_pattern names ps) lo inside scope world _ sc inner n m bs typed h rest (b_record {known = fs} {ss = ss} e b) =
+            let r = known_parts_fit N integer_at K world are names (a lo) (pattern_types a ps (1 + lo)) fs typed.1 h in
+            all_binds_fit ps (1 + lo) inside scope world ss sc inner n m bs typed.0 (subst (Each_fits N integer_at K world (pattern_types a ps (1 + lo))) (some_same (sym r.1 ∙ e)) r.2) rest b
+        binds_fit (Record_pattern names ps) lo inside scope world _ sc inner n m _ typed h rest (b_fields {u = u} {k = k} {bs = bs} xs up l b) =
+            let d = component_parts N integer_at K world are names (a lo) (pattern_types a ps (1 + lo)) u typed.1 h in
+            comes_then N K world (step xs (act.Read (act.Fields_at names) (u ∷ []))) bs (λ there. Each_fits N integer_at K there (pattern_types a ps (1 + lo)) (map named xs)) (λ there. Sees there (with_patterns the_one ps (1 + lo) scope) inner)
+            (step_each world (pattern_types a ps (1 + lo)) xs (act.Read (act.Fields_at names) (u ∷ [])) d (more (a lo) none, ((fits_data N integer_at K (a lo) world u h).1, tt), typed.1) (bound_length ps (1 + lo) xs b))
+            (λ C g e. all_binds_fit ps (1 + lo) inside scope (world.0, C) (map named xs) sc inner k m bs typed.0 e (names_learn world (world.0, C) g scope a sc rest) b)
+        binds_fit (Typed_pattern p t) lo inside scope world s sc inner n m bs typed h rest (b_typed b) = binds_fit p lo inside scope world s sc inner n m bs typed.0 h rest b
 
-      pub binds_fit : (p : FlatPattern) (lo : ℕ) (inside scope : Scope) (s : Known) (sc inner : Seen) → Pattern_typed N places K a p lo inside → At (a lo) s → Sees scope sc → Binds_to p s sc inner → Sees (with_pattern the_one p lo scope) inner
-      binds_fit p lo inside scope s sc inner typed h rest (n, bs, m, b) = binds_to_fit p lo inside scope s sc inner typed h rest b
+        all_binds_fit : (ps : Patterns Ref BindId) (lo : ℕ) (inside scope : Scope) (world : World) (ss : List Known) (sc inner : Seen) (n m : ℕ) (bs : Bindings) → Patterns_typed N places K a ps lo inside → Each_fits N integer_at K world (pattern_types a ps lo) ss → Sees world scope sc → All_bind ps ss sc n bs inner m → Comes N K world bs (λ there. Sees there (with_patterns the_one ps lo scope) inner)
+        all_binds_fit no_pattern lo inside scope world _ sc _ _ _ _ typed h rest b_none = comes_none N K world (λ there. Sees there scope sc) rest
+        all_binds_fit (pattern_and p ps) lo inside scope world _ sc inner n m _ typed h rest (b_more {s = s} {ss = ss} {sc' = sc'} {k = k} {bs = bs} {cs = cs} b rs) =
+            comes_then N K world bs cs (λ there. Sees there (with_pattern the_one p lo scope) sc') (λ there. Sees there (with_patterns the_one ps (lo + pattern_numbers p) (with_pattern the_one p lo scope)) inner) (binds_fit p lo inside scope world s sc sc' n k bs typed.0 h.0 rest b)
+            (λ C g sees. all_binds_fit ps (lo + pattern_numbers p) inside (with_pattern the_one p lo scope) (world.0, C) ss sc' inner k m cs typed.1 (each_learn N integer_at K world (world.0, C) g (pattern_types a ps (lo + pattern_numbers p)) ss h.1) sees rs)

@@ -8,7 +8,7 @@ use Rattle.fut_flat.specs.declared.prim.Ref.{Ref}
 use Rattle.fut_flat.specs.declared.program.Flat.{Flat}
 use Rattle.fut_types.specs.declared.Kind.{Kind}
 use Rattle.fut_types.specs.declared.Kind.TheVariants as kind
-use Rattle.fut_types.specs.Types.{Ty, Tys, Sub, Kinds, HasKind}
+use Rattle.fut_types.specs.Types.{Ty, Tys, none, Sub, Kinds, HasKind}
 use Rattle.fut_typing.specs.Exact.{scope_behind}
 use Rattle.fut_typing.specs.Names.{Names, AreNames}
 use Rattle.fut_typing.specs.Patterns.{arrows}
@@ -20,10 +20,13 @@ use Rattle.fut_meaning.specs.Meaning.{plain}
 use Rattle.fut_meaning.specs.Values.{Values, listed}
 use Rattle.fut_blocks.specs.declared.block.Program.{Program}
 use Rattle.fut_blocks.specs.Meaning.{Component}
+use Rattle.fut_blocks.specs.Plain.{body_of}
 use Rattle.fut_blocks.specs.Programs.{Program_means, AreOf}
 use Rattle.type_soundness.specs.Programs.{Is_typed, Arguments_fit, Result_fits}
+use Rattle.unfold_laws.specs.Components.{components, all_components}
 use Rattle.unfold_laws.specs.Shaped.{All_of_shapes}
 use Rattle.unfold_laws.specs.Sorts.{Sorts, parts}
+use Rattle.unfold_laws.specs.Typed.{of_constants, with_names, Body_typed}
 use Rattle.unfold.specs.Programs.{Program_unfolds}
 use Rattle.unfold.specs.Shapes.{Shape, Shapes, All_split, Is_value}
 use Rattle.unfold.specs.Stuck.{Program_stuck}
@@ -53,3 +56,12 @@ UnfoldingNeverStuck =
     (N : Names) → AreNames N → (K : Kinds) (a : Sub) (integer_at : ℕ → IntType) (flat : Flat) → Is_typed N kind.Data K a integer_at flat
     → (entry : BindId) (ts : Tys) (u : Ty) → (scope_behind N kind.Data (program_of flat) 0 nothing).uses entry.0 K a (arrows ts u) → HasKind K kind.Data u
     → (hs : Shapes) → All_of_shapes ts hs → Program_stuck integer_at (flat_tops 0 (named_terms flat)) entry.0 hs → ⊥
+
+-- The blocks to which a typed program unfolds are well typed, arrays included, where the parameters have the types of the
+-- components of its arguments; and their results have those of the components of its result.
+abbrev pub UnfoldedWellTyped : Type 0
+UnfoldedWellTyped =
+    (N : Names) → AreNames N → (K : Kinds) (a : Sub) (integer_at : ℕ → IntType) (flat : Flat) → Is_typed N kind.Data K a integer_at flat
+    → (entry : BindId) (ts : Tys) (u : Ty) → (scope_behind N kind.Data (program_of flat) 0 nothing).uses entry.0 K a (arrows ts u) → HasKind K kind.Data u
+    → (hs : Shapes) → All_of_shapes ts hs → (h : Shape) (p : Program) → Program_unfolds integer_at (flat_tops 0 (named_terms flat)) entry.0 hs h p
+    → Body_typed N K (body_of p.body) (with_names p.params.now (all_components N hs ts none) of_constants) (components N h u none)

@@ -1,8 +1,8 @@
--- What is known of the values of a type where a program is unfolded. A function is known so that its application has a way on
--- for what is known of each value of its parameter's type, and what is then known is known of a value of its result's; and so
--- it stays where more definitions are known. Data, in which no function is, may be one component, whatever its type; and of a
--- variable, a rigid and an abstract type it is known as nothing else.
-use Rattle.std.specs.Prelude.{◌≡◌, ◌≢◌, ℕ, ◌<◌, List, [], ◌∷◌, true, Some}
+-- What is known of the values of a type where a program is unfolded (a logical relation over worlds that grow). A function is
+-- known so that its application has a way on for what is known of each value of its parameter's type, its steps are typed, and
+-- what is then known is known of a value of its result's; and so it stays where more is known. Data, in which no function is,
+-- may be one component of its type; and of a variable, a rigid and an abstract type it is known as nothing else.
+use Rattle.std.specs.Prelude.{◌≡◌, ◌≢◌, ℕ, ◌<◌, List, [], ◌∷◌, true, Some, length}
 use Rattle.std.specs.List.{Contains}
 use Rattle.fut_scalar.specs.declared.scalar.IntType.{IntType}
 use Rattle.fut_ast.specs.Sorts.{Text}
@@ -11,29 +11,80 @@ use Rattle.fut_types.specs.Types.{Ty, Var, Made, Tys, none, more, Sub, Kinds}
 use Rattle.fut_typing.specs.Names.{Names, count}
 use Rattle.fut_typing.specs.Scopes.{Scope}
 use Rattle.fut_meaning.specs.Values.{Tuple_value, no_value, no_field, field_and}
+use Rattle.fut_blocks.specs.declared.block.Atom.{Atom}
 use Rattle.fut_blocks.specs.Meaning.{look}
+use Rattle.fut_blocks.specs.Plain.{Action}
 use Rattle.type_soundness.specs.Fits.{widest, FlatFields, Are_keys}
 use Rattle.unfold.specs.Knowns.{Known, Scalar_known, Tuple_known, Record_known, Knowns, no_known, known_and, Known_fields, no_known_field, known_field_and, Scope as Seen, Tops, find}
 use Rattle.unfold.specs.Stuck.{is_function, Stuck_run}
 use Rattle.unfold.specs.Unfolding.{Bindings, Applies}
+use Rattle.unfold_laws.specs.Typed.{Types, of_constants, with_atoms, with_each, Act_typed}
 
--- the definitions that are known are among these, with the same values
-abbrev pub Learns : Tops → Tops → Type 0
-Learns tops tops' = (k : ℕ) (s : Known) → look tops k ≡ Some s → look tops' k ≡ Some s
+-- ---- worlds
 
-abbrev pub On_scalar : Known → Type 0
-On_scalar (Scalar_known u) = Unit {0}
-On_scalar s = ⊥
+-- atoms of these types, or names of what an act gives
+pub data Entry : Type 0 where
+  Given : List Atom → Tys → Entry
+  Bound : List ℕ → Action → Entry
+
+-- what the atoms stand for, the newest first
+abbrev pub Context : Type 0
+Context = List Entry
+
+-- behind these steps
+abbrev pub behind : Context → Bindings → Context
+behind C [] = C
+behind C (b ∷ bs) = behind (Bound b.0 b.1 ∷ C) bs
+
+-- what is known where a term is unfolded: the definitions, and what the atoms stand for
+abbrev pub World : Type 0
+World = Tops × Context
+
+-- each atom has here the types that it has there
+abbrev pub Keeps : Types → Types → Type 0
+Keeps G H = (u : Atom) (t : Ty) → G u t → H u t
+
+abbrev pub Keeps_tops : Tops → Tops → Type 0
+Keeps_tops tops tops' = (k : ℕ) (s : Known) → look tops k ≡ Some s → look tops' k ≡ Some s
+
+module _ (N : Names) (K : Kinds) where
+  abbrev pub types_of : Context → Types
+  types_of [] = of_constants
+  types_of (Given us ts ∷ C) = with_atoms us ts (types_of C)
+  types_of (Bound xs a ∷ C) = with_each xs (Act_typed N K a (types_of C)) (types_of C)
+
+  -- each step has some types
+  abbrev pub Steps_typed : Context → Bindings → Type 0
+  Steps_typed C [] = Unit {0}
+  Steps_typed C (b ∷ bs) = ((ss : Tys) × Act_typed N K b.1 (types_of C) ss × (length b.0 ≡ count ss)) × Steps_typed (Bound b.0 b.1 ∷ C) bs
+
+  -- all that is known is known there too
+  abbrev pub Learns : World → World → Type 0
+  Learns world world' = Keeps_tops world.0 world'.0 × Keeps (types_of world.1) (types_of world'.1)
+
+  -- the steps are typed, and Q holds behind them
+  abbrev pub Comes : World → Bindings → (World → Type 0) → Type 0
+  Comes world bs Q = Steps_typed world.1 bs × Q (world.0, behind world.1 bs)
+
+  -- the application has a way on, its steps are typed, and all that it comes to is of Q
+  abbrev pub Runs_well : (ℕ → IntType) → World → Known → Known → (World → Known → Type 0) → Type 0
+  Runs_well integer_at world h s Q = (Stuck_run integer_at world.0 h s → ⊥) × ((n n' : ℕ) (bs : Bindings) (s' : Known) → Applies integer_at world.0 h s n bs s' n' → Comes world bs (λ there. Q there s'))
+
+-- ---- what is known
+
+abbrev pub On_component : (Atom → Type 0) → Known → Type 0
+On_component D (Scalar_known u) = D u
+On_component D s = ⊥
 
 -- D where it is one component
-abbrev pub On_tuple : Type 0 → (Knowns → Type 0) → Known → Type 0
+abbrev pub On_tuple : (Atom → Type 0) → (Knowns → Type 0) → Known → Type 0
 On_tuple D P (Tuple_known ss) = P ss
-On_tuple D P (Scalar_known u) = D
+On_tuple D P (Scalar_known u) = D u
 On_tuple D P s = ⊥
 
-abbrev pub On_record : Type 0 → (Known_fields → Type 0) → Known → Type 0
+abbrev pub On_record : (Atom → Type 0) → (Known_fields → Type 0) → Known → Type 0
 On_record D P (Record_known fs) = P fs
-On_record D P (Scalar_known u) = D
+On_record D P (Scalar_known u) = D u
 On_record D P s = ⊥
 
 abbrev pub No_known : Knowns → Type 0
@@ -52,10 +103,6 @@ Each_field P (known_field_and g s fs) = P g s × Each_field P fs
 abbrev pub keys : Known_fields → FlatFields
 keys no_known_field = no_field
 keys (known_field_and f s fs) = field_and f (Tuple_value no_value) (keys fs)
-
--- the application has a way on, and all that it comes to is of Q
-abbrev pub Runs_well : (ℕ → IntType) → Tops → Known → Known → (Known → Type 0) → Type 0
-Runs_well integer_at tops h s Q = (Stuck_run integer_at tops h s → ⊥) × ((n n' : ℕ) (bs : Bindings) (s' : Known) → Applies integer_at tops h s n bs s' n' → Q s')
 
 -- no function is inside of values of this type
 unfoldable mutual
@@ -79,32 +126,40 @@ unfoldable mutual
   Part_data N (l ∷ ls) none g = Unit {0}
   Part_data N (l ∷ ls) (more t ts) g = (l ≡ g → Is_data N t) × (l ≢ g → Part_data N ls ts g)
 
-module _ (N : Names) (integer_at : ℕ → IntType) where
-  -- what is known of the values of a type, where this is known of the definitions
-  unfoldable mutual
-    pub Fits : Ty → Tops → Known → Type 0
-    Fits (Var n) tops s = On_scalar s
-    Fits (Made (head.Scalar x) ts) tops s = On_scalar s
-    Fits (Made head.Array ts) tops s = All_data N ts × On_scalar s
-    Fits (Made head.Tuple ts) tops s = On_tuple (All_data N ts) (λ ss. (count ts < widest) × All_fit ts tops ss) s
-    Fits (Made (head.Record n) ts) tops s = On_record ((f : Text) → Contains (N.shapes.fields n) (N.label f) → Part_data N (N.shapes.fields n) ts (N.label f)) (λ fs. Are_keys N (N.shapes.fields n) (keys fs) × Each_field (λ g u. Keyed (N.shapes.fields n) ts tops (N.label g) u) fs) s
-    Fits (Made head.Fun none) tops s = ⊥
-    Fits (Made head.Fun (more t none)) tops s = ⊥
-    Fits (Made head.Fun (more t (more u none))) tops h = (is_function h ≡ true) × ((tops' : Tops) → Learns tops tops' → (s : Known) → Fits t tops' s → Runs_well integer_at tops' h s (Fits u tops'))
-    Fits (Made head.Fun (more t (more u (more w ts)))) tops s = ⊥
-    Fits (Made (head.Rigid n k) ts) tops s = On_scalar s
-    Fits (Made (head.Abstract n d) ts) tops s = On_scalar s
+-- no function is inside of a record of these parts
+abbrev pub Record_data : Names → ℕ → Tys → Type 0
+Record_data N n ts = (f : Text) → Contains (N.shapes.fields n) (N.label f) → Part_data N (N.shapes.fields n) ts (N.label f)
 
-    pub All_fit : Tys → Tops → Knowns → Type 0
-    All_fit none tops ss = No_known ss
-    All_fit (more t ts) tops ss = First_known (Fits t tops) (All_fit ts tops) ss
+module _ (N : Names) (integer_at : ℕ → IntType) (K : Kinds) where
+  abbrev pub Has : World → Ty → Atom → Type 0
+  Has world t u = types_of N K world.1 u t
+
+  -- what is known of the values of a type in a world
+  unfoldable mutual
+    pub Fits : Ty → World → Known → Type 0
+    Fits (Var n) world s = On_component (Has world (Var n)) s
+    Fits (Made (head.Scalar x) ts) world s = On_component (Has world (Made (head.Scalar x) ts)) s
+    Fits (Made head.Array ts) world s = All_data N ts × On_component (Has world (Made head.Array ts)) s
+    Fits (Made head.Tuple ts) world s = On_tuple (λ u. All_data N ts × Has world (Made head.Tuple ts) u) (λ ss. (count ts < widest) × All_fit ts world ss) s
+    Fits (Made (head.Record n) ts) world s =
+        On_record (λ u. Record_data N n ts × Has world (Made (head.Record n) ts) u) (λ fs. Are_keys N (N.shapes.fields n) (keys fs) × (count ts ≡ length (N.shapes.fields n)) × Each_field (λ g u. Keyed (N.shapes.fields n) ts world (N.label g) u) fs) s
+    Fits (Made head.Fun none) world s = ⊥
+    Fits (Made head.Fun (more t none)) world s = ⊥
+    Fits (Made head.Fun (more t (more u none))) world h = (is_function h ≡ true) × ((world' : World) → Learns N K world world' → (s : Known) → Fits t world' s → Runs_well N K integer_at world' h s (Fits u))
+    Fits (Made head.Fun (more t (more u (more w ts)))) world s = ⊥
+    Fits (Made (head.Rigid n k) ts) world s = On_component (Has world (Made (head.Rigid n k) ts)) s
+    Fits (Made (head.Abstract n d) ts) world s = On_component (Has world (Made (head.Abstract n d) ts)) s
+
+    pub All_fit : Tys → World → Knowns → Type 0
+    All_fit none world ss = No_known ss
+    All_fit (more t ts) world ss = First_known (Fits t world) (All_fit ts world) ss
 
     -- this is known of the part that a label names
-    pub Keyed : List ℕ → Tys → Tops → ℕ → Known → Type 0
-    Keyed [] ts tops g s = ⊥
-    Keyed (l ∷ ls) none tops g s = ⊥
-    Keyed (l ∷ ls) (more t ts) tops g s = (l ≡ g → Fits t tops s) × (l ≢ g → Keyed ls ts tops g s)
+    pub Keyed : List ℕ → Tys → World → ℕ → Known → Type 0
+    Keyed [] ts world g s = ⊥
+    Keyed (l ∷ ls) none world g s = ⊥
+    Keyed (l ∷ ls) (more t ts) world g s = (l ≡ g → Fits t world s) × (l ≢ g → Keyed ls ts world g s)
 
 -- each name of P is known, at each type at which it may be used: a local one, or else a definition
-abbrev pub Names_fit : Names → (ℕ → IntType) → Tops → (ℕ → Type 0) → Scope → Kinds → Sub → Seen → Type 0
-Names_fit N integer_at tops P scope K a sc = (b : ℕ) → P b → (t : Ty) → scope.uses b K a t → (s : Known) × (find tops sc b ≡ Some s) × Fits N integer_at t tops s
+abbrev pub Names_fit : Names → (ℕ → IntType) → World → (ℕ → Type 0) → Scope → Kinds → Sub → Seen → Type 0
+Names_fit N integer_at world P scope K a sc = (b : ℕ) → P b → (t : Ty) → scope.uses b K a t → (s : Known) × (find world.0 sc b ≡ Some s) × Fits N integer_at K t world s

@@ -3,3 +3,4 @@ pub mod Shaped
 pub mod Claims
 pub mod Fits
 pub mod Typed
+pub mod Components

@@ -24,40 +24,45 @@ use Rattle.fut_blocks.specs.declared.block.Atom.{Atom}
 use Rattle.fut_blocks.specs.declared.block.Atom.TheVariants as atom
 use Rattle.fut_blocks.specs.declared.block.Operation.{Operation}
 use Rattle.fut_blocks.specs.declared.block.Operation.TheVariants as operation
+use Rattle.unfold.specs.Unfolding.{names}
 use Rattle.fut_blocks.specs.Plain.{Reading, Record_with, Part_at, Replace_at, Fields_at, Action, Operate, Tuple, Make, Read, Job, If, For, Over, While, Body, Give, Let}
 
--- ---- names
+-- ---- atoms
 
--- the types that each name has
+-- the types that each atom has
 abbrev pub Types : Type 1
-Types = ℕ → Ty → Type 0
+Types = Atom → Ty → Type 0
 
-abbrev pub Is : Types → Atom → Ty → Type 0
-Is G (atom.Name x) t = G x t
-Is G (atom.Constant s) t = t ≡ scalar_ty (type_of s)
+-- where there is no name
+abbrev pub of_constants : Types
+of_constants (atom.Name x) t = ⊥
+of_constants (atom.Constant s) t = t ≡ scalar_ty (type_of s)
 
 abbrev pub Are : Types → List Atom → Tys → Type 0
 Are G [] none = Unit {0}
 Are G [] (more t ts) = ⊥
 Are G (u ∷ us) none = ⊥
-Are G (u ∷ us) (more t ts) = Is G u t × Are G us ts
+Are G (u ∷ us) (more t ts) = G u t × Are G us ts
 
--- of a row of types that of the place where the name stands
-abbrev pub Stands_at : List ℕ → Tys → ℕ → Ty → Type 0
-Stands_at [] ts x t = ⊥
-Stands_at (y ∷ ys) none x t = ⊥
-Stands_at (y ∷ ys) (more u us) x t = ((y ≡ x) × (u ≡ t)) ⊎ Stands_at ys us x t
+-- of a row of types that of the place where the atom stands
+abbrev pub Stands_at : List Atom → Tys → Atom → Ty → Type 0
+Stands_at [] ts u t = ⊥
+Stands_at (w ∷ ws) none u t = ⊥
+Stands_at (w ∷ ws) (more v vs) u t = ((w ≡ u) × (v ≡ t)) ⊎ Stands_at ws vs u t
 
--- with new names, of each row of types that there may be
-abbrev pub with_each : List ℕ → (Tys → Type 0) → Types → Types
-with_each xs P G x t = ((ts : Tys) × P ts × Stands_at xs ts x t) ⊎ G x t
+-- with atoms of these types
+abbrev pub with_atoms : List Atom → Tys → Types → Types
+with_atoms us ts G u t = Stands_at us ts u t ⊎ G u t
 
--- of these types
 abbrev pub with_names : List ℕ → Tys → Types → Types
-with_names xs ts G x t = Stands_at xs ts x t ⊎ G x t
+with_names xs ts G = with_atoms (names xs) ts G
 
 abbrev pub with_name : ℕ → Ty → Types → Types
 with_name x t G = with_names (x ∷ []) (more t none) G
+
+-- with new names, of each row of types that there may be
+abbrev pub with_each : List ℕ → (Tys → Type 0) → Types → Types
+with_each xs P G u t = ((ts : Tys) × P ts × Stands_at (names xs) ts u t) ⊎ G u t
 
 -- ---- acts
 
@@ -69,11 +74,11 @@ One K unary.Abs u t = (t ≡ u) × HasKind K kind.Integer u
 One K unary.Popc u t = (t ≡ i32_ty) × HasKind K kind.Integer u
 
 abbrev pub Operation_typed : Kinds → Types → Operation → Tys → Type 0
-Operation_typed K G (operation.Binary op at a b) ts = (t : Ty) × (u : Ty) × Operator op K t u × Is G a u × Is G b u × (ts ≡ more t none)
-Operation_typed K G (operation.Unary op a) ts = (t : Ty) × (u : Ty) × One K op u t × Is G a u × (ts ≡ more t none)
-Operation_typed K G (operation.Convert to a) ts = (u : Ty) × HasKind K kind.Scalar u × Is G a u × (ts ≡ more (scalar_ty to) none)
-Operation_typed K G (operation.Assert at a) ts = Is G a bool_ty × (ts ≡ none)
-Operation_typed K G (operation.Parts a) ts = Is G a (Made head.Tuple ts)
+Operation_typed K G (operation.Binary op at a b) ts = (t : Ty) × (u : Ty) × Operator op K t u × G a u × G b u × (ts ≡ more t none)
+Operation_typed K G (operation.Unary op a) ts = (t : Ty) × (u : Ty) × One K op u t × G a u × (ts ≡ more t none)
+Operation_typed K G (operation.Convert to a) ts = (u : Ty) × HasKind K kind.Scalar u × G a u × (ts ≡ more (scalar_ty to) none)
+Operation_typed K G (operation.Assert at a) ts = G a bool_ty × (ts ≡ none)
+Operation_typed K G (operation.Parts a) ts = G a (Made head.Tuple ts)
 
 -- what is made of parts has the type that the language's rule gives to its operation
 abbrev pub operation_of : Making → terms.Operation Ref BindId
@@ -128,9 +133,9 @@ module _ (N : Names) (K : Kinds) where
     Act_typed (Read k us) G ts = (parts : Tys) × Are G us parts × Reads N k parts ts
     Act_typed (Job p at us xs b) G ts =
         (taken : Tys) × (fs : Tys) × (r : Ty) × (t : Ty) × Are G us taken × Primitive_typed K p taken fs r t × Body_typed b (with_names xs fs G) (more r none) × (length xs ≡ count fs) × (ts ≡ more t none)
-    Act_typed (If c a b) G ts = Is G c bool_ty × Body_typed a G ts × Body_typed b G ts
-    Act_typed (For xs us i n b) G ts = Are G us ts × (length xs ≡ count ts) × (t : Ty) × HasKind K kind.Integer t × Is G n t × Body_typed b (with_name i t (with_names xs ts G)) ts
-    Act_typed (Over xs us x rows b) G ts = Are G us ts × (length xs ≡ count ts) × (t : Ty) × Is G rows (array_ty t) × Body_typed b (with_name x t (with_names xs ts G)) ts
+    Act_typed (If c a b) G ts = G c bool_ty × Body_typed a G ts × Body_typed b G ts
+    Act_typed (For xs us i n b) G ts = Are G us ts × (length xs ≡ count ts) × (t : Ty) × HasKind K kind.Integer t × G n t × Body_typed b (with_name i t (with_names xs ts G)) ts
+    Act_typed (Over xs us x rows b) G ts = Are G us ts × (length xs ≡ count ts) × (t : Ty) × G rows (array_ty t) × Body_typed b (with_name x t (with_names xs ts G)) ts
     Act_typed (While at xs us c b) G ts = Are G us ts × (length xs ≡ count ts) × Body_typed c (with_names xs ts G) (more bool_ty none) × Body_typed b (with_names xs ts G) ts
 
     -- each step has some types, and its names have all of them

@@ -1,5 +1,5 @@
 // Laws of typed programs' blocks, each carried by a call.
-ghost use Rattle.unfold_laws.specs.Claims.{BlocksNeverWrong, ResultsAreOf, UnfoldingNeverStuck};
+ghost use Rattle.unfold_laws.specs.Claims.{BlocksNeverWrong, ResultsAreOf, UnfoldedWellTyped, UnfoldingNeverStuck};
 
 /// The law that the blocks of a typed program give a value of its entry's result type or a report, and never go wrong.
 pub fn typed_blocks_never_go_wrong()
@@ -15,4 +15,10 @@ pub fn results_are_of_their_types()
 /// The law that unfolding a typed program comes to no place from which there is no way on.
 pub fn unfolding_of_typed_programs_is_never_stuck()
     ensures { UnfoldingNeverStuck }
+{}
+
+/// The law that the blocks to which a typed program unfolds are well typed, arrays included, and that their results have the
+/// types of the components of the result.
+pub fn unfolded_programs_are_well_typed()
+    ensures { UnfoldedWellTyped }
 {}

@@ -1,14 +1,14 @@
 //! What typing promises of unfolded programs: laws, each carried by a call that does nothing.
 //!
-//! Unfolding a typed program is never stuck ([`unfolding_of_typed_programs_is_never_stuck`]), its blocks never go wrong
-//! ([`typed_blocks_never_go_wrong`]), and their results are of the types that `specs/Sorts.antt` tells of the result's type
-//! ([`results_are_of_their_types`]; `specs/Claims.antt`). `specs/Fits.antt` says what is known of the values of a type where a
-//! program is unfolded.
+//! Unfolding a typed program is never stuck ([`unfolding_of_typed_programs_is_never_stuck`]), its blocks are well typed
+//! ([`unfolded_programs_are_well_typed`]; `specs/Typed.antt`) and never go wrong ([`typed_blocks_never_go_wrong`]), and their
+//! results are of the types that `specs/Sorts.antt` tells of the result's type ([`results_are_of_their_types`];
+//! `specs/Claims.antt`). `specs/Fits.antt` says what is known of the values of a type where a program is unfolded.
 #![tactic(auto)]
 
 mod laws;
 
 pub use laws::{
-    results_are_of_their_types, typed_blocks_never_go_wrong,
+    results_are_of_their_types, typed_blocks_never_go_wrong, unfolded_programs_are_well_typed,
     unfolding_of_typed_programs_is_never_stuck,
 };
