@@ -1,7 +1,7 @@
 -- The steps of a comparison of two values of a type are typed, and give a truth value.
-use Rattle.std.proofs.Common.{◌≡◌, true, false, ℕ, zero, suc, ◌≤◌, ◌++◌, min, refl, sym, subst, arith, List, [], ◌∷◌, Option, Some, None}
+use Rattle.std.proofs.Common.{◌≡◌, true, false, ℕ, zero, suc, ◌≤◌, ◌++◌, min, refl, sym, subst, arith, [], ◌∷◌, Option, Some, None}
 use Rattle.std.proofs.lemmas.Slice.Eq.{bytes_eq-Decides}
-use mathlib.Core.Logic.{inl, inr}
+use mathlib.Core.Logic.{inr}
 use Rattle.fut_scalar.specs.declared.operator.BinOp.TheVariants as binary
 use Rattle.fut_scalar.specs.declared.place.Place.{Place}
 use Rattle.fut_scalar.specs.declared.scalar.IntType.{IntType}
@@ -18,7 +18,7 @@ use Rattle.fut_blocks.specs.declared.block.Atom.{Atom}
 use Rattle.fut_blocks.specs.declared.block.Atom.TheVariants as atom
 use Rattle.fut_blocks.specs.declared.block.Operation.TheVariants as operation
 use Rattle.fut_blocks.specs.Plain.{Operate}
-use Rattle.unfold.specs.Knowns.{Known, Scalar_known, Tuple_known, Record_known, Knowns, no_known, known_and, Known_fields, no_known_field, known_field_and}
+use Rattle.unfold.specs.Knowns.{Known, Tuple_known, Record_known, Knowns, Known_fields}
 use Rattle.unfold.specs.Unfolding.{Bindings, step, both_hold, Equals, e_scalars, e_packed, e_tuples, e_records, All_equal, e_none, e_more, Fields_equal, e_no_field, e_field}
 use Rattle.unfold_laws.specs.Fits.{Given, Bound, Context, World, types_of, Learns, Comes, Each_field, Fits, All_fit, Keyed}
 use Rattle.unfold_laws.specs.Typed.{Are, Act_typed, Body_typed}

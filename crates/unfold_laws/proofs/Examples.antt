@@ -1,5 +1,6 @@
--- Small blocks with their types: a map with its function, and an array without rows, whose name has several types.
-use Rattle.std.proofs.Common.{[], ◌∷◌, refl, arith}
+-- Small blocks with their types: a map with its function, and an array without rows, whose name has several types; and steps
+-- that have none.
+use Rattle.std.proofs.Common.{◌≡◌, [], ◌∷◌, true, refl, sym, ◌∙◌, arith}
 use mathlib.Core.Logic.{inl, inr}
 use Rattle.fut_scalar.specs.declared.operator.BinOp.TheVariants as binary
 use Rattle.fut_scalar.specs.declared.place.Place.{Place}
@@ -7,13 +8,15 @@ use Rattle.fut_scalar.specs.declared.scalar.IntType.TheVariants.{U8}
 use Rattle.fut_scalar.specs.declared.scalar.Scalar.TheVariants as scalar
 use Rattle.fut_scalar.specs.declared.scalar.ScalarType.TheVariants as sort
 use Rattle.fut_flat.specs.declared.prim.Primitive.TheVariants as prim
-use Rattle.fut_types.specs.Types.{Ty, none, more, Kinds, fun_ty, rank, least, scalar_ty, applied, all_applied}
+use Rattle.fut_types.specs.Types.{Ty, Tys, none, more, Kinds, fun_ty, rank, least, scalar_ty, applied, all_applied}
 use Rattle.fut_typing.specs.Names.{Names}
-use Rattle.fut_typing.specs.Primitives.{array_ty, bool_ty}
+use Rattle.fut_typing.specs.Primitives.{array_ty, bool_ty, pair_ty}
 use Rattle.fut_meaning.specs.Arrays.{Make_array}
 use Rattle.fut_blocks.specs.declared.block.Atom.TheVariants as atom
 use Rattle.fut_blocks.specs.declared.block.Operation.TheVariants as operation
-use Rattle.fut_blocks.specs.Plain.{Action, Operate, Make, Job, Give, Let}
+use Rattle.fut_blocks.specs.Plain.{Action, Operate, Make, Job, If, Give, Let}
+use Rattle.unfold.specs.Shapes.{Scalar_shape, Tuple_shape, no_shape, shape_and}
+use Rattle.unfold_laws.specs.Components.{components, all_components}
 use Rattle.unfold_laws.specs.Typed.{Types, of_constants, with_each, with_name, Act_typed, Body_typed}
 
 here : Place
@@ -36,6 +39,8 @@ module _ (N : Names) (K : Kinds) where
     array_ty byte,
     (inl (inl (refl, refl)), tt),
     record {
+      on_arrays = refl;
+      some = omega arith;
       given = λ n. byte;
       kinds = λ n. omega arith;
       parameters = more (fun_ty byte byte) (more (array_ty byte) none);
@@ -64,3 +69,28 @@ module _ (N : Names) (K : Kinds) where
   and_of_truth_values : empty (atom.Name 3) (array_ty bool_ty)
   unfolding Act_typed rank least
   and_of_truth_values = inl (more (array_ty bool_ty) none, (none, array_ty bool_ty, tt, (bool_ty, (bool_ty, (refl, omega arith), tt)), refl), inl (refl, refl))
+
+  -- a byte and a truth value have no sum
+  unlike_sum : Action
+  unlike_sum = Operate (operation.Binary binary.Add here (atom.Constant (scalar.Int U8 1)) (atom.Constant (scalar.Bool true)))
+
+  unlike_sums_have_no_type : (ts : Tys) → Act_typed N K unlike_sum of_constants ts → ⊥
+  unfolding Act_typed unlike_sum
+  unlike_sums_have_no_type ts (t, u, rule, a, b, e) = let z : byte ≡ bool_ty = sym a ∙ b in cc
+
+  -- nor has an `if` on a byte
+  branch_on_byte : Action
+  branch_on_byte = If (atom.Constant (scalar.Int U8 1)) (Give []) (Give [])
+
+  branches_on_bytes_have_no_type : (ts : Tys) → Act_typed N K branch_on_byte of_constants ts → ⊥
+  unfolding Act_typed branch_on_byte
+  branches_on_bytes_have_no_type ts (c, a, b) = let z : bool_ty ≡ byte = c in cc
+
+  -- a pair of a byte and an array is two components, or one
+  two_components : components N (Tuple_shape (shape_and Scalar_shape (shape_and Scalar_shape no_shape))) (pair_ty byte (array_ty byte)) none ≡ more byte (more (array_ty byte) none)
+  unfolding components all_components
+  two_components = refl
+
+  one_component : components N Scalar_shape (pair_ty byte (array_ty byte)) none ≡ more (pair_ty byte (array_ty byte)) none
+  unfolding components
+  one_component = refl

@@ -1,5 +1,5 @@
 -- The fields of a record that is known are those of its type, each once.
-use Rattle.std.proofs.Common.{◌≡◌, ◌≢◌, true, false, ℕ, zero, suc, ◌≤◌, ◌<◌, refl, sym, ap, ◌∙◌, subst, arith, List, [], ◌∷◌, map, length}
+use Rattle.std.proofs.Common.{◌≡◌, ◌≢◌, true, ℕ, zero, suc, ◌≤◌, ◌<◌, refl, sym, ◌∙◌, subst, arith, List, [], ◌∷◌, map, length}
 use Rattle.std.specs.declared.cmp.Ordering.{Ordering}
 use Rattle.std.specs.declared.cmp.Ordering.TheVariants.{Less, Equal, Greater}
 use Rattle.std.specs.List.{AllByRecursion}
@@ -20,6 +20,7 @@ use Rattle.type_soundness.proofs.Records.{Named, Apart, covers, long_map, label_
 use Rattle.unfold.specs.Knowns.{Known_fields, no_known_field, known_field_and}
 use Rattle.unfold.specs.Unfolding.{field_names}
 use Rattle.unfold_laws.specs.Fits.{keys}
+use Rattle.unfold_laws.specs.Typed.{In_name_order}
 use Rattle.unfold_laws.proofs.Recording.{named_label}
 
 -- ---- numbers, each once
@@ -48,6 +49,14 @@ not_before_self f p = let e : slice_cmp nat_cmp f f ≡ Less = less_is (slice_cm
 behind_other : (f : Text) (fs : Known_fields) → All_behind f (keys fs) → AllByRecursion (λ g. f ≢ g) (field_names fs)
 behind_other f no_known_field h = tt
 behind_other f (known_field_and g s fs) h = ((λ same. not_before_self f (subst (λ x. is_before f x ≡ true) (sym same) h.0)), behind_other f fs h.1)
+
+all_behind : (f : Text) (fs : Known_fields) → All_behind f (keys fs) → AllByRecursion (λ g. is_before f g ≡ true) (field_names fs)
+all_behind f no_known_field h = tt
+all_behind f (known_field_and g s fs) h = (h.0, all_behind f fs h.1)
+
+pub names_in_order : (fs : Known_fields) → In_order (keys fs) → In_name_order (field_names fs)
+names_in_order no_known_field h = tt
+names_in_order (known_field_and f s fs) h = (all_behind f fs h.0, names_in_order fs h.1)
 
 names_once : (fs : Known_fields) → In_order (keys fs) → Once (field_names fs)
 names_once no_known_field h = λ i j d lt low. absurd (let z : j < 0 = low in omega (arith, z))

@@ -29,7 +29,7 @@ use Rattle.fut_types.specs.declared.Kind.TheVariants as kind
 use Rattle.fut_types.specs.declared.Head.TheVariants as head
 use Rattle.fut_types.specs.Shapes.{HasPart}
 use Rattle.fut_types.specs.Types.{Ty, Var, Made, Tys, none, more, Kinds, HasKind, rank, least, scalar_ty}
-use Rattle.fut_typing.specs.Names.{Names, AreNames, IsRecord, count}
+use Rattle.fut_typing.specs.Names.{Names, AreNames, IsRecord, Spells, count}
 use Rattle.fut_typing.specs.Primitives.{array_ty, bool_ty, i64_ty}
 use Rattle.fut_typing.specs.Scopes.{IsArray}
 use Rattle.fut_typing.specs.Rules.{Operator, All_are, Indexed, Updated, Rule}
@@ -228,17 +228,17 @@ module _ (N : Names) (integer_at : ℕ → IntType) (K : Kinds) where
         known _ e _ _ _ _ (o_part le) = absurd (let z : None ≡ Some r = e in cc)
         known s e _ _ _ _ (o_made {k = k} q p le) = absurd (let z : None ≡ Some k = q in cc)
 
-    replace_gives : (f : Text) (t v : Ty) (u s : Known) → HasPart N.shapes (N.label f) t v → At world v s → Replaces N integer_at K world are f t u s → Gives (Replace f) (u ∷ s ∷ []) t
+    replace_gives : (f : Text) (t v : Ty) (u s : Known) → ((n : ℕ) → Spells f n → ⊥) → HasPart N.shapes (N.label f) t v → At world v s → Replaces N integer_at K world are f t u s → Gives (Replace f) (u ∷ s ∷ []) t
     unfolding Act_typed
-    replace_gives f t v u s has fit (inl (w, e, d, pack, h)) =
+    replace_gives f t v u s lacks has fit (inl (w, e, d, pack, h)) =
         gives_both (Replace f) u s (Scalar_known w) s t e refl ((λ g. let p = pack 0 in g 0 (suc p.2) _ _ (o_changed p.3 (let z : p.2 ≤ p.2 = omega arith in z))), (λ n n' bs r x. known n n' bs r x))
       where
         known : (n n' : ℕ) (bs : Bindings) (r : Known) → Operates i (Replace f) at (Scalar_known w ∷ s ∷ []) n bs r n' → Comes N K world bs (λ there. At there t r)
         known _ _ _ _ (o_changed {n = n} {m = m} {x = x} {w = y} {bs = bs} p le) =
             comes_then N K world bs (step (x ∷ []) (act.Read (act.Replace_at f) (w ∷ y ∷ []))) (λ there. At there v (Scalar_known y)) (λ there. At there t (named x)) (packs_come N are integer_at K s n bs y m p world v fit)
-            (λ C g k. step_gives (world.0, C) t d x (act.Read (act.Replace_at f) (w ∷ y ∷ [])) (more t (more v none), (g.1 w t h, ((fits_data N integer_at K v (world.0, C) y k).1, tt)), (has, refl)))
+            (λ C g k. step_gives (world.0, C) t d x (act.Read (act.Replace_at f) (w ∷ y ∷ [])) (more t (more v none), (g.1 w t h, ((fits_data N integer_at K v (world.0, C) y k).1, tt)), (lacks, has, refl)))
         known _ _ _ _ (o_made {k = k} q p le) = absurd (let z : None ≡ Some k = q in cc)
-    replace_gives f t v u s has fit (inr (fs, e, h)) = gives_both (Replace f) u s (Record_known fs) s t e refl ((λ g. g 0 0 [] _ o_replace), (λ n n' bs r x. known n n' bs r x))
+    replace_gives f t v u s lacks has fit (inr (fs, e, h)) = gives_both (Replace f) u s (Record_known fs) s t e refl ((λ g. g 0 0 [] _ o_replace), (λ n n' bs r x. known n n' bs r x))
       where
         known : (n n' : ℕ) (bs : Bindings) (r : Known) → Operates i (Replace f) at (Record_known fs ∷ s ∷ []) n bs r n' → Comes N K world bs (λ there. At there t r)
         known _ _ _ r o_replace = stays t r h
@@ -464,7 +464,7 @@ module _ (N : Names) (integer_at : ℕ → IntType) (K : Kinds) where
     operation_gives (Index ps) = λ t u ts ss m r l lt h. index_gives ps t u ts ss m r h
     operation_gives (Project f) = one_part (Project f) (λ t u r. r) (λ t u x s m r h. project_gives f t u s r.1 (project_fits N integer_at K world are f t u s r.1 (subst (λ y. At world y s) r.0 h))) (λ t u x y ts r. r)
     operation_gives Update = λ t u ts ss m r l lt h. update_gives t u ts ss m r h
-    operation_gives (Replace f) = two_parts (Replace f) (λ t u r. r) (λ t u x r. r) (λ t u x y s s' m r h g. replace_gives f t y s s' r.1 g (replace_fits N integer_at K world are f t y s s' m r.1 (same_fits t x s r.0 h) g)) (λ t u x y z ts r. r)
+    operation_gives (Replace f) = two_parts (Replace f) (λ t u r. r) (λ t u x r. r) (λ t u x y s s' m r h g. replace_gives f t y s s' m r.1 g (replace_fits N integer_at K world are f t y s s' m r.1 (same_fits t x s r.0 h) g)) (λ t u x y z ts r. r)
     operation_gives (Ascribe e) = one_part (Ascribe e) (λ t u r. r) (λ t u x s m r h. ascribe_gives e t s (same_fits t x s r h)) (λ t u x y ts r. r)
     operation_gives (Coerce e) = one_part (Coerce e) (λ t u r. r) (λ t u x s m r h. coerce_gives e t s (same_fits t x s r h)) (λ t u x y ts r. r)
     operation_gives (Declared e) = one_part (Declared e) (λ t u r. r) (λ t u x s m r h. declared_gives e t s (same_fits t x s r h)) (λ t u x y ts r. r)

@@ -1,26 +1,25 @@
 -- What is packed into one component is data; its steps are typed, and it has its type.
-use Rattle.std.proofs.Common.{◌≡◌, ◌≢◌, true, false, Bool, cond, ℕ, suc, ◌≤◌, ◌++◌, List, [], ◌∷◌, Some, None, subst, refl, sym, ap, arith, length, map, ◌∙◌}
+use Rattle.std.proofs.Common.{◌≡◌, true, false, Bool, cond, ℕ, List, [], ◌∷◌, Some, None, subst, refl, sym, ap}
 use Rattle.std.specs.Str.{bytes_eq}
-use mathlib.Core.Logic.{◌⊎◌, inl, inr}
 use Rattle.fut_scalar.specs.declared.scalar.IntType.{IntType}
 use Rattle.fut_ast.specs.Sorts.{Text}
 use Rattle.fut_types.specs.declared.Head.TheVariants as head
 use Rattle.fut_types.specs.Shapes.{part_named, place}
 use Rattle.fut_types.specs.Types.{Ty, Var, Made, Tys, none, more, Kinds}
-use Rattle.fut_typing.specs.Names.{Names, AreNames, IsRecord, Parts_named, count}
+use Rattle.fut_typing.specs.Names.{Names, AreNames, IsRecord, Parts_named}
 use Rattle.fut_blocks.specs.declared.block.Atom.{Atom}
 use Rattle.fut_blocks.specs.declared.block.Atom.TheVariants as atom
 use Rattle.fut_blocks.specs.Plain.{Tuple, Read, Record_with}
 use Rattle.unfold.specs.Knowns.{Known, Scalar_known, Tuple_known, Record_known, Function_known, Primitive_known, Knowns, no_known, known_and, Known_fields, no_known_field, known_field_and, listed, field}
 use Rattle.unfold.specs.Stuck.{is_function}
 use Rattle.unfold.specs.Unfolding.{Bindings, step, Packs, p_atom, p_tuple, p_record, Packs_all, p_none, p_more, field_names, field_knowns}
-use Rattle.unfold_laws.specs.Fits.{World, types_of, Learns, Comes, Is_data, All_data, Part_data, Each_field, keys, Fits, All_fit, Keyed}
-use Rattle.unfold_laws.specs.Typed.{Are, Act_typed, Body_typed}
-use Rattle.unfold_laws.proofs.Fitting.{some_same, each_found, fits_data, data_fits, fits_learn, keyed_part}
-use Rattle.unfold_laws.proofs.Fields.{sorted_record}
+use Rattle.unfold_laws.specs.Fits.{World, types_of, Comes, Is_data, All_data, Part_data, Each_field, Fits, All_fit, Keyed}
+use Rattle.unfold_laws.specs.Typed.{Are, Act_typed}
+use Rattle.unfold_laws.proofs.Fitting.{some_same, each_found, fits_data, data_fits, keyed_part}
+use Rattle.unfold_laws.proofs.Fields.{names_in_order, sorted_record}
 use Rattle.unfold_laws.proofs.Recording.{key_found, Each_fits_at, each_learn, each_listed}
 use Rattle.unfold_laws.proofs.Shaping.{tuple_type, record_type}
-use Rattle.unfold_laws.proofs.TypedSteps.{learns_self, comes_none, comes_then, comes_map, comes_one}
+use Rattle.unfold_laws.proofs.TypedSteps.{comes_none, comes_then, comes_map, comes_one}
 
 -- it is packed, from some number on
 abbrev Is_packed : Known → Type 0
@@ -102,7 +101,7 @@ module _ (N : Names) (are : AreNames N) (integer_at : ℕ → IntType) (K : Kind
         let d : Is_data N t = packed_data N integer_at K world t (Tuple_known ss) h (_, _, _, _, p_tuple {x = x} r le) in
         comes_then N K world bs (step (x ∷ []) (Tuple us)) (λ there. Are (types_of N K there.1) us q.0) (λ there. Fits N integer_at K t there (Scalar_known (atom.Name x)))
         (packs_all_come (listed ss) n bs us m r world q.0 (each_listed N integer_at K world q.0 ss q.3))
-        (λ C g a. comes_one N K (world.0, C) x (Tuple us) t (λ there. Fits N integer_at K t there (Scalar_known (atom.Name x))) (q.0, a, ap (λ y. more y none) q.1) (λ D g' i. data_fits N integer_at K t (world.0, D) (atom.Name x) d i))
+        (λ C g a. comes_one N K (world.0, C) x (Tuple us) t (λ there. Fits N integer_at K t there (Scalar_known (atom.Name x))) (q.0, a, q.2, ap (λ y. more y none) q.1) (λ D g' i. data_fits N integer_at K t (world.0, D) (atom.Name x) d i))
     packs_come _ n _ _ _ (p_record {m = m} {x = x} {fs = fs} {bs = bs} {us = us} r le) world t h =
         let q = record_type N integer_at K world t fs h in
         let d : Is_data N t = packed_data N integer_at K world t (Record_known fs) h (_, _, _, _, p_record {x = x} r le) in
@@ -110,7 +109,7 @@ module _ (N : Names) (are : AreNames N) (integer_at : ℕ → IntType) (K : Kind
         comes_then N K world bs (step (x ∷ []) (Read (Record_with (field_names fs)) us)) (λ there. Are (types_of N K there.1) us f.0) (λ there. Fits N integer_at K t there (Scalar_known (atom.Name x)))
         (packs_all_come (field_knowns fs) n bs us m r world f.0 f.1)
         (λ C g a. comes_one N K (world.0, C) x (Read (Record_with (field_names fs)) us) t (λ there. Fits N integer_at K t there (Scalar_known (atom.Name x)))
-        (f.0, a, (t, subst (λ y. IsRecord N (field_names fs) y f.0) (sym q.2) (sorted_record N are q.0 fs q.3 q.1 f.0 q.4 f.2), refl))
+        (f.0, a, (t, subst (λ y. IsRecord N (field_names fs) y f.0) (sym q.2) (sorted_record N are q.0 fs q.3 q.1 f.0 q.4 f.2), names_in_order fs q.3.ordered, refl))
         (λ D g' i. data_fits N integer_at K t (world.0, D) (atom.Name x) d i))
 
     pub packs_all_come : (ss : List Known) (n : ℕ) (bs : Bindings) (us : List Atom) (m : ℕ) → Packs_all ss n bs us m → (world : World) (ts : Tys) → Each_fits_at N integer_at K world ts ss → Comes N K world bs (λ there. Are (types_of N K there.1) us ts)

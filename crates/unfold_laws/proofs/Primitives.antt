@@ -1,7 +1,7 @@
 -- A primitive on arrays is known by its type, whatever it does: its data may be one component each, its function is applied to
 -- new names for data, and its result is one component. So it is said of types as the table of primitives writes them.
-use Rattle.std.proofs.Common.{◌≡◌, Bool, true, false, ◌&&◌, ℕ, zero, suc, ◌+◌, ◌++◌, refl, sym, ap, ◌∙◌, subst, arith, List, [], ◌∷◌, map, length, nat_lt, Some, le-ltb, lt-ltb}
-use mathlib.Core.Logic.{inl, inr}
+use Rattle.std.proofs.Common.{◌≡◌, Bool, true, false, ◌&&◌, ℕ, zero, suc, ◌+◌, ◌≤◌, ◌++◌, refl, sym, ap, ◌∙◌, subst, arith, List, [], ◌∷◌, map, length, nat_lt, Some, le-ltb, lt-ltb}
+use mathlib.Core.Logic.{inl}
 use Rattle.std.proofs.lemmas.List.{append_assoc, length-append}
 use Rattle.fut_scalar.specs.declared.place.Place.{Place}
 use Rattle.fut_scalar.specs.declared.scalar.IntType.{IntType}
@@ -225,6 +225,7 @@ module _ (N : Names) (are : AreNames N) (integer_at : ℕ → IntType) (K : Kind
 
     -- all that the table tells of this use of the primitive
     record Used (ts : Tys) (u : Ty) : Type 0 where
+      some : 1 ≤ arity p
       is : applied given (prim_type p) ≡ arrows ts u
       all : count ts ≡ arity p
       takes_so : Takes N (parameters_of p) ts
@@ -262,7 +263,7 @@ module _ (N : Names) (are : AreNames N) (integer_at : ℕ → IntType) (K : Kind
             rt,
             u,
             a,
-            record { given = given; kinds = kinds; parameters = ts; is = used.is; all = used.all; taken = refl; function = q.0; of_function = q.1 },
+            record { on_arrays = of; some = used.some; given = given; kinds = kinds; parameters = ts; is = used.is; all = used.all; taken = refl; function = q.0; of_function = q.1 },
             block_typed N K (cs ++ ds) (w ∷ []) C (more rt none) c.0 ((fits_data N integer_at K rt (world.0, behind C (cs ++ ds)) w c.1).1, tt),
             l ∙ sym q.1,
             refl,
@@ -333,6 +334,7 @@ module _ (N : Names) (are : AreNames N) (integer_at : ℕ → IntType) (K : Kind
       subst (λ z. At world z (Primitive_known p at no_known)) (sym is)
       (waits p at of given kinds (ty N K own from given kinds t) (param_types N K own from given kinds u) (result_type N K own from given kinds u) (param_types N K own from given kinds (Function t u)) no_known world (omega (arith, long, parts))
       (record {
+        some = omega (arith, long);
         is = is;
         all = omega (arith, long, parts);
         takes_so = subst (λ z. Takes N (parameters z) (param_types N K own from given kinds (Function t u))) (sym e) (takes_of N K own from given kinds (Function t u) takes_so);

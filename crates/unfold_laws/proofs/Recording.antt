@@ -1,7 +1,6 @@
 -- What is known of the fields of records: of those that are made, of one that is found, and where one is replaced.
 use Rattle.std.proofs.Common.{◌≡◌, ◌≢◌, Bool, true, false, cond, ℕ, zero, suc, ◌+◌, ◌≤◌, ◌<◌, refl, sym, ap, ◌∙◌, subst, arith, List, [], ◌∷◌, map, length, Option, Some, None, decimal}
 use Rattle.std.specs.Str.{bytes_eq}
-use Rattle.std.specs.List.{Contains}
 use Rattle.std.proofs.lemmas.Slice.Eq.{bytes_eq-Decides}
 use mathlib.Core.Logic.{◌⊎◌, inl, inr}
 use Rattle.fut_scalar.specs.declared.scalar.IntType.{IntType}
@@ -20,7 +19,7 @@ use Rattle.type_soundness.proofs.Ordering.{eq_here, eq_other, key_put, key_stays
 use Rattle.type_soundness.proofs.Records.{Named, Apart, covers, long_map, label_named, labels_apart, placed_label}
 use Rattle.fut_blocks.specs.declared.block.Atom.{Atom}
 use Rattle.unfold.specs.Knowns.{Known, Scalar_known, Tuple_known, Record_known, Function_known, Primitive_known, Knowns, no_known, known_and, Known_fields, no_known_field, known_field_and, with_field, fields, field, replaced, part_from, part, record_parts, listed}
-use Rattle.unfold_laws.specs.Fits.{World, types_of, Learns, On_record, Each_field, keys, Is_data, All_data, Part_data, Record_data, Fits, All_fit, Keyed}
+use Rattle.unfold_laws.specs.Fits.{World, types_of, Learns, On_record, Each_field, keys, Is_data, All_data, Record_data, Fits, All_fit, Keyed}
 use Rattle.unfold_laws.proofs.Fitting.{some_same, each_found, fits_learn, keyed_found, keyed_from, all_data_part, part_data}
 use Rattle.unfold_laws.proofs.Shaping.{record_is, shaped, Packing, shaped_packing}
 

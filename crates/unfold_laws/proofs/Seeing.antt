@@ -25,7 +25,7 @@ use Rattle.fut_blocks.specs.Plain as act
 use Rattle.type_soundness.specs.Fits.{widest}
 use Rattle.type_soundness.specs.Meant.{No_sizes}
 use Rattle.unfold.proofs.Names.{found_here, found_on}
-use Rattle.unfold.specs.Knowns.{Known, Scalar_known, Tuple_known, Record_known, Knowns, no_known, known_and, Known_fields, Scope as Seen, name_and, listed, find, record_parts}
+use Rattle.unfold.specs.Knowns.{Known, Scalar_known, Tuple_known, Record_known, Knowns, Known_fields, Scope as Seen, name_and, listed, find, record_parts}
 use Rattle.unfold.specs.Unfolding.{Bindings, step, names, named, Binds, b_bound, b_wild, b_tuple, b_parts, b_record, b_fields, b_typed, All_bind, b_none, b_more}
 use Rattle.unfold_laws.specs.Fits.{Given, Bound, World, types_of, Learns, Comes, All_data, Fits, All_fit, Names_fit}
 use Rattle.unfold_laws.specs.Typed.{Are, Act_typed}

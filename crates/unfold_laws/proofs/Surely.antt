@@ -7,7 +7,7 @@ use Rattle.fut_scalar.specs.declared.scalar.ScalarType.TheVariants as types
 use Rattle.fut_flat.specs.declared.prim.Ref.{Ref}
 use Rattle.fut_flat.specs.Terms.{Bound_pattern, Wild_pattern, Tuple_pattern, Record_pattern, Typed_pattern, Patterns, no_pattern, pattern_and, Operation, Integer, Use, Strict, Lambda, Apply, Let, If, Loop, Terms, no_term, term_and, Counted, Over, While}
 use Rattle.fut_flat.specs.Numbers.{pattern_numbers, all_pattern_numbers, own_numbers, numbers, all_numbers, turn_numbers}
-use Rattle.fut_flat.specs.Erased.{FlatTerm, FlatPattern, FlatTurns}
+use Rattle.fut_flat.specs.Erased.{FlatTerm, FlatPattern}
 use Rattle.fut_types.specs.declared.Kind.TheVariants as kind
 use Rattle.fut_types.specs.Types.{Ty, Sub, Kinds, HasKind, rank, fun_ty, scalar_ty}
 use Rattle.fut_typing.specs.Names.{Names, AreNames}
@@ -16,18 +16,18 @@ use Rattle.fut_typing.specs.Scopes.{Scope, with_uses, with_sizes, the_one}
 use Rattle.fut_typing.specs.Patterns.{Pattern_typed, pattern_types, arrows, with_pattern, with_patterns, with_parameters, Parameters_typed}
 use Rattle.fut_typing.specs.Free.{is_within, has_types, is_free}
 use Rattle.fut_typing.specs.Generalised.{own_types, Scheme, Reused}
-use Rattle.fut_typing.specs.Typing.{term_types, operand, FlatBinding, Function_name, with_turns, let_scheme, Let_typed, let_uses, with_let, Typed, All_typed, Turns_typed}
+use Rattle.fut_typing.specs.Typing.{term_types, operand, FlatBinding, Function_name, with_turns, let_scheme, Let_typed, let_uses, with_let, Typed, All_typed}
 use Rattle.fut_typing.proofs.Local.{AllLocal, all_local_more, local_sizes, local_parameters, local_ones, local_all_ones, local_turns}
 use Rattle.fut_typing.proofs.Cong.{within_no}
 use Rattle.fut_typing.proofs.Locals.{body_local}
 use Rattle.type_soundness.specs.Fits.{widest}
-use Rattle.type_soundness.specs.Meant.{Operation_meant, Has_parameter, No_sizes, Meant, All_meant, Turns_meant, Literal_here, Literal, A_literal, Turn_literal, Literals_told}
+use Rattle.type_soundness.specs.Meant.{Operation_meant, Has_parameter, No_sizes, Meant, All_meant, Literal_here, Literal, A_literal, Literals_told}
 use Rattle.type_soundness.proofs.Literals.{literal_kept}
 use Rattle.type_soundness.proofs.Operating.{Told}
 use Rattle.type_soundness.proofs.Running.{count_terms}
 use Rattle.type_soundness.proofs.Walking.{as_many}
 use Rattle.fut_blocks.specs.declared.block.Atom.TheVariants as atom
-use Rattle.unfold.specs.Knowns.{Known, Scalar_known, Function_known, Scope as Seen, name_and}
+use Rattle.unfold.specs.Knowns.{Known, Function_known, Scope as Seen, name_and}
 use Rattle.unfold.specs.Stuck.{Stuck_run, no_function, no_parameter, stuck_result}
 use Rattle.unfold.specs.Unfolding.{Bindings, named, Binds, b_bound, Applies, a_body, a_waits}
 use Rattle.unfold_laws.specs.Fits.{Context, behind, World, types_of, Learns, Comes, Runs_well, Is_data, Fits, Names_fit}

@@ -43,7 +43,7 @@ module _ (N : Names) (K : Kinds) where
 
     pub act_kept : (a : Action) (G H : Types) → Keeps G H → (ts : Tys) → Act_typed N K a G ts → Act_typed N K a H ts
     act_kept (Operate o) G H k ts h = operation_kept K G H k o ts h
-    act_kept (Tuple us) G H k ts (parts, h, e) = (parts, are_kept G H k us parts h, e)
+    act_kept (Tuple us) G H k ts (parts, h, w, e) = (parts, are_kept G H k us parts h, w, e)
     act_kept (Make m at us) G H k ts (parts, t, h, m', e) = (parts, t, are_kept G H k us parts h, m', e)
     act_kept (Read r us) G H k ts (parts, h, e) = (parts, are_kept G H k us parts h, e)
     act_kept (Job p at us xs b) G H k ts (taken, fs, r, t, h, q, hb, l, e) = (taken, fs, r, t, are_kept G H k us taken h, q, body_kept b (with_names xs fs G) (with_names xs fs H) (names_kept G H k xs fs) (more r none) hb, l, e)

@@ -1,11 +1,14 @@
 -- The types of the names of blocks, and when a step is typed: its operands are of types on which it is defined. Names are bound
--- once, so a name has each type that its step may give. That is one type, but for what comes of an array without rows: a
+-- once, so a name has each type that its step may have, as where the value of a `let` is typed anew for each use (Wright and
+-- Felleisen, "A syntactic approach to type soundness"). That is one type, but for what comes of an array without rows: a
 -- definition such as `def e = []` is one name, which is used at several types.
-use Rattle.std.specs.Prelude.{◌≡◌, ◌⊎◌, ℕ, zero, suc, List, [], ◌∷◌, length}
+use Rattle.std.specs.Prelude.{◌≡◌, ◌⊎◌, ◌≤◌, ◌<◌, ℕ, zero, suc, true, false, List, [], ◌∷◌, length}
+use Rattle.std.specs.List.{AllByRecursion}
 use Rattle.fut_scalar.specs.declared.operator.UnOp.{UnOp}
 use Rattle.fut_scalar.specs.declared.operator.UnOp.TheVariants as unary
 use Rattle.fut_scalar.specs.declared.place.BindId.{BindId}
 use Rattle.fut_arithmetic.specs.Types.{type_of}
+use Rattle.fut_ast.specs.Sorts.{Text}
 use Rattle.fut_flat.specs.declared.prim.Primitive.{Primitive}
 use Rattle.fut_flat.specs.declared.prim.Ref.{Ref}
 use Rattle.fut_flat.specs.Terms as terms
@@ -13,13 +16,15 @@ use Rattle.fut_types.specs.declared.Kind.TheVariants as kind
 use Rattle.fut_types.specs.declared.Head.TheVariants as head
 use Rattle.fut_types.specs.Shapes.{HasPart}
 use Rattle.fut_types.specs.Types.{Ty, Made, Tys, none, more, Sub, Kinds, HasKind, scalar_ty, applied}
-use Rattle.fut_typing.specs.Names.{Names, IsRecord, count}
+use Rattle.fut_typing.specs.Names.{Names, IsRecord, Spells, count}
 use Rattle.fut_typing.specs.Patterns.{arrows}
 use Rattle.fut_typing.specs.Primitives.{array_ty, bool_ty, i32_ty, prim_type}
 use Rattle.fut_typing.specs.Rules.{Operator, Rule}
 use Rattle.fut_meaning.specs.Arrays.{Making, Make_array, Make_index, Make_update, Make_range}
 use Rattle.fut_meaning.specs.Datums.{takes}
-use Rattle.fut_meaning.specs.Operations.{parameters_of, arity}
+use Rattle.fut_meaning.specs.Operations.{parameters_of, arity, is_of_scalars}
+use Rattle.fut_meaning.specs.Values.{is_before}
+use Rattle.type_soundness.specs.Fits.{widest}
 use Rattle.fut_blocks.specs.declared.block.Atom.{Atom}
 use Rattle.fut_blocks.specs.declared.block.Atom.TheVariants as atom
 use Rattle.fut_blocks.specs.declared.block.Operation.{Operation}
@@ -90,10 +95,16 @@ operation_of (Make_range stepped end) = terms.Range stepped end
 abbrev pub Makes : Names → Kinds → Making → Tys → Ty → Type 0
 Makes N K m us t = (u : Ty) × Rule N kind.Data K (operation_of m) t u us
 
+-- the names of fields as they stand in data
+abbrev pub In_name_order : List Text → Type 0
+In_name_order [] = Unit {0}
+In_name_order (f ∷ fs) = AllByRecursion (λ g. is_before f g ≡ true) fs × In_name_order fs
+
+-- A tuple's part is never replaced: its name would be a number.
 abbrev pub Reads : Names → Reading → Tys → Tys → Type 0
-Reads N (Record_with fs) us ts = (t : Ty) × IsRecord N fs t us × (ts ≡ more t none)
+Reads N (Record_with fs) us ts = (t : Ty) × IsRecord N fs t us × In_name_order fs × (ts ≡ more t none)
 Reads N (Part_at f) (more u none) ts = (t : Ty) × HasPart N.shapes (N.label f) u t × (ts ≡ more t none)
-Reads N (Replace_at f) (more u (more v none)) ts = HasPart N.shapes (N.label f) u v × (ts ≡ more u none)
+Reads N (Replace_at f) (more u (more v none)) ts = ((n : ℕ) → Spells f n → ⊥) × HasPart N.shapes (N.label f) u v × (ts ≡ more u none)
 Reads N (Fields_at fs) (more u none) ts = IsRecord N fs u ts
 Reads N k us ts = ⊥
 
@@ -113,6 +124,8 @@ function_type (suc k ∷ ks) (more t ts) = t
 -- A primitive on data of the types `us`, with a function from `fs` to `r`, gives data of `t`: so the table of primitives has it, for
 -- some types of what arrays may hold.
 pub record Primitive_typed (K : Kinds) (p : Primitive) (us fs : Tys) (r t : Ty) : Type 0 where
+  pub on_arrays : is_of_scalars p ≡ false
+  pub some : 1 ≤ arity p
   pub given : Sub
   pub kinds : (n : ℕ) → HasKind K kind.Data (given n)
   pub parameters : Tys
@@ -128,7 +141,7 @@ module _ (N : Names) (K : Kinds) where
   unfoldable mutual
     pub Act_typed : Action → Types → Tys → Type 0
     Act_typed (Operate o) G ts = Operation_typed K G o ts
-    Act_typed (Tuple us) G ts = (parts : Tys) × Are G us parts × (ts ≡ more (Made head.Tuple parts) none)
+    Act_typed (Tuple us) G ts = (parts : Tys) × Are G us parts × (count parts < widest) × (ts ≡ more (Made head.Tuple parts) none)
     Act_typed (Make m at us) G ts = (parts : Tys) × (t : Ty) × Are G us parts × Makes N K m parts t × (ts ≡ more t none)
     Act_typed (Read k us) G ts = (parts : Tys) × Are G us parts × Reads N k parts ts
     Act_typed (Job p at us xs b) G ts =
