@@ -64,11 +64,11 @@ module _ (N : Names) (K : Kinds) where
 
   of_bytes : empty (atom.Name 3) (array_ty byte)
   unfolding Act_typed rank least
-  of_bytes = inl (more (array_ty byte) none, (none, array_ty byte, tt, (byte, (byte, (refl, omega arith), tt)), refl), inl (refl, refl))
+  of_bytes = inl (more (array_ty byte) none, (none, array_ty byte, tt, (tt, (byte, (byte, (refl, omega arith), tt))), refl), inl (refl, refl))
 
   and_of_truth_values : empty (atom.Name 3) (array_ty bool_ty)
   unfolding Act_typed rank least
-  and_of_truth_values = inl (more (array_ty bool_ty) none, (none, array_ty bool_ty, tt, (bool_ty, (bool_ty, (refl, omega arith), tt)), refl), inl (refl, refl))
+  and_of_truth_values = inl (more (array_ty bool_ty) none, (none, array_ty bool_ty, tt, (tt, (bool_ty, (bool_ty, (refl, omega arith), tt))), refl), inl (refl, refl))
 
   -- a byte and a truth value have no sum
   unlike_sum : Action

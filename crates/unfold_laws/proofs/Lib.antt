@@ -15,4 +15,8 @@ pub mod Seeing
 pub mod Going
 pub mod Surely
 pub mod Unstuck
+pub mod Binding
+pub mod Safety
+pub mod Reading
+pub mod Blocks
 mod Examples

@@ -376,7 +376,7 @@ module _ (N : Names) (integer_at : ℕ → IntType) (K : Kinds) where
     integer_data = tt
 
     array_gives : (t u element : Ty) (ts : Tys) (ss : List Known) → IsArray kind.Data K t element → All_are element ts → Each_fits N integer_at K world ts ss → Gives Array_of ss t
-    array_gives t u element ts ss r a h = let d = kind_data N K element r.1 in made_gives Array_of Make_array refl t ts ss (array_one ss) (u, (element, r, a)) (array_is_data t element r.0 d) (alike_data element ts d a) h
+    array_gives t u element ts ss r a h = let d = kind_data N K element r.1 in made_gives Array_of Make_array refl t ts ss (array_one ss) (tt, (u, (element, r, a))) (array_is_data t element r.0 d) (alike_data element ts d a) h
 
     index_data : (ps : List Part) (x t : Ty) → Is_data N x → Indexed N kind.Data K ps x t → Is_data N t
     unfolding Is_data All_data
@@ -393,7 +393,7 @@ module _ (N : Names) (integer_at : ℕ → IntType) (K : Kinds) where
     unfolding All_data
     index_gives ps t u none ss m r h = absurd r
     index_gives ps t u (more x is) ss m r h =
-        let d = indexed_data ps _ x t m r.2 in made_gives (Index ps) (Make_index ps) refl t (more x is) ss (index_one ps ss) (u, r) (index_data ps x t d r.2) (d, alike_data i64_ty is integer_data r.0) h
+        let d = indexed_data ps _ x t m r.2 in made_gives (Index ps) (Make_index ps) refl t (more x is) ss (index_one ps ss) (m, (u, r)) (index_data ps x t d r.2) (d, alike_data i64_ty is integer_data r.0) h
 
     updated_data : (x : Ty) (vs : Tys) → Is_data N x → Updated N kind.Data K x vs → All_data N vs
     unfolding All_data
@@ -408,16 +408,16 @@ module _ (N : Names) (integer_at : ℕ → IntType) (K : Kinds) where
     update_gives t u (more x (more v none)) ss m r h = absurd (let z : 2 < 2 = m in omega (arith, z))
     update_gives t u (more x (more j (more v vs))) ss m r h =
         let d = array_is_data x r.1.1.0 r.1.1.1.0 (kind_data N K r.1.1.0 r.1.1.1.1) in
-        made_gives Update Make_update refl t (more x (more j (more v vs))) ss (update_one ss) (u, r) (subst (Is_data N) (sym r.0) d) (d, updated_data x (more j (more v vs)) d r.1) h
+        made_gives Update Make_update refl t (more x (more j (more v vs))) ss (update_one ss) (m, (u, r)) (subst (Is_data N) (sym r.0) d) (d, updated_data x (more j (more v vs)) d r.1) h
 
     whole_data : (element : Ty) → HasKind K kind.Integer element → Is_data N element
     whole_data element k = kind_data N K element (let y : 4 ≤ rank K element = k in let z : 1 ≤ rank K element = omega (arith, y) in z)
 
     range_gives : (stepped : Bool) (end : End) (t u : Ty) (ts : Tys) (ss : List Known) → Rule N kind.Data K (Range stepped end) t u ts → Each_fits N integer_at K world ts ss → Gives (Range stepped end) ss t
     range_gives true end t u (more x (more y (more z none))) ss (element, a, k, r) h =
-        let d = whole_data element k in made_gives (Range true end) (Make_range true end) refl t (more x (more y (more z none))) ss (range_one true end ss) (u, (element, a, k, r)) (array_is_data t element a.0 d) (alike_data element (more x (more y (more z none))) d r) h
+        let d = whole_data element k in made_gives (Range true end) (Make_range true end) refl t (more x (more y (more z none))) ss (range_one true end ss) (tt, (u, (element, a, k, r))) (array_is_data t element a.0 d) (alike_data element (more x (more y (more z none))) d r) h
     range_gives false end t u (more x (more z none)) ss (element, a, k, r) h =
-        let d = whole_data element k in made_gives (Range false end) (Make_range false end) refl t (more x (more z none)) ss (range_one false end ss) (u, (element, a, k, r)) (array_is_data t element a.0 d) (alike_data element (more x (more z none)) d r) h
+        let d = whole_data element k in made_gives (Range false end) (Make_range false end) refl t (more x (more z none)) ss (range_one false end ss) (tt, (u, (element, a, k, r))) (array_is_data t element a.0 d) (alike_data element (more x (more z none)) d r) h
     range_gives stepped end t u ts ss r h = absurd r
 
     -- ---- by forms

@@ -4,3 +4,4 @@ pub mod Claims
 pub mod Fits
 pub mod Typed
 pub mod Components
+pub mod Safety

@@ -25,6 +25,7 @@ use Rattle.fut_meaning.specs.Datums.{takes}
 use Rattle.fut_meaning.specs.Operations.{parameters_of, arity, is_of_scalars}
 use Rattle.fut_meaning.specs.Values.{is_before}
 use Rattle.type_soundness.specs.Fits.{widest}
+use Rattle.type_soundness.specs.Meant.{Operation_meant}
 use Rattle.fut_blocks.specs.declared.block.Atom.{Atom}
 use Rattle.fut_blocks.specs.declared.block.Atom.TheVariants as atom
 use Rattle.fut_blocks.specs.declared.block.Operation.{Operation}
@@ -85,7 +86,7 @@ Operation_typed K G (operation.Convert to a) ts = (u : Ty) × HasKind K kind.Sca
 Operation_typed K G (operation.Assert at a) ts = G a bool_ty × (ts ≡ none)
 Operation_typed K G (operation.Parts a) ts = G a (Made head.Tuple ts)
 
--- what is made of parts has the type that the language's rule gives to its operation
+-- what is made of parts has the type that the language's rule gives to its operation; an index has an index, and an update a place and a value
 abbrev pub operation_of : Making → terms.Operation Ref BindId
 operation_of Make_array = terms.Array_of
 operation_of (Make_index ps) = terms.Index ps
@@ -93,7 +94,7 @@ operation_of Make_update = terms.Update
 operation_of (Make_range stepped end) = terms.Range stepped end
 
 abbrev pub Makes : Names → Kinds → Making → Tys → Ty → Type 0
-Makes N K m us t = (u : Ty) × Rule N kind.Data K (operation_of m) t u us
+Makes N K m us t = Operation_meant (operation_of m) (count us) × ((u : Ty) × Rule N kind.Data K (operation_of m) t u us)
 
 -- the names of fields as they stand in data
 abbrev pub In_name_order : List Text → Type 0

@@ -1,4 +1,5 @@
 // Laws of typed programs' blocks, each carried by a call.
+ghost use Rattle.unfold_laws.specs.Safety.{PlainBlocksNeverStuck};
 ghost use Rattle.unfold_laws.specs.Claims.{BlocksNeverWrong, ResultsAreOf, UnfoldedWellTyped, UnfoldingNeverStuck};
 
 /// The law that the blocks of a typed program give a value of its entry's result type or a report, and never go wrong.
@@ -21,4 +22,10 @@ pub fn unfolding_of_typed_programs_is_never_stuck()
 /// types of the components of the result.
 pub fn unfolded_programs_are_well_typed()
     ensures { UnfoldedWellTyped }
+{}
+
+/// The law that a well typed program of blocks in which no primitive on arrays stands never goes wrong, and gives results of
+/// its types or a report.
+pub fn programs_without_primitives_are_never_stuck()
+    ensures { PlainBlocksNeverStuck }
 {}
