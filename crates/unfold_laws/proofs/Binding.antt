@@ -14,7 +14,7 @@ use Rattle.fut_meaning.specs.Outcomes.{Out, Val, and_then, Rel}
 use Rattle.fut_meaning.proofs.Safe.{safe_exact, safe_then}
 use Rattle.fut_blocks.specs.declared.block.Atom.{Atom}
 use Rattle.fut_blocks.specs.declared.block.Atom.TheVariants as atom
-use Rattle.fut_blocks.specs.Meaning.{Component, Names as Environment, look, bound, fitted, value_of, values_of, under}
+use Rattle.fut_blocks.specs.Meaning.{Component, Names as Environment, look, bound, fitted, value_of, values_of, named as bind, under}
 use Rattle.fut_blocks.specs.Numbered.{Upward}
 use Rattle.unfold.specs.Unfolding.{names}
 use Rattle.type_soundness.specs.Fits.{Fits}
@@ -153,7 +153,7 @@ module _ (N : Names) (integer_at : ℕ → IntType) (tight : Bool) (budget : ℕ
         safe_then (λ inner. Sees (with_names xs ts G) inner m) Q _ _ (safe_exact (λ inner. Sees (with_names xs ts G) inner m) 0 (or_wrong (bound xs ds env)) (subst (λ o. HasOut (λ inner. Sees (with_names xs ts G) inner m) (or_wrong o)) (sym b.1) (sees_names ts xs k m ds b.0 le u b.1 all))) safe
 
     -- with the names of a step
-    pub named_each : (P : Tys → Type 0) (xs : List ℕ) (k m : ℕ) (ts : Tys) (ds : List Component) → n ≤ k → Upward k xs m → length xs ≡ count ts → P ts → ((us : Tys) → P us → All_of us ds) → Safe (λ inner. Sees (with_each xs P G) inner m) (Rattle.fut_blocks.specs.Meaning.named xs ds env)
+    pub named_each : (P : Tys → Type 0) (xs : List ℕ) (k m : ℕ) (ts : Tys) (ds : List Component) → n ≤ k → Upward k xs m → length xs ≡ count ts → P ts → ((us : Tys) → P us → All_of us ds) → Safe (λ inner. Sees (with_each xs P G) inner m) (bind xs ds env)
     named_each P xs k m ts ds le u l p all =
         let long : length ds ≡ count ts = of_length ts ds (all ts p) in
         let b = bound_some xs ds env (l ∙ sym long) in

@@ -15,16 +15,17 @@ use Rattle.fut_meaning.specs.Arrays.{Making, Make_array, Make_index, Make_update
 use Rattle.fut_meaning.specs.Claims.{HasOut, Safe}
 use Rattle.fut_meaning.specs.Meaning.{plain, counts}
 use Rattle.fut_meaning.specs.Operations.{report}
-use Rattle.fut_meaning.specs.Outcomes.{Out, Val, Fail, Wrong, Rel, Then, the, and_then}
+use Rattle.fut_meaning.specs.Outcomes.{Val, Fail, Wrong, Rel, Then, the, and_then}
 use Rattle.fut_meaning.proofs.Safe.{Every, Any_truth, safe_exact, safe_then, safe_choose, safe_turns, safe_while}
 use Rattle.fut_blocks.specs.declared.block.Atom.{Atom}
 use Rattle.fut_blocks.specs.declared.block.Operation.{Operation}
 use Rattle.fut_blocks.specs.declared.block.Operation.TheVariants as operation
-use Rattle.fut_blocks.specs.Meaning.{Component, Names as Environment, values_of, under, operated, turns_of_datum, holds, act_means, body_means}
+use Rattle.fut_blocks.specs.Meaning.{Component, Names as Environment, value_of, values_of, under, operated, turns_of_datum, holds, act_means, body_means}
 use Rattle.fut_blocks.specs.Numbered.{Act_numbered, Body_numbered}
 use Rattle.fut_blocks.specs.Plain.{Action, Operate, Tuple, Make, Read, Job, If, For, Over, While, Body, Give, Let, body_of}
 use Rattle.fut_blocks.specs.Programs.{Program_means}
 use Rattle.fut_blocks.specs.Records.{reads}
+use Rattle.type_soundness.specs.Fits.{Fits}
 use Rattle.type_soundness.proofs.Making.{Of_counted, Rows_fit, rows_fit, row_data, has_as}
 use Rattle.type_soundness.proofs.Makings.{array_is, array_has, index_is, update_is, range_is}
 use Rattle.unfold_laws.specs.Safety.{Is_of, Are_of, Act_plain, Body_plain, PlainBlocksNeverStuck}
@@ -88,7 +89,7 @@ module _ (N : Names) (are : AreNames N) (integer_at : ℕ → IntType) (K : Kind
     values_safe : (us : List Atom) (ts : Tys) → Are G us ts → HasOut (All_of ts) (values_of env us)
     values_safe us ts h = let a = values_are N integer_at tight budget G env n sees us ts h in subst (HasOut (All_of ts)) (sym a.1) a.2
 
-    truth_safe : (c : Atom) → G c bool_ty → HasOut Any_truth (and_then (Rattle.fut_blocks.specs.Meaning.value_of env c) truth_of_datum)
+    truth_safe : (c : Atom) → G c bool_ty → HasOut Any_truth (and_then (value_of env c) truth_of_datum)
     truth_safe c h = with_value N integer_at tight budget G env n sees Any_truth c bool_ty truth_of_datum h (λ d k. let r = truth_datum N are integer_at K tight budget d k in subst (λ z. HasOut Any_truth (truth_of_datum z)) (sym r.1) tt)
 
   -- ---- arrays
@@ -124,7 +125,7 @@ module _ (N : Names) (are : AreNames N) (integer_at : ℕ → IntType) (K : Kind
   turns_is t d k h = let a = integer_datum N are integer_at K tight budget t d k h in subst (λ z. HasOut (Turns_of t) (turns_of_datum z)) (sym a.4) (a.1, a.3)
 
   turn_number : (t : Ty) (c : IntType × ℕ) (j : ℕ) → Turns_of t c → Of t (Scalar_datum (scalar.Int c.0 j))
-  unfolding Rattle.type_soundness.specs.Fits.Fits
+  unfolding Fits
   turn_number t c j (ts, e) = subst (λ y. Of y (Scalar_datum (scalar.Int c.0 j))) (sym e) refl
 
   test_holds : (ws : List Component) → All_of (more bool_ty none) ws → HasOut Any_truth (holds ws)

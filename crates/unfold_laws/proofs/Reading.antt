@@ -1,5 +1,6 @@
 -- What is made of records and tuples, or read from them, is of the types that typing gives.
 use Rattle.std.proofs.Common.{◌≡◌, Bool, true, false, cond, ℕ, refl, sym, ap, ◌∙◌, subst, List, [], ◌∷◌, Some}
+use Rattle.std.specs.List.{AllByRecursion}
 use Rattle.fut_scalar.specs.declared.scalar.IntType.{IntType}
 use Rattle.fut_ast.specs.Sorts.{Text}
 use Rattle.fut_types.specs.Types.{Ty, Var, Tys, none, more, Kinds}
@@ -34,7 +35,7 @@ pairs (f ∷ fs) [] = []
 pairs (f ∷ fs) (d ∷ ds) = (f, as_flat d) ∷ pairs fs ds
 
 -- a first field stays the first
-put_first : (f : Text) (v : FlatValue) (fs : List Text) (ds : List Datum) → Rattle.std.specs.List.AllByRecursion (λ g. is_before f g ≡ true) fs → with_field f v (as_fields (named_data fs ds)) ≡ field_and f v (as_fields (named_data fs ds))
+put_first : (f : Text) (v : FlatValue) (fs : List Text) (ds : List Datum) → AllByRecursion (λ g. is_before f g ≡ true) fs → with_field f v (as_fields (named_data fs ds)) ≡ field_and f v (as_fields (named_data fs ds))
 put_first f v [] ds h = refl
 put_first f v (g ∷ fs) [] h = refl
 put_first f v (g ∷ fs) (d ∷ ds) h = ap (λ b. cond b (field_and f v (field_and g (as_flat d) (as_fields (named_data fs ds)))) (field_and g (as_flat d) (with_field f v (as_fields (named_data fs ds))))) h.0

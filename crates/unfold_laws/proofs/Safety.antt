@@ -1,5 +1,6 @@
 -- What the acts of typed blocks give for data of their operands' types is of the types of their results, or a report.
 use Rattle.std.proofs.Common.{◌≡◌, Bool, true, false, ℕ, ◌<◌, refl, sym, ◌∙◌, subst, List, [], ◌∷◌}
+use Rattle.std.specs.Prelude.{not}
 use Rattle.fut_scalar.specs.declared.operator.BinOp.{BinOp}
 use Rattle.fut_scalar.specs.declared.operator.BinOp.TheVariants as op
 use Rattle.fut_scalar.specs.declared.operator.UnOp.{UnOp}
@@ -111,7 +112,7 @@ module _ (N : Names) (are : AreNames N) (integer_at : ℕ → IntType) (K : Kind
 
   pub binary_is : (o : BinOp) (at : Place) (t u : Ty) (v w : Component) → Operator o K t u → Of u v → Of u w → HasOut (All_of (more t none)) (one (binary_scalar o at v w))
   binary_is op.Eq at t u v w r h g = truth_given t (equal (as_flat v) (as_flat w)) (λ b. b) r.0 (equality u v w r.1 h g)
-  binary_is op.Ne at t u v w r h g = truth_given t (equal (as_flat v) (as_flat w)) Rattle.std.specs.Prelude.not r.0 (equality u v w r.1 h g)
+  binary_is op.Ne at t u v w r h g = truth_given t (equal (as_flat v) (as_flat w)) not r.0 (equality u v w r.1 h g)
   binary_is op.Lt at t u v w r h g = two_is op.Lt at t u v w r r.1 h g
   binary_is op.Le at t u v w r h g = two_is op.Le at t u v w r r.1 h g
   binary_is op.Gt at t u v w r h g = two_is op.Gt at t u v w r r.1 h g

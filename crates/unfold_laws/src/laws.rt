@@ -1,6 +1,6 @@
 // Laws of typed programs' blocks, each carried by a call.
-ghost use Rattle.unfold_laws.specs.Safety.{PlainBlocksNeverStuck};
 ghost use Rattle.unfold_laws.specs.Claims.{BlocksNeverWrong, ResultsAreOf, UnfoldedWellTyped, UnfoldingNeverStuck};
+ghost use Rattle.unfold_laws.specs.Safety.{PlainBlocksNeverStuck};
 
 /// The law that the blocks of a typed program give a value of its entry's result type or a report, and never go wrong.
 pub fn typed_blocks_never_go_wrong()
