@@ -15,16 +15,16 @@ use Rattle.fut_types.specs.Types.{Ty, Sub, fun_ty}
 use Rattle.fut_typing.specs.Names.{Names}
 use Rattle.fut_typing.specs.Primitives.{array_ty, i64_ty}
 use Rattle.fut_sizes.specs.Agreeing.{Mismatch, Escapes, Irregular, Answer, then_do, agree, all_agree, kept, all_kept, leaving, type_levels, all_type_levels, of_type, of_types}
-use Rattle.fut_sizes.specs.Applications.{all_settled, parts_settled, settled, data_met, functions_met, all_matched, applied}
-use Rattle.fut_sizes.specs.Functions.{collected, all_collected, sizes_in, function_size, quantified}
+use Rattle.fut_sizes.specs.Applications.{all_settled, parts_settled, data_met, functions_met, all_matched, applied}
+use Rattle.fut_sizes.specs.Functions.{collected, all_collected, sizes_in, function_size, chosen_in, quantified, closed}
 use Rattle.fut_sizes.specs.Matching.{filled, all_filled, read, all_read, inside as opened_inside, compared, all_compared, meet, all_meet}
 use Rattle.fut_sizes.specs.Operations.{elements_agree, slice_size, indexed, updated, operation}
 use Rattle.fut_sizes.specs.Primitives.{scalar_size, sized_type, prim_size}
 use Rattle.fut_sizes.specs.Programs.{no_state, sizing}
 use Rattle.fut_sizes.specs.Scopes.{Scope, nothing, with_name, type_of, type_in, instance, instances, used, taken, all_taken, fields_taken, bound_by}
 use Rattle.fut_sizes.specs.Sizes.{Const, Name, Unknown, Dim, At, Bound, Size, Level, Fun, erased, all_erased, is_free, is_dim, levels, all_levels, replaced, all_replaced, has, some_has, takes, some_takes}
-use Rattle.fut_sizes.specs.Sizing.{finished, is_open, some_open, given_back, matched_late, lacking, all_lacking, differing, all_differing, turns_from, pattern_noted, patterns_noted, fields_noted, sized, all_sized, turns_sized, condition_sized}
-use Rattle.fut_sizes.specs.WrittenSizes.{part_of, changed_part, has_sizes, all_have_sizes, fields_have_sizes, with_sizes, all_with_sizes, fields_with_sizes, ascribed, coerced, parameter_size, declared}
+use Rattle.fut_sizes.specs.Sizing.{finished, is_open, some_open, matched, lacking, all_lacking, differing, all_differing, turns_from, pattern_noted, patterns_noted, fields_noted, sized, all_sized, turns_sized, condition_sized}
+use Rattle.fut_sizes.specs.WrittenSizes.{part_of, changed_part, has_sizes, all_have_sizes, fields_have_sizes, with_sizes, all_with_sizes, fields_with_sizes, ascribed, coerced, coercion, parameter_size, declared}
 
 here : Place
 here = record { file = 0; line = 1; column = 1 }
@@ -126,230 +126,230 @@ loop_over x v e = Loop here [] (named x) v (Counted (b 20) (var 0)) e
 
 -- iota n
 counted : size_of (iota (var 0)) ≡ Ok (array (name 0))
-unfolding agree all_agree kept all_kept leaving type_levels all_type_levels of_type of_types all_settled parts_settled settled data_met functions_met all_matched applied collected all_collected sizes_in function_size quantified filled all_filled read all_read opened_inside compared all_compared meet all_meet elements_agree slice_size indexed updated operation sized_type prim_size sizing type_of type_in instance instances used taken all_taken fields_taken bound_by erased all_erased is_free is_dim levels all_levels replaced all_replaced has some_has takes some_takes is_open some_open given_back matched_late lacking all_lacking differing all_differing turns_from pattern_noted patterns_noted fields_noted sized all_sized turns_sized condition_sized part_of changed_part has_sizes all_have_sizes fields_have_sizes with_sizes all_with_sizes fields_with_sizes ascribed coerced parameter_size declared
+unfolding agree all_agree kept all_kept leaving type_levels all_type_levels of_type of_types all_settled parts_settled data_met functions_met all_matched applied collected all_collected sizes_in function_size chosen_in quantified closed filled all_filled read all_read opened_inside compared all_compared meet all_meet elements_agree slice_size indexed updated operation sized_type prim_size sizing type_of type_in instance instances used taken all_taken fields_taken bound_by erased all_erased is_free is_dim levels all_levels replaced all_replaced has some_has takes some_takes is_open some_open matched lacking all_lacking differing all_differing turns_from pattern_noted patterns_noted fields_noted sized all_sized turns_sized condition_sized part_of changed_part has_sizes all_have_sizes fields_have_sizes with_sizes all_with_sizes fields_with_sizes ascribed coerced coercion parameter_size declared
 counted = refl
 
 -- iota 3
 constant : size_of (iota (literal 3)) ≡ Ok (array (At (Const 3)))
-unfolding agree all_agree kept all_kept leaving type_levels all_type_levels of_type of_types all_settled parts_settled settled data_met functions_met all_matched applied collected all_collected sizes_in function_size quantified filled all_filled read all_read opened_inside compared all_compared meet all_meet elements_agree slice_size indexed updated operation sized_type prim_size sizing type_of type_in instance instances used taken all_taken fields_taken bound_by erased all_erased is_free is_dim levels all_levels replaced all_replaced has some_has takes some_takes is_open some_open given_back matched_late lacking all_lacking differing all_differing turns_from pattern_noted patterns_noted fields_noted sized all_sized turns_sized condition_sized part_of changed_part has_sizes all_have_sizes fields_have_sizes with_sizes all_with_sizes fields_with_sizes ascribed coerced parameter_size declared
+unfolding agree all_agree kept all_kept leaving type_levels all_type_levels of_type of_types all_settled parts_settled data_met functions_met all_matched applied collected all_collected sizes_in function_size chosen_in quantified closed filled all_filled read all_read opened_inside compared all_compared meet all_meet elements_agree slice_size indexed updated operation sized_type prim_size sizing type_of type_in instance instances used taken all_taken fields_taken bound_by erased all_erased is_free is_dim levels all_levels replaced all_replaced has some_has takes some_takes is_open some_open matched lacking all_lacking differing all_differing turns_from pattern_noted patterns_noted fields_noted sized all_sized turns_sized condition_sized part_of changed_part has_sizes all_have_sizes fields_have_sizes with_sizes all_with_sizes fields_with_sizes ascribed coerced coercion parameter_size declared
 constant = refl
 
 -- let x = 7 in iota x: the size leaves its scope
 leaves : size_of (let_in 9 (literal 7) (iota (var 9))) ≡ Ok (array (unknown 0 0))
-unfolding agree all_agree kept all_kept leaving type_levels all_type_levels of_type of_types all_settled parts_settled settled data_met functions_met all_matched applied collected all_collected sizes_in function_size quantified filled all_filled read all_read opened_inside compared all_compared meet all_meet elements_agree slice_size indexed updated operation sized_type prim_size sizing type_of type_in instance instances used taken all_taken fields_taken bound_by erased all_erased is_free is_dim levels all_levels replaced all_replaced has some_has takes some_takes is_open some_open given_back matched_late lacking all_lacking differing all_differing turns_from pattern_noted patterns_noted fields_noted sized all_sized turns_sized condition_sized part_of changed_part has_sizes all_have_sizes fields_have_sizes with_sizes all_with_sizes fields_with_sizes ascribed coerced parameter_size declared
+unfolding agree all_agree kept all_kept leaving type_levels all_type_levels of_type of_types all_settled parts_settled data_met functions_met all_matched applied collected all_collected sizes_in function_size chosen_in quantified closed filled all_filled read all_read opened_inside compared all_compared meet all_meet elements_agree slice_size indexed updated operation sized_type prim_size sizing type_of type_in instance instances used taken all_taken fields_taken bound_by erased all_erased is_free is_dim levels all_levels replaced all_replaced has some_has takes some_takes is_open some_open matched lacking all_lacking differing all_differing turns_from pattern_noted patterns_noted fields_noted sized all_sized turns_sized condition_sized part_of changed_part has_sizes all_have_sizes fields_have_sizes with_sizes all_with_sizes fields_with_sizes ascribed coerced coercion parameter_size declared
 leaves = refl
 
 -- if true then iota n else xs keeps n
 one_size : size_of (If (Strict (Truth true) here no_term) (iota (var 0)) (var 2)) ≡ Ok (array (name 0))
-unfolding agree all_agree kept all_kept leaving type_levels all_type_levels of_type of_types all_settled parts_settled settled data_met functions_met all_matched applied collected all_collected sizes_in function_size quantified filled all_filled read all_read opened_inside compared all_compared meet all_meet elements_agree slice_size indexed updated operation sized_type prim_size sizing type_of type_in instance instances used taken all_taken fields_taken bound_by erased all_erased is_free is_dim levels all_levels replaced all_replaced has some_has takes some_takes is_open some_open given_back matched_late lacking all_lacking differing all_differing turns_from pattern_noted patterns_noted fields_noted sized all_sized turns_sized condition_sized part_of changed_part has_sizes all_have_sizes fields_have_sizes with_sizes all_with_sizes fields_with_sizes ascribed coerced parameter_size declared
+unfolding agree all_agree kept all_kept leaving type_levels all_type_levels of_type of_types all_settled parts_settled data_met functions_met all_matched applied collected all_collected sizes_in function_size chosen_in quantified closed filled all_filled read all_read opened_inside compared all_compared meet all_meet elements_agree slice_size indexed updated operation sized_type prim_size sizing type_of type_in instance instances used taken all_taken fields_taken bound_by erased all_erased is_free is_dim levels all_levels replaced all_replaced has some_has takes some_takes is_open some_open matched lacking all_lacking differing all_differing turns_from pattern_noted patterns_noted fields_noted sized all_sized turns_sized condition_sized part_of changed_part has_sizes all_have_sizes fields_have_sizes with_sizes all_with_sizes fields_with_sizes ascribed coerced coercion parameter_size declared
 one_size = refl
 
 -- if true then iota n else iota m knows no size
 two_sizes : size_of (If (Strict (Truth true) here no_term) (iota (var 0)) (iota (var 1))) ≡ Ok (array (unknown 0 0))
-unfolding agree all_agree kept all_kept leaving type_levels all_type_levels of_type of_types all_settled parts_settled settled data_met functions_met all_matched applied collected all_collected sizes_in function_size quantified filled all_filled read all_read opened_inside compared all_compared meet all_meet elements_agree slice_size indexed updated operation sized_type prim_size sizing type_of type_in instance instances used taken all_taken fields_taken bound_by erased all_erased is_free is_dim levels all_levels replaced all_replaced has some_has takes some_takes is_open some_open given_back matched_late lacking all_lacking differing all_differing turns_from pattern_noted patterns_noted fields_noted sized all_sized turns_sized condition_sized part_of changed_part has_sizes all_have_sizes fields_have_sizes with_sizes all_with_sizes fields_with_sizes ascribed coerced parameter_size declared
+unfolding agree all_agree kept all_kept leaving type_levels all_type_levels of_type of_types all_settled parts_settled data_met functions_met all_matched applied collected all_collected sizes_in function_size chosen_in quantified closed filled all_filled read all_read opened_inside compared all_compared meet all_meet elements_agree slice_size indexed updated operation sized_type prim_size sizing type_of type_in instance instances used taken all_taken fields_taken bound_by erased all_erased is_free is_dim levels all_levels replaced all_replaced has some_has takes some_takes is_open some_open matched lacking all_lacking differing all_differing turns_from pattern_noted patterns_noted fields_noted sized all_sized turns_sized condition_sized part_of changed_part has_sizes all_have_sizes fields_have_sizes with_sizes all_with_sizes fields_with_sizes ascribed coerced coercion parameter_size declared
 two_sizes = refl
 
 -- map f xs
 mapped : size_of (call2 (the prim.Map) (var 3) (var 2)) ≡ Ok (array (name 0))
-unfolding agree all_agree kept all_kept leaving type_levels all_type_levels of_type of_types all_settled parts_settled settled data_met functions_met all_matched applied collected all_collected sizes_in function_size quantified filled all_filled read all_read opened_inside compared all_compared meet all_meet elements_agree slice_size indexed updated operation sized_type prim_size sizing type_of type_in instance instances used taken all_taken fields_taken bound_by erased all_erased is_free is_dim levels all_levels replaced all_replaced has some_has takes some_takes is_open some_open given_back matched_late lacking all_lacking differing all_differing turns_from pattern_noted patterns_noted fields_noted sized all_sized turns_sized condition_sized part_of changed_part has_sizes all_have_sizes fields_have_sizes with_sizes all_with_sizes fields_with_sizes ascribed coerced parameter_size declared
+unfolding agree all_agree kept all_kept leaving type_levels all_type_levels of_type of_types all_settled parts_settled data_met functions_met all_matched applied collected all_collected sizes_in function_size chosen_in quantified closed filled all_filled read all_read opened_inside compared all_compared meet all_meet elements_agree slice_size indexed updated operation sized_type prim_size sizing type_of type_in instance instances used taken all_taken fields_taken bound_by erased all_erased is_free is_dim levels all_levels replaced all_replaced has some_has takes some_takes is_open some_open matched lacking all_lacking differing all_differing turns_from pattern_noted patterns_noted fields_noted sized all_sized turns_sized condition_sized part_of changed_part has_sizes all_have_sizes fields_have_sizes with_sizes all_with_sizes fields_with_sizes ascribed coerced coercion parameter_size declared
 mapped = refl
 
 -- filter p xs: its size is met
 filtered : size_of (call2 (the prim.Filter) (var 4) (var 2)) ≡ Ok (array (unknown 0 3))
-unfolding agree all_agree kept all_kept leaving type_levels all_type_levels of_type of_types all_settled parts_settled settled data_met functions_met all_matched applied collected all_collected sizes_in function_size quantified filled all_filled read all_read opened_inside compared all_compared meet all_meet elements_agree slice_size indexed updated operation sized_type prim_size sizing type_of type_in instance instances used taken all_taken fields_taken bound_by erased all_erased is_free is_dim levels all_levels replaced all_replaced has some_has takes some_takes is_open some_open given_back matched_late lacking all_lacking differing all_differing turns_from pattern_noted patterns_noted fields_noted sized all_sized turns_sized condition_sized part_of changed_part has_sizes all_have_sizes fields_have_sizes with_sizes all_with_sizes fields_with_sizes ascribed coerced parameter_size declared
+unfolding agree all_agree kept all_kept leaving type_levels all_type_levels of_type of_types all_settled parts_settled data_met functions_met all_matched applied collected all_collected sizes_in function_size chosen_in quantified closed filled all_filled read all_read opened_inside compared all_compared meet all_meet elements_agree slice_size indexed updated operation sized_type prim_size sizing type_of type_in instance instances used taken all_taken fields_taken bound_by erased all_erased is_free is_dim levels all_levels replaced all_replaced has some_has takes some_takes is_open some_open matched lacking all_lacking differing all_differing turns_from pattern_noted patterns_noted fields_noted sized all_sized turns_sized condition_sized part_of changed_part has_sizes all_have_sizes fields_have_sizes with_sizes all_with_sizes fields_with_sizes ascribed coerced coercion parameter_size declared
 filtered = refl
 
 -- map (\i -> iota m) (iota n)
 rows : size_of (call2 (the prim.Map) (function 9 (iota (var 1))) (iota (var 0))) ≡ Ok (Level (name 0) (array (name 1)))
-unfolding agree all_agree kept all_kept leaving type_levels all_type_levels of_type of_types all_settled parts_settled settled data_met functions_met all_matched applied collected all_collected sizes_in function_size quantified filled all_filled read all_read opened_inside compared all_compared meet all_meet elements_agree slice_size indexed updated operation sized_type prim_size sizing type_of type_in instance instances used taken all_taken fields_taken bound_by erased all_erased is_free is_dim levels all_levels replaced all_replaced has some_has takes some_takes is_open some_open given_back matched_late lacking all_lacking differing all_differing turns_from pattern_noted patterns_noted fields_noted sized all_sized turns_sized condition_sized part_of changed_part has_sizes all_have_sizes fields_have_sizes with_sizes all_with_sizes fields_with_sizes ascribed coerced parameter_size declared
+unfolding agree all_agree kept all_kept leaving type_levels all_type_levels of_type of_types all_settled parts_settled data_met functions_met all_matched applied collected all_collected sizes_in function_size chosen_in quantified closed filled all_filled read all_read opened_inside compared all_compared meet all_meet elements_agree slice_size indexed updated operation sized_type prim_size sizing type_of type_in instance instances used taken all_taken fields_taken bound_by erased all_erased is_free is_dim levels all_levels replaced all_replaced has some_has takes some_takes is_open some_open matched lacking all_lacking differing all_differing turns_from pattern_noted patterns_noted fields_noted sized all_sized turns_sized condition_sized part_of changed_part has_sizes all_have_sizes fields_have_sizes with_sizes all_with_sizes fields_with_sizes ascribed coerced coercion parameter_size declared
 rows = refl
 
 -- map (\i -> iota i) (iota n): rows of many sizes
 irregular : size_of (call2 (the prim.Map) (function 9 (iota (var 9))) (iota (var 0))) ≡ Err (Irregular 3)
-unfolding agree all_agree kept all_kept leaving type_levels all_type_levels of_type of_types all_settled parts_settled settled data_met functions_met all_matched applied collected all_collected sizes_in function_size quantified filled all_filled read all_read opened_inside compared all_compared meet all_meet elements_agree slice_size indexed updated operation sized_type prim_size sizing type_of type_in instance instances used taken all_taken fields_taken bound_by erased all_erased is_free is_dim levels all_levels replaced all_replaced has some_has takes some_takes is_open some_open given_back matched_late lacking all_lacking differing all_differing turns_from pattern_noted patterns_noted fields_noted sized all_sized turns_sized condition_sized part_of changed_part has_sizes all_have_sizes fields_have_sizes with_sizes all_with_sizes fields_with_sizes ascribed coerced parameter_size declared
+unfolding agree all_agree kept all_kept leaving type_levels all_type_levels of_type of_types all_settled parts_settled data_met functions_met all_matched applied collected all_collected sizes_in function_size chosen_in quantified closed filled all_filled read all_read opened_inside compared all_compared meet all_meet elements_agree slice_size indexed updated operation sized_type prim_size sizing type_of type_in instance instances used taken all_taken fields_taken bound_by erased all_erased is_free is_dim levels all_levels replaced all_replaced has some_has takes some_takes is_open some_open matched lacking all_lacking differing all_differing turns_from pattern_noted patterns_noted fields_noted sized all_sized turns_sized condition_sized part_of changed_part has_sizes all_have_sizes fields_have_sizes with_sizes all_with_sizes fields_with_sizes ascribed coerced coercion parameter_size declared
 irregular = refl
 
 -- map2 (\x y -> x) (iota n) (iota m): the second array is refused
 different : size_of (call3 (the prim.Map2) first (iota (var 0)) (iota (var 1))) ≡ Err (Mismatch 12 (name 0) (name 1))
-unfolding agree all_agree kept all_kept leaving type_levels all_type_levels of_type of_types all_settled parts_settled settled data_met functions_met all_matched applied collected all_collected sizes_in function_size quantified filled all_filled read all_read opened_inside compared all_compared meet all_meet elements_agree slice_size indexed updated operation sized_type prim_size sizing type_of type_in instance instances used taken all_taken fields_taken bound_by erased all_erased is_free is_dim levels all_levels replaced all_replaced has some_has takes some_takes is_open some_open given_back matched_late lacking all_lacking differing all_differing turns_from pattern_noted patterns_noted fields_noted sized all_sized turns_sized condition_sized part_of changed_part has_sizes all_have_sizes fields_have_sizes with_sizes all_with_sizes fields_with_sizes ascribed coerced parameter_size declared
+unfolding agree all_agree kept all_kept leaving type_levels all_type_levels of_type of_types all_settled parts_settled data_met functions_met all_matched applied collected all_collected sizes_in function_size chosen_in quantified closed filled all_filled read all_read opened_inside compared all_compared meet all_meet elements_agree slice_size indexed updated operation sized_type prim_size sizing type_of type_in instance instances used taken all_taken fields_taken bound_by erased all_erased is_free is_dim levels all_levels replaced all_replaced has some_has takes some_takes is_open some_open matched lacking all_lacking differing all_differing turns_from pattern_noted patterns_noted fields_noted sized all_sized turns_sized condition_sized part_of changed_part has_sizes all_have_sizes fields_have_sizes with_sizes all_with_sizes fields_with_sizes ascribed coerced coercion parameter_size declared
 different = refl
 
 -- map2 (\x y -> iota x) (iota n) (iota m): data is matched before functions
 first_refusal : size_of (call3 (the prim.Map2) (function 9 (function 10 (iota (var 9)))) (iota (var 0)) (iota (var 1))) ≡ Err (Mismatch 14 (name 0) (name 1))
-unfolding agree all_agree kept all_kept leaving type_levels all_type_levels of_type of_types all_settled parts_settled settled data_met functions_met all_matched applied collected all_collected sizes_in function_size quantified filled all_filled read all_read opened_inside compared all_compared meet all_meet elements_agree slice_size indexed updated operation sized_type prim_size sizing type_of type_in instance instances used taken all_taken fields_taken bound_by erased all_erased is_free is_dim levels all_levels replaced all_replaced has some_has takes some_takes is_open some_open given_back matched_late lacking all_lacking differing all_differing turns_from pattern_noted patterns_noted fields_noted sized all_sized turns_sized condition_sized part_of changed_part has_sizes all_have_sizes fields_have_sizes with_sizes all_with_sizes fields_with_sizes ascribed coerced parameter_size declared
+unfolding agree all_agree kept all_kept leaving type_levels all_type_levels of_type of_types all_settled parts_settled data_met functions_met all_matched applied collected all_collected sizes_in function_size chosen_in quantified closed filled all_filled read all_read opened_inside compared all_compared meet all_meet elements_agree slice_size indexed updated operation sized_type prim_size sizing type_of type_in instance instances used taken all_taken fields_taken bound_by erased all_erased is_free is_dim levels all_levels replaced all_replaced has some_has takes some_takes is_open some_open matched lacking all_lacking differing all_differing turns_from pattern_noted patterns_noted fields_noted sized all_sized turns_sized condition_sized part_of changed_part has_sizes all_have_sizes fields_have_sizes with_sizes all_with_sizes fields_with_sizes ascribed coerced coercion parameter_size declared
 first_refusal = refl
 
 -- [iota n, xs]
 elements : size_of (array_of (iota (var 0)) (var 2)) ≡ Ok (Level (At (Const 2)) (array (name 0)))
-unfolding agree all_agree kept all_kept leaving type_levels all_type_levels of_type of_types all_settled parts_settled settled data_met functions_met all_matched applied collected all_collected sizes_in function_size quantified filled all_filled read all_read opened_inside compared all_compared meet all_meet elements_agree slice_size indexed updated operation sized_type prim_size sizing type_of type_in instance instances used taken all_taken fields_taken bound_by erased all_erased is_free is_dim levels all_levels replaced all_replaced has some_has takes some_takes is_open some_open given_back matched_late lacking all_lacking differing all_differing turns_from pattern_noted patterns_noted fields_noted sized all_sized turns_sized condition_sized part_of changed_part has_sizes all_have_sizes fields_have_sizes with_sizes all_with_sizes fields_with_sizes ascribed coerced parameter_size declared
+unfolding agree all_agree kept all_kept leaving type_levels all_type_levels of_type of_types all_settled parts_settled data_met functions_met all_matched applied collected all_collected sizes_in function_size chosen_in quantified closed filled all_filled read all_read opened_inside compared all_compared meet all_meet elements_agree slice_size indexed updated operation sized_type prim_size sizing type_of type_in instance instances used taken all_taken fields_taken bound_by erased all_erased is_free is_dim levels all_levels replaced all_replaced has some_has takes some_takes is_open some_open matched lacking all_lacking differing all_differing turns_from pattern_noted patterns_noted fields_noted sized all_sized turns_sized condition_sized part_of changed_part has_sizes all_have_sizes fields_have_sizes with_sizes all_with_sizes fields_with_sizes ascribed coerced coercion parameter_size declared
 elements = refl
 
 -- [iota n, iota m]
 elements_differ : size_of (array_of (iota (var 0)) (iota (var 1))) ≡ Err (Mismatch 4 (name 0) (name 1))
-unfolding agree all_agree kept all_kept leaving type_levels all_type_levels of_type of_types all_settled parts_settled settled data_met functions_met all_matched applied collected all_collected sizes_in function_size quantified filled all_filled read all_read opened_inside compared all_compared meet all_meet elements_agree slice_size indexed updated operation sized_type prim_size sizing type_of type_in instance instances used taken all_taken fields_taken bound_by erased all_erased is_free is_dim levels all_levels replaced all_replaced has some_has takes some_takes is_open some_open given_back matched_late lacking all_lacking differing all_differing turns_from pattern_noted patterns_noted fields_noted sized all_sized turns_sized condition_sized part_of changed_part has_sizes all_have_sizes fields_have_sizes with_sizes all_with_sizes fields_with_sizes ascribed coerced parameter_size declared
+unfolding agree all_agree kept all_kept leaving type_levels all_type_levels of_type of_types all_settled parts_settled data_met functions_met all_matched applied collected all_collected sizes_in function_size chosen_in quantified closed filled all_filled read all_read opened_inside compared all_compared meet all_meet elements_agree slice_size indexed updated operation sized_type prim_size sizing type_of type_in instance instances used taken all_taken fields_taken bound_by erased all_erased is_free is_dim levels all_levels replaced all_replaced has some_has takes some_takes is_open some_open matched lacking all_lacking differing all_differing turns_from pattern_noted patterns_noted fields_noted sized all_sized turns_sized condition_sized part_of changed_part has_sizes all_have_sizes fields_have_sizes with_sizes all_with_sizes fields_with_sizes ascribed coerced coercion parameter_size declared
 elements_differ = refl
 
 -- let g = map in g (\i -> iota m) (iota 0)
 later : size_in (but 2 (fun_ty (fun_ty i64_ty list_ty) (fun_ty list_ty (array_ty list_ty))) all_i64) (let_in 9 (the prim.Map) (call2 (var 9) (function 10 (iota (var 1))) (iota (literal 0)))) ≡ Ok (Level (At (Const 0)) (array (name 1)))
-unfolding agree all_agree kept all_kept leaving type_levels all_type_levels of_type of_types all_settled parts_settled settled data_met functions_met all_matched applied collected all_collected sizes_in function_size quantified filled all_filled read all_read opened_inside compared all_compared meet all_meet elements_agree slice_size indexed updated operation sized_type prim_size sizing type_of type_in instance instances used taken all_taken fields_taken bound_by erased all_erased is_free is_dim levels all_levels replaced all_replaced has some_has takes some_takes is_open some_open given_back matched_late lacking all_lacking differing all_differing turns_from pattern_noted patterns_noted fields_noted sized all_sized turns_sized condition_sized part_of changed_part has_sizes all_have_sizes fields_have_sizes with_sizes all_with_sizes fields_with_sizes ascribed coerced parameter_size declared
+unfolding agree all_agree kept all_kept leaving type_levels all_type_levels of_type of_types all_settled parts_settled data_met functions_met all_matched applied collected all_collected sizes_in function_size chosen_in quantified closed filled all_filled read all_read opened_inside compared all_compared meet all_meet elements_agree slice_size indexed updated operation sized_type prim_size sizing type_of type_in instance instances used taken all_taken fields_taken bound_by erased all_erased is_free is_dim levels all_levels replaced all_replaced has some_has takes some_takes is_open some_open matched lacking all_lacking differing all_differing turns_from pattern_noted patterns_noted fields_noted sized all_sized turns_sized condition_sized part_of changed_part has_sizes all_have_sizes fields_have_sizes with_sizes all_with_sizes fields_with_sizes ascribed coerced coercion parameter_size declared
 later = refl
 
 -- loop ys = xs for i < n do map f ys
 loop_keeps : size_of (loop_over 9 (var 2) (call2 (the prim.Map) (var 3) (var 9))) ≡ Ok (array (name 0))
-unfolding agree all_agree kept all_kept leaving type_levels all_type_levels of_type of_types all_settled parts_settled settled data_met functions_met all_matched applied collected all_collected sizes_in function_size quantified filled all_filled read all_read opened_inside compared all_compared meet all_meet elements_agree slice_size indexed updated operation sized_type prim_size sizing type_of type_in instance instances used taken all_taken fields_taken bound_by erased all_erased is_free is_dim levels all_levels replaced all_replaced has some_has takes some_takes is_open some_open given_back matched_late lacking all_lacking differing all_differing turns_from pattern_noted patterns_noted fields_noted sized all_sized turns_sized condition_sized part_of changed_part has_sizes all_have_sizes fields_have_sizes with_sizes all_with_sizes fields_with_sizes ascribed coerced parameter_size declared
+unfolding agree all_agree kept all_kept leaving type_levels all_type_levels of_type of_types all_settled parts_settled data_met functions_met all_matched applied collected all_collected sizes_in function_size chosen_in quantified closed filled all_filled read all_read opened_inside compared all_compared meet all_meet elements_agree slice_size indexed updated operation sized_type prim_size sizing type_of type_in instance instances used taken all_taken fields_taken bound_by erased all_erased is_free is_dim levels all_levels replaced all_replaced has some_has takes some_takes is_open some_open matched lacking all_lacking differing all_differing turns_from pattern_noted patterns_noted fields_noted sized all_sized turns_sized condition_sized part_of changed_part has_sizes all_have_sizes fields_have_sizes with_sizes all_with_sizes fields_with_sizes ascribed coerced coercion parameter_size declared
 loop_keeps = refl
 
 -- loop ys = xs for i < n do filter p ys: the size of no turn is known
 loop_drops : size_of (loop_over 9 (var 2) (call2 (the prim.Filter) (var 4) (var 9))) ≡ Ok (array (unknown 0 0))
-unfolding agree all_agree kept all_kept leaving type_levels all_type_levels of_type of_types all_settled parts_settled settled data_met functions_met all_matched applied collected all_collected sizes_in function_size quantified filled all_filled read all_read opened_inside compared all_compared meet all_meet elements_agree slice_size indexed updated operation sized_type prim_size sizing type_of type_in instance instances used taken all_taken fields_taken bound_by erased all_erased is_free is_dim levels all_levels replaced all_replaced has some_has takes some_takes is_open some_open given_back matched_late lacking all_lacking differing all_differing turns_from pattern_noted patterns_noted fields_noted sized all_sized turns_sized condition_sized part_of changed_part has_sizes all_have_sizes fields_have_sizes with_sizes all_with_sizes fields_with_sizes ascribed coerced parameter_size declared
+unfolding agree all_agree kept all_kept leaving type_levels all_type_levels of_type of_types all_settled parts_settled data_met functions_met all_matched applied collected all_collected sizes_in function_size chosen_in quantified closed filled all_filled read all_read opened_inside compared all_compared meet all_meet elements_agree slice_size indexed updated operation sized_type prim_size sizing type_of type_in instance instances used taken all_taken fields_taken bound_by erased all_erased is_free is_dim levels all_levels replaced all_replaced has some_has takes some_takes is_open some_open matched lacking all_lacking differing all_differing turns_from pattern_noted patterns_noted fields_noted sized all_sized turns_sized condition_sized part_of changed_part has_sizes all_have_sizes fields_have_sizes with_sizes all_with_sizes fields_with_sizes ascribed coerced coercion parameter_size declared
 loop_drops = refl
 
 -- loop ys = xs for i < n do loop zs = ys for i < n do filter p zs
 loops_in_loops : size_of (loop_over 9 (var 2) (loop_over 10 (var 9) (call2 (the prim.Filter) (var 4) (var 10)))) ≡ Ok (array (unknown 0 0))
-unfolding agree all_agree kept all_kept leaving type_levels all_type_levels of_type of_types all_settled parts_settled settled data_met functions_met all_matched applied collected all_collected sizes_in function_size quantified filled all_filled read all_read opened_inside compared all_compared meet all_meet elements_agree slice_size indexed updated operation sized_type prim_size sizing type_of type_in instance instances used taken all_taken fields_taken bound_by erased all_erased is_free is_dim levels all_levels replaced all_replaced has some_has takes some_takes is_open some_open given_back matched_late lacking all_lacking differing all_differing turns_from pattern_noted patterns_noted fields_noted sized all_sized turns_sized condition_sized part_of changed_part has_sizes all_have_sizes fields_have_sizes with_sizes all_with_sizes fields_with_sizes ascribed coerced parameter_size declared
+unfolding agree all_agree kept all_kept leaving type_levels all_type_levels of_type of_types all_settled parts_settled data_met functions_met all_matched applied collected all_collected sizes_in function_size chosen_in quantified closed filled all_filled read all_read opened_inside compared all_compared meet all_meet elements_agree slice_size indexed updated operation sized_type prim_size sizing type_of type_in instance instances used taken all_taken fields_taken bound_by erased all_erased is_free is_dim levels all_levels replaced all_replaced has some_has takes some_takes is_open some_open matched lacking all_lacking differing all_differing turns_from pattern_noted patterns_noted fields_noted sized all_sized turns_sized condition_sized part_of changed_part has_sizes all_have_sizes fields_have_sizes with_sizes all_with_sizes fields_with_sizes ascribed coerced coercion parameter_size declared
 loops_in_loops = refl
 
 -- let [k] (ys: [k]i64) = filter p xs in map2 (\x y -> x) ys (iota k)
 size_bound : size_of (Let (record { sizes = b 8 ∷ []; parameters = []; is_function = false; pattern = typed 7 8 }) (call2 (the prim.Filter) (var 4) (var 2)) (call3 (the prim.Map2) first (var 7) (iota (var 8)))) ≡ Ok (array (unknown 0 1))
-unfolding agree all_agree kept all_kept leaving type_levels all_type_levels of_type of_types all_settled parts_settled settled data_met functions_met all_matched applied collected all_collected sizes_in function_size quantified filled all_filled read all_read opened_inside compared all_compared meet all_meet elements_agree slice_size indexed updated operation sized_type prim_size sizing type_of type_in instance instances used taken all_taken fields_taken bound_by erased all_erased is_free is_dim levels all_levels replaced all_replaced has some_has takes some_takes is_open some_open given_back matched_late lacking all_lacking differing all_differing turns_from pattern_noted patterns_noted fields_noted sized all_sized turns_sized condition_sized part_of changed_part has_sizes all_have_sizes fields_have_sizes with_sizes all_with_sizes fields_with_sizes ascribed coerced parameter_size declared
+unfolding agree all_agree kept all_kept leaving type_levels all_type_levels of_type of_types all_settled parts_settled data_met functions_met all_matched applied collected all_collected sizes_in function_size chosen_in quantified closed filled all_filled read all_read opened_inside compared all_compared meet all_meet elements_agree slice_size indexed updated operation sized_type prim_size sizing type_of type_in instance instances used taken all_taken fields_taken bound_by erased all_erased is_free is_dim levels all_levels replaced all_replaced has some_has takes some_takes is_open some_open matched lacking all_lacking differing all_differing turns_from pattern_noted patterns_noted fields_noted sized all_sized turns_sized condition_sized part_of changed_part has_sizes all_have_sizes fields_have_sizes with_sizes all_with_sizes fields_with_sizes ascribed coerced coercion parameter_size declared
 size_bound = refl
 
 -- let ys = filter p xs in map2 (\x y -> x) ys (iota n)
 size_unknown : size_of (let_in 7 (call2 (the prim.Filter) (var 4) (var 2)) (call3 (the prim.Map2) first (var 7) (iota (var 0)))) ≡ Err (Mismatch 17 (unknown 2 3) (name 0))
-unfolding agree all_agree kept all_kept leaving type_levels all_type_levels of_type of_types all_settled parts_settled settled data_met functions_met all_matched applied collected all_collected sizes_in function_size quantified filled all_filled read all_read opened_inside compared all_compared meet all_meet elements_agree slice_size indexed updated operation sized_type prim_size sizing type_of type_in instance instances used taken all_taken fields_taken bound_by erased all_erased is_free is_dim levels all_levels replaced all_replaced has some_has takes some_takes is_open some_open given_back matched_late lacking all_lacking differing all_differing turns_from pattern_noted patterns_noted fields_noted sized all_sized turns_sized condition_sized part_of changed_part has_sizes all_have_sizes fields_have_sizes with_sizes all_with_sizes fields_with_sizes ascribed coerced parameter_size declared
+unfolding agree all_agree kept all_kept leaving type_levels all_type_levels of_type of_types all_settled parts_settled data_met functions_met all_matched applied collected all_collected sizes_in function_size chosen_in quantified closed filled all_filled read all_read opened_inside compared all_compared meet all_meet elements_agree slice_size indexed updated operation sized_type prim_size sizing type_of type_in instance instances used taken all_taken fields_taken bound_by erased all_erased is_free is_dim levels all_levels replaced all_replaced has some_has takes some_takes is_open some_open matched lacking all_lacking differing all_differing turns_from pattern_noted patterns_noted fields_noted sized all_sized turns_sized condition_sized part_of changed_part has_sizes all_have_sizes fields_have_sizes with_sizes all_with_sizes fields_with_sizes ascribed coerced coercion parameter_size declared
 size_unknown = refl
 
 -- xs : [n]i64
 ascribed_right : size_of (Strict (Ascribe (array_type 0)) here (term_and (var 2) no_term)) ≡ Ok (array (name 0))
-unfolding agree all_agree kept all_kept leaving type_levels all_type_levels of_type of_types all_settled parts_settled settled data_met functions_met all_matched applied collected all_collected sizes_in function_size quantified filled all_filled read all_read opened_inside compared all_compared meet all_meet elements_agree slice_size indexed updated operation sized_type prim_size sizing type_of type_in instance instances used taken all_taken fields_taken bound_by erased all_erased is_free is_dim levels all_levels replaced all_replaced has some_has takes some_takes is_open some_open given_back matched_late lacking all_lacking differing all_differing turns_from pattern_noted patterns_noted fields_noted sized all_sized turns_sized condition_sized part_of changed_part has_sizes all_have_sizes fields_have_sizes with_sizes all_with_sizes fields_with_sizes ascribed coerced parameter_size declared
+unfolding agree all_agree kept all_kept leaving type_levels all_type_levels of_type of_types all_settled parts_settled data_met functions_met all_matched applied collected all_collected sizes_in function_size chosen_in quantified closed filled all_filled read all_read opened_inside compared all_compared meet all_meet elements_agree slice_size indexed updated operation sized_type prim_size sizing type_of type_in instance instances used taken all_taken fields_taken bound_by erased all_erased is_free is_dim levels all_levels replaced all_replaced has some_has takes some_takes is_open some_open matched lacking all_lacking differing all_differing turns_from pattern_noted patterns_noted fields_noted sized all_sized turns_sized condition_sized part_of changed_part has_sizes all_have_sizes fields_have_sizes with_sizes all_with_sizes fields_with_sizes ascribed coerced coercion parameter_size declared
 ascribed_right = refl
 
 -- xs : [m]i64
 ascribed_wrong : size_of (Strict (Ascribe (array_type 1)) here (term_and (var 2) no_term)) ≡ Err (Mismatch 1 (name 1) (name 0))
-unfolding agree all_agree kept all_kept leaving type_levels all_type_levels of_type of_types all_settled parts_settled settled data_met functions_met all_matched applied collected all_collected sizes_in function_size quantified filled all_filled read all_read opened_inside compared all_compared meet all_meet elements_agree slice_size indexed updated operation sized_type prim_size sizing type_of type_in instance instances used taken all_taken fields_taken bound_by erased all_erased is_free is_dim levels all_levels replaced all_replaced has some_has takes some_takes is_open some_open given_back matched_late lacking all_lacking differing all_differing turns_from pattern_noted patterns_noted fields_noted sized all_sized turns_sized condition_sized part_of changed_part has_sizes all_have_sizes fields_have_sizes with_sizes all_with_sizes fields_with_sizes ascribed coerced parameter_size declared
+unfolding agree all_agree kept all_kept leaving type_levels all_type_levels of_type of_types all_settled parts_settled data_met functions_met all_matched applied collected all_collected sizes_in function_size chosen_in quantified closed filled all_filled read all_read opened_inside compared all_compared meet all_meet elements_agree slice_size indexed updated operation sized_type prim_size sizing type_of type_in instance instances used taken all_taken fields_taken bound_by erased all_erased is_free is_dim levels all_levels replaced all_replaced has some_has takes some_takes is_open some_open matched lacking all_lacking differing all_differing turns_from pattern_noted patterns_noted fields_noted sized all_sized turns_sized condition_sized part_of changed_part has_sizes all_have_sizes fields_have_sizes with_sizes all_with_sizes fields_with_sizes ascribed coerced coercion parameter_size declared
 ascribed_wrong = refl
 
 -- xs :> [m]i64
 coerced_to : size_of (Strict (Coerce (array_type 1)) here (term_and (var 2) no_term)) ≡ Ok (array (name 1))
-unfolding agree all_agree kept all_kept leaving type_levels all_type_levels of_type of_types all_settled parts_settled settled data_met functions_met all_matched applied collected all_collected sizes_in function_size quantified filled all_filled read all_read opened_inside compared all_compared meet all_meet elements_agree slice_size indexed updated operation sized_type prim_size sizing type_of type_in instance instances used taken all_taken fields_taken bound_by erased all_erased is_free is_dim levels all_levels replaced all_replaced has some_has takes some_takes is_open some_open given_back matched_late lacking all_lacking differing all_differing turns_from pattern_noted patterns_noted fields_noted sized all_sized turns_sized condition_sized part_of changed_part has_sizes all_have_sizes fields_have_sizes with_sizes all_with_sizes fields_with_sizes ascribed coerced parameter_size declared
+unfolding agree all_agree kept all_kept leaving type_levels all_type_levels of_type of_types all_settled parts_settled data_met functions_met all_matched applied collected all_collected sizes_in function_size chosen_in quantified closed filled all_filled read all_read opened_inside compared all_compared meet all_meet elements_agree slice_size indexed updated operation sized_type prim_size sizing type_of type_in instance instances used taken all_taken fields_taken bound_by erased all_erased is_free is_dim levels all_levels replaced all_replaced has some_has takes some_takes is_open some_open matched lacking all_lacking differing all_differing turns_from pattern_noted patterns_noted fields_noted sized all_sized turns_sized condition_sized part_of changed_part has_sizes all_have_sizes fields_have_sizes with_sizes all_with_sizes fields_with_sizes ascribed coerced coercion parameter_size declared
 coerced_to = refl
 
 -- let f [k] (ys: [k]i64) (zs: [k]i64): [k]i64 = map2 (\x y -> x) ys zs in f
 size_parameter : size_in (but 3 list_ty (but 4 list_ty all_i64)) (let_function 7 8 (Lambda (pattern_and (typed 11 8) (pattern_and (typed 12 8) no_pattern)) (Strict (Declared (array_type 8)) here (term_and (call3 (the prim.Map2) first (var 11) (var 12)) no_term))) (var 7)) ≡ Ok (Fun 1 (array (Bound 0 0)) (Fun 0 (array (Bound 1 0)) (array (Bound 1 0))))
-unfolding agree all_agree kept all_kept leaving type_levels all_type_levels of_type of_types all_settled parts_settled settled data_met functions_met all_matched applied collected all_collected sizes_in function_size quantified filled all_filled read all_read opened_inside compared all_compared meet all_meet elements_agree slice_size indexed updated operation sized_type prim_size sizing type_of type_in instance instances used taken all_taken fields_taken bound_by erased all_erased is_free is_dim levels all_levels replaced all_replaced has some_has takes some_takes is_open some_open given_back matched_late lacking all_lacking differing all_differing turns_from pattern_noted patterns_noted fields_noted sized all_sized turns_sized condition_sized part_of changed_part has_sizes all_have_sizes fields_have_sizes with_sizes all_with_sizes fields_with_sizes ascribed coerced parameter_size declared
+unfolding agree all_agree kept all_kept leaving type_levels all_type_levels of_type of_types all_settled parts_settled data_met functions_met all_matched applied collected all_collected sizes_in function_size chosen_in quantified closed filled all_filled read all_read opened_inside compared all_compared meet all_meet elements_agree slice_size indexed updated operation sized_type prim_size sizing type_of type_in instance instances used taken all_taken fields_taken bound_by erased all_erased is_free is_dim levels all_levels replaced all_replaced has some_has takes some_takes is_open some_open matched lacking all_lacking differing all_differing turns_from pattern_noted patterns_noted fields_noted sized all_sized turns_sized condition_sized part_of changed_part has_sizes all_have_sizes fields_have_sizes with_sizes all_with_sizes fields_with_sizes ascribed coerced coercion parameter_size declared
 size_parameter = refl
 
 -- .. in f xs xs
 one_parameter : size_in (but 3 list_ty (but 4 list_ty all_i64)) (let_function 7 8 (Lambda (pattern_and (typed 11 8) (pattern_and (typed 12 8) no_pattern)) (Strict (Declared (array_type 8)) here (term_and (call3 (the prim.Map2) first (var 11) (var 12)) no_term))) (call2 (var 7) (var 2) (var 2))) ≡ Ok (array (name 0))
-unfolding agree all_agree kept all_kept leaving type_levels all_type_levels of_type of_types all_settled parts_settled settled data_met functions_met all_matched applied collected all_collected sizes_in function_size quantified filled all_filled read all_read opened_inside compared all_compared meet all_meet elements_agree slice_size indexed updated operation sized_type prim_size sizing type_of type_in instance instances used taken all_taken fields_taken bound_by erased all_erased is_free is_dim levels all_levels replaced all_replaced has some_has takes some_takes is_open some_open given_back matched_late lacking all_lacking differing all_differing turns_from pattern_noted patterns_noted fields_noted sized all_sized turns_sized condition_sized part_of changed_part has_sizes all_have_sizes fields_have_sizes with_sizes all_with_sizes fields_with_sizes ascribed coerced parameter_size declared
+unfolding agree all_agree kept all_kept leaving type_levels all_type_levels of_type of_types all_settled parts_settled data_met functions_met all_matched applied collected all_collected sizes_in function_size chosen_in quantified closed filled all_filled read all_read opened_inside compared all_compared meet all_meet elements_agree slice_size indexed updated operation sized_type prim_size sizing type_of type_in instance instances used taken all_taken fields_taken bound_by erased all_erased is_free is_dim levels all_levels replaced all_replaced has some_has takes some_takes is_open some_open matched lacking all_lacking differing all_differing turns_from pattern_noted patterns_noted fields_noted sized all_sized turns_sized condition_sized part_of changed_part has_sizes all_have_sizes fields_have_sizes with_sizes all_with_sizes fields_with_sizes ascribed coerced coercion parameter_size declared
 one_parameter = refl
 
 -- .. in f xs (iota m)
 two_parameters : size_in (but 3 list_ty (but 4 list_ty all_i64)) (let_function 7 8 (Lambda (pattern_and (typed 11 8) (pattern_and (typed 12 8) no_pattern)) (Strict (Declared (array_type 8)) here (term_and (call3 (the prim.Map2) first (var 11) (var 12)) no_term))) (call2 (var 7) (var 2) (iota (var 1)))) ≡ Err (Mismatch 21 (name 0) (name 1))
-unfolding agree all_agree kept all_kept leaving type_levels all_type_levels of_type of_types all_settled parts_settled settled data_met functions_met all_matched applied collected all_collected sizes_in function_size quantified filled all_filled read all_read opened_inside compared all_compared meet all_meet elements_agree slice_size indexed updated operation sized_type prim_size sizing type_of type_in instance instances used taken all_taken fields_taken bound_by erased all_erased is_free is_dim levels all_levels replaced all_replaced has some_has takes some_takes is_open some_open given_back matched_late lacking all_lacking differing all_differing turns_from pattern_noted patterns_noted fields_noted sized all_sized turns_sized condition_sized part_of changed_part has_sizes all_have_sizes fields_have_sizes with_sizes all_with_sizes fields_with_sizes ascribed coerced parameter_size declared
+unfolding agree all_agree kept all_kept leaving type_levels all_type_levels of_type of_types all_settled parts_settled data_met functions_met all_matched applied collected all_collected sizes_in function_size chosen_in quantified closed filled all_filled read all_read opened_inside compared all_compared meet all_meet elements_agree slice_size indexed updated operation sized_type prim_size sizing type_of type_in instance instances used taken all_taken fields_taken bound_by erased all_erased is_free is_dim levels all_levels replaced all_replaced has some_has takes some_takes is_open some_open matched lacking all_lacking differing all_differing turns_from pattern_noted patterns_noted fields_noted sized all_sized turns_sized condition_sized part_of changed_part has_sizes all_have_sizes fields_have_sizes with_sizes all_with_sizes fields_with_sizes ascribed coerced coercion parameter_size declared
 two_parameters = refl
 
 -- let f [k] x = x in f: nothing chooses k
 unchosen_size : size_of (let_function 7 8 (function 11 (var 11)) (var 7)) ≡ Err (Escapes 4)
-unfolding agree all_agree kept all_kept leaving type_levels all_type_levels of_type of_types all_settled parts_settled settled data_met functions_met all_matched applied collected all_collected sizes_in function_size quantified filled all_filled read all_read opened_inside compared all_compared meet all_meet elements_agree slice_size indexed updated operation sized_type prim_size sizing type_of type_in instance instances used taken all_taken fields_taken bound_by erased all_erased is_free is_dim levels all_levels replaced all_replaced has some_has takes some_takes is_open some_open given_back matched_late lacking all_lacking differing all_differing turns_from pattern_noted patterns_noted fields_noted sized all_sized turns_sized condition_sized part_of changed_part has_sizes all_have_sizes fields_have_sizes with_sizes all_with_sizes fields_with_sizes ascribed coerced parameter_size declared
+unfolding agree all_agree kept all_kept leaving type_levels all_type_levels of_type of_types all_settled parts_settled data_met functions_met all_matched applied collected all_collected sizes_in function_size chosen_in quantified closed filled all_filled read all_read opened_inside compared all_compared meet all_meet elements_agree slice_size indexed updated operation sized_type prim_size sizing type_of type_in instance instances used taken all_taken fields_taken bound_by erased all_erased is_free is_dim levels all_levels replaced all_replaced has some_has takes some_takes is_open some_open matched lacking all_lacking differing all_differing turns_from pattern_noted patterns_noted fields_noted sized all_sized turns_sized condition_sized part_of changed_part has_sizes all_have_sizes fields_have_sizes with_sizes all_with_sizes fields_with_sizes ascribed coerced coercion parameter_size declared
 unchosen_size = refl
 
 -- let k = 3 in \(ys: [k]i64) -> 1: callers cannot name k
 taken_size : size_in (but 4 list_ty all_i64) (let_in 8 (literal 3) (Lambda (pattern_and (typed 9 8) no_pattern) (literal 1))) ≡ Err (Escapes 0)
-unfolding agree all_agree kept all_kept leaving type_levels all_type_levels of_type of_types all_settled parts_settled settled data_met functions_met all_matched applied collected all_collected sizes_in function_size quantified filled all_filled read all_read opened_inside compared all_compared meet all_meet elements_agree slice_size indexed updated operation sized_type prim_size sizing type_of type_in instance instances used taken all_taken fields_taken bound_by erased all_erased is_free is_dim levels all_levels replaced all_replaced has some_has takes some_takes is_open some_open given_back matched_late lacking all_lacking differing all_differing turns_from pattern_noted patterns_noted fields_noted sized all_sized turns_sized condition_sized part_of changed_part has_sizes all_have_sizes fields_have_sizes with_sizes all_with_sizes fields_with_sizes ascribed coerced parameter_size declared
+unfolding agree all_agree kept all_kept leaving type_levels all_type_levels of_type of_types all_settled parts_settled data_met functions_met all_matched applied collected all_collected sizes_in function_size chosen_in quantified closed filled all_filled read all_read opened_inside compared all_compared meet all_meet elements_agree slice_size indexed updated operation sized_type prim_size sizing type_of type_in instance instances used taken all_taken fields_taken bound_by erased all_erased is_free is_dim levels all_levels replaced all_replaced has some_has takes some_takes is_open some_open matched lacking all_lacking differing all_differing turns_from pattern_noted patterns_noted fields_noted sized all_sized turns_sized condition_sized part_of changed_part has_sizes all_have_sizes fields_have_sizes with_sizes all_with_sizes fields_with_sizes ascribed coerced coercion parameter_size declared
 taken_size = refl
 
 -- reduce (\x y -> filter p x) xs [xs]
 irregular_operator : size_of (call3 (the prim.Reduce) (function 9 (function 10 (call2 (the prim.Filter) (var 4) (var 9)))) (var 2) (Strict Array_of here (term_and (var 2) no_term))) ≡ Err (Irregular 4)
-unfolding agree all_agree kept all_kept leaving type_levels all_type_levels of_type of_types all_settled parts_settled settled data_met functions_met all_matched applied collected all_collected sizes_in function_size quantified filled all_filled read all_read opened_inside compared all_compared meet all_meet elements_agree slice_size indexed updated operation sized_type prim_size sizing type_of type_in instance instances used taken all_taken fields_taken bound_by erased all_erased is_free is_dim levels all_levels replaced all_replaced has some_has takes some_takes is_open some_open given_back matched_late lacking all_lacking differing all_differing turns_from pattern_noted patterns_noted fields_noted sized all_sized turns_sized condition_sized part_of changed_part has_sizes all_have_sizes fields_have_sizes with_sizes all_with_sizes fields_with_sizes ascribed coerced parameter_size declared
+unfolding agree all_agree kept all_kept leaving type_levels all_type_levels of_type of_types all_settled parts_settled data_met functions_met all_matched applied collected all_collected sizes_in function_size chosen_in quantified closed filled all_filled read all_read opened_inside compared all_compared meet all_meet elements_agree slice_size indexed updated operation sized_type prim_size sizing type_of type_in instance instances used taken all_taken fields_taken bound_by erased all_erased is_free is_dim levels all_levels replaced all_replaced has some_has takes some_takes is_open some_open matched lacking all_lacking differing all_differing turns_from pattern_noted patterns_noted fields_noted sized all_sized turns_sized condition_sized part_of changed_part has_sizes all_have_sizes fields_have_sizes with_sizes all_with_sizes fields_with_sizes ascribed coerced coercion parameter_size declared
 irregular_operator = refl
 
 -- 0..<n
 range_to : size_of (Strict (Range false end.Below) here (term_and (literal 0) (term_and (var 0) no_term))) ≡ Ok (array (name 0))
-unfolding agree all_agree kept all_kept leaving type_levels all_type_levels of_type of_types all_settled parts_settled settled data_met functions_met all_matched applied collected all_collected sizes_in function_size quantified filled all_filled read all_read opened_inside compared all_compared meet all_meet elements_agree slice_size indexed updated operation sized_type prim_size sizing type_of type_in instance instances used taken all_taken fields_taken bound_by erased all_erased is_free is_dim levels all_levels replaced all_replaced has some_has takes some_takes is_open some_open given_back matched_late lacking all_lacking differing all_differing turns_from pattern_noted patterns_noted fields_noted sized all_sized turns_sized condition_sized part_of changed_part has_sizes all_have_sizes fields_have_sizes with_sizes all_with_sizes fields_with_sizes ascribed coerced parameter_size declared
+unfolding agree all_agree kept all_kept leaving type_levels all_type_levels of_type of_types all_settled parts_settled data_met functions_met all_matched applied collected all_collected sizes_in function_size chosen_in quantified closed filled all_filled read all_read opened_inside compared all_compared meet all_meet elements_agree slice_size indexed updated operation sized_type prim_size sizing type_of type_in instance instances used taken all_taken fields_taken bound_by erased all_erased is_free is_dim levels all_levels replaced all_replaced has some_has takes some_takes is_open some_open matched lacking all_lacking differing all_differing turns_from pattern_noted patterns_noted fields_noted sized all_sized turns_sized condition_sized part_of changed_part has_sizes all_have_sizes fields_have_sizes with_sizes all_with_sizes fields_with_sizes ascribed coerced coercion parameter_size declared
 range_to = refl
 
 -- 1..<n
 range_from : size_of (Strict (Range false end.Below) here (term_and (literal 1) (term_and (var 0) no_term))) ≡ Ok (array (unknown 0 0))
-unfolding agree all_agree kept all_kept leaving type_levels all_type_levels of_type of_types all_settled parts_settled settled data_met functions_met all_matched applied collected all_collected sizes_in function_size quantified filled all_filled read all_read opened_inside compared all_compared meet all_meet elements_agree slice_size indexed updated operation sized_type prim_size sizing type_of type_in instance instances used taken all_taken fields_taken bound_by erased all_erased is_free is_dim levels all_levels replaced all_replaced has some_has takes some_takes is_open some_open given_back matched_late lacking all_lacking differing all_differing turns_from pattern_noted patterns_noted fields_noted sized all_sized turns_sized condition_sized part_of changed_part has_sizes all_have_sizes fields_have_sizes with_sizes all_with_sizes fields_with_sizes ascribed coerced parameter_size declared
+unfolding agree all_agree kept all_kept leaving type_levels all_type_levels of_type of_types all_settled parts_settled data_met functions_met all_matched applied collected all_collected sizes_in function_size chosen_in quantified closed filled all_filled read all_read opened_inside compared all_compared meet all_meet elements_agree slice_size indexed updated operation sized_type prim_size sizing type_of type_in instance instances used taken all_taken fields_taken bound_by erased all_erased is_free is_dim levels all_levels replaced all_replaced has some_has takes some_takes is_open some_open matched lacking all_lacking differing all_differing turns_from pattern_noted patterns_noted fields_noted sized all_sized turns_sized condition_sized part_of changed_part has_sizes all_have_sizes fields_have_sizes with_sizes all_with_sizes fields_with_sizes ascribed coerced coercion parameter_size declared
 range_from = refl
 
 -- let rows [k] (f: i64 -> [k]i64) = map f (iota 0) in rows (\i -> iota m)
 told_by_function : size_in (but 3 (fun_ty i64_ty list_ty) all_i64) (let_function 7 8 (Lambda (pattern_and (Typed_pattern (named 11) (Arrow_type None i64_type (array_type 8))) no_pattern) (call2 (the prim.Map) (var 11) (iota (literal 0)))) (call (var 7) (function 12 (iota (var 1))))) ≡ Ok (Level (At (Const 0)) (array (name 1)))
-unfolding agree all_agree kept all_kept leaving type_levels all_type_levels of_type of_types all_settled parts_settled settled data_met functions_met all_matched applied collected all_collected sizes_in function_size quantified filled all_filled read all_read opened_inside compared all_compared meet all_meet elements_agree slice_size indexed updated operation sized_type prim_size sizing type_of type_in instance instances used taken all_taken fields_taken bound_by erased all_erased is_free is_dim levels all_levels replaced all_replaced has some_has takes some_takes is_open some_open given_back matched_late lacking all_lacking differing all_differing turns_from pattern_noted patterns_noted fields_noted sized all_sized turns_sized condition_sized part_of changed_part has_sizes all_have_sizes fields_have_sizes with_sizes all_with_sizes fields_with_sizes ascribed coerced parameter_size declared
+unfolding agree all_agree kept all_kept leaving type_levels all_type_levels of_type of_types all_settled parts_settled data_met functions_met all_matched applied collected all_collected sizes_in function_size chosen_in quantified closed filled all_filled read all_read opened_inside compared all_compared meet all_meet elements_agree slice_size indexed updated operation sized_type prim_size sizing type_of type_in instance instances used taken all_taken fields_taken bound_by erased all_erased is_free is_dim levels all_levels replaced all_replaced has some_has takes some_takes is_open some_open matched lacking all_lacking differing all_differing turns_from pattern_noted patterns_noted fields_noted sized all_sized turns_sized condition_sized part_of changed_part has_sizes all_have_sizes fields_have_sizes with_sizes all_with_sizes fields_with_sizes ascribed coerced coercion parameter_size declared
 told_by_function = refl
 
 -- .. in rows (\i -> iota i): k takes no size that is unknown
 told_by_none : size_in (but 3 (fun_ty i64_ty list_ty) all_i64) (let_function 7 8 (Lambda (pattern_and (Typed_pattern (named 11) (Arrow_type None i64_type (array_type 8))) no_pattern) (call2 (the prim.Map) (var 11) (iota (literal 0)))) (call (var 7) (function 12 (iota (var 12))))) ≡ Err (Irregular 13)
-unfolding agree all_agree kept all_kept leaving type_levels all_type_levels of_type of_types all_settled parts_settled settled data_met functions_met all_matched applied collected all_collected sizes_in function_size quantified filled all_filled read all_read opened_inside compared all_compared meet all_meet elements_agree slice_size indexed updated operation sized_type prim_size sizing type_of type_in instance instances used taken all_taken fields_taken bound_by erased all_erased is_free is_dim levels all_levels replaced all_replaced has some_has takes some_takes is_open some_open given_back matched_late lacking all_lacking differing all_differing turns_from pattern_noted patterns_noted fields_noted sized all_sized turns_sized condition_sized part_of changed_part has_sizes all_have_sizes fields_have_sizes with_sizes all_with_sizes fields_with_sizes ascribed coerced parameter_size declared
+unfolding agree all_agree kept all_kept leaving type_levels all_type_levels of_type of_types all_settled parts_settled data_met functions_met all_matched applied collected all_collected sizes_in function_size chosen_in quantified closed filled all_filled read all_read opened_inside compared all_compared meet all_meet elements_agree slice_size indexed updated operation sized_type prim_size sizing type_of type_in instance instances used taken all_taken fields_taken bound_by erased all_erased is_free is_dim levels all_levels replaced all_replaced has some_has takes some_takes is_open some_open matched lacking all_lacking differing all_differing turns_from pattern_noted patterns_noted fields_noted sized all_sized turns_sized condition_sized part_of changed_part has_sizes all_have_sizes fields_have_sizes with_sizes all_with_sizes fields_with_sizes ascribed coerced coercion parameter_size declared
 told_by_none = refl
 
 -- let h = map f in h (iota m)
 partial : size_of (let_in 7 (call (the prim.Map) (var 3)) (call (var 7) (iota (var 1)))) ≡ Ok (array (name 1))
-unfolding agree all_agree kept all_kept leaving type_levels all_type_levels of_type of_types all_settled parts_settled settled data_met functions_met all_matched applied collected all_collected sizes_in function_size quantified filled all_filled read all_read opened_inside compared all_compared meet all_meet elements_agree slice_size indexed updated operation sized_type prim_size sizing type_of type_in instance instances used taken all_taken fields_taken bound_by erased all_erased is_free is_dim levels all_levels replaced all_replaced has some_has takes some_takes is_open some_open given_back matched_late lacking all_lacking differing all_differing turns_from pattern_noted patterns_noted fields_noted sized all_sized turns_sized condition_sized part_of changed_part has_sizes all_have_sizes fields_have_sizes with_sizes all_with_sizes fields_with_sizes ascribed coerced parameter_size declared
+unfolding agree all_agree kept all_kept leaving type_levels all_type_levels of_type of_types all_settled parts_settled data_met functions_met all_matched applied collected all_collected sizes_in function_size chosen_in quantified closed filled all_filled read all_read opened_inside compared all_compared meet all_meet elements_agree slice_size indexed updated operation sized_type prim_size sizing type_of type_in instance instances used taken all_taken fields_taken bound_by erased all_erased is_free is_dim levels all_levels replaced all_replaced has some_has takes some_takes is_open some_open matched lacking all_lacking differing all_differing turns_from pattern_noted patterns_noted fields_noted sized all_sized turns_sized condition_sized part_of changed_part has_sizes all_have_sizes fields_have_sizes with_sizes all_with_sizes fields_with_sizes ascribed coerced coercion parameter_size declared
 partial = refl
 
 -- let h = map2 (\x y -> x) xs in h (iota m): the size was taken with xs
 partial_differs : size_of (let_in 7 (call2 (the prim.Map2) first (var 2)) (call (var 7) (iota (var 1)))) ≡ Err (Mismatch 13 (name 0) (name 1))
-unfolding agree all_agree kept all_kept leaving type_levels all_type_levels of_type of_types all_settled parts_settled settled data_met functions_met all_matched applied collected all_collected sizes_in function_size quantified filled all_filled read all_read opened_inside compared all_compared meet all_meet elements_agree slice_size indexed updated operation sized_type prim_size sizing type_of type_in instance instances used taken all_taken fields_taken bound_by erased all_erased is_free is_dim levels all_levels replaced all_replaced has some_has takes some_takes is_open some_open given_back matched_late lacking all_lacking differing all_differing turns_from pattern_noted patterns_noted fields_noted sized all_sized turns_sized condition_sized part_of changed_part has_sizes all_have_sizes fields_have_sizes with_sizes all_with_sizes fields_with_sizes ascribed coerced parameter_size declared
+unfolding agree all_agree kept all_kept leaving type_levels all_type_levels of_type of_types all_settled parts_settled data_met functions_met all_matched applied collected all_collected sizes_in function_size chosen_in quantified closed filled all_filled read all_read opened_inside compared all_compared meet all_meet elements_agree slice_size indexed updated operation sized_type prim_size sizing type_of type_in instance instances used taken all_taken fields_taken bound_by erased all_erased is_free is_dim levels all_levels replaced all_replaced has some_has takes some_takes is_open some_open matched lacking all_lacking differing all_differing turns_from pattern_noted patterns_noted fields_noted sized all_sized turns_sized condition_sized part_of changed_part has_sizes all_have_sizes fields_have_sizes with_sizes all_with_sizes fields_with_sizes ascribed coerced coercion parameter_size declared
 partial_differs = refl
 
 -- let h = map (\zs -> length zs) in h [xs]: the rows of what h takes have any size
 open_rows : size_in (but 5 list_ty all_i64) (let_in 7 (call (the prim.Map) (function 9 (call (the prim.Length) (var 9)))) (call (var 7) (Strict Array_of here (term_and (var 2) no_term)))) ≡ Ok (array (At (Const 1)))
-unfolding agree all_agree kept all_kept leaving type_levels all_type_levels of_type of_types all_settled parts_settled settled data_met functions_met all_matched applied collected all_collected sizes_in function_size quantified filled all_filled read all_read opened_inside compared all_compared meet all_meet elements_agree slice_size indexed updated operation sized_type prim_size sizing type_of type_in instance instances used taken all_taken fields_taken bound_by erased all_erased is_free is_dim levels all_levels replaced all_replaced has some_has takes some_takes is_open some_open given_back matched_late lacking all_lacking differing all_differing turns_from pattern_noted patterns_noted fields_noted sized all_sized turns_sized condition_sized part_of changed_part has_sizes all_have_sizes fields_have_sizes with_sizes all_with_sizes fields_with_sizes ascribed coerced parameter_size declared
+unfolding agree all_agree kept all_kept leaving type_levels all_type_levels of_type of_types all_settled parts_settled data_met functions_met all_matched applied collected all_collected sizes_in function_size chosen_in quantified closed filled all_filled read all_read opened_inside compared all_compared meet all_meet elements_agree slice_size indexed updated operation sized_type prim_size sizing type_of type_in instance instances used taken all_taken fields_taken bound_by erased all_erased is_free is_dim levels all_levels replaced all_replaced has some_has takes some_takes is_open some_open matched lacking all_lacking differing all_differing turns_from pattern_noted patterns_noted fields_noted sized all_sized turns_sized condition_sized part_of changed_part has_sizes all_have_sizes fields_have_sizes with_sizes all_with_sizes fields_with_sizes ascribed coerced coercion parameter_size declared
 open_rows = refl
 
 -- map (\(row: [m]i64) -> row) [xs]
 row_differs : size_of (call2 (the prim.Map) (Lambda (pattern_and (typed 9 1) no_pattern) (var 9)) (Strict Array_of here (term_and (var 2) no_term))) ≡ Err (Mismatch 3 (name 1) (name 0))
-unfolding agree all_agree kept all_kept leaving type_levels all_type_levels of_type of_types all_settled parts_settled settled data_met functions_met all_matched applied collected all_collected sizes_in function_size quantified filled all_filled read all_read opened_inside compared all_compared meet all_meet elements_agree slice_size indexed updated operation sized_type prim_size sizing type_of type_in instance instances used taken all_taken fields_taken bound_by erased all_erased is_free is_dim levels all_levels replaced all_replaced has some_has takes some_takes is_open some_open given_back matched_late lacking all_lacking differing all_differing turns_from pattern_noted patterns_noted fields_noted sized all_sized turns_sized condition_sized part_of changed_part has_sizes all_have_sizes fields_have_sizes with_sizes all_with_sizes fields_with_sizes ascribed coerced parameter_size declared
+unfolding agree all_agree kept all_kept leaving type_levels all_type_levels of_type of_types all_settled parts_settled data_met functions_met all_matched applied collected all_collected sizes_in function_size chosen_in quantified closed filled all_filled read all_read opened_inside compared all_compared meet all_meet elements_agree slice_size indexed updated operation sized_type prim_size sizing type_of type_in instance instances used taken all_taken fields_taken bound_by erased all_erased is_free is_dim levels all_levels replaced all_replaced has some_has takes some_takes is_open some_open matched lacking all_lacking differing all_differing turns_from pattern_noted patterns_noted fields_noted sized all_sized turns_sized condition_sized part_of changed_part has_sizes all_have_sizes fields_have_sizes with_sizes all_with_sizes fields_with_sizes ascribed coerced coercion parameter_size declared
 row_differs = refl
 
 -- map (\(row: [n]i64) -> row) [xs]
 row_agrees : size_of (call2 (the prim.Map) (Lambda (pattern_and (typed 9 0) no_pattern) (var 9)) (Strict Array_of here (term_and (var 2) no_term))) ≡ Ok (Level (At (Const 1)) (array (name 0)))
-unfolding agree all_agree kept all_kept leaving type_levels all_type_levels of_type of_types all_settled parts_settled settled data_met functions_met all_matched applied collected all_collected sizes_in function_size quantified filled all_filled read all_read opened_inside compared all_compared meet all_meet elements_agree slice_size indexed updated operation sized_type prim_size sizing type_of type_in instance instances used taken all_taken fields_taken bound_by erased all_erased is_free is_dim levels all_levels replaced all_replaced has some_has takes some_takes is_open some_open given_back matched_late lacking all_lacking differing all_differing turns_from pattern_noted patterns_noted fields_noted sized all_sized turns_sized condition_sized part_of changed_part has_sizes all_have_sizes fields_have_sizes with_sizes all_with_sizes fields_with_sizes ascribed coerced parameter_size declared
+unfolding agree all_agree kept all_kept leaving type_levels all_type_levels of_type of_types all_settled parts_settled data_met functions_met all_matched applied collected all_collected sizes_in function_size chosen_in quantified closed filled all_filled read all_read opened_inside compared all_compared meet all_meet elements_agree slice_size indexed updated operation sized_type prim_size sizing type_of type_in instance instances used taken all_taken fields_taken bound_by erased all_erased is_free is_dim levels all_levels replaced all_replaced has some_has takes some_takes is_open some_open matched lacking all_lacking differing all_differing turns_from pattern_noted patterns_noted fields_noted sized all_sized turns_sized condition_sized part_of changed_part has_sizes all_have_sizes fields_have_sizes with_sizes all_with_sizes fields_with_sizes ascribed coerced coercion parameter_size declared
 row_agrees = refl
 
 -- let f (g: (x: i64) -> [x]i64) = g n in f (\i -> iota i)
 value_in_result : size_in (but 3 (fun_ty i64_ty list_ty) all_i64) (Let (record { sizes = []; parameters = []; is_function = true; pattern = named 7 }) (Lambda (pattern_and (Typed_pattern (named 11) (Arrow_type (Some (b 30)) i64_type (array_type 30))) no_pattern) (call (var 11) (var 0))) (call (var 7) (function 12 (iota (var 12))))) ≡ Ok (array (name 0))
-unfolding agree all_agree kept all_kept leaving type_levels all_type_levels of_type of_types all_settled parts_settled settled data_met functions_met all_matched applied collected all_collected sizes_in function_size quantified filled all_filled read all_read opened_inside compared all_compared meet all_meet elements_agree slice_size indexed updated operation sized_type prim_size sizing type_of type_in instance instances used taken all_taken fields_taken bound_by erased all_erased is_free is_dim levels all_levels replaced all_replaced has some_has takes some_takes is_open some_open given_back matched_late lacking all_lacking differing all_differing turns_from pattern_noted patterns_noted fields_noted sized all_sized turns_sized condition_sized part_of changed_part has_sizes all_have_sizes fields_have_sizes with_sizes all_with_sizes fields_with_sizes ascribed coerced parameter_size declared
+unfolding agree all_agree kept all_kept leaving type_levels all_type_levels of_type of_types all_settled parts_settled data_met functions_met all_matched applied collected all_collected sizes_in function_size chosen_in quantified closed filled all_filled read all_read opened_inside compared all_compared meet all_meet elements_agree slice_size indexed updated operation sized_type prim_size sizing type_of type_in instance instances used taken all_taken fields_taken bound_by erased all_erased is_free is_dim levels all_levels replaced all_replaced has some_has takes some_takes is_open some_open matched lacking all_lacking differing all_differing turns_from pattern_noted patterns_noted fields_noted sized all_sized turns_sized condition_sized part_of changed_part has_sizes all_have_sizes fields_have_sizes with_sizes all_with_sizes fields_with_sizes ascribed coerced coercion parameter_size declared
 value_in_result = refl
 
 -- xs[:m]
 sliced : size_of (Strict (Index (part.Slice false true ∷ [])) here (term_and (var 2) (term_and (var 1) no_term))) ≡ Ok (array (name 1))
-unfolding agree all_agree kept all_kept leaving type_levels all_type_levels of_type of_types all_settled parts_settled settled data_met functions_met all_matched applied collected all_collected sizes_in function_size quantified filled all_filled read all_read opened_inside compared all_compared meet all_meet elements_agree slice_size indexed updated operation sized_type prim_size sizing type_of type_in instance instances used taken all_taken fields_taken bound_by erased all_erased is_free is_dim levels all_levels replaced all_replaced has some_has takes some_takes is_open some_open given_back matched_late lacking all_lacking differing all_differing turns_from pattern_noted patterns_noted fields_noted sized all_sized turns_sized condition_sized part_of changed_part has_sizes all_have_sizes fields_have_sizes with_sizes all_with_sizes fields_with_sizes ascribed coerced parameter_size declared
+unfolding agree all_agree kept all_kept leaving type_levels all_type_levels of_type of_types all_settled parts_settled data_met functions_met all_matched applied collected all_collected sizes_in function_size chosen_in quantified closed filled all_filled read all_read opened_inside compared all_compared meet all_meet elements_agree slice_size indexed updated operation sized_type prim_size sizing type_of type_in instance instances used taken all_taken fields_taken bound_by erased all_erased is_free is_dim levels all_levels replaced all_replaced has some_has takes some_takes is_open some_open matched lacking all_lacking differing all_differing turns_from pattern_noted patterns_noted fields_noted sized all_sized turns_sized condition_sized part_of changed_part has_sizes all_have_sizes fields_have_sizes with_sizes all_with_sizes fields_with_sizes ascribed coerced coercion parameter_size declared
 sliced = refl
 
 -- xs with [0] = 1
 updated_element : size_of (Strict Update here (term_and (var 2) (term_and (literal 0) (term_and (literal 1) no_term)))) ≡ Ok (array (name 0))
-unfolding agree all_agree kept all_kept leaving type_levels all_type_levels of_type of_types all_settled parts_settled settled data_met functions_met all_matched applied collected all_collected sizes_in function_size quantified filled all_filled read all_read opened_inside compared all_compared meet all_meet elements_agree slice_size indexed updated operation sized_type prim_size sizing type_of type_in instance instances used taken all_taken fields_taken bound_by erased all_erased is_free is_dim levels all_levels replaced all_replaced has some_has takes some_takes is_open some_open given_back matched_late lacking all_lacking differing all_differing turns_from pattern_noted patterns_noted fields_noted sized all_sized turns_sized condition_sized part_of changed_part has_sizes all_have_sizes fields_have_sizes with_sizes all_with_sizes fields_with_sizes ascribed coerced parameter_size declared
+unfolding agree all_agree kept all_kept leaving type_levels all_type_levels of_type of_types all_settled parts_settled data_met functions_met all_matched applied collected all_collected sizes_in function_size chosen_in quantified closed filled all_filled read all_read opened_inside compared all_compared meet all_meet elements_agree slice_size indexed updated operation sized_type prim_size sizing type_of type_in instance instances used taken all_taken fields_taken bound_by erased all_erased is_free is_dim levels all_levels replaced all_replaced has some_has takes some_takes is_open some_open matched lacking all_lacking differing all_differing turns_from pattern_noted patterns_noted fields_noted sized all_sized turns_sized condition_sized part_of changed_part has_sizes all_have_sizes fields_have_sizes with_sizes all_with_sizes fields_with_sizes ascribed coerced coercion parameter_size declared
 updated_element = refl
 
 -- [xs] with [0] = iota m
 updated_row : size_of (Strict Update here (term_and (Strict Array_of here (term_and (var 2) no_term)) (term_and (literal 0) (term_and (iota (var 1)) no_term)))) ≡ Err (Mismatch 4 (name 0) (name 1))
-unfolding agree all_agree kept all_kept leaving type_levels all_type_levels of_type of_types all_settled parts_settled settled data_met functions_met all_matched applied collected all_collected sizes_in function_size quantified filled all_filled read all_read opened_inside compared all_compared meet all_meet elements_agree slice_size indexed updated operation sized_type prim_size sizing type_of type_in instance instances used taken all_taken fields_taken bound_by erased all_erased is_free is_dim levels all_levels replaced all_replaced has some_has takes some_takes is_open some_open given_back matched_late lacking all_lacking differing all_differing turns_from pattern_noted patterns_noted fields_noted sized all_sized turns_sized condition_sized part_of changed_part has_sizes all_have_sizes fields_have_sizes with_sizes all_with_sizes fields_with_sizes ascribed coerced parameter_size declared
+unfolding agree all_agree kept all_kept leaving type_levels all_type_levels of_type of_types all_settled parts_settled data_met functions_met all_matched applied collected all_collected sizes_in function_size chosen_in quantified closed filled all_filled read all_read opened_inside compared all_compared meet all_meet elements_agree slice_size indexed updated operation sized_type prim_size sizing type_of type_in instance instances used taken all_taken fields_taken bound_by erased all_erased is_free is_dim levels all_levels replaced all_replaced has some_has takes some_takes is_open some_open matched lacking all_lacking differing all_differing turns_from pattern_noted patterns_noted fields_noted sized all_sized turns_sized condition_sized part_of changed_part has_sizes all_have_sizes fields_have_sizes with_sizes all_with_sizes fields_with_sizes ascribed coerced coercion parameter_size declared
 updated_row = refl
 
 -- loop ys = xs for zs in [iota n] do zs
 loop_over_rows : size_of (Loop here [] (named 9) (var 2) (Over (named 10) (Strict Array_of here (term_and (iota (var 0)) no_term))) (var 10)) ≡ Ok (array (name 0))
-unfolding agree all_agree kept all_kept leaving type_levels all_type_levels of_type of_types all_settled parts_settled settled data_met functions_met all_matched applied collected all_collected sizes_in function_size quantified filled all_filled read all_read opened_inside compared all_compared meet all_meet elements_agree slice_size indexed updated operation sized_type prim_size sizing type_of type_in instance instances used taken all_taken fields_taken bound_by erased all_erased is_free is_dim levels all_levels replaced all_replaced has some_has takes some_takes is_open some_open given_back matched_late lacking all_lacking differing all_differing turns_from pattern_noted patterns_noted fields_noted sized all_sized turns_sized condition_sized part_of changed_part has_sizes all_have_sizes fields_have_sizes with_sizes all_with_sizes fields_with_sizes ascribed coerced parameter_size declared
+unfolding agree all_agree kept all_kept leaving type_levels all_type_levels of_type of_types all_settled parts_settled data_met functions_met all_matched applied collected all_collected sizes_in function_size chosen_in quantified closed filled all_filled read all_read opened_inside compared all_compared meet all_meet elements_agree slice_size indexed updated operation sized_type prim_size sizing type_of type_in instance instances used taken all_taken fields_taken bound_by erased all_erased is_free is_dim levels all_levels replaced all_replaced has some_has takes some_takes is_open some_open matched lacking all_lacking differing all_differing turns_from pattern_noted patterns_noted fields_noted sized all_sized turns_sized condition_sized part_of changed_part has_sizes all_have_sizes fields_have_sizes with_sizes all_with_sizes fields_with_sizes ascribed coerced coercion parameter_size declared
 loop_over_rows = refl
 
 -- transpose (map (\i -> iota m) (iota n))
 transposed : size_of (call (the prim.Transpose) (call2 (the prim.Map) (function 9 (iota (var 1))) (iota (var 0)))) ≡ Ok (Level (name 1) (array (name 0)))
-unfolding agree all_agree kept all_kept leaving type_levels all_type_levels of_type of_types all_settled parts_settled settled data_met functions_met all_matched applied collected all_collected sizes_in function_size quantified filled all_filled read all_read opened_inside compared all_compared meet all_meet elements_agree slice_size indexed updated operation sized_type prim_size sizing type_of type_in instance instances used taken all_taken fields_taken bound_by erased all_erased is_free is_dim levels all_levels replaced all_replaced has some_has takes some_takes is_open some_open given_back matched_late lacking all_lacking differing all_differing turns_from pattern_noted patterns_noted fields_noted sized all_sized turns_sized condition_sized part_of changed_part has_sizes all_have_sizes fields_have_sizes with_sizes all_with_sizes fields_with_sizes ascribed coerced parameter_size declared
+unfolding agree all_agree kept all_kept leaving type_levels all_type_levels of_type of_types all_settled parts_settled data_met functions_met all_matched applied collected all_collected sizes_in function_size chosen_in quantified closed filled all_filled read all_read opened_inside compared all_compared meet all_meet elements_agree slice_size indexed updated operation sized_type prim_size sizing type_of type_in instance instances used taken all_taken fields_taken bound_by erased all_erased is_free is_dim levels all_levels replaced all_replaced has some_has takes some_takes is_open some_open matched lacking all_lacking differing all_differing turns_from pattern_noted patterns_noted fields_noted sized all_sized turns_sized condition_sized part_of changed_part has_sizes all_have_sizes fields_have_sizes with_sizes all_with_sizes fields_with_sizes ascribed coerced coercion parameter_size declared
 transposed = refl
 
 -- let (ys, zs) = partition p xs in zs
 second_of_two : size_of (Let (record { sizes = []; parameters = []; is_function = false; pattern = Tuple_pattern (pattern_and (named 9) (pattern_and (named 10) no_pattern)) }) (call2 (the prim.Partition) (var 4) (var 2)) (var 10)) ≡ Ok (array (unknown 4 4))
-unfolding agree all_agree kept all_kept leaving type_levels all_type_levels of_type of_types all_settled parts_settled settled data_met functions_met all_matched applied collected all_collected sizes_in function_size quantified filled all_filled read all_read opened_inside compared all_compared meet all_meet elements_agree slice_size indexed updated operation sized_type prim_size sizing type_of type_in instance instances used taken all_taken fields_taken bound_by erased all_erased is_free is_dim levels all_levels replaced all_replaced has some_has takes some_takes is_open some_open given_back matched_late lacking all_lacking differing all_differing turns_from pattern_noted patterns_noted fields_noted sized all_sized turns_sized condition_sized part_of changed_part has_sizes all_have_sizes fields_have_sizes with_sizes all_with_sizes fields_with_sizes ascribed coerced parameter_size declared
+unfolding agree all_agree kept all_kept leaving type_levels all_type_levels of_type of_types all_settled parts_settled data_met functions_met all_matched applied collected all_collected sizes_in function_size chosen_in quantified closed filled all_filled read all_read opened_inside compared all_compared meet all_meet elements_agree slice_size indexed updated operation sized_type prim_size sizing type_of type_in instance instances used taken all_taken fields_taken bound_by erased all_erased is_free is_dim levels all_levels replaced all_replaced has some_has takes some_takes is_open some_open matched lacking all_lacking differing all_differing turns_from pattern_noted patterns_noted fields_noted sized all_sized turns_sized condition_sized part_of changed_part has_sizes all_have_sizes fields_have_sizes with_sizes all_with_sizes fields_with_sizes ascribed coerced coercion parameter_size declared
 second_of_two = refl
 
 -- unflatten n m xs
 unflattened : size_of (call3 (the prim.Unflatten) (var 0) (var 1) (var 2)) ≡ Ok (Level (name 0) (array (name 1)))
-unfolding agree all_agree kept all_kept leaving type_levels all_type_levels of_type of_types all_settled parts_settled settled data_met functions_met all_matched applied collected all_collected sizes_in function_size quantified filled all_filled read all_read opened_inside compared all_compared meet all_meet elements_agree slice_size indexed updated operation sized_type prim_size sizing type_of type_in instance instances used taken all_taken fields_taken bound_by erased all_erased is_free is_dim levels all_levels replaced all_replaced has some_has takes some_takes is_open some_open given_back matched_late lacking all_lacking differing all_differing turns_from pattern_noted patterns_noted fields_noted sized all_sized turns_sized condition_sized part_of changed_part has_sizes all_have_sizes fields_have_sizes with_sizes all_with_sizes fields_with_sizes ascribed coerced parameter_size declared
+unfolding agree all_agree kept all_kept leaving type_levels all_type_levels of_type of_types all_settled parts_settled data_met functions_met all_matched applied collected all_collected sizes_in function_size chosen_in quantified closed filled all_filled read all_read opened_inside compared all_compared meet all_meet elements_agree slice_size indexed updated operation sized_type prim_size sizing type_of type_in instance instances used taken all_taken fields_taken bound_by erased all_erased is_free is_dim levels all_levels replaced all_replaced has some_has takes some_takes is_open some_open matched lacking all_lacking differing all_differing turns_from pattern_noted patterns_noted fields_noted sized all_sized turns_sized condition_sized part_of changed_part has_sizes all_have_sizes fields_have_sizes with_sizes all_with_sizes fields_with_sizes ascribed coerced coercion parameter_size declared
 unflattened = refl
 
 -- zip xs (iota m)
 zipped : size_of (call2 (the prim.Zip) (var 2) (iota (var 1))) ≡ Err (Mismatch 4 (name 0) (name 1))
-unfolding agree all_agree kept all_kept leaving type_levels all_type_levels of_type of_types all_settled parts_settled settled data_met functions_met all_matched applied collected all_collected sizes_in function_size quantified filled all_filled read all_read opened_inside compared all_compared meet all_meet elements_agree slice_size indexed updated operation sized_type prim_size sizing type_of type_in instance instances used taken all_taken fields_taken bound_by erased all_erased is_free is_dim levels all_levels replaced all_replaced has some_has takes some_takes is_open some_open given_back matched_late lacking all_lacking differing all_differing turns_from pattern_noted patterns_noted fields_noted sized all_sized turns_sized condition_sized part_of changed_part has_sizes all_have_sizes fields_have_sizes with_sizes all_with_sizes fields_with_sizes ascribed coerced parameter_size declared
+unfolding agree all_agree kept all_kept leaving type_levels all_type_levels of_type of_types all_settled parts_settled data_met functions_met all_matched applied collected all_collected sizes_in function_size chosen_in quantified closed filled all_filled read all_read opened_inside compared all_compared meet all_meet elements_agree slice_size indexed updated operation sized_type prim_size sizing type_of type_in instance instances used taken all_taken fields_taken bound_by erased all_erased is_free is_dim levels all_levels replaced all_replaced has some_has takes some_takes is_open some_open matched lacking all_lacking differing all_differing turns_from pattern_noted patterns_noted fields_noted sized all_sized turns_sized condition_sized part_of changed_part has_sizes all_have_sizes fields_have_sizes with_sizes all_with_sizes fields_with_sizes ascribed coerced coercion parameter_size declared
 zipped = refl

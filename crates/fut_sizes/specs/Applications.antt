@@ -1,7 +1,7 @@
 -- Applications (Futhark Language Reference, "Size Types"): a function's arguments are matched with its parameters, first those
 -- that are no functions, then those that are, each from left to right. A lambda is sized last, with the sizes that are wanted
 -- of its parameters.
-use Rattle.std.specs.Prelude.{ℕ, suc, ◌+◌, Bool, true, false, cond, nat_eq, nat_lt, List, [], ◌∷◌, ◌++◌, Option, Some, None, Ok}
+use Rattle.std.specs.Prelude.{ℕ, suc, ◌+◌, Bool, true, false, cond, nat_eq, nat_lt, List, [], ◌∷◌, ◌++◌, length, Option, Some, None, Ok}
 use Rattle.fut_flat.specs.declared.prim.Ref.TheVariants as ref
 use Rattle.fut_flat.specs.Terms.{Integer, Use, Strict, no_term}
 use Rattle.fut_flat.specs.Erased.{FlatTerm}
@@ -10,7 +10,6 @@ use Rattle.fut_types.specs.declared.Head.TheVariants as head
 use Rattle.fut_sizes.specs.Sizes.{Free, Const, Name, Unknown, Slot, Dim, At, Variable, Size, Hole, Open, Level, Built, Fun, Sizes, no_size, size_and, levels}
 use Rattle.fut_sizes.specs.Agreeing.{type_levels, of_type, Answer, then_do}
 use Rattle.fut_sizes.specs.Matching.{Found, type_found, counted, read, Opened, none_opened, inside, in_opened, meet, data_way, function_way}
-use Rattle.fut_sizes.specs.Functions.{quantified}
 use Rattle.fut_sizes.specs.Steps.{Step, give, ask, and_then}
 
 -- what an application at a node wants of a lambda
@@ -19,14 +18,22 @@ pub record Want : Type 0 where
   pub is_regular : Bool
   pub size : Size
 
+-- a node whose sized type is known once all is matched
+pub record Later : Type 0 where
+  pub node : ℕ
+  pub size : Size
+
 pub record Met : Type 0 where
   pub size : Size
   pub found : Found
+  pub later : List Later
+  -- whether what is still open is chosen again: the arrow that was applied is not the function's last
+  pub goes_on : Bool
 
 -- a term that may be a part of an application: applied to arguments so far, or a lambda, which waits for what is wanted of it
 pub data Argument : Type 0 where
-  -- its node, its value as a size if it is a name or a constant, and its sized type
-  Early : ℕ → Option Free → Size → Argument
+  -- its node, its value as a size if it is a name or a constant, whether it is the use of a name, and its sized type
+  Early : ℕ → Option Free → Bool → Size → Argument
   Late : ℕ → (Option Want → Found → Step Met) → Argument
 
 pub data Part : Type 0 where
@@ -40,6 +47,10 @@ abbrev pub named_value : FlatTerm → Option Free
 named_value (Use (ref.Bound b) at k) = Some (Name b.0)
 named_value (Strict (Integer c t) mark no_term) = Some (Const c)
 named_value e = None
+
+abbrev pub is_use : FlatTerm → Bool
+is_use (Use r at k) = true
+is_use e = false
 
 abbrev pub is_function_type : Ty → Bool
 is_function_type (Made head.Fun ts) = true
@@ -71,9 +82,9 @@ unfoldable mutual
   parts_settled no_size σ = σ
   parts_settled (size_and t ts) σ = parts_settled ts (all_settled t σ)
 
--- what is given at a node, with nothing open
-unfoldable pub settled : ℕ → Found → Size → Size
-settled n σ t = quantified n (read (all_settled t σ) t)
+abbrev pub is_arrow : Size → Bool
+is_arrow (Fun k p r) = true
+is_arrow t = false
 
 -- ---- one argument after another
 
@@ -87,10 +98,19 @@ value_or (Some d) e = At d
 value_or None e = At e
 
 abbrev pub argument_value : Argument → Free → Dim
-argument_value (Early at value t) e = value_or value e
+argument_value (Early at value named t) e = value_or value e
 argument_value (Late at f) e = At e
 
--- the positions of the function that is applied: slots, the argument's value, and what is met at the node
+-- the use of a name that is an argument has the sized type that is wanted of it
+abbrev pub with_use : Argument → Opened → Size → List Later → List Later
+with_use (Early at value true t) φ wanted ls = record { node = at; size = in_opened φ wanted } ∷ ls
+with_use a φ wanted ls = ls
+
+abbrev pub uses : List Wanting → List Later
+uses [] = []
+uses (w ∷ ws) = with_use w.argument w.opened w.wanted (uses ws)
+
+-- the positions of a function that is applied at a node: slots, the argument's value, and what is met there
 abbrev pub applied_frame : ℕ → ℕ → ℕ → Argument → ℕ → Dim
 applied_frame n next k a i = cond (nat_lt i k) (At (Slot (next + i))) (cond (nat_eq i k) (argument_value a (Unknown n (next + k))) (At (Unknown n (next + i))))
 
@@ -100,7 +120,7 @@ module _ (n : ℕ) where
   data_met (w ∷ ws) σ = then_do (one w.argument) (λ found. data_met ws found)
     where
       one : Argument → Answer Found
-      one (Early at value t) = cond (is_function t) (Ok σ) (meet n data_way at w.opened w.wanted none_opened t σ)
+      one (Early at value named t) = cond (is_function t) (Ok σ) (meet n data_way at w.opened w.wanted none_opened t σ)
       one (Late at f) = Ok σ
 
   unfoldable pub functions_met : Bool → List Wanting → Found → Step Found
@@ -108,18 +128,24 @@ module _ (n : ℕ) where
   functions_met regular (w ∷ ws) σ = and_then (one w.argument) (λ found. functions_met regular ws found)
     where
       one : Argument → Step Found
-      one (Early at value t) = cond (is_function t) (ask (meet n (function_way regular) at w.opened w.wanted none_opened t σ)) (give σ)
+      one (Early at value named t) = cond (is_function t) (ask (meet n (function_way regular) at w.opened w.wanted none_opened t σ)) (give σ)
       one (Late at f) = and_then (f (Some (record { node = n; is_regular = regular; size = read σ (in_opened w.opened w.wanted) })) σ) (λ m. give m.found)
 
   unfoldable pub all_matched : Bool → List Wanting → Found → Step Found
   all_matched regular ws σ = and_then (ask (data_met ws σ)) (λ found. functions_met regular ws found)
 
-  -- the rest of the arguments; those that wait are matched where no arrow is left
-  unfoldable pub applied : Bool → List Argument → List Wanting → Opened → Size → Found → Step Met
-  applied regular [] ws φ t σ = and_then (all_matched regular ws σ) (λ found. give (record { size = read found (in_opened φ t); found = found }))
-  applied regular (a ∷ rest) ws φ (Fun k p r) σ = applied regular rest (ws ++ record { argument = a; opened = inside (applied_frame n σ.next k a) φ; wanted = p } ∷ []) (inside (applied_frame n σ.next k a) φ) r (counted (suc k + levels r) σ)
-  applied regular (a ∷ rest) ws φ t σ = and_then (all_matched regular ws σ) (λ found. again (read found (in_opened φ t)) found (applied regular rest))
+  -- the rest of the arguments; those that wait are matched where no arrow is left. The node of a function is so many behind n
+  -- as arguments are left, that of its application one less.
+  unfoldable pub applied : Bool → List Argument → List Wanting → Opened → Bool → Size → List Later → Found → Step Met
+  applied regular [] ws φ goes_on t ls σ = and_then (all_matched regular ws σ) (λ found. give (record { size = read found (in_opened φ t); found = found; later = ls ++ uses ws; goes_on = goes_on }))
+  applied regular (a ∷ rest) ws φ goes_on (Fun k p r) ls σ = applied regular rest
+      (ws ++ record { argument = a; opened = inside (applied_frame (n + length rest) σ.next k a) φ; wanted = p } ∷ [])
+      (inside (applied_frame (n + length rest) σ.next k a) φ) (is_arrow r) r
+      (ls ++ record { node = suc (n + length rest); size = in_opened φ (Fun k p r) } ∷ []) (counted (suc k + levels r) σ)
+  applied regular (a ∷ rest) ws φ goes_on t ls σ = and_then (all_matched regular ws σ) (λ found. again (read found (in_opened φ t)) found (applied regular rest))
     where
-      again : Size → Found → (List Wanting → Opened → Size → Found → Step Met) → Step Met
-      again (Fun k p r) found go = go (record { argument = a; opened = inside (applied_frame n found.next k a) none_opened; wanted = p } ∷ []) (inside (applied_frame n found.next k a) none_opened) r (counted (suc k + levels r) found)
-      again u found go = give (record { size = u; found = found })
+      again : Size → Found → (List Wanting → Opened → Bool → Size → List Later → Found → Step Met) → Step Met
+      again (Fun k p r) found go = go (record { argument = a; opened = inside (applied_frame (n + length rest) found.next k a) none_opened; wanted = p } ∷ [])
+          (inside (applied_frame (n + length rest) found.next k a) none_opened) (is_arrow r) r
+          (ls ++ uses ws ++ record { node = suc (n + length rest); size = Fun k p r } ∷ []) (counted (suc k + levels r) found)
+      again u found go = give (record { size = u; found = found; later = ls ++ uses ws; goes_on = false })

@@ -1,7 +1,7 @@
 -- The sized types of functions (Futhark Language Reference, "Size Types"): each size of a parameter that nothing around has is
 -- chosen by the caller, a parameter's name is the argument's value, and what the body's nodes meet is met when the function
 -- runs.
-use Rattle.std.specs.Prelude.{ℕ, suc, ◌+◌, Bool, true, false, ◌||◌, ◌&&◌, not, cond, nat_eq, nat_lt, nat_le, List, [], ◌∷◌, ◌++◌, length, Option, Some, None}
+use Rattle.std.specs.Prelude.{ℕ, suc, ◌+◌, ◌-◌, Bool, true, false, ◌||◌, ◌&&◌, not, cond, nat_eq, nat_lt, nat_le, List, [], ◌∷◌, ◌++◌, length, Option, Some, None}
 use Rattle.fut_scalar.specs.declared.place.BindId.{BindId}
 use Rattle.fut_flat.specs.Terms.{Bound_pattern, Typed_pattern, Parameter, Size_parameter, Type_parameter}
 use Rattle.fut_flat.specs.Erased.{FlatPattern}
@@ -49,9 +49,11 @@ value_name (Bound_pattern b) = Some b.0
 value_name (Typed_pattern p e) = value_name p
 value_name p = None
 
-abbrev pub value_position : ℕ → Option ℕ → Free → Option ℕ
-value_position k (Some b) (Name c) = cond (nat_eq b c) (Some k) None
-value_position k b d = None
+-- of a pattern at a node that is no name, it is a size of that node's own which stands in no level of the parameter
+abbrev pub value_position : ℕ → ℕ → Option ℕ → Free → Option ℕ
+value_position k q (Some b) (Name c) = cond (nat_eq b c) (Some k) None
+value_position k q None (Own n i) = cond (nat_eq n q) (Some k) None
+value_position k q b d = None
 
 -- what a parameter at a node chooses, where these are the size names that nothing has chosen before
 abbrev pub is_own : List ℕ → ℕ → Free → Bool
@@ -78,18 +80,18 @@ is_met from to (Unknown n i) = nat_le from n && nat_lt n to
 is_met from to d = false
 
 -- the function type of one parameter: what it chooses, its value, what is met
-abbrev pub frame_of : List Free → Option ℕ → List Free → Free → Option ℕ
-frame_of chosen value met d = or_position (position_from 0 chosen d) (or_position (value_position (length chosen) value d) (position_from (suc (length chosen)) met d))
+abbrev pub frame_of : List Free → Taking → List Free → Free → Option ℕ
+frame_of chosen p met d = or_position (position_from 0 chosen d) (or_position (value_position (length chosen) p.node (value_name p.pattern) d) (position_from (suc (length chosen)) met d))
 
-abbrev pub arrow : List Free → Option ℕ → List Free → Size → Size → Size
-arrow chosen value met p r = Fun (length chosen) (bound (frame_of chosen value met) p) (bound (frame_of chosen value met) r)
+abbrev pub arrow : List Free → Taking → List Free → Size → Size
+arrow chosen p met r = Fun (length chosen) (bound (frame_of chosen p met) p.size) (bound (frame_of chosen p met) r)
 
 -- the type of a function of these parameters, whose body has the nodes from one on, up to another, and gives this; the last
 -- arrow has what is met
 unfoldable pub function_size : List ℕ → ℕ → ℕ → List Taking → Size → Size
 function_size bs from to [] r = r
-function_size bs from to (p ∷ []) r = arrow (chosen_by bs p) (value_name p.pattern) (sizes_in (is_met from to) r) p.size r
-function_size bs from to (p ∷ ps) r = arrow (chosen_by bs p) (value_name p.pattern) [] p.size (function_size (without (chosen_by bs p) bs) from to ps r)
+function_size bs from to (p ∷ []) r = arrow (chosen_by bs p) p (sizes_in (is_met from to) r) r
+function_size bs from to (p ∷ ps) r = arrow (chosen_by bs p) p [] (function_size (without (chosen_by bs p) bs) from to ps r)
 
 -- the size names of a head that no parameter chooses
 abbrev pub unchosen : List ℕ → List Taking → List ℕ
@@ -101,8 +103,8 @@ size_names [] = []
 size_names (Size_parameter b ∷ ps) = b.0 ∷ size_names ps
 size_names (Type_parameter b lifted ∷ ps) = size_names ps
 
--- ---- what is still open in the result of an application at a node: where it is the parameter of a function, that function's
--- caller chooses it; else it is unknown
+-- ---- what is still open once an application at a node is matched: where it stands in the parameter of a function, that
+-- function's caller chooses it; else it is unknown
 
 abbrev pub is_slot : Free → Bool
 is_slot (Slot i) = true
@@ -112,7 +114,7 @@ abbrev pub unknown_slot : ℕ → Free → Free
 unknown_slot n (Slot i) = Unknown n i
 unknown_slot n d = d
 
--- positions from k on make room
+-- new positions stand behind the k that the caller chooses already
 abbrev pub at_slot : ℕ → ℕ → Option ℕ → Free → Dim
 at_slot j k (Some i) d = Bound j (k + i)
 at_slot j k None d = At d
@@ -121,6 +123,20 @@ abbrev pub chosen_again : ℕ → List Free → ℕ → Dim → Dim
 chosen_again k ds j (At d) = at_slot j k (position_from 0 ds d) d
 chosen_again k ds j (Bound l i) = Bound l (cond (nat_eq l j) (cond (nat_lt i k) i (length ds + i)) i)
 
+-- behind what the function types around have chosen, j of them
+abbrev pub behind : ℕ → ℕ → List Free → (ℕ → Dim → Dim) → ℕ → Dim → Dim
+behind k j ds outer i d = chosen_again k ds (i - suc j) (outer i d)
+
+unfoldable pub chosen_in : ℕ → (ℕ → Dim → Dim) → ℕ → Size → Size
+chosen_in n outer j (Fun k p r) = Fun (length (sizes_in is_slot (replaced outer (suc j) p)) + k)
+    (replaced (behind k j (sizes_in is_slot (replaced outer (suc j) p)) outer) (suc j) p)
+    (chosen_in n (behind k j (sizes_in is_slot (replaced outer (suc j) p)) outer) (suc j) r)
+chosen_in n outer j t = renamed (unknown_slot n) (replaced outer j t)
+
 unfoldable pub quantified : ℕ → Size → Size
-quantified n (Fun k p r) = Fun (length (sizes_in is_slot p) + k) (replaced (chosen_again k (sizes_in is_slot p)) 0 p) (renamed (unknown_slot n) (replaced (chosen_again k (sizes_in is_slot p)) 0 r))
-quantified n t = renamed (unknown_slot n) t
+quantified n t = chosen_in n (λ j d. d) 0 t
+
+-- after a function's last arrow nothing is chosen again
+unfoldable pub closed : Bool → ℕ → Size → Size
+closed true n t = quantified n t
+closed false n t = renamed (unknown_slot n) t

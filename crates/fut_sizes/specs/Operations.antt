@@ -18,7 +18,7 @@ use Rattle.fut_types.specs.Types.{Ty, Made, none, more, Sub}
 use Rattle.fut_typing.specs.Names.{Names}
 use Rattle.fut_sizes.specs.Sizes.{Free, Const, Name, Unknown, At, Size, Level, Built, Sizes, no_size, size_and}
 use Rattle.fut_sizes.specs.Agreeing.{Irregular, Answer, then_do, agree, no_size_of, type_levels, of_type}
-use Rattle.fut_sizes.specs.WrittenSizes.{part_of, changed_part, ascribed, coerced, declared}
+use Rattle.fut_sizes.specs.WrittenSizes.{part_of, changed_part, ascribed, coercion, declared}
 
 -- ---- what a size may name
 
@@ -126,7 +126,7 @@ module _ (N : Names) (types : Sub) where
   operation Update n at (term_and e es) (size_and t ts) = then_do (updated es (at + numbers e) ts t) (λ z. Ok t)
   operation (Replace f) n at es (size_and t (size_and v no_size)) = Ok (changed_part N f (λ u. v) t)
   operation (Ascribe e) n at es (size_and t no_size) = ascribed N at e t
-  operation (Coerce e) n at es (size_and t no_size) = Ok (coerced N e t)
+  operation (Coerce e) n at es (size_and t no_size) = coercion N at e t
   operation (Declared e) n at es (size_and t no_size) = declared N n at e t
   operation (Range stepped e) n at es ts = Ok (Level (At (range_of (is_i64 (element_ty (types n))) n stepped e es)) (of_type (no_size_of n) 0 (element_ty (types n))))
   operation o n at es ts = Ok (plain n)

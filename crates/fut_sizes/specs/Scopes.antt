@@ -1,5 +1,5 @@
 -- What is known of the names in scope, and how patterns bind (Futhark Language Reference, "Patterns", "Size Types").
-use Rattle.std.specs.Prelude.{ℕ, suc, Bool, true, false, cond, nat_eq, List, [], ◌∷◌, ◌++◌, Option, Some, None, Ok, Err}
+use Rattle.std.specs.Prelude.{ℕ, suc, Bool, true, false, cond, nat_eq, List, [], ◌∷◌, ◌++◌, length, Option, Some, None, Ok, Err}
 use Rattle.fut_ast.specs.Sorts.{Text}
 use Rattle.fut_scalar.specs.declared.place.BindId.{BindId}
 use Rattle.fut_scalar.specs.declared.scalar.ScalarType.TheVariants as scalar
@@ -14,7 +14,7 @@ use Rattle.fut_sizes.specs.Sizes.{Free, Name, Slot, Variable, is_variable, Size,
 use Rattle.fut_sizes.specs.Primitives.{scalar_size}
 use Rattle.fut_sizes.specs.Agreeing.{Answer, then_do, Escapes}
 use Rattle.fut_sizes.specs.WrittenSizes.{part_of, has_sizes, coerced}
-use Rattle.fut_sizes.specs.Matching.{Found, nothing_found, data_way, meet, none_opened, found_size}
+use Rattle.fut_sizes.specs.Matching.{Found, nothing_found, counted, data_way, meet, none_opened, found_size}
 
 -- ---- names
 
@@ -125,7 +125,7 @@ module _ (N : Names) (sizes : List BindId) (at : ℕ) where
     taken (Tuple_pattern ps) (Built h ts) k = all_taken ps ts k
     taken (Record_pattern fs ps) t k = fields_taken fs ps t k
     taken (Typed_pattern p e) t k = then_do (meet at data_way at none_opened (renamed (as_slot sizes) (coerced N e t)) none_opened t k.found)
-        (λ found. then_do (has_sizes N at e (coerced N e t)) (λ z. taken p (coerced N e t) (record { scope = k.scope; found = found })))
+        (λ found. then_do (has_sizes N true at e (coerced N e t)) (λ z. taken p (coerced N e t) (record { scope = k.scope; found = found })))
     taken p t k = Ok k
 
     pub all_taken : Patterns Ref BindId → Sizes → Taken → Answer Taken
@@ -147,5 +147,5 @@ all_met at i (b ∷ bs) σ = cond (is_still_open (σ.size i)) (Err (Escapes at))
 
 -- what a let or a loop binds, in this scope
 unfoldable pub bound_by : Names → List BindId → ℕ → FlatPattern → Size → Scope → Answer Taken
-bound_by N sizes at p t scope = then_do (taken N sizes at p t (record { scope = with_size_names sizes scope; found = nothing_found }))
+bound_by N sizes at p t scope = then_do (taken N sizes at p t (record { scope = with_size_names sizes scope; found = counted (length sizes) nothing_found }))
     (λ k. then_do (all_met at 0 sizes k.found) (λ z. Ok k))

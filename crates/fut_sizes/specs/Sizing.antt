@@ -1,25 +1,25 @@
 -- The sizing of a term: by structure, in the order of evaluation, the sized type of each node or the first refusal (Futhark
 -- Language Reference, "Size Types", "Causality restriction"). A term's numbers begin at lo.
-use Rattle.std.specs.Prelude.{ℕ, zero, suc, ◌+◌, nat_eq, Bool, true, false, ◌&&◌, ◌||◌, cond, List, [], ◌∷◌, ◌++◌, map, Option, Some, None, Ok, Err}
+use Rattle.std.specs.Prelude.{ℕ, zero, suc, ◌+◌, nat_eq, nat_lt, Bool, true, false, ◌&&◌, ◌||◌, cond, List, [], ◌∷◌, ◌++◌, map, Option, Some, None, Ok, Err}
 use Rattle.fut_ast.specs.Sorts.{Text}
 use Rattle.fut_scalar.specs.declared.place.BindId.{BindId}
 use Rattle.fut_flat.specs.declared.prim.Ref.{Ref}
 use Rattle.fut_flat.specs.declared.prim.Ref.TheVariants as ref
-use Rattle.fut_flat.specs.Terms.{Bound_pattern, Tuple_pattern, Record_pattern, Typed_pattern, Patterns, no_pattern, pattern_and, Binding, Use, Strict, Lambda, Apply, Let, If, Loop, Terms, no_term, term_and, Counted, Over, While}
+use Rattle.fut_flat.specs.Terms.{Bound_pattern, Tuple_pattern, Record_pattern, Typed_pattern, Patterns, no_pattern, pattern_and, Operation, Binary, Project, Binding, Use, Strict, Lambda, Apply, Let, If, Loop, Terms, no_term, term_and, Counted, Over, While}
 use Rattle.fut_flat.specs.Numbers.{pattern_numbers, all_pattern_numbers, own_numbers, numbers, turn_numbers}
 use Rattle.fut_flat.specs.Erased.{FlatTerm, FlatTurns, FlatPattern}
 use Rattle.fut_types.specs.Types.{Sub}
 use Rattle.fut_typing.specs.Names.{Names}
-use Rattle.fut_sizes.specs.Sizes.{Free, Name, Own, Unknown, Dim, At, Bound, Size, Hole, Open, Level, Built, Fun, Sizes, no_size, size_and, is_dim, levels, renamed, has}
+use Rattle.fut_sizes.specs.Sizes.{Free, Name, Own, Unknown, Slot, Dim, At, Bound, Size, Hole, Open, Level, Built, Fun, Sizes, no_size, size_and, is_dim, levels, renamed, has}
 use Rattle.fut_sizes.specs.Primitives.{prim_size, is_regular}
-use Rattle.fut_sizes.specs.Agreeing.{Escapes, Irregular, Answer, then_do, kept, no_size_of, is_among, leaving, of_type}
+use Rattle.fut_sizes.specs.Agreeing.{Escapes, Answer, then_do, kept, no_size_of, is_among, leaving, of_type}
 use Rattle.fut_sizes.specs.WrittenSizes.{part_of, coerced, same_dim, parameter_size}
 use Rattle.fut_sizes.specs.Operations.{operation}
-use Rattle.fut_sizes.specs.Matching.{Found, nothing_found, counted, none_opened, inside, in_opened, wanted_frame, is_unknown, data_way, function_way, to_result, meet}
+use Rattle.fut_sizes.specs.Matching.{Found, nothing_found, read, none_opened, inside, in_opened, data_way, function_way, meet}
 use Rattle.fut_sizes.specs.Scopes.{Known, Scope, with_known, with_name, i64_size, used, names, as_taken, bound_by}
-use Rattle.fut_sizes.specs.Functions.{value_name, Taking, function_size, unchosen, size_names, is_slot}
+use Rattle.fut_sizes.specs.Functions.{value_name, Taking, function_size, unchosen, size_names, is_slot, quantified, closed}
 use Rattle.fut_sizes.specs.Steps.{Step, give, ask, and_then, note, drop, dropped_by}
-use Rattle.fut_sizes.specs.Applications.{Want, Met, Argument, Early, Late, Part, Applied, Waiting, whole, named_value, settled, applied}
+use Rattle.fut_sizes.specs.Applications.{Want, Met, Later, Argument, Early, Late, Part, Applied, Waiting, whole, named_value, is_use, all_settled, applied}
 
 -- ---- parameters of functions
 
@@ -28,8 +28,6 @@ pub record Entered : Type 0 where
   pub scope : Scope
   pub parameters : List Taking
   pub wanted : Option Size
-  -- what the names that are arguments' values stand for in the wanted type
-  pub values : Free → Free
   pub found : Found
 
 abbrev pub has_open_slot : Dim → Bool
@@ -48,31 +46,22 @@ unfoldable mutual
   some_open no_size = false
   some_open (size_and t ts) = is_open t || some_open ts
 
--- whether the wanted type says all of the parameters
-abbrev pub says_all : Patterns Ref BindId → Size → Bool
-says_all no_pattern t = true
-says_all (pattern_and p ps) (Fun k q r) = cond (is_open q) false (says_all ps r)
-says_all (pattern_and p ps) t = false
-
-abbrev pub if_said : Bool → Want → Option Want
-if_said true w = Some w
-if_said false w = None
-
-abbrev pub said : Patterns Ref BindId → Option Want → Option Want
-said ps (Some w) = if_said (says_all ps w.size) w
-said ps None = None
-
 abbrev pub wanted_size : Option Want → Option Size
 wanted_size (Some w) = Some w.size
 wanted_size None = None
 
-abbrev pub want_node : ℕ → Option Want → ℕ
-want_node lo (Some w) = w.node
-want_node lo None = lo
+-- inside a lambda, the positions of the type that is wanted of it: the sizes that the caller chooses are own ones of the
+-- parameter's node, and the argument's value is its name, if it has one; what is met agrees with all
+abbrev pub value_of_parameter : ℕ → ℕ → Option ℕ → Dim
+value_of_parameter q k (Some b) = At (Name b)
+value_of_parameter q k None = At (Own q k)
 
-abbrev pub with_value : Option ℕ → Free → (Free → Free) → Free → Free
-with_value (Some b) d values (Name c) = cond (nat_eq b c) d (values (Name c))
-with_value b d values e = values e
+abbrev pub parameter_frame : FlatPattern → ℕ → ℕ → ℕ → Dim
+parameter_frame p q k i = cond (nat_lt i k) (At (Own q i)) (cond (nat_eq i k) (value_of_parameter q k (value_name p)) (Bound 0 i))
+
+-- of a parameter whose wanted type is still open, they stay so
+abbrev pub open_frame : FlatPattern → ℕ → ℕ → ℕ → Dim
+open_frame p q k i = cond (nat_lt i k) (At (Slot i)) (cond (nat_eq i k) (value_of_parameter q k (value_name p)) (Bound 0 i))
 
 -- the names of a parameter that are parts of its argument
 abbrev pub part_names : FlatPattern → List ℕ
@@ -101,44 +90,36 @@ module _ (N : Names) (types : Sub) where
     in_patterns ps ts = ts
 
   -- a parameter at a node, which comes with this sized type
-  abbrev pub entered : FlatPattern → ℕ → Size → Option Size → (Free → Free) → Found → Entered → Answer Entered
-  entered p q t rest values σ E = then_do (bound_by N [] q p (in_pattern p t) E.scope)
-      (λ k. Ok (record { scope = k.scope; parameters = E.parameters ++ record { pattern = p; node = q; size = in_pattern p t } ∷ []; wanted = rest; values = values; found = σ }))
+  abbrev pub entered : FlatPattern → ℕ → Size → Option Size → Found → Entered → Answer Entered
+  entered p q t rest σ E = then_do (bound_by N [] q p (in_pattern p t) E.scope)
+      (λ k. Ok (record { scope = k.scope; parameters = E.parameters ++ record { pattern = p; node = q; size = in_pattern p t } ∷ []; wanted = rest; found = σ }))
 
-  -- what the lambda at lo is wanted for, at the node n, says the sizes of its parameters, with which those that are written have
-  -- to agree; else they have sizes of their own
-  abbrev pub wanted_frame_of : ℕ → ℕ → Entered → ℕ → Dim
-  wanted_frame_of n k E = wanted_frame n E.found.next k
+  -- what the lambda at lo is wanted for says the sizes of a parameter, with which those that are written have to agree; where it
+  -- does not, the parameter has sizes of its own
+  abbrev pub enter_wanted : ℕ → FlatPattern → ℕ → Size → Size → Entered → Answer Entered
+  enter_wanted lo p q t r E = then_do (meet lo data_way lo none_opened (in_pattern p t) none_opened t E.found) (λ found. entered p q t (Some r) found E)
 
-  abbrev pub enter_wanted : ℕ → FlatPattern → ℕ → Size → Size → (Free → Free) → Found → Entered → Answer Entered
-  enter_wanted lo p q t r values σ E = then_do (meet lo data_way lo none_opened (in_pattern p t) none_opened t σ) (λ found. entered p q t (Some r) values found E)
+  abbrev pub own_sizes : ℕ → Size
+  own_sizes q = of_type (λ i. At (Own q i)) 0 (types q)
 
-  abbrev pub enter : ℕ → ℕ → FlatPattern → ℕ → Option Size → Entered → Answer Entered
-  enter n lo p q (Some (Fun k t r)) E = enter_wanted lo p q (in_opened (inside (wanted_frame_of n k E) none_opened) t) (in_opened (inside (wanted_frame_of n k E) none_opened) r) (with_value (value_name p) (Unknown n (E.found.next + k)) E.values) (counted (suc k + levels r) E.found) E
-  enter n lo p q w E = entered p q (of_type (λ i. At (Own q i)) 0 (types q)) None E.values E.found E
+  abbrev pub enter : ℕ → FlatPattern → ℕ → Option Size → Entered → Answer Entered
+  enter lo p q (Some (Fun k t r)) E = cond (is_open t)
+      (entered p q (own_sizes q) (Some (in_opened (inside (open_frame p q k) none_opened) r)) E.found E)
+      (enter_wanted lo p q (in_opened (inside (parameter_frame p q k) none_opened) t) (in_opened (inside (parameter_frame p q k) none_opened) r) E)
+  enter lo p q w E = entered p q (own_sizes q) None E.found E
 
-  abbrev pub all_entered : ℕ → ℕ → Patterns Ref BindId → ℕ → Entered → Answer Entered
-  all_entered n lo no_pattern q E = Ok E
-  all_entered n lo (pattern_and p ps) q E = then_do (enter n lo p q E.wanted E) (λ next. all_entered n lo ps (q + pattern_numbers p) next)
+  abbrev pub all_entered : ℕ → Patterns Ref BindId → ℕ → Entered → Answer Entered
+  all_entered lo no_pattern q E = Ok E
+  all_entered lo (pattern_and p ps) q E = then_do (enter lo p q E.wanted E) (λ next. all_entered lo ps (q + pattern_numbers p) next)
 
   abbrev pub none_left : ℕ → List ℕ → Answer (Unit {0})
   none_left at [] = Ok tt
   none_left at (b ∷ bs) = Err (Escapes at)
 
-  -- ---- what a lambda gives, whose body gave this, where it is wanted and where it is not
-
-  unfoldable pub given_back : ℕ → Option Want → Size → Size → Entered → Answer Met
-  given_back lo None own body E = Ok (record { size = own; found = E.found })
-  given_back lo (Some w) own body E = result_met (renamed E.values body) E.wanted
-    where
-      result_met : Size → Option Size → Answer Met
-      result_met r (Some t) = cond (w.is_regular && has is_unknown r) (Err (Irregular lo)) (then_do (meet w.node (to_result (function_way w.is_regular)) lo none_opened t none_opened r E.found) (λ found. Ok (record { size = own; found = found })))
-      result_met r None = Ok (record { size = own; found = E.found })
-
-  -- a lambda that was sized by itself is matched with what is wanted of it
-  unfoldable pub matched_late : ℕ → Option Want → Option Want → Met → Answer Met
-  matched_late lo (Some w) None m = then_do (meet w.node (function_way w.is_regular) lo none_opened w.size none_opened m.size m.found) (λ found. Ok (record { size = m.size; found = found }))
-  matched_late lo w said_of m = Ok m
+  -- a lambda of this sized type is matched with what is wanted of it
+  unfoldable pub matched : ℕ → Option Want → Size → Found → Answer Met
+  matched lo (Some w) own σ = then_do (meet w.node (function_way w.is_regular) lo none_opened w.size none_opened own σ) (λ found. Ok (record { size = own; found = found; later = []; goes_on = true }))
+  matched lo None own σ = Ok (record { size = own; found = σ; later = []; goes_on = true })
 
   -- ---- loops
 
@@ -217,16 +198,24 @@ module _ (N : Names) (types : Sub) where
   parameters_noted [] = give tt
   parameters_noted (p ∷ ps) = and_then (pattern_noted p.pattern p.node p.size) (λ z. parameters_noted ps)
 
+  -- the sized types of nodes within an application at n, once all is matched
+  abbrev pub all_noted : ℕ → List Later → Found → Step (Unit {0})
+  all_noted n [] σ = give tt
+  all_noted n (l ∷ ls) σ = and_then (note l.node (quantified n (read (all_settled l.size σ) l.size))) (λ z. all_noted n ls (all_settled l.size σ))
+
+  abbrev pub met_noted : ℕ → Met → Step Size
+  met_noted n m = and_then (all_noted n m.later (all_settled m.size m.found)) (λ z. note n (closed m.goes_on n (read (all_settled m.size m.found) m.size)))
+
   -- a part at a node by itself: its function is applied to the arguments so far
   abbrev pub finished : ℕ → Part → Step Size
-  finished lo (Applied t regular arguments) = and_then (applied lo regular arguments [] none_opened t nothing_found) (λ m. note lo (settled lo m.found m.size))
+  finished lo (Applied t regular arguments) = and_then (applied lo regular arguments [] none_opened true t [] nothing_found) (λ m. met_noted lo m)
   finished lo (Waiting f) = and_then (f None nothing_found) (λ m. note lo m.size)
 
   -- as an argument: a name that is not applied stays open, and a lambda waits
-  abbrev pub as_argument : ℕ → Option Free → Part → Step Argument
-  as_argument lo value (Applied t regular []) = and_then (note lo (settled lo nothing_found t)) (λ z. give (Early lo value t))
-  as_argument lo value (Applied t regular (a ∷ rest)) = and_then (finished lo (Applied t regular (a ∷ rest))) (λ u. give (Early lo value u))
-  as_argument lo value (Waiting f) = give (Late lo f)
+  abbrev pub as_argument : ℕ → FlatTerm → Part → Step Argument
+  as_argument lo e (Applied t regular []) = and_then (cond (is_use e) (give t) (note lo t)) (λ u. give (Early lo (named_value e) (is_use e) u))
+  as_argument lo e (Applied t regular (a ∷ rest)) = and_then (finished lo (Applied t regular (a ∷ rest))) (λ u. give (Early lo None false u))
+  as_argument lo e (Waiting f) = give (Late lo f)
 
   abbrev pub with_argument : Part → Argument → Step Part
   with_argument (Applied t regular before) a = give (Applied t regular (before ++ a ∷ []))
@@ -252,24 +241,29 @@ module _ (N : Names) (types : Sub) where
   abbrev pub let_scope : Binding Ref BindId → ℕ → Size → Scope → Answer Scope
   let_scope b at t scope = cond b.is_function (Ok (with_general b.pattern t scope)) (then_do (bound_by N b.sizes at b.pattern t scope) (λ k. Ok k.scope))
 
+  -- the second node of a binary operator has the sized type of its first operand, that of a field access the one of its record
+  abbrev pub second_noted : Operation Ref BindId → ℕ → Sizes → Step (Unit {0})
+  second_noted (Binary op) lo (size_and t ts) = and_then (note (1 + lo) t) (λ z. give tt)
+  second_noted (Project f) lo (size_and t ts) = and_then (note (1 + lo) t) (λ z. give tt)
+  second_noted o lo ts = give tt
+
   unfoldable mutual
     -- bs are the size names of the head that a function's parameters are to choose
     pub sized : FlatTerm → List ℕ → ℕ → Scope → Step Part
     sized (Use r at k) bs lo scope = give (use_of lo scope r)
     sized (Strict o mark ts) bs lo scope = and_then (all_sized ts (lo + own_numbers o) scope)
-        (λ us. and_then (ask (operation N types o lo (lo + own_numbers o) ts us)) (λ t. give (whole t)))
+        (λ us. and_then (ask (operation N types o lo (lo + own_numbers o) ts us)) (λ t. and_then (second_noted o lo us) (λ z. give (whole t))))
     sized (Lambda ps e) bs lo scope = give (Waiting (λ w σ.
-        and_then (ask (all_entered (want_node lo (said ps w)) lo ps (1 + lo) (record { scope = scope; parameters = []; wanted = wanted_size (said ps w); values = λ d. d; found = σ }))) (λ E.
+        and_then (ask (all_entered lo ps (1 + lo) (record { scope = scope; parameters = []; wanted = wanted_size w; found = σ }))) (λ E.
         and_then (ask (none_left (1 + lo + all_pattern_numbers ps) (unchosen bs E.parameters))) (λ z.
         and_then (parameters_noted E.parameters) (λ y.
         and_then (sized e [] (1 + lo + all_pattern_numbers ps) E.scope) (λ part.
         and_then (finished (1 + lo + all_pattern_numbers ps) part) (λ body.
         and_then (ask (leaving lo (all_part_names ps) body)) (λ r.
-        and_then (note lo (function_size bs lo (1 + lo + all_pattern_numbers ps + numbers e) E.parameters r)) (λ own.
-        and_then (ask (given_back lo (said ps w) own r E)) (λ m. ask (matched_late lo w (said ps w) m)))))))))))
+        and_then (note lo (function_size bs lo (1 + lo + all_pattern_numbers ps + numbers e) E.parameters r)) (λ own. ask (matched lo w own E.found))))))))))
     sized (Apply f e) bs lo scope = and_then (sized f [] (1 + lo) scope) (λ part.
         and_then (sized e [] (1 + lo + numbers f) scope) (λ given.
-        and_then (as_argument (1 + lo + numbers f) (named_value e) given) (λ a. with_argument part a)))
+        and_then (as_argument (1 + lo + numbers f) e given) (λ a. with_argument part a)))
     sized (Let b v e) bs lo scope =
         and_then (ask (has_parameters (size_names b.parameters) v (1 + lo + pattern_numbers b.pattern))) (λ z.
         and_then (sized v (size_names b.parameters) (1 + lo + pattern_numbers b.pattern) (with_head (size_names b.parameters) scope)) (λ value.

@@ -9,7 +9,7 @@ use Rattle.fut_flat.specs.Terms.{Size_term, Size_use, Size_const, Size_blank, Ar
 use Rattle.fut_flat.specs.Erased.{FlatType}
 use Rattle.fut_types.specs.Shapes.{place}
 use Rattle.fut_typing.specs.Names.{Names}
-use Rattle.fut_sizes.specs.Sizes.{Free, Const, Name, Own, Unknown, Dim, At, Size, Level, Built, Fun, Sizes, no_size, size_and, levels, opened, bound}
+use Rattle.fut_sizes.specs.Sizes.{Free, Const, Name, Own, Unknown, Dim, At, Bound, Size, Level, Built, Fun, Sizes, no_size, size_and, levels, opened, bound}
 use Rattle.fut_sizes.specs.Agreeing.{Answer, then_do, compare}
 
 -- ---- parts by their places
@@ -71,7 +71,7 @@ argument_place k b d = None
 abbrev pub same_dim : ℕ → Dim → Dim
 same_dim i d = d
 
--- ---- what is found at a node has the sizes that are written
+-- ---- what is found at a node has the sizes that are written, everywhere or inside function types alone
 
 abbrev pub if_there : Option Size → (Size → Answer (Unit {0})) → Answer (Unit {0})
 if_there (Some t) test = test t
@@ -79,54 +79,58 @@ if_there None test = Ok tt
 
 module _ (N : Names) where
   unfoldable mutual
-    pub has_sizes : ℕ → FlatType → Size → Answer (Unit {0})
-    has_sizes at (Array_type s e) (Level d t) = then_do (has_written at (written_dim s) d) (λ z. has_sizes at e t)
-    has_sizes at (Unique_type e) t = has_sizes at e t
-    has_sizes at (Arrow_type b from to) (Fun k p r) = then_do (has_sizes at from (opened (inside at k b) p)) (λ z. has_sizes at to (opened (inside at k b) r))
-    has_sizes at (Tuple_type es) (Built h ts) = all_have_sizes at es ts
-    has_sizes at (Record_type fs es) t = fields_have_sizes at fs es t
-    has_sizes at e t = Ok tt
+    pub has_sizes : Bool → ℕ → FlatType → Size → Answer (Unit {0})
+    has_sizes everywhere at (Array_type s e) (Level d t) = then_do (cond everywhere (has_written at (written_dim s) d) (Ok tt)) (λ z. has_sizes everywhere at e t)
+    has_sizes everywhere at (Unique_type e) t = has_sizes everywhere at e t
+    has_sizes everywhere at (Arrow_type b from to) (Fun k p r) = then_do (has_sizes true at from (opened (inside at k b) p)) (λ z. has_sizes true at to (opened (inside at k b) r))
+    has_sizes everywhere at (Tuple_type es) (Built h ts) = all_have_sizes everywhere at es ts
+    has_sizes everywhere at (Record_type fs es) t = fields_have_sizes everywhere at fs es t
+    has_sizes everywhere at e t = Ok tt
 
-    pub all_have_sizes : ℕ → Type_terms Ref BindId → Sizes → Answer (Unit {0})
-    all_have_sizes at (type_and e es) (size_and t ts) = then_do (has_sizes at e t) (λ z. all_have_sizes at es ts)
-    all_have_sizes at es ts = Ok tt
+    pub all_have_sizes : Bool → ℕ → Type_terms Ref BindId → Sizes → Answer (Unit {0})
+    all_have_sizes everywhere at (type_and e es) (size_and t ts) = then_do (has_sizes everywhere at e t) (λ z. all_have_sizes everywhere at es ts)
+    all_have_sizes everywhere at es ts = Ok tt
 
-    pub fields_have_sizes : ℕ → List Text → Type_terms Ref BindId → Size → Answer (Unit {0})
-    fields_have_sizes at (f ∷ fs) (type_and e es) t = then_do (if_there (part_of N f t) (λ u. has_sizes at e u)) (λ z. fields_have_sizes at fs es t)
-    fields_have_sizes at fs es t = Ok tt
+    pub fields_have_sizes : Bool → ℕ → List Text → Type_terms Ref BindId → Size → Answer (Unit {0})
+    fields_have_sizes everywhere at (f ∷ fs) (type_and e es) t = then_do (if_there (part_of N f t) (λ u. has_sizes everywhere at e u)) (λ z. fields_have_sizes everywhere at fs es t)
+    fields_have_sizes everywhere at fs es t = Ok tt
 
-  -- ---- a sized type with the sizes that are written; where none is, the one that `blank` gives for a level and its own size;
-  -- function types take them where they are those of parameters
+  -- ---- a sized type with the sizes that are written; where none is, the one that `blank` gives for a level and its own size.
+  -- Function types take them too where it is told what is given for a level of their results.
 
   unfoldable mutual
-    pub with_sizes : Bool → (ℕ → Dim → Dim) → ℕ → FlatType → Size → Size
-    with_sizes functions blank i (Array_type s e) (Level d t) = Level (dim_or (written_dim s) (blank i d)) (with_sizes functions blank (suc i) e t)
-    with_sizes functions blank i (Unique_type e) t = with_sizes functions blank i e t
-    with_sizes functions blank i (Tuple_type es) (Built h ts) = Built h (all_with_sizes functions blank i es ts)
-    with_sizes functions blank i (Record_type fs es) t = fields_with_sizes functions blank i fs es t
-    with_sizes true blank i (Arrow_type b from to) (Fun k p r) = Fun k (with_sizes true same_dim 0 from p) (bound (argument_place k b) (with_sizes true same_dim 0 to r))
-    with_sizes functions blank i e t = t
+    pub with_sizes : Option (ℕ → ℕ → Dim → Dim) → (ℕ → Dim → Dim) → ℕ → FlatType → Size → Size
+    with_sizes results blank i (Array_type s e) (Level d t) = Level (dim_or (written_dim s) (blank i d)) (with_sizes results blank (suc i) e t)
+    with_sizes results blank i (Unique_type e) t = with_sizes results blank i e t
+    with_sizes results blank i (Tuple_type es) (Built h ts) = Built h (all_with_sizes results blank i es ts)
+    with_sizes results blank i (Record_type fs es) t = fields_with_sizes results blank i fs es t
+    with_sizes (Some given) blank i (Arrow_type b from to) (Fun k p r) = Fun k (with_sizes (Some given) same_dim 0 from p) (bound (argument_place k b) (with_sizes (Some given) (given k) 0 to r))
+    with_sizes results blank i e t = t
 
-    pub all_with_sizes : Bool → (ℕ → Dim → Dim) → ℕ → Type_terms Ref BindId → Sizes → Sizes
-    all_with_sizes functions blank i (type_and e es) (size_and t ts) = size_and (with_sizes functions blank i e t) (all_with_sizes functions blank (levels t + i) es ts)
-    all_with_sizes functions blank i es ts = ts
+    pub all_with_sizes : Option (ℕ → ℕ → Dim → Dim) → (ℕ → Dim → Dim) → ℕ → Type_terms Ref BindId → Sizes → Sizes
+    all_with_sizes results blank i (type_and e es) (size_and t ts) = size_and (with_sizes results blank i e t) (all_with_sizes results blank (levels t + i) es ts)
+    all_with_sizes results blank i es ts = ts
 
-    pub fields_with_sizes : Bool → (ℕ → Dim → Dim) → ℕ → List Text → Type_terms Ref BindId → Size → Size
-    fields_with_sizes functions blank i (f ∷ fs) (type_and e es) t = fields_with_sizes functions blank (levels t + i) fs es (changed_part N f (with_sizes functions blank i e) t)
-    fields_with_sizes functions blank i fs es t = t
+    pub fields_with_sizes : Option (ℕ → ℕ → Dim → Dim) → (ℕ → Dim → Dim) → ℕ → List Text → Type_terms Ref BindId → Size → Size
+    fields_with_sizes results blank i (f ∷ fs) (type_and e es) t = fields_with_sizes results blank (levels t + i) fs es (changed_part N f (with_sizes results blank i e) t)
+    fields_with_sizes results blank i fs es t = t
 
   -- `e : t` keeps the sizes of e
   unfoldable pub ascribed : ℕ → FlatType → Size → Answer Size
-  ascribed at e t = then_do (has_sizes at e t) (λ z. Ok t)
+  ascribed at e t = then_do (has_sizes true at e t) (λ z. Ok t)
 
-  -- `e :> t` has the sizes of t, and those of e where none is written
+  -- `e :> t` has the sizes of t, and those of e where none is written. No run can tell the sizes inside function types: there it
+  -- is an ascription.
   unfoldable pub coerced : FlatType → Size → Size
-  coerced e t = with_sizes false same_dim 0 e t
+  coerced e t = with_sizes None same_dim 0 e t
+
+  unfoldable pub coercion : ℕ → FlatType → Size → Answer Size
+  coercion at e t = then_do (has_sizes false at e t) (λ z. Ok (coerced e t))
 
   -- a parameter: its own sizes where none is written
   unfoldable pub parameter_size : (ℕ → Dim → Dim) → FlatType → Size → Size
-  parameter_size own e t = with_sizes true own 0 e t
+  parameter_size own e t = with_sizes (Some (λ k i d. d)) own 0 e t
 
-  -- a declared result: where no size is written, callers know none
+  -- a declared result: where no size is written, callers know none; those of a function's result are met when it runs
   unfoldable pub declared : ℕ → ℕ → FlatType → Size → Answer Size
-  declared n at e t = then_do (has_sizes at e t) (λ z. Ok (with_sizes false (λ i d. At (Unknown n i)) 0 e t))
+  declared n at e t = then_do (has_sizes true at e t) (λ z. Ok (with_sizes (Some (λ k i d. Bound 0 (suc k + i))) (λ i d. At (Unknown n i)) 0 e t))
