@@ -8,6 +8,7 @@ pub mod Scopes
 pub mod Functions
 pub mod Steps
 pub mod Applications
+pub mod Compositions
 pub mod Sizing
 pub mod Programs
 pub mod Suiting

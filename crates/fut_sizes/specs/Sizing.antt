@@ -1,6 +1,6 @@
 -- The sizing of a term: by structure, in the order of evaluation, the sized type of each node or the first refusal (Futhark
 -- Language Reference, "Size Types", "Causality restriction"). A term's numbers begin at lo.
-use Rattle.std.specs.Prelude.{ℕ, zero, suc, ◌+◌, nat_eq, nat_lt, Bool, true, false, ◌&&◌, ◌||◌, cond, List, [], ◌∷◌, ◌++◌, map, Option, Some, None, Ok, Err}
+use Rattle.std.specs.Prelude.{ℕ, zero, suc, ◌+◌, nat_eq, nat_lt, Bool, true, false, ◌||◌, cond, List, [], ◌∷◌, ◌++◌, map, Option, Some, None, Ok, Err}
 use Rattle.fut_ast.specs.Sorts.{Text}
 use Rattle.fut_scalar.specs.declared.place.BindId.{BindId}
 use Rattle.fut_flat.specs.declared.prim.Ref.{Ref}
@@ -10,7 +10,7 @@ use Rattle.fut_flat.specs.Numbers.{pattern_numbers, all_pattern_numbers, own_num
 use Rattle.fut_flat.specs.Erased.{FlatTerm, FlatTurns, FlatPattern}
 use Rattle.fut_types.specs.Types.{Sub}
 use Rattle.fut_typing.specs.Names.{Names}
-use Rattle.fut_sizes.specs.Sizes.{Free, Name, Own, Unknown, Slot, Dim, At, Bound, Size, Hole, Open, Level, Built, Fun, Sizes, no_size, size_and, is_dim, levels, renamed, has}
+use Rattle.fut_sizes.specs.Sizes.{Name, Own, Unknown, Slot, Dim, At, Bound, Size, Hole, Open, Level, Built, Fun, Sizes, no_size, size_and, is_dim, levels, renamed, has}
 use Rattle.fut_sizes.specs.Primitives.{prim_size, is_regular}
 use Rattle.fut_sizes.specs.Agreeing.{Escapes, Answer, then_do, kept, no_size_of, is_among, leaving, of_type}
 use Rattle.fut_sizes.specs.WrittenSizes.{part_of, coerced, same_dim, parameter_size}
@@ -18,7 +18,8 @@ use Rattle.fut_sizes.specs.Operations.{operation}
 use Rattle.fut_sizes.specs.Matching.{Found, nothing_found, read, none_opened, inside, in_opened, data_way, function_way, meet}
 use Rattle.fut_sizes.specs.Scopes.{Known, Scope, with_known, with_name, i64_size, used, names, as_taken, bound_by}
 use Rattle.fut_sizes.specs.Functions.{value_name, Taking, function_size, unchosen, size_names, is_slot, quantified, closed}
-use Rattle.fut_sizes.specs.Steps.{Step, give, ask, and_then, note, drop, dropped_by}
+use Rattle.fut_sizes.specs.Compositions.{composition, composing, without_two}
+use Rattle.fut_sizes.specs.Steps.{Step, give, ask, and_then, note, node_size, drop, dropped_by}
 use Rattle.fut_sizes.specs.Applications.{Want, Met, Later, Argument, Early, Late, Part, Applied, Waiting, whole, named_value, is_use, all_settled, applied}
 
 -- ---- parameters of functions
@@ -247,6 +248,33 @@ module _ (N : Names) (types : Sub) where
   second_noted (Project f) lo (size_and t ts) = and_then (note (1 + lo) t) (λ z. give tt)
   second_noted o lo ts = give tt
 
+  -- ---- compositions
+
+  abbrev pub composed_or : Option Bool → (Bool → Step Part) → Step Part → Step Part
+  composed_or (Some left_first) composed other = composed left_first
+  composed_or None composed other = other
+
+  abbrev pub right_numbers : FlatTerm → ℕ
+  right_numbers (Let c w e) = numbers w
+  right_numbers e = 0
+
+  abbrev pub plain_size : ℕ → Size
+  plain_size lo = of_type (no_size_of lo) 0 (types lo)
+
+  -- what the composition of two functions is, whose lambda is at a node; its parameter is at the next, then come the outer
+  -- application, the name of a function and the inner application
+  abbrev pub composition_met : ℕ → Bool → Argument → Argument → ℕ → Step Size
+  composition_met lo left_first f g at = and_then (applied lo false (f ∷ g ∷ []) [] none_opened true (composing left_first lo (types (1 + at)) (types (4 + at)) (types (2 + at))) [] nothing_found)
+      (λ m. met_noted lo (record { size = m.size; found = m.found; later = without_two m.later; goes_on = m.goes_on }))
+
+  abbrev pub with_pattern_name : FlatPattern → Size → Scope → Scope
+  with_pattern_name (Bound_pattern b) t scope = with_name b.0 t scope
+  with_pattern_name p t scope = scope
+
+  abbrev pub wanted_as : ℕ → Size → Part → Step Size
+  wanted_as n t (Waiting f) = and_then (f (Some (record { node = n; is_regular = false; size = t })) nothing_found) (λ m. give m.size)
+  wanted_as n t (Applied u regular arguments) = give t
+
   unfoldable mutual
     -- bs are the size names of the head that a function's parameters are to choose
     pub sized : FlatTerm → List ℕ → ℕ → Scope → Step Part
@@ -264,15 +292,20 @@ module _ (N : Names) (types : Sub) where
     sized (Apply f e) bs lo scope = and_then (sized f [] (1 + lo) scope) (λ part.
         and_then (sized e [] (1 + lo + numbers f) scope) (λ given.
         and_then (as_argument (1 + lo + numbers f) e given) (λ a. with_argument part a)))
-    sized (Let b v e) bs lo scope =
-        and_then (ask (has_parameters (size_names b.parameters) v (1 + lo + pattern_numbers b.pattern))) (λ z.
+    sized (Let b v e) bs lo scope = composed_or (composition b e) (λ left_first.
+        and_then (sized v [] (2 + lo) scope) (λ first. and_then (as_argument (2 + lo) v first) (λ f.
+        and_then (right_sized e (2 + lo + numbers v) scope) (λ g.
+        and_then (composition_met lo left_first f g (4 + lo + numbers v + right_numbers e)) (λ t.
+        and_then (node_size (2 + lo)) (λ left. and_then (pattern_noted b.pattern (1 + lo) left) (λ z.
+        and_then (inner_sized e (2 + lo + numbers v) t (with_pattern_name b.pattern left scope)) (λ u. give (whole u)))))))))
+        (and_then (ask (has_parameters (size_names b.parameters) v (1 + lo + pattern_numbers b.pattern))) (λ z.
         and_then (sized v (size_names b.parameters) (1 + lo + pattern_numbers b.pattern) (with_head (size_names b.parameters) scope)) (λ value.
         and_then (finished (1 + lo + pattern_numbers b.pattern) value) (λ t.
         and_then (ask (let_scope b (1 + lo + pattern_numbers b.pattern) t scope)) (λ inner.
         and_then (pattern_noted b.pattern (1 + lo) t) (λ y.
         and_then (sized e [] (1 + lo + pattern_numbers b.pattern + numbers v) inner) (λ part.
         and_then (finished (1 + lo + pattern_numbers b.pattern + numbers v) part) (λ u.
-        and_then (ask (leaving lo (names b.pattern ++ bind_ids b.sizes) u)) (λ r. give (whole r)))))))))
+        and_then (ask (leaving lo (names b.pattern ++ bind_ids b.sizes) u)) (λ r. give (whole r))))))))))
     sized (If c t e) bs lo scope =
         and_then (sized c [] (1 + lo) scope) (λ first. and_then (finished (1 + lo) first) (λ z.
         and_then (sized t [] (1 + lo + numbers c) scope) (λ second. and_then (finished (1 + lo + numbers c) second) (λ u.
@@ -290,6 +323,16 @@ module _ (N : Names) (types : Sub) where
         and_then (sized body [] (1 + lo + pattern_numbers p + numbers first + turn_numbers turns) inner) (λ given.
         and_then (finished (1 + lo + pattern_numbers p + numbers first + turn_numbers turns) given) (λ u.
         give (renamed (as_taken sizes k.found) u))))))))) (λ r. give (whole r)))))
+
+    -- of a composition: the right function, and the lambda, of which this is wanted
+    pub right_sized : FlatTerm → ℕ → Scope → Step Argument
+    right_sized (Let c w e) lo scope = and_then (sized w [] (2 + lo) scope) (λ part. as_argument (2 + lo) w part)
+    right_sized e lo scope = give (Early lo None false (plain_size lo))
+
+    pub inner_sized : FlatTerm → ℕ → Size → Scope → Step Size
+    inner_sized (Let c w e) lo t scope = and_then (node_size (2 + lo)) (λ right. and_then (pattern_noted c.pattern (1 + lo) right) (λ z.
+        and_then (sized e [] (2 + lo + numbers w) (with_pattern_name c.pattern right scope)) (λ part. and_then (wanted_as (2 + lo + numbers w) t part) (λ u. note lo u))))
+    inner_sized e lo t scope = give t
 
     pub all_sized : Terms Ref BindId → ℕ → Scope → Step Sizes
     all_sized no_term lo scope = give no_size

@@ -31,6 +31,9 @@ at_node n a f = λ m. cond (nat_eq n m) a (f m)
 abbrev pub note : ℕ → Size → Step Size
 note n t s = Ok (record { result = t; state = record { nodes = at_node n t s.nodes; dropped = s.dropped } })
 
+abbrev pub node_size : ℕ → Step Size
+node_size n s = Ok (record { result = s.nodes n; state = s })
+
 -- levels that a loop does not keep either
 abbrev pub drop : ℕ → List ℕ → Step (Unit {0})
 drop n levels s = Ok (record { result = tt; state = record { nodes = s.nodes; dropped = at_node n (s.dropped n ++ levels) s.dropped } })
