@@ -12,3 +12,5 @@ pub mod Compositions
 pub mod Sizing
 pub mod Programs
 pub mod Suiting
+pub mod Scoping
+pub mod Rules

@@ -74,6 +74,9 @@ abbrev pub all_part_names : Patterns Ref BindId → List ℕ
 all_part_names no_pattern = []
 all_part_names (pattern_and p ps) = part_names p ++ all_part_names ps
 
+abbrev pub bind_ids : List BindId → List ℕ
+bind_ids = map (λ (b : BindId). b.0)
+
 abbrev pub field_noted : Option Size → (Size → Step (Unit {0})) → Step (Unit {0})
 field_noted (Some t) do_note = do_note t
 field_noted None do_note = give tt
@@ -226,9 +229,6 @@ module _ (N : Names) (types : Sub) where
   abbrev pub has_parameters : List ℕ → FlatTerm → ℕ → Answer (Unit {0})
   has_parameters bs (Lambda ps e) lo = Ok tt
   has_parameters bs e lo = none_left lo bs
-
-  abbrev pub bind_ids : List BindId → List ℕ
-  bind_ids = map (λ (b : BindId). b.0)
 
   abbrev pub with_head : List ℕ → Scope → Scope
   with_head [] scope = scope
