@@ -1,0 +1,119 @@
+-- Which values are of a sized type. A function is of one where, whatever sizes its caller chooses, it takes each value of its
+-- parameter's type to values of its result's, for some sizes that are met when it runs.
+use Rattle.std.specs.Prelude.{◌≡◌, ℕ, suc, ◌≤◌, Some}
+use Rattle.fut_ast.specs.Sorts.{Text}
+use Rattle.fut_scalar.specs.Integers.{integer_of}
+use Rattle.fut_scalar.specs.declared.scalar.Scalar.{Scalar}
+use Rattle.fut_scalar.specs.declared.scalar.Scalar.TheVariants as scalar
+use Rattle.fut_types.specs.declared.Head.{Head}
+use Rattle.fut_types.specs.declared.Head.TheVariants as head
+use Rattle.fut_types.specs.Shapes.{place}
+use Rattle.fut_typing.specs.Names.{Names}
+use Rattle.fut_value.specs.Data.{Shape, Scalar_shape, Datum, Scalar_datum, Tuple_datum, Record_datum, Array_datum, Datums, no_datum, datum_and, Named_datums, no_named, named_and, shape_of}
+use Rattle.fut_meaning.specs.Accessors.{count_of}
+use Rattle.fut_meaning.specs.Datums.{datum_of}
+use Rattle.fut_meaning.specs.Flats.{FlatValue}
+use Rattle.fut_meaning.specs.Outcomes.{Out, Val, Fail, Wrong, Rel}
+use Rattle.fut_meaning.specs.Values.{Scalar_value, Tuple_value, Record_value, Values, no_value, value_and, Fields, field}
+use Rattle.fut_flat.specs.declared.prim.Ref.{Ref}
+use Rattle.fut_scalar.specs.declared.place.BindId.{BindId}
+use Rattle.fut_sizes.specs.Sizes.{Variable, Size, Hole, Open, Level, Built, Fun, Sizes, no_size, size_and}
+use Rattle.sized_meaning.specs.Worth.{Worth, Frames, push}
+use Rattle.sized_meaning.specs.Shapes.{Has_shape}
+
+abbrev pub FlatValues : Type 0
+FlatValues = Values Ref BindId (Unit {0})
+
+abbrev pub FlatFields : Type 0
+FlatFields = Fields Ref BindId (Unit {0})
+
+-- each value that is given has the property
+abbrev pub Out_fits : (FlatValue → Type 0) → Out FlatValue → Type 0
+Out_fits P (Val v) = P v
+Out_fits P (Fail r) = Unit {0}
+Out_fits P Wrong = Unit {0}
+
+abbrev pub Gives : (FlatValue → Type 0) → Rel FlatValue → Type 0
+Gives P m = (o : Out FlatValue) (f : ℕ) → m o f → Out_fits P o
+
+-- the number of rows that a value says as a size: an integer below 0 says none
+abbrev pub word_of : Scalar → ℕ
+word_of (scalar.Int t n) = count_of (integer_of t n)
+word_of (scalar.Bool b) = 0
+
+unfoldable pub word : FlatValue → ℕ
+word (Scalar_value s) = word_of s
+word v = 0
+
+-- each row of an array has the shape that the array keeps, in its parts too
+unfoldable mutual
+  pub Whole : Datum → Type 0
+  Whole (Scalar_datum s) = Unit {0}
+  Whole (Tuple_datum ds) = All_whole ds
+  Whole (Record_datum fs) = Named_whole fs
+  Whole (Array_datum row ds) = Rows_whole row ds
+
+  pub All_whole : Datums → Type 0
+  All_whole no_datum = Unit {0}
+  All_whole (datum_and d ds) = Whole d × All_whole ds
+
+  pub Named_whole : Named_datums → Type 0
+  Named_whole no_named = Unit {0}
+  Named_whole (named_and f d fs) = Whole d × Named_whole fs
+
+  pub Rows_whole : Shape → Datums → Type 0
+  Rows_whole row no_datum = Unit {0}
+  Rows_whole row (datum_and d ds) = (shape_of d ≡ row) × Whole d × Rows_whole row ds
+
+-- data of such a shape
+pub record Is_data (P : Shape → Type 0) (v : FlatValue) : Type 0 where
+  pub datum : Datum
+  pub is_datum : datum_of v ≡ Val datum
+  pub shape : P (shape_of datum)
+  pub whole : Whole datum
+
+abbrev pub On_tuple : (FlatValues → Type 0) → FlatValue → Type 0
+On_tuple P (Tuple_value vs) = P vs
+On_tuple P v = ⊥
+
+abbrev pub On_record : (FlatFields → Type 0) → FlatValue → Type 0
+On_record P (Record_value fs) = P fs
+On_record P v = ⊥
+
+abbrev pub No_value : FlatValues → Type 0
+No_value no_value = Unit {0}
+No_value (value_and v vs) = ⊥
+
+abbrev pub First_value : (FlatValue → Type 0) → (FlatValues → Type 0) → FlatValues → Type 0
+First_value P Q no_value = ⊥
+First_value P Q (value_and v vs) = P v × Q vs
+
+-- by what a type is made of; nothing is said of a type of its own
+abbrev pub Of_head : Head → (FlatValues → Type 0) → (ℕ → FlatFields → Type 0) → FlatValue → Type 0
+Of_head (head.Scalar s) P Q v = Is_data (λ h. h ≡ Scalar_shape s) v
+Of_head head.Tuple P Q v = On_tuple P v
+Of_head (head.Record n) P Q v = On_record (Q n) v
+Of_head (head.Abstract n d) P Q v = Unit {0}
+Of_head head.Array P Q v = ⊥
+Of_head head.Fun P Q v = ⊥
+Of_head (head.Rigid n k) P Q v = ⊥
+
+-- where a function called with a value means this, and type variables stand for these shapes
+module _ (N : Names) (τ : Variable → Shape) (calls : FlatValue → FlatValue → Rel FlatValue) where
+  unfoldable mutual
+    pub Fits : Worth → Frames → Size → FlatValue → Type 0
+    Fits m φ (Hole v) w = Is_data (Has_shape N τ m φ (Hole v)) w
+    Fits m φ (Open n v u) w = ⊥
+    Fits m φ (Level d t) w = Is_data (Has_shape N τ m φ (Level d t)) w
+    Fits m φ (Built h ts) w = Of_head h (All_fit m φ ts) (λ n. Named_fit m φ n 0 ts) w
+    Fits m φ (Fun k p r) f = (F : ℕ → ℕ) (v : FlatValue) → F k ≡ word v → Fits m (push F φ) p v
+        → Gives (λ w. (F' : ℕ → ℕ) × ((i : ℕ) → i ≤ k → F' i ≡ F i) × Fits m (push F' φ) r w) (calls f v)
+
+    pub All_fit : Worth → Frames → Sizes → FlatValues → Type 0
+    All_fit m φ no_size vs = No_value vs
+    All_fit m φ (size_and t ts) vs = First_value (Fits m φ t) (All_fit m φ ts) vs
+
+    -- the fields of the record with this number, from a part on
+    pub Named_fit : Worth → Frames → ℕ → ℕ → Sizes → FlatFields → Type 0
+    Named_fit m φ n i no_size fs = Unit {0}
+    Named_fit m φ n i (size_and t ts) fs = ((f : Text) (v : FlatValue) → place N.shapes (N.label f) (head.Record n) ≡ Some i → field f fs ≡ Some v → Fits m φ t v) × Named_fit m φ n (suc i) ts fs

@@ -1,0 +1,4 @@
+pub mod Worth
+pub mod Shapes
+pub mod Fits
+pub mod Claims
