@@ -19,7 +19,7 @@ use Rattle.fut_sizes.specs.Operations.{operation}
 use Rattle.fut_sizes.specs.Scopes.{i64_size, names}
 use Rattle.fut_sizes.specs.Functions.{value_name}
 use Rattle.fut_sizes.specs.Sizing.{lacking, differing, all_part_names, bind_ids, row_of}
-use Rattle.fut_sizes.specs.Suiting.{Each, Scoped, Of_positions, Data, Instance, Suits}
+use Rattle.fut_sizes.specs.Suiting.{Each, Scoped, Of_positions, Data, Never_at, Instance, Suits}
 use Rattle.fut_sizes.specs.Scoping.{stands, has_hole, Context, with_name, with_scheme, with_entered, with_positions, with_size_names, with_pattern}
 
 abbrev pub Any_free : Free → Type 0
@@ -175,6 +175,12 @@ module _ (N : Names) (types : Sub) (s : ℕ → Size) (home : ℕ → ℕ) where
   Is_value (Strict (Integer c t) mark no_term) G d = d ≡ Const c
   Is_value e G d = ⊥
 
+  -- What an application gives: what the function gives, or a function whose caller chooses what is still open. That is so only
+  -- where nothing is met, and neither the function nor the argument knows of the choice.
+  abbrev pub Application_gives : ℕ → Size → Size → ℕ → Size → Size → Type 0
+  Application_gives lo function argument chosen to given = (s lo ≡ given)
+      ⊎ ((C : For_each_choice given (s lo)) × (C.n ≡ lo → ⊥) × Never_at C.n function × Never_at C.n argument × Each (Of_positions (λ i. i ≤ chosen)) 1 to)
+
   pub record Applies (e : FlatTerm) (lo mid hi : ℕ) (G : Context) : Type 0 where
     pub chosen : ℕ
     pub from : Size
@@ -184,15 +190,13 @@ module _ (N : Names) (types : Sub) (s : ℕ → Size) (home : ℕ → ℕ) where
     pub inside : ℕ → Free
     pub low : Each (Of_positions (λ i. i < chosen)) 1 from
     pub argument : Suits (s mid) (opened inside from)
-    -- the unknowns of the node stand for different positions
-    pub number : ℕ → ℕ
-    pub apart : (i j : ℕ) → number i ≡ number j → i ≡ j
+    -- the number of the node's unknown that stands for the first position
+    pub base : ℕ
     -- a size that the caller chooses is one that is known here, or any: then it is an unknown of the node
-    pub known : (i : ℕ) → i < chosen → Outside lo (1 + lo) (inside i) ⊎ (inside i ≡ Unknown lo (number i))
-    pub value : Is_value e G (inside chosen) ⊎ (inside chosen ≡ Unknown lo (number chosen))
-    pub new : (i : ℕ) → chosen < i → inside i ≡ Unknown lo (number i)
-    -- what the application gives, or a function whose caller chooses what is still open; that is so only where nothing is met
-    pub result : (s lo ≡ opened inside to) ⊎ (For_each_choice (opened inside to) (s lo) × Each (Of_positions (λ i. i ≤ chosen)) 1 to)
+    pub known : (i : ℕ) → i < chosen → Outside lo (1 + lo) (inside i) ⊎ (inside i ≡ Unknown lo (base + i))
+    pub value : Is_value e G (inside chosen) ⊎ (inside chosen ≡ Unknown lo (base + chosen))
+    pub new : (i : ℕ) → chosen < i → inside i ≡ Unknown lo (base + i)
+    pub result : Application_gives lo (s (1 + lo)) (s mid) chosen to (opened inside to)
     -- what was sized first knows nothing of the other
     pub order : Away (1 + lo) mid (s mid) ⊎ Away mid hi (s (1 + lo))
 
@@ -211,7 +215,7 @@ module _ (N : Names) (types : Sub) (s : ℕ → Size) (home : ℕ → ℕ) where
     pub sizes_met : (c : ℕ) → is_among (bind_ids b.sizes) c ≡ true → stands (s mid) (what c) ≡ true
     pub bound : (c : ℕ) → is_among (names b.pattern ++ bind_ids b.sizes) c ≡ true → Inside (1 + lo) mid (Name c)
     pub value_away : Away (1 + lo) mid (s mid)
-    pub body_away : Away at hi (s mid)
+    pub body_away : Away at hi (s (1 + lo))
     pub own_away : Away lo (1 + lo) (s at)
     pub no_parameter : takes (names_one (names b.pattern ++ bind_ids b.sizes)) (s at) ≡ false
     pub result : s lo ≡ renamed (leave lo (names b.pattern ++ bind_ids b.sizes)) (s at)
