@@ -1,3 +1,6 @@
 pub mod Ways
+pub mod Outcomes
 pub mod Reading
 pub mod Suiting
+pub mod Environments
+pub mod Law

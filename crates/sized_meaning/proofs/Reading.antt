@@ -5,7 +5,7 @@ use Rattle.fut_typing.specs.Names.{Names}
 use Rattle.fut_value.specs.Data.{Shape, Shapes, Named_shapes}
 use Rattle.fut_meaning.specs.Flats.{FlatValue}
 use Rattle.fut_meaning.specs.Outcomes.{Rel}
-use Rattle.fut_sizes.specs.Sizes.{Free, Const, Name, Own, Unknown, Slot, Dim, At, Bound, Variable, Size, Hole, Open, Level, Built, Fun, Sizes, no_size, size_and, replaced, all_replaced, given, opened}
+use Rattle.fut_sizes.specs.Sizes.{Free, Const, Name, Own, Unknown, Slot, Dim, At, Bound, Variable, Size, Hole, Open, Level, Built, Fun, Sizes, no_size, size_and, replaced, all_replaced, given, opened, renaming, renamed}
 use Rattle.fut_sizes.specs.Suiting.{Each, Each_all, Scoped, Of_positions}
 use Rattle.sized_meaning.specs.Worth.{Worth, free, Frames, push, number}
 use Rattle.sized_meaning.specs.Shapes.{Has_shape, Have_shapes, Have_named}
@@ -193,3 +193,45 @@ module _ (N : Names) (τ : Variable → Shape) (calls : FlatValue → FlatValue 
   pub opened_fits : (φ φ' : Frames) (v : FlatValue) → Fits N τ calls m φ' (opened δ t) v → Fits N τ calls m (push F φ) t v
   opened_fits φ φ' v h = (fits_replaced N τ m m (given δ) (Of_positions Q) (Opens m δ Q) (numbers_opened m δ Q) calls (opens_goes_in m δ Q) t 1 (push F φ) (push F φ) positions (starts φ) v).0
       (fits_same Any m m N τ calls (λ d i. refl) (opened δ t) 0 φ' (push F φ) closed (any_frames φ' (push F φ)) v h)
+
+-- ---- sizes by themselves replaced
+abbrev Same_frames : ℕ → Frames → Frames → Type 0
+Same_frames j φ φ' = (j' i : ℕ) → φ j' i ≡ φ' j' i
+
+frames_go_in : Goes_in Same_frames
+unfolding push
+frames_go_in j φ φ' F q zero i = refl
+frames_go_in j φ φ' F q (suc j') i = q j' i
+
+abbrev Any_dim : ℕ → Dim → Type 0
+Any_dim j d = Unit {0}
+
+mutual
+  unfolding Each Each_all
+
+  each_any : (t : Size) (j : ℕ) → Each Any_dim j t
+  each_any (Hole a) j = tt
+  each_any (Open n v u) j = tt
+  each_any (Level d t) j = (tt, each_any t j)
+  each_any (Built h ts) j = all_each_any ts j
+  each_any (Fun k p r) j = (each_any p (suc j), each_any r (suc j))
+
+  all_each_any : (ts : Sizes) (j : ℕ) → Each_all Any_dim j ts
+  all_each_any no_size j = tt
+  all_each_any (size_and t ts) j = (each_any t j, all_each_any ts j)
+
+module _ (N : Names) (τ : Variable → Shape) (calls : FlatValue → FlatValue → Rel FlatValue) (m m' : Worth) (ρ : Free → Free) where
+  numbers_renamed : ((d : Free) → free m (ρ d) ≡ free m' d) → Numbers_as m m' (renaming ρ) Any_dim Same_frames
+  numbers_renamed worth j φ φ' (At d) q s = worth d
+  numbers_renamed worth j φ φ' (Bound j' i) q s = q j' i
+
+  pub fits_renamed : ((d : Free) → free m (ρ d) ≡ free m' d) → (t : Size) (φ : Frames) (v : FlatValue) → Ways (Fits N τ calls m φ (renamed ρ t) v) (Fits N τ calls m' φ t v)
+  fits_renamed worth t φ v = fits_replaced N τ m m' (renaming ρ) Any_dim Same_frames (numbers_renamed worth) calls frames_go_in t 0 φ φ (each_any t 0) (λ j' i. refl) v
+
+  -- those of these alone
+  numbers_in : (In : Free → Type 0) → ((d : Free) → In d → free m (ρ d) ≡ free m' d) → Numbers_as m m' (renaming ρ) (Scoped In) Same_frames
+  numbers_in In worth j φ φ' (At d) q s = worth d s
+  numbers_in In worth j φ φ' (Bound j' i) q s = q j' i
+
+  pub fits_renamed_in : (In : Free → Type 0) → ((d : Free) → In d → free m (ρ d) ≡ free m' d) → (t : Size) (φ : Frames) (v : FlatValue) → Each (Scoped In) 0 t → Fits N τ calls m' φ t v → Fits N τ calls m φ (renamed ρ t) v
+  fits_renamed_in In worth t φ v e h = (fits_replaced N τ m m' (renaming ρ) (Scoped In) Same_frames (numbers_in In worth) calls frames_go_in t 0 φ φ e (λ j' i. refl) v).1 h

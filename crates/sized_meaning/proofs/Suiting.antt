@@ -14,14 +14,14 @@ use Rattle.sized_meaning.proofs.Ways.{of_head_goes, first_value_goes, gives_as}
 use Rattle.sized_meaning.proofs.Reading.{each_as, Any_position, fits_same, fits_opened, opened_fits}
 
 -- met or chosen at a node
-pub at_node : ℕ → (ℕ → ℕ) → Worth → Worth
+unfoldable pub at_node : ℕ → (ℕ → ℕ) → Worth → Worth
 at_node n F m (Const c) = m (Const c)
 at_node n F m (Name b) = m (Name b)
 at_node n F m (Own k i) = cond (nat_eq k n) (F i) (m (Own k i))
 at_node n F m (Unknown k i) = cond (nat_eq k n) (F i) (m (Unknown k i))
 at_node n F m (Slot i) = m (Slot i)
 
-node_else : (n : ℕ) (F : ℕ → ℕ) (m : Worth) (d : Free) → Free_of n d → at_node n F m d ≡ m d
+pub node_else : (n : ℕ) (F : ℕ → ℕ) (m : Worth) (d : Free) → Free_of n d → at_node n F m d ≡ m d
 unfolding at_node
 node_else n F m (Const c) o = refl
 node_else n F m (Name b) o = refl
@@ -29,7 +29,7 @@ node_else n F m (Own k i) o = ap (λ b. cond b (F i) (m (Own k i))) (ne_eqb k n 
 node_else n F m (Unknown k i) o = ap (λ b. cond b (F i) (m (Unknown k i))) (ne_eqb k n o)
 node_else n F m (Slot i) o = refl
 
-node_here : (n : ℕ) (F : ℕ → ℕ) (m : Worth) (i : ℕ) → at_node n F m (Unknown n i) ≡ F i
+pub node_here : (n : ℕ) (F : ℕ → ℕ) (m : Worth) (i : ℕ) → at_node n F m (Unknown n i) ≡ F i
 unfolding at_node
 node_here n F m i = ap (λ b. cond b (F i) (m (Unknown n i))) (eq-eqb n n refl)
 
@@ -37,14 +37,14 @@ own_here : (n : ℕ) (F : ℕ → ℕ) (m : Worth) (i : ℕ) → at_node n F m (
 unfolding at_node
 own_here n F m i = ap (λ b. cond b (F i) (m (Own n i))) (eq-eqb n n refl)
 
-free_is : (m m' : Worth) (d : Free) → m d ≡ m' d → free m d ≡ free m' d
+pub free_is : (m m' : Worth) (d : Free) → m d ≡ m' d → free m d ≡ free m' d
 free_is m m' (Const c) e = refl
 free_is m m' (Name b) e = e
 free_is m m' (Own n i) e = e
 free_is m m' (Unknown n i) e = e
 free_is m m' (Slot i) e = e
 
-in_order : (i k : ℕ) → (i ≡ k → ⊥) → (i < k) ⊎ (k < i)
+pub in_order : (i k : ℕ) → (i ≡ k → ⊥) → (i < k) ⊎ (k < i)
 in_order zero zero n = absurd (n refl)
 in_order zero (suc k) n = inl (omega arith)
 in_order (suc i) zero n = inr (omega arith)
@@ -54,7 +54,7 @@ in_order (suc i) (suc k) n = shifted (in_order i k (λ e. n (ap suc e)))
     shifted (inl l) = inl (omega (arith, l))
     shifted (inr l) = inr (omega (arith, l))
 
-any_position : (In : Free → Type 0) (j : ℕ) (d : Dim) → Scoped In j d → Of_positions Any_position j d
+pub any_position : (In : Free → Type 0) (j : ℕ) (d : Dim) → Scoped In j d → Of_positions Any_position j d
 any_position In j (At d) o = tt
 any_position In j (Bound j' i) o = λ e. tt
 
@@ -80,7 +80,7 @@ module _ (N : Names) (τ : Variable → Shape) (calls : FlatValue → FlatValue 
   unfolding Fits
   function_of m k p r h fits = fits
 
-  a_function : (m : Worth) (k : ℕ) (p r : Size) (h : FlatValue) → Takes_to m k p r h → Fits N τ calls m no_frames (Fun k p r) h
+  pub a_function : (m : Worth) (k : ℕ) (p r : Size) (h : FlatValue) → Takes_to m k p r h → Fits N τ calls m no_frames (Fun k p r) h
   unfolding Fits
   a_function m k p r h fits = fits
 
@@ -153,7 +153,7 @@ module _ (N : Names) (τ : Variable → Shape) (calls : FlatValue → FlatValue 
       instance_gives : Gives (λ w. (F'' : ℕ → ℕ) × ((i : ℕ) → i ≤ k' → F'' i ≡ F' i) × Fits N τ calls m (push F'' no_frames) r' w) (calls h v)
       instance_gives = gives_as _ _ (calls h v) (function_of (at_node n F' m) k p r h (there F') frame v frame_value argument_there) (λ w q. ((λ i. free (at_node n' q.0 (at_node n F' m)) (ρ i)), same_choice q.0 q.1 w q.2, back_to q.0 q.1 w q.2))
 
-    instance_fits : Fits N τ calls m no_frames (Fun k' p' r') h
+    pub instance_fits : Fits N τ calls m no_frames (Fun k' p' r') h
     instance_fits = a_function m k' p' r' h (λ F v e g. instance_gives F v e g)
 
   mutual

@@ -92,10 +92,10 @@ first_value_goes P P' Q Q' p q (value_and v vs) x = (p v x.0, q vs x.1)
 pub first_value_as : (P P' : FlatValue → Type 0) (Q Q' : FlatValues → Type 0) → ((v : FlatValue) → Ways (P v) (P' v)) → ((vs : FlatValues) → Ways (Q vs) (Q' vs)) → (vs : FlatValues) → Ways (First_value P Q vs) (First_value P' Q' vs)
 first_value_as P P' Q Q' p q vs = (first_value_goes P P' Q Q' (λ v. (p v).0) (λ vs. (q vs).0) vs, first_value_goes P' P Q' Q (λ v. (p v).1) (λ vs. (q vs).1) vs)
 
-pub out_as : (P Q : FlatValue → Type 0) (o : Out FlatValue) → ((v : FlatValue) → P v → Q v) → Out_fits P o → Out_fits Q o
+pub out_as : {A : Type 0} (P Q : A → Type 0) (o : Out A) → ((v : A) → P v → Q v) → Out_fits P o → Out_fits Q o
 out_as P Q (Val v) go h = go v h
 out_as P Q (Fail r) go h = tt
 out_as P Q Wrong go h = tt
 
-pub gives_as : (P Q : FlatValue → Type 0) (m : Rel FlatValue) → Gives P m → ((v : FlatValue) → P v → Q v) → Gives Q m
+pub gives_as : {A : Type 0} (P Q : A → Type 0) (m : Rel A) → Gives P m → ((v : A) → P v → Q v) → Gives Q m
 gives_as P Q m h go o f x = out_as P Q o go (h o f x)

@@ -28,13 +28,13 @@ abbrev pub FlatFields : Type 0
 FlatFields = Fields Ref BindId (Unit {0})
 
 -- each value that is given has the property
-abbrev pub Out_fits : (FlatValue → Type 0) → Out FlatValue → Type 0
+abbrev pub Out_fits : {A : Type 0} → (A → Type 0) → Out A → Type 0
 Out_fits P (Val v) = P v
 Out_fits P (Fail r) = Unit {0}
 Out_fits P Wrong = Unit {0}
 
-abbrev pub Gives : (FlatValue → Type 0) → Rel FlatValue → Type 0
-Gives P m = (o : Out FlatValue) (f : ℕ) → m o f → Out_fits P o
+abbrev pub Gives : {A : Type 0} → (A → Type 0) → Rel A → Type 0
+Gives {A} P m = (o : Out A) (f : ℕ) → m o f → Out_fits P o
 
 -- the number of rows that a value says as a size: an integer below 0 says none
 abbrev pub word_of : Scalar → ℕ

@@ -2,3 +2,4 @@ pub mod Worth
 pub mod Shapes
 pub mod Fits
 pub mod Claims
+pub mod Law
