@@ -4,3 +4,4 @@ pub mod Reading
 pub mod Suiting
 pub mod Environments
 pub mod Law
+mod Examples
