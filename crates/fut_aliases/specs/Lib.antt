@@ -1,0 +1,11 @@
+pub mod Aliases
+pub mod Stars
+pub mod Values
+pub mod Steps
+pub mod Patterns
+pub mod Capturing
+pub mod Calls
+pub mod Operations
+pub mod Loops
+pub mod Looking
+pub mod Programs
