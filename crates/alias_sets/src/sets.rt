@@ -8,7 +8,6 @@ use bumpalo::collections::into_bump_slice;
 use fut_scalar::NoMemory;
 
 /// Whether a number is a member.
-
 pub fn contains(set: &[u32], root: u32) -> bool
     requires set { IsSet set.now }
     ensures { result ≡ is_member root set.now }
