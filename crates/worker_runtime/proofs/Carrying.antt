@@ -7,25 +7,21 @@ use Rattle.outcomes.specs.Stages.{Ends_with}
 use Rattle.outcomes.specs.Trees.{Operator, Reduced, Scanned, Carried, Carry_fails}
 use Rattle.outcomes.proofs.Glue.{ends_with}
 use Rattle.outcomes.proofs.Trees.{node_of, scanned_append, scanned_last, scanned_length, carried, carry_breaks, scan_fails_behind, scan_fails_before}
-use Rattle.worker_runtime.specs.declared.outcome.Made.{Made}
-use Rattle.worker_runtime.specs.declared.outcome.StageFault.{StageFault}
-use Rattle.worker_runtime.specs.Ranges.{Function, Monoid, range, Came_to, Fault_of, Scanned_to, Beginning_fails, Applies_to, Carry_gives}
+use Rattle.phase_code.specs.declared.outcome.Made.{Made}
+use Rattle.phase_code.specs.declared.outcome.StageFault.{StageFault}
+use Rattle.phase_code.specs.Ranges.{Function, Monoid, range, Came_to, Fault_of, Scanned_to, Beginning_fails, Applies_to, Carry_gives}
 use Rattle.chunk_work.specs.Runs.{InOrder}
-use Rattle.worker_runtime.specs.declared.outcome.Applied.{Applied}
-use Rattle.worker_runtime.specs.declared.outcome.Applied.TheVariants.{Gave, Broke}
-use Rattle.worker_runtime.specs.Rows.{Ends_in}
+use Rattle.phase_code.specs.declared.outcome.Applied.{Applied}
+use Rattle.phase_code.specs.declared.outcome.Applied.TheVariants.{Gave, Broke}
+use Rattle.phase_code.specs.Rows.{Ends_in}
 use Rattle.worker_runtime.specs.Sifting.{Parts_came, Tiled}
-use Rattle.worker_runtime.specs.Carries.{rows_at, handed_at, Link, Links}
+use Rattle.phase_code.specs.Carries.{rows_at, handed_at, Link, Links}
+use Rattle.phase_code.proofs.Numbered.{rows_at_is}
 use Rattle.worker_runtime.proofs.Joined.{came_both, came_on, ends_fails, made_of_both}
 use Rattle.worker_runtime.proofs.Reducing.{first}
 use Rattle.worker_runtime.proofs.Sifting.{bound, bound_up, bound_none, part_at, fault_of_all}
 
 module _ {A W : Type 0} (rows : W → List A) where
-  pub rows_at_is : (ms : List (Made W)) (k : ℕ) (m : Made W) → k < length ms → m ≡ get_or ms k m → rows_at rows ms k ≡ rows m.words
-  rows_at_is [] k m lt e = absurd (omega arith)
-  rows_at_is (x ∷ ms) zero m lt e = ap (λ y. rows y.words) (sym e)
-  rows_at_is (x ∷ ms) (suc k) m lt e = rows_at_is ms k m (omega arith) e
-
   rows_left : (ms ns : List (Made W)) (k : ℕ) → k < length ms → rows_at rows (ms ++ ns) k ≡ rows_at rows ms k
   rows_left [] ns k lt = absurd (omega arith)
   rows_left (x ∷ ms) ns zero lt = refl

@@ -7,9 +7,9 @@ use Rattle.fut_scalar.specs.declared.report.Report.{Report}
 use Rattle.fut_meaning.specs.Outcomes.{exact}
 use Rattle.outcomes.specs.Stages.{Stages, Fails_at, Ends_with}
 use Rattle.outcomes.proofs.Glue.{Alive, Passes, fault_alive, fault_passes, fault_within, fault_left, fault_right, ends_alive, ends_passes, ends_both, ends_with, ends_last, ends_fail, ends_last_of}
-use Rattle.worker_runtime.specs.declared.outcome.Made.{Made}
-use Rattle.worker_runtime.specs.declared.outcome.StageFault.{StageFault}
-use Rattle.worker_runtime.specs.Ranges.{Function, range, Came_to, Fault_of, Never}
+use Rattle.phase_code.specs.declared.outcome.Made.{Made}
+use Rattle.phase_code.specs.declared.outcome.StageFault.{StageFault}
+use Rattle.phase_code.specs.Ranges.{Function, range, Came_to, Fault_of, Never}
 
 cut : (a n m : ℕ) → range_with_len a (n + m) ≡ range_with_len a n ++ range_with_len (a + n) m
 cut a zero m = let k : 0 + m ≡ m = omega arith in let z : a ≡ a + 0 = omega arith in ap (range_with_len a) k ∙ ap (λ b. range_with_len b m) z

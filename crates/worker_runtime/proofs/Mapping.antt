@@ -4,10 +4,10 @@ use Rattle.fut_scalar.specs.declared.report.Report.{Report}
 use Rattle.fut_meaning.specs.Outcomes.{Val, Fail, exact, gives, goes_on, stops, each_of}
 use Rattle.outcomes.specs.Stages.{Stages, staged, Fails_at, Ends_with}
 use Rattle.outcomes.proofs.Each.{each_fails}
-use Rattle.worker_runtime.specs.declared.outcome.Made.{Made}
-use Rattle.worker_runtime.specs.declared.outcome.StageFault.{StageFault}
-use Rattle.worker_runtime.specs.declared.outcome.Chunk.TheVariants.{Came, Failed}
-use Rattle.worker_runtime.specs.Ranges.{Function, range, Came_to, Fault_of, Kept, Never}
+use Rattle.phase_code.specs.declared.outcome.Made.{Made}
+use Rattle.phase_code.specs.declared.outcome.StageFault.{StageFault}
+use Rattle.phase_code.specs.declared.outcome.Chunk.TheVariants.{Came, Failed}
+use Rattle.phase_code.specs.Ranges.{Function, range, Came_to, Fault_of, Kept, Never}
 use Rattle.worker_runtime.specs.Phases.{Is_map}
 use Rattle.worker_runtime.proofs.Joined.{range_none, nothing_ends, came_both}
 

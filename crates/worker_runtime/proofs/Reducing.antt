@@ -7,13 +7,13 @@ use Rattle.outcomes.specs.Stages.{staged, Ends_with}
 use Rattle.outcomes.specs.Trees.{Reduced}
 use Rattle.outcomes.proofs.Glue.{ends_means, fault_means}
 use Rattle.outcomes.proofs.Trees.{node_of, fails_before, fails_behind, is_bracket, empty_bracket}
-use Rattle.worker_runtime.specs.declared.outcome.Made.{Made}
-use Rattle.worker_runtime.specs.declared.outcome.StageFault.{StageFault}
-use Rattle.worker_runtime.specs.declared.outcome.Chunk.{Chunk}
-use Rattle.worker_runtime.specs.declared.outcome.Chunk.TheVariants.{Came, Failed}
-use Rattle.worker_runtime.specs.declared.outcome.Applied.TheVariants.{Gave, Broke}
-use Rattle.worker_runtime.specs.Rows.{Ends_in}
-use Rattle.worker_runtime.specs.Ranges.{Function, Monoid, range, Came_to, Fault_of, Went, Kept, Folded, Fold_fails, Applies_to, Fold_gives}
+use Rattle.phase_code.specs.declared.outcome.Made.{Made}
+use Rattle.phase_code.specs.declared.outcome.StageFault.{StageFault}
+use Rattle.phase_code.specs.declared.outcome.Chunk.{Chunk}
+use Rattle.phase_code.specs.declared.outcome.Chunk.TheVariants.{Came, Failed}
+use Rattle.phase_code.specs.declared.outcome.Applied.TheVariants.{Gave, Broke}
+use Rattle.phase_code.specs.Rows.{Ends_in}
+use Rattle.phase_code.specs.Ranges.{Function, Monoid, range, Came_to, Fault_of, Went, Kept, Folded, Fold_fails, Applies_to, Fold_gives}
 use Rattle.worker_runtime.specs.Phases.{Is_reduce}
 use Rattle.worker_runtime.proofs.Joined.{came_both, came_on, some_of, end_fails, ends_fails, range_none, nothing_ends}
 

@@ -6,12 +6,12 @@ use Rattle.outcomes.specs.Stages.{staged, Ends_with}
 use Rattle.outcomes.specs.Trees.{Scanned, Scan_fails, all_of, beginnings}
 use Rattle.outcomes.proofs.Glue.{ends_means, fault_means}
 use Rattle.outcomes.proofs.Trees.{is_scan, scan_stops, scanned_length}
-use Rattle.worker_runtime.specs.declared.outcome.Made.{Made}
-use Rattle.worker_runtime.specs.declared.outcome.StageFault.{StageFault}
-use Rattle.worker_runtime.specs.declared.outcome.Chunk.{Chunk}
-use Rattle.worker_runtime.specs.declared.outcome.Chunk.TheVariants.{Came, Failed}
-use Rattle.worker_runtime.specs.declared.outcome.Applied.TheVariants.{Gave, Broke}
-use Rattle.worker_runtime.specs.Ranges.{Function, Monoid, range, Came_to, Fault_of, Went, Kept, Scanned_to, Beginning_fails, Scan_gives}
+use Rattle.phase_code.specs.declared.outcome.Made.{Made}
+use Rattle.phase_code.specs.declared.outcome.StageFault.{StageFault}
+use Rattle.phase_code.specs.declared.outcome.Chunk.{Chunk}
+use Rattle.phase_code.specs.declared.outcome.Chunk.TheVariants.{Came, Failed}
+use Rattle.phase_code.specs.declared.outcome.Applied.TheVariants.{Gave, Broke}
+use Rattle.phase_code.specs.Ranges.{Function, Monoid, range, Came_to, Fault_of, Went, Kept, Scanned_to, Beginning_fails, Scan_gives}
 use Rattle.worker_runtime.specs.Phases.{Is_scan}
 use Rattle.worker_runtime.proofs.Joined.{came_on, some_of, end_fails, range_none, nothing_ends}
 

@@ -3,11 +3,11 @@ use Rattle.std.proofs.Common.{◌≡◌, ℕ, zero, suc, ◌+◌, ◌*◌, ◌<�
 use Rattle.std.proofs.lemmas.List.{length-append}
 use Rattle.fut_scalar.specs.declared.report.Report.{Report}
 use Rattle.chunk_work.specs.Runs.{InOrder}
-use Rattle.worker_runtime.specs.declared.outcome.Made.{Made}
-use Rattle.worker_runtime.specs.declared.outcome.StageFault.{StageFault}
-use Rattle.worker_runtime.specs.declared.outcome.Chunk.{Chunk}
-use Rattle.worker_runtime.specs.declared.outcome.Chunk.TheVariants.{Came, Failed}
-use Rattle.worker_runtime.specs.Ranges.{Function, Came_to, Fault_of, Went, chunk_end}
+use Rattle.phase_code.specs.declared.outcome.Made.{Made}
+use Rattle.phase_code.specs.declared.outcome.StageFault.{StageFault}
+use Rattle.phase_code.specs.declared.outcome.Chunk.{Chunk}
+use Rattle.phase_code.specs.declared.outcome.Chunk.TheVariants.{Came, Failed}
+use Rattle.phase_code.specs.Ranges.{Function, Came_to, Fault_of, Went, chunk_end}
 use Rattle.worker_runtime.specs.Sifting.{Fault_with, Parts_came, Takes_in, Tiled}
 use Rattle.worker_runtime.proofs.Joined.{Values, values_none, values_both, values_of, both_fail, fails_then_comes, comes_then_fails}
 

@@ -4,9 +4,9 @@ use Rattle.std.specs.Prelude.{◌≡◌, ℕ, ◌<◌, ◌≤◌, List, [], ◌�
 use Rattle.fut_meaning.specs.Outcomes.{Val, Fail, Then, Bracket}
 use Rattle.outcomes.specs.Stages.{staged, Fails_at}
 use Rattle.outcomes.specs.Trees.{all_of, beginnings}
-use Rattle.worker_runtime.specs.declared.outcome.Chunk.{Chunk}
-use Rattle.worker_runtime.specs.declared.outcome.Chunk.TheVariants.{Came, Failed}
-use Rattle.worker_runtime.specs.Ranges.{Function, Monoid, range, Fault_of, Never, Fold_fails, Beginning_fails}
+use Rattle.phase_code.specs.declared.outcome.Chunk.{Chunk}
+use Rattle.phase_code.specs.declared.outcome.Chunk.TheVariants.{Came, Failed}
+use Rattle.phase_code.specs.Ranges.{Function, Monoid, range, Fault_of, Never, Fold_fails, Beginning_fails}
 
 -- the rows of all elements in order, or the report of the least failing element of the least failing stage
 abbrev pub Is_map : {A W : Type 0} → (W → List A) → Function A → ℕ → Chunk W → Type 0

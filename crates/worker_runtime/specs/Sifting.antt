@@ -2,13 +2,13 @@
 use Rattle.std.specs.Prelude.{◌≡◌, ℕ, ◌*◌, ◌<◌, ◌≤◌, ◌++◌, List, [], ◌∷◌, length, Option, Some, None}
 use Rattle.fut_scalar.specs.declared.report.Report.{Report}
 use Rattle.chunk_work.specs.Runs.{InOrder}
-use Rattle.worker_runtime.specs.declared.outcome.Made.{Made}
-use Rattle.worker_runtime.specs.declared.outcome.StageFault.{StageFault}
-use Rattle.worker_runtime.specs.declared.outcome.Chunk.{Chunk}
-use Rattle.worker_runtime.specs.declared.outcome.Chunk.TheVariants.{Came, Failed}
+use Rattle.phase_code.specs.declared.outcome.Made.{Made}
+use Rattle.phase_code.specs.declared.outcome.StageFault.{StageFault}
+use Rattle.phase_code.specs.declared.outcome.Chunk.{Chunk}
+use Rattle.phase_code.specs.declared.outcome.Chunk.TheVariants.{Came, Failed}
 use Rattle.worker_runtime.specs.declared.ranges.AllChunks.{AllChunks}
 use Rattle.worker_runtime.specs.declared.ranges.AllChunks.TheVariants.{Parts, Fault}
-use Rattle.worker_runtime.specs.Ranges.{Function, Came_to, Fault_of, chunk_end}
+use Rattle.phase_code.specs.Ranges.{Function, Came_to, Fault_of, chunk_end}
 
 -- of two failures that of the lesser stage counts, and of one stage the first
 abbrev pub Fault_with : Option StageFault → StageFault → StageFault → Type 0

@@ -1,16 +1,14 @@
 //! What is carried from chunk to chunk of a scan, and all chunks with it.
 ghost use Rattle.std.specs.Prelude.{◌≡◌, ℕ, List, ◌+◌, ◌*◌, ◌<◌, ◌≤◌, IfOk, length};
 ghost use Rattle.chunk_work.specs.Runs.{InOrder};
-ghost use Rattle.worker_runtime.specs.Ranges.{Went, Scanned_to, Beginning_fails, Carry_gives};
+ghost use Rattle.phase_code.specs.Ranges.{Went, Scanned_to, Beginning_fails, Carry_gives};
 ghost use Rattle.worker_runtime.specs.Sifting.{Parts_came, Tiled};
-ghost use Rattle.worker_runtime.specs.Carries.{Links, rows_at};
+ghost use Rattle.phase_code.specs.Carries.{Links, rows_at};
 ghost use Rattle.worker_runtime.specs.Carrying.{Carries_as};
 
 use crate::{Applied, Chunk, Made, OperatorCode, RangeCode, Rows, StageFault};
-use chunk_work::Task;
 use fut_scalar::NoMemory;
 use std::alloc::Global;
-use std::marker::PhantomData;
 
 /// What is carried behind each chunk but the last, or the failure of an application.
 #[derive(Drop)]
@@ -57,29 +55,6 @@ pub fn carries_of<A, W: Rows<A> + Drop, C: RangeCode<A, W>, O: OperatorCode<A, W
         }
     }
     Ok(Carries::All(carries))
-}
-
-/// Each chunk behind the first, with what is carried into it.
-#[derive(Drop)]
-pub struct CarryTask<'a, A, W, O> {
-    pub op: &'a O,
-    pub parts: &'a [Made<W>],
-    pub carries: &'a [Made<W>],
-    pub of: PhantomData<A>,
-    pub ghost long: { length carries.now + 1 ≡ length parts.now },
-}
-
-impl<'a, A, W: Rows<A>, O: OperatorCode<A, W>> Task<Applied<W>> for CarryTask<'a, A, W, O> {
-    ghost ran = { λ t c o. Carry_gives W.rows (O.monoid t.op.now) (rows_at W.rows t.carries.now c) (rows_at W.rows t.parts.now (c + 1)) o };
-
-    ghost chunks = { λ t. length t.carries.now };
-
-    fn run(&self, alloc: Global, chunk: u64) -> Result<Applied<W>, NoMemory> {
-        let carry = &self.carries[chunk as usize];
-        let part = &self.parts[chunk as usize + 1];
-        let carried = self.op.carry(alloc, &carry.words, &part.words)?;
-        Ok(carried)
-    }
 }
 
 /// The rows of all chunks, one behind the other, each with what was carried into it. Where an application failed, its report

@@ -1,6 +1,6 @@
 //! Mapping: the rows of all elements, in order.
 ghost use Rattle.std.specs.Prelude.{◌≡◌, ℕ, List, ◌+◌, ◌*◌, ◌<◌, ◌≤◌, IfOk, length};
-ghost use Rattle.worker_runtime.specs.Ranges.{Came_to, Kept, Never};
+ghost use Rattle.phase_code.specs.Ranges.{Came_to, Kept, Never};
 ghost use Rattle.worker_runtime.specs.Sifting.{Parts_came, Tiled};
 ghost use Rattle.worker_runtime.specs.Phases.{Is_map};
 

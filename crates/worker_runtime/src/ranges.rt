@@ -2,7 +2,7 @@
 ghost use Rattle.std.specs.Prelude.{◌≡◌, ℕ, List, ◌++◌, ◌+◌, ◌*◌, ◌<◌, ◌≤◌, IfOk, length};
 ghost use Rattle.fut_scalar.specs.declared.report.Report.{Report};
 ghost use Rattle.chunk_work.specs.Runs.{InOrder, AllRan};
-ghost use Rattle.worker_runtime.specs.Ranges.{Function, Went, Came_to, Kept, Never, chunk_end};
+ghost use Rattle.phase_code.specs.Ranges.{Function, Went, Came_to, Kept, Never, chunk_end};
 ghost use Rattle.worker_runtime.specs.Sifting.{Fault_with, Sifted_as, Takes_in, Tiled};
 
 use crate::{Chunk, Gate, Made, Options, Rows, StageFault};

@@ -1,7 +1,7 @@
 //! Reducing: one row, made by the operator of those of all elements.
 ghost use Rattle.std.specs.Prelude.{◌≡◌, ℕ, List, ◌+◌, ◌*◌, ◌<◌, ◌≤◌, IfOk, length};
 ghost use Rattle.outcomes.proofs.Trees.{fails_before, fails_behind};
-ghost use Rattle.worker_runtime.specs.Ranges.{Went, Folded, Fold_fails};
+ghost use Rattle.phase_code.specs.Ranges.{Went, Folded, Fold_fails};
 ghost use Rattle.worker_runtime.specs.Sifting.{Parts_came, Tiled};
 ghost use Rattle.worker_runtime.specs.Phases.{Is_reduce};
 

@@ -1,16 +1,17 @@
 //! Scanning: for each element the row that the operator makes of those up to it.
 ghost use Rattle.std.specs.Prelude.{◌≡◌, ℕ, List, ◌+◌, ◌*◌, ◌<◌, ◌≤◌, IfOk, length};
 ghost use Rattle.outcomes.proofs.Trees.{scan_fails_before, scan_fails_behind};
-ghost use Rattle.worker_runtime.specs.Ranges.{Scanned_to, Beginning_fails};
+ghost use Rattle.phase_code.specs.Ranges.{Scanned_to, Beginning_fails};
 ghost use Rattle.worker_runtime.specs.Phases.{Is_scan};
 
-use crate::carry::{Carries, CarryTask, carries_of, with_carries};
+use crate::carry::{Carries, carries_of, with_carries};
 use crate::ranges::{AllChunks, Phase, all_chunks};
 use crate::{
     Applied, Chunk, Gate, Made, OpenGate, OperatorCode, Options, RangeCode, Rows, StageFault,
 };
 use chunk_work::{in_chunks, workers_for};
 use fut_scalar::NoMemory;
+use phase_code::CarryTask;
 use std::alloc::Global;
 use std::marker::PhantomData;
 use std::thread::Threads;

@@ -1,11 +1,12 @@
 use Rattle.std.proofs.Common.{rules, ◌≡◌, ◌∙◌, suc, ◌+◌, ◌-◌, ◌*◌, [], ◌∷◌, ◌++◌, length, sym, subst, refl, arith}
-use Rattle.worker_runtime.specs.declared.outcome.Made.{Made}
-use Rattle.worker_runtime.specs.declared.outcome.StageFault.{StageFault}
-use Rattle.worker_runtime.specs.Ranges.{Came_to, Scanned_to}
-use Rattle.worker_runtime.specs.Carries.{rows_at}
+use Rattle.phase_code.specs.declared.outcome.Made.{Made}
+use Rattle.phase_code.specs.declared.outcome.StageFault.{StageFault}
+use Rattle.phase_code.specs.Ranges.{Came_to, Scanned_to}
+use Rattle.phase_code.specs.Carries.{rows_at}
 use Rattle.worker_runtime.proofs.Sifting.{bound, chunk_some, part_at}
 use Rattle.worker_runtime.proofs.Scanning.{scan_some}
-use Rattle.worker_runtime.proofs.Carrying.{rows_at_is, links_first, links_next, scan_fault, last_fails}
+use Rattle.phase_code.proofs.Numbered.{rows_at_is}
+use Rattle.worker_runtime.proofs.Carrying.{links_first, links_next, scan_fault, last_fails}
 use Rattle.worker_runtime.proofs.carry.carries_of.Goals as goal
 
 pub last-requires : goal.last-requires

@@ -1,5 +1,5 @@
 use Rattle.std.proofs.Common.{◌≡◌, ◌≤◌, length}
-use Rattle.worker_runtime.specs.Carries.{Links}
+use Rattle.phase_code.specs.Carries.{Links}
 use Rattle.worker_runtime.proofs.carry.carries_of.Given as goal
 
 abbrev pub invariant-loop-k : goal.invariant-loop-k

@@ -1,11 +1,12 @@
 use Rattle.std.proofs.Common.{rules, ◌≡◌, ◌∙◌, suc, ◌+◌, ◌*◌, ◌++◌, length, sym, subst, refl, arith, ap}
-use Rattle.worker_runtime.specs.declared.outcome.Made.{Made}
-use Rattle.worker_runtime.specs.declared.outcome.StageFault.{StageFault}
-use Rattle.worker_runtime.specs.Ranges.{Came_to, Scanned_to, Carry_gives}
-use Rattle.worker_runtime.specs.Carries.{rows_at}
+use Rattle.phase_code.specs.declared.outcome.Made.{Made}
+use Rattle.phase_code.specs.declared.outcome.StageFault.{StageFault}
+use Rattle.phase_code.specs.Ranges.{Came_to, Scanned_to, Carry_gives}
+use Rattle.phase_code.specs.Carries.{rows_at}
 use Rattle.worker_runtime.proofs.Sifting.{bound, bound_up, bound_none, bound_past, chunk_some, part_at}
 use Rattle.worker_runtime.proofs.Scanning.{scan_some}
-use Rattle.worker_runtime.proofs.Carrying.{Scan_carry, rows_at_is, handed_at_is, carried_at, carried_first, carried_step, carried_all, scan_fault}
+use Rattle.phase_code.proofs.Numbered.{rows_at_is}
+use Rattle.worker_runtime.proofs.Carrying.{Scan_carry, handed_at_is, carried_at, carried_first, carried_step, carried_all, scan_fault}
 use Rattle.worker_runtime.proofs.carry.with_carries.Goals as goal
 
 pub loop-j-init : goal.loop-j-init

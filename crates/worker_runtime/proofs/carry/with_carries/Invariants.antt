@@ -1,5 +1,5 @@
 use Rattle.std.proofs.Common.{◌+◌}
-use Rattle.worker_runtime.specs.Ranges.{Came_to}
+use Rattle.phase_code.specs.Ranges.{Came_to}
 use Rattle.worker_runtime.proofs.Sifting.{bound}
 use Rattle.worker_runtime.proofs.Carrying.{Scan_carry}
 use Rattle.worker_runtime.proofs.carry.with_carries.Given as goal

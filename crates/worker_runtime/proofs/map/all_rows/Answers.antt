@@ -1,6 +1,6 @@
 use Rattle.std.proofs.Common.{rules, ◌≡◌, ◌++◌, ◌+◌, length, sym, subst, refl, arith}
-use Rattle.worker_runtime.specs.declared.outcome.Made.{Made}
-use Rattle.worker_runtime.specs.Ranges.{Came_to, Kept}
+use Rattle.phase_code.specs.declared.outcome.Made.{Made}
+use Rattle.phase_code.specs.Ranges.{Came_to, Kept}
 use Rattle.worker_runtime.proofs.Sifting.{bound, bound_up, bound_none, bound_past, part_at}
 use Rattle.worker_runtime.proofs.Mapping.{kept_none, kept_both}
 use Rattle.worker_runtime.proofs.map.all_rows.Goals as goal

@@ -1,4 +1,4 @@
-use Rattle.worker_runtime.specs.Ranges.{Came_to, Kept}
+use Rattle.phase_code.specs.Ranges.{Came_to, Kept}
 use Rattle.worker_runtime.proofs.Sifting.{bound}
 use Rattle.worker_runtime.proofs.map.all_rows.Given as goal
 

@@ -1,8 +1,8 @@
 use Rattle.std.proofs.Common.{rules, ◌≡◌, ℕ, ◌+◌, ◌*◌, ◌++◌, ◌∷◌, [], suc, length, refl, subst, arith}
 use Rattle.std.proofs.lemmas.List.{length-append}
 use Rattle.chunk_work.specs.Runs.{InOrder}
-use Rattle.worker_runtime.specs.declared.outcome.Chunk.{Chunk}
-use Rattle.worker_runtime.specs.Ranges.{Went, chunk_end}
+use Rattle.phase_code.specs.declared.outcome.Chunk.{Chunk}
+use Rattle.phase_code.specs.Ranges.{Went, chunk_end}
 use Rattle.worker_runtime.proofs.Sifting.{so_far_one}
 use Rattle.worker_runtime.proofs.ranges.sift.Goals as goal
 

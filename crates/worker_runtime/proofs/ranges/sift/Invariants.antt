@@ -1,6 +1,6 @@
 use Rattle.std.proofs.Common.{◌≡◌, ◌+◌, ◌*◌, length}
 use Rattle.chunk_work.specs.Runs.{InOrder}
-use Rattle.worker_runtime.specs.Ranges.{Went, chunk_end}
+use Rattle.phase_code.specs.Ranges.{Went, chunk_end}
 use Rattle.worker_runtime.proofs.Sifting.{So_far}
 use Rattle.worker_runtime.proofs.ranges.sift.Given as goal
 

@@ -1,6 +1,6 @@
 use Rattle.std.proofs.Common.{rules, ◌≡◌, length, refl}
-use Rattle.worker_runtime.specs.declared.outcome.Made.{Made}
-use Rattle.worker_runtime.specs.Ranges.{Went, Folded, Fold_fails}
+use Rattle.phase_code.specs.declared.outcome.Made.{Made}
+use Rattle.phase_code.specs.Ranges.{Went, Folded, Fold_fails}
 use Rattle.worker_runtime.specs.Phases.{Is_reduce}
 use Rattle.worker_runtime.proofs.Joined.{when_ok}
 use Rattle.worker_runtime.proofs.Sifting.{tiled_none}

@@ -1,7 +1,7 @@
 use Rattle.std.proofs.Common.{rules, ◌≡◌, ◌+◌, ◌*◌, length, sym, subst, refl, arith}
-use Rattle.worker_runtime.specs.declared.outcome.Made.{Made}
-use Rattle.worker_runtime.specs.declared.outcome.StageFault.{StageFault}
-use Rattle.worker_runtime.specs.Ranges.{Came_to, Folded, Fold_fails}
+use Rattle.phase_code.specs.declared.outcome.Made.{Made}
+use Rattle.phase_code.specs.declared.outcome.StageFault.{StageFault}
+use Rattle.phase_code.specs.Ranges.{Came_to, Folded, Fold_fails}
 use Rattle.worker_runtime.proofs.Sifting.{bound, bound_up, bound_none, bound_past, part_at, fault_of_all}
 use Rattle.worker_runtime.proofs.Reducing.{one_row, one_long, last_of_one, with_rows, fold_both, fold_broken, folds_behind, folds_before}
 use Rattle.worker_runtime.proofs.reduce.together.Goals as goal

@@ -1,5 +1,5 @@
 use Rattle.std.proofs.Common.{◌≤◌}
-use Rattle.worker_runtime.specs.Ranges.{Came_to, Folded}
+use Rattle.phase_code.specs.Ranges.{Came_to, Folded}
 use Rattle.worker_runtime.proofs.Sifting.{bound}
 use Rattle.worker_runtime.proofs.reduce.together.Given as goal
 

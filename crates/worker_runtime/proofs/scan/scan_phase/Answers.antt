@@ -1,9 +1,9 @@
 use Rattle.std.proofs.Common.{rules, ◌≡◌, ℕ, ◌+◌, length, refl, sym, subst}
-use Rattle.worker_runtime.specs.declared.outcome.Made.{Made}
-use Rattle.worker_runtime.specs.Ranges.{Went, Came_to, Scanned_to, Beginning_fails, Carry_gives}
+use Rattle.phase_code.specs.declared.outcome.Made.{Made}
+use Rattle.phase_code.specs.Ranges.{Went, Came_to, Scanned_to, Beginning_fails, Carry_gives}
 use Rattle.chunk_work.specs.Runs.{InOrder}
-use Rattle.worker_runtime.specs.declared.outcome.Applied.{Applied}
-use Rattle.worker_runtime.specs.Carries.{rows_at}
+use Rattle.phase_code.specs.declared.outcome.Applied.{Applied}
+use Rattle.phase_code.specs.Carries.{rows_at}
 use Rattle.worker_runtime.specs.Phases.{Is_scan}
 use Rattle.worker_runtime.proofs.Joined.{when_ok}
 use Rattle.worker_runtime.proofs.Sifting.{tiled_none}

@@ -1,7 +1,7 @@
 use Rattle.std.proofs.Common.{refl, arith}
-use Rattle.worker_runtime.specs.declared.outcome.Made.{Made}
-use Rattle.worker_runtime.specs.declared.outcome.StageFault.{StageFault}
-use Rattle.worker_runtime.specs.Ranges.{Beginning_fails}
+use Rattle.phase_code.specs.declared.outcome.Made.{Made}
+use Rattle.phase_code.specs.declared.outcome.StageFault.{StageFault}
+use Rattle.phase_code.specs.Ranges.{Beginning_fails}
 use Rattle.worker_runtime.proofs.Joined.{wider}
 use Rattle.worker_runtime.proofs.Reducing.{some_rows}
 use Rattle.worker_runtime.proofs.Scanning.{chunk_scanned, chunk_scan_breaks}

@@ -1,8 +1,8 @@
 use Rattle.std.proofs.Common.{rules, ◌≡◌, ◌+◌, ◌<◌, length, get_or, sym, ap, ◌∙◌, subst, arith}
-use Rattle.worker_runtime.specs.Ranges.{Carry_gives}
-use Rattle.worker_runtime.specs.Carries.{rows_at}
-use Rattle.worker_runtime.proofs.Carrying.{rows_at_is}
-use Rattle.worker_runtime.proofs.carry.CarryTaskTaskApplied.run.Goals as goal
+use Rattle.phase_code.specs.Ranges.{Carry_gives}
+use Rattle.phase_code.specs.Carries.{rows_at}
+use Rattle.phase_code.proofs.Numbered.{rows_at_is}
+use Rattle.phase_code.proofs.carry.CarryTaskTaskApplied.run.Goals as goal
 
 pub returns : goal.returns
 returns g c =

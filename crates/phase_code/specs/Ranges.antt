@@ -6,12 +6,12 @@ use Rattle.fut_scalar.specs.declared.report.Report.{Report}
 use Rattle.fut_meaning.specs.Outcomes.{Rel, Val, Fail}
 use Rattle.outcomes.specs.Stages.{Stages, Fails_at, Ends_with}
 use Rattle.outcomes.specs.Trees.{Operator, Reduced, Scanned, Scan_fails, Carried, Carry_fails}
-use Rattle.worker_runtime.specs.declared.outcome.Made.{Made}
-use Rattle.worker_runtime.specs.declared.outcome.StageFault.{StageFault}
-use Rattle.worker_runtime.specs.declared.outcome.Chunk.{Chunk}
-use Rattle.worker_runtime.specs.declared.outcome.Chunk.TheVariants.{Came, Failed}
-use Rattle.worker_runtime.specs.declared.outcome.Applied.{Applied}
-use Rattle.worker_runtime.specs.declared.outcome.Applied.TheVariants.{Gave, Broke}
+use Rattle.phase_code.specs.declared.outcome.Made.{Made}
+use Rattle.phase_code.specs.declared.outcome.StageFault.{StageFault}
+use Rattle.phase_code.specs.declared.outcome.Chunk.{Chunk}
+use Rattle.phase_code.specs.declared.outcome.Chunk.TheVariants.{Came, Failed}
+use Rattle.phase_code.specs.declared.outcome.Applied.{Applied}
+use Rattle.phase_code.specs.declared.outcome.Applied.TheVariants.{Gave, Broke}
 
 -- a function of one or more stages: for how many elements it may be run, the row that the first stage gets for an element,
 -- how many stages there are, and what each may give

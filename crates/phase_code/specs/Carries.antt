@@ -2,7 +2,7 @@
 use Rattle.std.specs.Prelude.{◌≡◌, ℕ, zero, suc, ◌<◌, ◌≤◌, ◌++◌, List, [], ◌∷◌, length}
 use Rattle.fut_meaning.specs.Outcomes.{Val}
 use Rattle.outcomes.specs.Trees.{Operator}
-use Rattle.worker_runtime.specs.declared.outcome.Made.{Made}
+use Rattle.phase_code.specs.declared.outcome.Made.{Made}
 
 -- the rows of the words with this number
 abbrev pub rows_at : {A W : Type 0} → (W → List A) → List (Made W) → ℕ → List A
