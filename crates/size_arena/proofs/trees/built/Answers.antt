@@ -1,0 +1,7 @@
+use Rattle.std.proofs.Common.{ap, ◌∙◌}
+use Rattle.size_arena.specs.Trees.{size_of}
+use Rattle.size_arena.proofs.Forms.{size_built}
+use Rattle.size_arena.proofs.trees.built.Goals as goal
+
+pub returns-in-Ok : goal.returns-in-Ok
+returns-in-Ok c = ap size_of c.in-Ok.ensures ∙ size_built _ _ c.args.parts

@@ -1,0 +1,7 @@
+use Rattle.std.proofs.Common.{ap, ◌∙◌}
+use Rattle.size_arena.specs.Trees.{size_of}
+use Rattle.size_arena.proofs.Forms.{size_fun}
+use Rattle.size_arena.proofs.trees.function.Goals as goal
+
+pub returns-in-Ok : goal.returns-in-Ok
+returns-in-Ok c = ap size_of c.in-Ok.ensures ∙ size_fun _ _ c.args.from c.args.to
