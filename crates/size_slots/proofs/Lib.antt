@@ -1,0 +1,4 @@
+pub mod Renaming
+pub mod HeldLaws
+pub mod MeetLaws
+pub mod ReadLaws

@@ -1,0 +1,67 @@
+-- What the tables of an application hold of the definition's substitution.
+use Rattle.std.specs.Prelude.{◌≡◌, ℕ, ◌<◌, ◌≤◌, cond, nat_eq, List, [], ◌∷◌, Option, Some, None, Result, Ok, Err, slice_index_or}
+use Rattle.fut_types.specs.Types.{Ty}
+use Rattle.fut_sizes.specs.Sizes.{Free, Slot, Variable, Size, Open, renamed}
+use Rattle.fut_sizes.specs.Agreeing.{Answer}
+use Rattle.fut_sizes.specs.Matching as matching
+use Rattle.fut_sizes.specs.Matching.{found_size, is_open}
+use Rattle.size_arena.specs.declared.agreeing.Refusal.{Refusal}
+use Rattle.size_arena.specs.declared.agreeing.SizeErr.{SizeErr}
+use Rattle.size_arena.specs.declared.agreeing.SizeErr.TheVariants as size_err
+use Rattle.size_arena.specs.declared.dims.Free as frees
+use Rattle.size_arena.specs.declared.dims.Free.TheVariants as free
+use Rattle.size_arena.specs.Answers.{refusal_of}
+use Rattle.size_arena.specs.Trees.{free_of, variable_of, size_of}
+use Rattle.size_slots.specs.declared.meeting.Way as ways
+use Rattle.size_slots.specs.declared.slots.Chosen.{Chosen}
+use Rattle.size_slots.specs.declared.slots.Found.{Found}
+use Rattle.size_slots.specs.declared.slots.Slot as slots
+use Rattle.size_slots.specs.declared.slots.Slot.TheVariants as slot
+
+abbrev pub way_of : ways.Way → matching.Way
+way_of w = record { left_wanted = w.left_wanted; in_result = w.in_result; regular = w.regular }
+
+-- ---- slots
+
+abbrev pub slot_at : List slots.Slot → ℕ → slots.Slot
+slot_at s i = slice_index_or s i slot.Open
+
+-- links lead to smaller numbers
+abbrev pub Fall : List slots.Slot → Type 0
+Fall s = (i j : ℕ) → slot_at s i ≡ slot.Taken (free.Slot j) → j < i
+
+-- slots stand for what the substitution gives, which it leaves as it is
+pub record Follows (s : List slots.Slot) (σ : matching.Found) : Type 0 where
+  pub stays : (i : ℕ) → slot_at s i ≡ slot.Open → σ.size i ≡ Slot i
+  pub taken : (i : ℕ) (d : frees.Free) → slot_at s i ≡ slot.Taken d → σ.size i ≡ found_size σ (free_of d)
+  pub ends : (i : ℕ) → found_size σ (σ.size i) ≡ σ.size i
+
+-- one more slot stands for a size, and all others for what they did
+pub record Sets (s : List slots.Slot) (i : ℕ) (d : frees.Free) (t : List slots.Slot) : Type 0 where
+  pub here : slot_at t i ≡ slot.Taken d
+  pub there : (j : ℕ) → (j ≡ i → ⊥) → slot_at t j ≡ slot_at s j
+
+-- whether a size is a slot, and which
+pub data Is_slot (d : Free) : Option ℕ → Type 0 where
+  the_slot : {i : ℕ} → d ≡ Slot i → Is_slot d (Some i)
+  no_slot : ((i : ℕ) → d ≡ Slot i → ⊥) → Is_slot d None
+
+-- ---- open variables
+
+abbrev pub chosen_size : List Chosen → ℕ → Variable → Ty → Size
+chosen_size [] n v u = Open n v u
+chosen_size (c ∷ cs) n v u = cond (is_open c.node (variable_of c.variable) n v) (size_of c.size.now) (chosen_size cs n v u)
+
+-- ---- both
+
+pub record Holds (f : Found) (σ : matching.Found) : Type 0 where
+  pub fall : Fall f.slots
+  pub sizes : Follows f.slots σ
+  pub types : (n : ℕ) (v : Variable) (u : Ty) → σ.type n v u ≡ renamed (found_size σ) (chosen_size f.chosen n v u)
+  pub next : σ.next ≡ f.next
+
+-- what is found behind a step of matching, or its refusal; memory may run out
+pub data Met (a : Answer matching.Found) (new : Found) : Result (Unit {0}) SizeErr → Type 0 where
+  met : (σ : matching.Found) → a ≡ Ok σ → Holds new σ → Met a new (Ok tt)
+  unmet : {e : Refusal} → a ≡ Err (refusal_of e) → Met a new (Err (size_err.Refused e))
+  no_memory_met : Met a new (Err size_err.Memory)

@@ -1,0 +1,14 @@
+//! What an application has found: the sizes and the sized types that its slots and open variables took.
+//!
+//! The definition has a substitution ([`Found`] is what code has of it, `specs/Held.antt` says how). A slot that took another is a
+//! link to one of a smaller number, so that a size is found by following links, and nothing is written anew where a slot takes a
+//! size.
+#![tactic(auto)]
+
+mod meeting;
+mod reading;
+mod slots;
+
+pub use meeting::{Way, meet_dims, read_free};
+pub use reading::with_sizes;
+pub use slots::{Chosen, Found, Slot, nothing_found};
