@@ -1,8 +1,8 @@
 -- Whether two sized types agree, form by form.
-use Rattle.std.proofs.Common.{◌≡◌, ℕ, suc, ◌+◌, ◌<◌, ◌≤◌, List, length, get_or, drop, true, false, refl, sym, ap, ◌∙◌, Result, Ok, Err}
+use Rattle.std.proofs.Common.{◌≡◌, ℕ, ◌+◌, ◌<◌, ◌≤◌, List, length, get_or, drop, true, false, refl, sym, ap, ◌∙◌, Result, Ok, Err}
 use Rattle.fut_types.specs.declared.Head.{Head}
-use Rattle.fut_sizes.specs.Sizes.{Dim, Size, Hole, Open, Level, Built, Fun, Sizes, no_size, size_and, is_dim}
-use Rattle.fut_sizes.specs.Agreeing.{Answer, then_do, compare, agree, all_agree}
+use Rattle.fut_sizes.specs.Sizes.{Dim, Size, Hole, Open, Level, Built, Fun, Sizes, size_and, is_dim}
+use Rattle.fut_sizes.specs.Agreeing.{then_do, compare, agree, all_agree}
 use Rattle.size_arena.specs.declared.agreeing.Refusal.{Refusal}
 use Rattle.size_arena.specs.declared.agreeing.Refusal.TheVariants as refusal
 use Rattle.std.specs.Borrow.{Bor}
@@ -10,7 +10,7 @@ use Rattle.size_arena.specs.declared.dims.Dim as dims
 use Rattle.size_arena.specs.declared.dims.Variable.TheVariants as variable
 use Rattle.size_arena.specs.declared.trees.SizeTree.{SizeTree}
 use Rattle.size_arena.specs.declared.trees.SizeTree.TheVariants as form
-use Rattle.size_arena.specs.Answers.{refusal_of, told}
+use Rattle.size_arena.specs.Answers.{told}
 use Rattle.size_arena.specs.Trees.{dim_of, size_of, sizes_of}
 use Rattle.size_arena.proofs.Forms.{forms, size_level, size_fun}
 use Rattle.size_arena.proofs.Parts.{parts_at, parts_end}

@@ -1,5 +1,5 @@
 -- The sized types of trees, one level at a time.
-use Rattle.std.proofs.Common.{◌≡◌, ℕ, List, map, refl, sym, ap, ◌∙◌}
+use Rattle.std.proofs.Common.{◌≡◌, ℕ, List, sym, ap, ◌∙◌}
 use Rattle.std.specs.Borrow.{Bor}
 use Rattle.fut_types.specs.declared.Head.{Head}
 use Rattle.fut_types.specs.Types.{Var, Made}

@@ -6,3 +6,4 @@ pub mod LevelForms
 pub mod AgreeForms
 pub mod KeptForms
 pub mod ScopeForms
+pub mod FrameLaws

@@ -1,17 +1,16 @@
 -- Names that go out of scope, form by form.
-use Rattle.std.proofs.Common.{◌≡◌, ℕ, suc, ◌+◌, ◌<◌, ◌≤◌, List, [], ◌∷◌, ◌++◌, length, get_or, drop, Bool, true, false, cond, nat_eq, nat_lt, Result, Ok, Err, refl, sym, ap, ◌∙◌, subst, arith, add-one, eq-eqb, ne_eqb}
+use Rattle.std.proofs.Common.{◌≡◌, ℕ, suc, ◌+◌, ◌<◌, ◌≤◌, List, [], ◌∷◌, ◌++◌, length, get_or, drop, Bool, true, false, cond, Ok, Err, refl, sym, ap, ◌∙◌, add-one, eq-eqb, ne_eqb}
 use Rattle.std.proofs.Math.Seq.{drop-cons}
 use Rattle.std.specs.Borrow.{Bor}
 use Rattle.fut_types.specs.declared.Head.{Head}
 use Rattle.fut_types.specs.Types.{Ty}
-use Rattle.fut_sizes.specs.Sizes.{Free, Const, Name, Own, Unknown, Slot, Dim, At, Bound, Variable, Size, Hole, Open, Level, Built, Fun, Sizes, no_size, size_and, replaced, all_replaced, renaming, given, has, some_has, takes, some_takes}
+use Rattle.fut_sizes.specs.Sizes.{Name, Unknown, Dim, At, Variable, Size, Hole, Open, Level, Built, Fun, Sizes, size_and, replaced, all_replaced, renaming, has, some_has, takes, some_takes}
 use Rattle.fut_sizes.specs.Agreeing.{is_among, left, leave, leaving, names_one}
 use Rattle.fut_sizes.specs.Matching.{is_unknown}
 use Rattle.size_arena.specs.declared.agreeing.Refusal.TheVariants as refusal
 use Rattle.size_arena.specs.declared.agreeing.SizeErr.TheVariants as size_err
 use Rattle.size_arena.specs.declared.trees.SizeTree.{SizeTree}
 use Rattle.size_arena.specs.Answers.{Gives, gives, refuses, no_memory}
-use Rattle.size_arena.specs.Changes.{given_at}
 use Rattle.size_arena.specs.Trees.{size_of, sizes_of}
 use Rattle.size_arena.proofs.Forms.{forms}
 use Rattle.size_arena.proofs.Parts.{drop_past, parts_at, parts_end, before, before_more, before_none}

@@ -2,11 +2,12 @@
 use Rattle.std.specs.Prelude.{ℕ, Bool, cond, nat_eq, nat_lt}
 use Rattle.fut_sizes.specs.Sizes.{Free, Own, Unknown, Dim, renaming, given}
 use Rattle.fut_sizes.specs.Agreeing.{leave, names_one}
-use Rattle.fut_sizes.specs.Matching.{is_unknown}
+use Rattle.fut_sizes.specs.Matching.{is_unknown, dim_in}
 use Rattle.size_arena.specs.declared.scopes.Change.{Change}
 use Rattle.size_arena.specs.declared.scopes.Change.TheVariants as change
 use Rattle.size_arena.specs.declared.scopes.Property.{Property}
 use Rattle.size_arena.specs.declared.scopes.Property.TheVariants as property
+use Rattle.size_arena.specs.Frames.{opened_of}
 use Rattle.size_arena.specs.Trees.{free_of}
 
 abbrev pub property_of : Property → Dim → Bool
@@ -20,3 +21,4 @@ given_at n k value i = cond (nat_eq i k) value (cond (nat_lt i k) (Own n i) (Unk
 abbrev pub change_of : Change → ℕ → Dim → Dim
 change_of (change.Leave n xs) = renaming (leave n xs.now)
 change_of (change.Give n k value) = given (given_at n k (free_of value))
+change_of (change.Open frames) = dim_in (opened_of frames.now)

@@ -1,3 +1,4 @@
 pub mod Trees
 pub mod Answers
+pub mod Frames
 pub mod Changes

@@ -1,4 +1,4 @@
-// What becomes of sizes where names go out of scope.
+// What becomes of sizes where names go out of scope, and where function types are opened.
 ghost use Rattle.std.specs.Prelude.{◌≡◌, IfOk};
 ghost use Rattle.fut_sizes.specs.Sizes.{all_replaced, has, replaced, some_has, some_takes, takes};
 ghost use Rattle.fut_sizes.specs.Agreeing.{is_among, leaving, left};
@@ -8,6 +8,7 @@ ghost use Rattle.size_arena.specs.Trees.{dim_of, free_of, size_of, sizes_of};
 
 use crate::agreeing::{Refusal, SizeErr};
 use crate::dims::{Dim, Free};
+use crate::opened::{Frames, dim_in};
 use crate::trees::{SizeTree, built, function, level};
 use bumpalo::Bump;
 use bumpalo::collections::into_bump_slice;
@@ -111,6 +112,8 @@ pub enum Change<'a> {
     /// The sizes of the nearest frame are given at a node: those that its caller chooses, as many as counted, the argument's
     /// value, and those that are met.
     Give { node: u32, chosen: u32, value: Free },
+    /// The function types around are opened.
+    Open(&'a Frames<'a>),
 }
 
 /// What becomes of a name at the node that ends the scope of these.
@@ -176,6 +179,7 @@ fn changed_dim(change: &Change<'_>, around: u32, dim: Dim) -> Result<Dim, NoMemo
                 None => Err(NoMemory),
             },
         },
+        Change::Open(frames) => dim_in(frames, around, dim),
     }
 }
 

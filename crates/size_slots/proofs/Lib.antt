@@ -1,4 +1,5 @@
 pub mod Renaming
 pub mod HeldLaws
 pub mod MeetLaws
+pub mod ChoiceLaws
 pub mod ReadLaws

@@ -1,5 +1,5 @@
 -- A size that is wanted meets one that is found.
-use Rattle.std.proofs.Common.{◌≡◌, ℕ, ◌<◌, ◌≤◌, List, Bool, true, false, cond, nat_eq, nat_lt, Option, Some, None, Result, Ok, Err, refl, sym, ap, ◌∙◌, subst, arith, eq-eqb, ne_eqb, lt-ltb, le-ltb}
+use Rattle.std.proofs.Common.{◌≡◌, ℕ, ◌<◌, ◌≤◌, List, Bool, true, false, cond, nat_eq, nat_lt, Some, None, Result, Ok, Err, refl, sym, ap, ◌∙◌, subst, arith, eq-eqb, ne_eqb, lt-ltb, le-ltb}
 use Rattle.std.specs.Prelude.{◌&&◌}
 use Rattle.fut_sizes.specs.Sizes.{Free, Const, Name, Own, Unknown, Slot, Dim, At, Bound, is_free}
 use Rattle.fut_sizes.specs.Agreeing.{Mismatch, Irregular}
@@ -11,10 +11,10 @@ use Rattle.size_arena.specs.declared.agreeing.SizeErr.TheVariants as size_err
 use Rattle.size_arena.specs.declared.dims.Dim.TheVariants as dim
 use Rattle.size_arena.specs.declared.dims.Free as frees
 use Rattle.size_arena.specs.declared.dims.Free.TheVariants as free
-use Rattle.size_arena.specs.Trees.{free_of, dim_of}
+use Rattle.size_arena.specs.Trees.{free_of}
 use Rattle.size_slots.specs.declared.slots.Found.{Found}
 use Rattle.size_slots.specs.declared.slots.Slot as slots
-use Rattle.size_slots.specs.Held.{Follows, Sets, Holds, Is_slot, the_slot, no_slot, Met, met, unmet, no_memory_met}
+use Rattle.size_slots.specs.Held.{Follows, Sets, Holds, Is_slot, the_slot, no_slot, Met, met, unmet}
 use Rattle.size_slots.proofs.HeldLaws.{holds_put}
 
 -- ---- which slot

@@ -1,5 +1,5 @@
 -- Sizes by themselves replaced, one after another.
-use Rattle.std.proofs.Common.{◌≡◌, ℕ, suc, refl, ap, ◌∙◌}
+use Rattle.std.proofs.Common.{◌≡◌, ℕ, suc, refl, ap}
 use Rattle.fut_sizes.specs.Sizes.{Free, Dim, At, Bound, Size, Hole, Open, Level, Built, Fun, Sizes, no_size, size_and, replaced, all_replaced, renaming, renamed}
 
 module _ (ρ π τ : Free → Free) (h : (e : Free) → ρ (π e) ≡ τ e) where

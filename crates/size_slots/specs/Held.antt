@@ -1,5 +1,6 @@
 -- What the tables of an application hold of the definition's substitution.
-use Rattle.std.specs.Prelude.{◌≡◌, ℕ, ◌<◌, ◌≤◌, cond, nat_eq, List, [], ◌∷◌, Option, Some, None, Result, Ok, Err, slice_index_or}
+use Rattle.std.specs.Prelude.{◌≡◌, ℕ, ◌<◌, cond, List, [], ◌∷◌, Option, Some, None, Result, Ok, Err, slice_index_or}
+use Rattle.std.specs.Borrow.{Bor}
 use Rattle.fut_types.specs.Types.{Ty}
 use Rattle.fut_sizes.specs.Sizes.{Free, Slot, Variable, Size, Open, renamed}
 use Rattle.fut_sizes.specs.Agreeing.{Answer}
@@ -10,6 +11,7 @@ use Rattle.size_arena.specs.declared.agreeing.SizeErr.{SizeErr}
 use Rattle.size_arena.specs.declared.agreeing.SizeErr.TheVariants as size_err
 use Rattle.size_arena.specs.declared.dims.Free as frees
 use Rattle.size_arena.specs.declared.dims.Free.TheVariants as free
+use Rattle.size_arena.specs.declared.trees.SizeTree.{SizeTree}
 use Rattle.size_arena.specs.Answers.{refusal_of}
 use Rattle.size_arena.specs.Trees.{free_of, variable_of, size_of}
 use Rattle.size_slots.specs.declared.meeting.Way as ways
@@ -51,6 +53,11 @@ pub data Is_slot (d : Free) : Option ℕ → Type 0 where
 abbrev pub chosen_size : List Chosen → ℕ → Variable → Ty → Size
 chosen_size [] n v u = Open n v u
 chosen_size (c ∷ cs) n v u = cond (is_open c.node (variable_of c.variable) n v) (size_of c.size.now) (chosen_size cs n v u)
+
+-- what an open variable of the use at n took, if it took something
+pub data Choice (cs : List Chosen) (n : ℕ) (v : Variable) : Option (Bor SizeTree) → Type 0 where
+  chosen : {t : Bor SizeTree} → ((u : Ty) → chosen_size cs n v u ≡ size_of t.now) → Choice cs n v (Some t)
+  unchosen : ((u : Ty) → chosen_size cs n v u ≡ Open n v u) → Choice cs n v None
 
 -- ---- both
 

@@ -5,10 +5,11 @@
 //! size.
 #![tactic(auto)]
 
+mod choices;
 mod meeting;
 mod reading;
 mod slots;
 
 pub use meeting::{Way, meet_dims, read_free};
-pub use reading::with_sizes;
+pub use reading::{read, with_sizes};
 pub use slots::{Chosen, Found, Slot, nothing_found};
