@@ -1,0 +1,7 @@
+pub mod Blocks
+pub mod Helds
+pub mod Indices
+pub mod Laws
+pub mod Slots
+pub mod Views
+pub mod Walks
