@@ -11,6 +11,10 @@ mod gates;
 #[cfg(test)]
 mod memory;
 #[cfg(test)]
+mod phases;
+#[cfg(test)]
 mod tables;
 #[cfg(test)]
 mod values;
+#[cfg(test)]
+mod words;
