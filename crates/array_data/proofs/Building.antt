@@ -29,7 +29,7 @@ unfolding built_rows held_all
 push_other b c d e q p = added (ap (λ z. scalars z c.words ++ held_all c.rows) e ∙ ap (λ z. scalars b.ty z ++ held_all c.rows) q ∙ ap (λ z. scalars b.ty b.words ++ held_all z) p
     ∙ ap (λ z. scalars b.ty b.words ++ z) (map_push held b.rows d) ∙ sym (append_assoc (scalars b.ty b.words) (held_all b.rows) (held d ∷ [])))
 
-word_back : (s : Scalar) → scalar_of_word (type_of s) (word_of s) ≡ fitted s
+pub word_back : (s : Scalar) → scalar_of_word (type_of s) (word_of s) ≡ fitted s
 word_back (scalar.Int t n) = refl
 word_back (scalar.Bool true) = refl
 word_back (scalar.Bool false) = refl

@@ -5,7 +5,9 @@ pub mod RecordForms
 pub mod Weights
 pub mod RowsRead
 pub mod Building
+pub mod Depths
 pub mod Making
+pub mod Changing
 pub mod Sizing
 pub mod Jobbing
 pub mod Cutting
@@ -26,4 +28,5 @@ pub mod Recording
 pub mod Combining
 pub mod Nesting
 pub mod Unzipping
+pub mod Writing
 pub mod Scattering

@@ -1,6 +1,6 @@
 -- Arrays that are made of rows.
 use Rattle.std.proofs.Common.{◌≡◌, ℕ, zero, suc, ◌+◌, ◌<◌, ◌≤◌, List, [], ◌∷◌, ◌++◌, map, length, get_or, take, drop, slice_get, Some, Ok, Err, Result, Bool, true, false, refl, sym, ap, ◌∙◌, subst, arith, add-one, append_assoc}
-use Rattle.std.specs.Prelude.{◌&&◌, nat_le, max}
+use Rattle.std.specs.Prelude.{◌&&◌, nat_le, max, IfOk}
 use Rattle.std.proofs.Math.Seq.{drop-cons}
 use Rattle.std.proofs.lemmas.Bool.{le-leb, lt-leb}
 use Rattle.std.proofs.lemmas.List.{append-nil}
@@ -13,7 +13,7 @@ use Rattle.fut_scalar.specs.declared.scalar.ScalarType.TheVariants as sort
 use Rattle.fut_arithmetic.specs.Types.{type_of}
 use Rattle.fut_arithmetic.specs.Words.{scalar_of_word}
 use Rattle.fut_value.specs.Data.{Shape, Scalar_shape, Array_shape, Unmet_shape, Datum, Scalar_datum, Array_datum, datums, listed, shape_of, words, heaviest, weight, same_sizes}
-use Rattle.fut_meaning.specs.Arrays.{all_like, row_shape, within_weight, checked, fitting, array, array_of, most_words, failure}
+use Rattle.fut_meaning.specs.Arrays.{all_like, row_shape, within_weight, checked, fitting, array, array_of, most_words, failure, shared}
 use Rattle.fut_meaning.specs.Outcomes.{Out, Val, Fail, Wrong}
 use Rattle.array_data.specs.declared.form.Form.{Form}
 use Rattle.array_data.specs.declared.form.Form.TheVariants as form
@@ -23,6 +23,7 @@ use Rattle.array_data.specs.declared.data.Data.TheVariants as hold
 use Rattle.array_data.specs.declared.stop.Stop.{Stop}
 use Rattle.array_data.specs.declared.stop.Stop.TheVariants.{Failed, Memory}
 use Rattle.array_data.specs.Answers.{Tells, told, report_told, no_memory_told, lost}
+use Rattle.array_data.specs.Changes.{Stands_in, stands_in, misfits, no_memory_for}
 use Rattle.array_data.specs.Held.{shape_held, scalars, held, held_all, built_rows, as_held}
 use Rattle.array_data.proofs.Building.{no_rows}
 use Rattle.array_data.proofs.Forms.{listed_datums, length_scalars, held_length, drop_past}
@@ -173,6 +174,26 @@ untested_words h b t ws l f e q =
     ∙ ap (λ z. Array_datum (shape_held h) (datums (scalars z ws))) e ∙ ap (λ z. Array_datum (shape_held h) (datums (scalars b.ty z))) q ∙ ap (λ z. Array_datum (shape_held h) (datums z)) (sym (built_all_words b l))
 
 pub ruleset untested_making = (untested_rows, untested_words)
+
+-- ---- rows in the place of those of an array
+
+pub like_built : {E : Type 0} (h : Form) (b : Built) (r : Result Bool E) → length b.words ≡ 0 → IfOk r (λ t. t ≡ all_like (shape_held h) (held_all b.rows)) → IfOk r (λ t. t ≡ all_like (shape_held h) (built_rows b))
+like_built h b r l i = subst (λ z. IfOk r (λ t. t ≡ all_like (shape_held h) z)) (sym (built_all_rows b l)) i
+
+pub like_words : (h : Form) (b : Built) (u : ScalarType) → length b.rows ≤ 0 → h ≡ form.Scalar u → true ≡ all_like (shape_held h) (built_rows b)
+like_words h b u l e = sym (ap (all_like (shape_held h)) (built_all_words b l) ∙ ap (λ z. all_like z (scalars b.ty b.words)) (ap shape_held e ∙ form_scalar u) ∙ like_scalars b.ty u b.words)
+
+pub ruleset all_rows_like = (like_built, like_words)
+
+module _ (at : Place) (h : Shape) (row : Shape) (ds : List Datum) (e : h ≡ row) where
+  pub not_in_place : false ≡ all_like h ds → Stands_in at row ds (Err (Failed (record { kind = kind.Size; place = at })))
+  not_in_place q = misfits (ap (λ z. fitting false (all_like z ds) at (shared (Array_datum row (datums ds)))) (sym e) ∙ ap (λ b. fitting false b at (shared (Array_datum row (datums ds)))) (sym q))
+
+  pub put_in_place : (d : Datum) → true ≡ all_like h ds → d ≡ Array_datum h (datums ds) → Stands_in at row ds (Ok d)
+  put_in_place d q p = stands_in (ap (λ z. fitting false (all_like z ds) at (shared (Array_datum row (datums ds)))) (sym e) ∙ ap (λ b. fitting false b at (shared (Array_datum row (datums ds)))) (sym q)
+      ∙ ap (λ z. shared (Array_datum z (datums ds))) (sym e) ∙ ap shared (sym p))
+
+pub ruleset standing_in = (not_in_place, put_in_place, no_memory_for)
 
 -- ---- rows of a form that is known
 

@@ -55,6 +55,15 @@ three_held (c ∷ b ∷ []) d e f l = absurd (omega arith)
 three_held (c ∷ b ∷ a ∷ []) d e f l = refl
 three_held (c ∷ b ∷ a ∷ x ∷ ds) d e f l = absurd (omega arith)
 
+pub four_held : (ds : List Data) (d e f g : Data) → length ds ≡ 4 → held_all ds ≡ held (get_or ds 0 d) ∷ held (get_or ds 1 e) ∷ held (get_or ds 2 f) ∷ held (get_or ds 3 g) ∷ []
+unfolding held_all
+four_held [] d e f g l = absurd (omega arith)
+four_held (c ∷ []) d e f g l = absurd (omega arith)
+four_held (c ∷ b ∷ []) d e f g l = absurd (omega arith)
+four_held (c ∷ b ∷ a ∷ []) d e f g l = absurd (omega arith)
+four_held (c ∷ b ∷ a ∷ x ∷ []) d e f g l = refl
+four_held (c ∷ b ∷ a ∷ x ∷ y ∷ ds) d e f g l = absurd (omega arith)
+
 pub of_one : (p : Primitive) (at : Place) (ds : List Data) (d : Data) (r : Result Datum Stop) → length ds ≡ 1 → Does (job false Unmet_shape p at (held (get_or ds 0 d) ∷ [])) r → Does (job false Unmet_shape p at (held_all ds)) r
 of_one p at ds d r e h = subst (λ z. Does (job false Unmet_shape p at z) r) (sym (one_held ds d e)) h
 

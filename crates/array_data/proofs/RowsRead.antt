@@ -65,9 +65,11 @@ word_fitted : (t : ScalarType) (w : ℕ) → fitted (scalar_of_word t w) ≡ sca
 word_fitted (sort.Int t) w = ap (λ z. scalar.Int t z) (mod-eq_of_lt (mod-lt w (pow_pos (width_of t))))
 word_fitted sort.Bool w = refl
 
+pub get_word : (t : ScalarType) (ws : List ℕ) (i k : ℕ) (s : Scalar) → i < length ws → s ≡ scalar_of_word t (get_or ws i k) → slice_get (scalars t ws) i ≡ Some (held (hold.Scalar s))
+get_word t ws i k s l q = get_scalars t ws i k l ∙ ap (λ z. Some (Scalar_datum z)) (sym (word_fitted t (get_or ws i k))) ∙ ap (λ z. Some (Scalar_datum (fitted z))) (sym q) ∙ ap Some (sym (held_scalar s))
+
 pub row_words : (d : Data) (t : ScalarType) (ws : List ℕ) (i k : ℕ) (s : Scalar) → d ≡ hold.Words t ws → i < length ws → s ≡ scalar_of_word t (get_or ws i k) → Row_is (held d) i (as_held (Ok (hold.Scalar s)))
-row_words d t ws i k s e l q = row_is (ap (λ z. slice_get z i) (ap (λ z. rows_in (held z)) e ∙ rows_of_words t ws) ∙ get_scalars t ws i k l
-    ∙ ap (λ z. Some (Scalar_datum z)) (sym (word_fitted t (get_or ws i k))) ∙ ap (λ z. Some (Scalar_datum (fitted z))) (sym q) ∙ ap Some (sym (held_scalar s)))
+row_words d t ws i k s e l q = row_is (ap (λ z. slice_get z i) (ap (λ z. rows_in (held z)) e ∙ rows_of_words t ws) ∙ get_word t ws i k s l q)
 
 pub row_rows : (d : Data) (m : ℕ) (h : Form) (ds : List Data) (i : ℕ) (k : Data) (r : Result Data Stop) → d ≡ hold.Rows m h ds → i < length ds → Copied (get_or ds i k) r → Row_is (held d) i (as_held r)
 row_rows d m h ds i k _ e l (copied q) = row_is (ap (λ z. slice_get z i) (ap (λ z. rows_in (held z)) e ∙ rows_of_rows m h ds) ∙ get_held ds i k l ∙ ap Some (sym q))

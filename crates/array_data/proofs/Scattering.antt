@@ -2,14 +2,14 @@
 use Rattle.std.proofs.Common.{◌≡◌, ℕ, zero, suc, ◌+◌, ◌-◌, ◌<◌, ◌≤◌, List, [], ◌∷◌, ◌++◌, map, length, get_or, take, drop, slice_get, Option, Some, None, Ok, Err, Result, Bool, true, false, cond, nat_eq, nat_lt, refl, sym, ap, ◌∙◌, subst, arith, add-one, inl, inr, lt-ltb, le-ltb}
 use Rattle.std.specs.Prelude.{ℤ, pos, negsuc, slice_set, replicate, ◌⊎◌, ◌||◌}
 use Rattle.std.proofs.lemmas.Bool.{ne_eqb, eq-eqb}
-use Rattle.std.proofs.lemmas.List.{take_all}
+use Rattle.std.proofs.lemmas.List.{append-nil, take_all}
 use Rattle.fut_scalar.specs.declared.place.Place.{Place}
 use Rattle.fut_scalar.specs.declared.report.FailKind.TheVariants as kind
 use Rattle.fut_flat.specs.declared.prim.Primitive.{Primitive}
 use Rattle.fut_flat.specs.declared.prim.Primitive.TheVariants as prim
 use Rattle.fut_value.specs.Data.{Shape, Unmet_shape, Datum, Array_datum, datums, same_sizes}
 use Rattle.fut_meaning.specs.Arrays.{Rows, each_out, exact_of, rows_of, fitting}
-use Rattle.fut_meaning.specs.Jobs.{Job, job, Choose_each, Is_one_of, or_old, places, writes, and_write, written_at, written, scattered, shown_to_agree}
+use Rattle.fut_meaning.specs.Jobs.{Job, job, Choose_each, Reduce_each, in_place_of, Is_one_of, on_rows, or_old, places, writes, and_write, written_at, written, scattered, shown_to_agree}
 use Rattle.fut_meaning.specs.Outcomes.{Out, Val, Fail, Wrong, and_then}
 use Rattle.array_data.specs.declared.sizes.Exact.{Exact}
 use Rattle.array_data.specs.declared.sizes.Exact.TheVariants as exact
@@ -17,65 +17,17 @@ use Rattle.array_data.specs.declared.stop.Stop.{Stop}
 use Rattle.array_data.specs.declared.stop.Stop.TheVariants.{Failed, Memory}
 use Rattle.array_data.specs.Answers.{Added, added, not_added, Counts, counts, no_array, Row_is, row_is, no_memory_row, Exact_is, exact_is, no_integer, exact_held}
 use Rattle.array_data.specs.Held.{held, held_all, rows_in, row_shape_in}
-use Rattle.array_data.specs.Plans.{Planned, plan_chosen, plan_fails, plan_memory, plan_lost}
+use Rattle.array_data.specs.Plans.{and_old, Planned, plan_chosen, plan_combine, plan_fails, plan_memory, plan_lost}
 use Rattle.array_data.specs.declared.data.Data.{Data}
 use Rattle.array_data.specs.declared.jobs.Plan.TheVariants as plan
-use Rattle.array_data.specs.Writes.{All_chosen, none_chosen, one_chosen, in_array, Scatters, scatters, scatter_fails, scatter_memory, scatter_lost, Claims, takes_place, has_writer, no_such_place, below_all, Writer, nobody_writes, somebody_writes, Writers, Picked, picked_new, picked_old, not_picked, Rows_chosen}
+use Rattle.array_data.specs.Changes.{Replaced, replaced}
+use Rattle.array_data.specs.Writes.{All_chosen, none_chosen, one_chosen, in_array, Scatters, scatters, scatter_fails, scatter_memory, scatter_lost, written_to, all_written, Write_counts, write_counts, writes_fail, writes_memory, Index_at, Put_at, put_there, put_nowhere, Rows_chosen}
 use Rattle.array_data.proofs.Asking.{Never_fails, has_value, is_wrong, all_never}
-use Rattle.array_data.proofs.RowsRead.{take_row, drop_row}
-use Rattle.array_data.proofs.Forms.{drop_past}
-
--- ---- a list of one number
-
-unfoldable pub Filled_up_to : ℕ → ℕ → List ℕ → Type 0
-Filled_up_to i v xs = xs ≡ replicate i v
-
-replicate_more : (n v : ℕ) → replicate n v ++ v ∷ [] ≡ replicate (suc n) v
-replicate_more zero v = refl
-replicate_more (suc n) v = ap (λ z. v ∷ z) (replicate_more n v)
-
-pub fill_start : (v : ℕ) (xs : List ℕ) → xs ≡ [] → Filled_up_to 0 v xs
-unfolding Filled_up_to
-fill_start v xs e = e
-
-pub fill_more : (i v : ℕ) (xs ys : List ℕ) → Filled_up_to i v xs → ys ≡ xs ++ v ∷ [] → Filled_up_to (i + 1) v ys
-unfolding Filled_up_to
-fill_more i v xs ys h e = e ∙ ap (λ z. z ++ v ∷ []) h ∙ replicate_more i v ∙ ap (λ z. replicate z v) (sym (add-one i))
-
-pub fill_end : (i n v : ℕ) (xs : List ℕ) → n ≤ i → i ≤ n → Filled_up_to i v xs → xs ≡ replicate n v
-unfolding Filled_up_to
-fill_end i n v xs l m h = let e : i ≡ n = omega arith in h ∙ ap (λ z. replicate z v) e
-
-pub ruleset filling = (fill_start, fill_more, fill_end)
-
-pub ruleset claiming = (takes_place, has_writer, no_such_place, below_all)
-
--- ---- one row more that writes
-
-get_filled : (n v k : ℕ) → k < n → get_or (replicate n v) k 0 ≡ v
-get_filled zero v k l = absurd (omega arith)
-get_filled (suc n) v zero l = refl
-get_filled (suc n) v (suc k) l = get_filled n v k (omega arith)
-
-get_set : (ws : List ℕ) (k j : ℕ) → k < length ws → get_or (slice_set ws k j) k 0 ≡ j
-get_set [] k j l = absurd (omega arith)
-get_set (w ∷ ws) zero j l = refl
-get_set (w ∷ ws) (suc k) j l = get_set ws k j (omega arith)
-
-get_other : (ws : List ℕ) (k i j : ℕ) → (k ≡ i → ⊥) → get_or (slice_set ws k j) i 0 ≡ get_or ws i 0
-get_other [] k i j x = refl
-get_other (w ∷ ws) zero zero j x = absurd (x refl)
-get_other (w ∷ ws) zero (suc i) j x = refl
-get_other (w ∷ ws) (suc k) zero j x = refl
-get_other (w ∷ ws) (suc k) (suc i) j x = get_other ws k i j (λ e. x (ap suc e))
-
-set_long : (ws : List ℕ) (k j : ℕ) → length (slice_set ws k j) ≡ length ws
-set_long [] k j = refl
-set_long (w ∷ ws) zero j = refl
-set_long (w ∷ ws) (suc k) j = ap suc (set_long ws k j)
+use Rattle.array_data.proofs.Writing.{get_set, get_other, set_long, written_there, written_elsewhere, no_write, one_write, writes_more}
+use Rattle.array_data.proofs.Planning.{four_held}
 
 -- the integers are as many as what they are read of
-read_long : (is : List Datum) (zs : List ℤ) → each_out exact_of is ≡ Val zs → length zs ≡ length is
+pub read_long : (is : List Datum) (zs : List ℤ) → each_out exact_of is ≡ Val zs → length zs ≡ length is
 read_long [] zs e = let q : [] ≡ zs = cc in ap length (sym q)
 read_long (i ∷ is) zs e = by_read (exact_of i) (each_out exact_of is) (read_long is) e
   where
@@ -98,16 +50,13 @@ read_there (i ∷ is) zs j d z e g x = by_read (exact_of i) (each_out exact_of i
     by_read (Fail r) p h a e j g = cc
     by_read Wrong p h a e j g = cc
 
-some_there : {A : Type 0} (xs : List A) (j : ℕ) → j < length xs → (x : A) × (slice_get xs j ≡ Some x)
-some_there [] j l = absurd (omega arith)
-some_there (x ∷ xs) zero l = (x, refl)
-some_there (x ∷ xs) (suc j) l = some_there xs j (omega arith)
+pub index_read : (is : Datum) (j : ℕ) (d : Datum) (z : Exact) → Row_is is j (Ok d) → Exact_is d (Ok z) → Index_at (rows_in is) j z
+unfolding Index_at
+index_read is j d z (row_is p) (exact_is q) zs y = read_there (rows_in is) zs j d (exact_held z) y p q
 
--- one more write in front of others
-written_first : (k i n : ℕ) (v : Datum) (ws : List (ℕ × Datum)) → k < n → written_at i (and_write n (pos k) v ws) ≡ cond (nat_eq k i) (v ∷ written_at i ws) (written_at i ws)
-written_first k i n v ws l = ap (λ b. written_at i (cond b ((k, v) ∷ ws) ws)) (lt-ltb k n l)
+pub ruleset indexing = (index_read)
 
-same_or_not : (a b : ℕ) → (a ≡ b) ⊎ (a ≡ b → ⊥)
+pub same_or_not : (a b : ℕ) → (a ≡ b) ⊎ (a ≡ b → ⊥)
 same_or_not zero zero = inl refl
 same_or_not zero (suc b) = inr (λ e. absurd (omega arith))
 same_or_not (suc a) zero = inr (λ e. absurd (omega arith))
@@ -117,198 +66,166 @@ same_or_not (suc a) (suc b) = by_rest (same_or_not a b)
     by_rest (inl e) = inl (ap suc e)
     by_rest (inr x) = inr (λ e. x (omega arith))
 
-module _ (a : Datum) (n m : ℕ) (e : m ≡ length (rows_in a)) where
-  pub write_start : (ws : List ℕ) → ws ≡ replicate n m → Writers (rows_in a) n (m - 0) ws
-  write_start ws q = record { long = ap length q ∙ filled_long n m; each = λ zs vs k x y l. nobody_writes (ap (λ z. get_or z k 0) q ∙ get_filled n m k l ∙ e) (nothing zs vs k x) }
-    where
-      filled_long : (n m : ℕ) → length (replicate n m) ≡ n
-      filled_long zero m = refl
-      filled_long (suc n) m = ap suc (filled_long n m)
+-- ---- one row
 
-      nothing : (zs : List ℤ) (vs : List Datum) (k : ℕ) → each_out exact_of (rows_in a) ≡ Val zs → written_at k (writes n (drop (m - 0) zs) (drop (m - 0) vs)) ≡ []
-      nothing zs vs k x = ap (λ z. written_at k (writes n z (drop (m - 0) vs))) (drop_past zs (m - 0) (omega (arith, read_long (rows_in a) zs x, e)))
+module _ (x : Exact) (d : Datum) (ds ds' : List Datum) where
+  pub put_below : (k : ℕ) → x ≡ exact.Below k → ds' ≡ ds → Put_at (exact_held x) d ds ds'
+  unfolding exact_held
+  put_below k e q = put_nowhere (ap (λ x. and_write (length ds) (exact_held x) d []) e) q
 
-  module _ (i j : ℕ) (ws ws' : List ℕ) (d : Datum) (z : Exact) (l : i < m) (f : j ≡ (m - 1) - i) (g : Row_is a j (Ok d)) (x : Exact_is d (Ok z)) (h : Writers (rows_in a) n (m - i) ws) (c : Claims z m j ws ws') where
-    same_size_after : length ws' ≡ n
-    same_size_after = by_claim c ∙ h.long
-      where
-        by_claim : Claims z m j ws ws' → length ws' ≡ length ws
-        by_claim (takes_place k p b q r) = ap length r ∙ set_long ws k j
-        by_claim (has_writer k p b q r) = ap length r
-        by_claim (no_such_place k p b r) = ap length r
-        by_claim (below_all k p r) = ap length r
+  pub put_past : (k n : ℕ) → x ≡ exact.Natural k → n ≡ length ds → n ≤ k → ds' ≡ ds → Put_at (exact_held x) d ds ds'
+  unfolding exact_held
+  put_past k n e l m q = put_nowhere (ap (λ x. and_write (length ds) (exact_held x) d []) e ∙ no_write (length ds) k d (omega arith)) q
 
-    module _ (zs : List ℤ) (vs : List Datum) (k : ℕ) (y : each_out exact_of (rows_in a) ≡ Val zs) (u : length vs ≡ length (rows_in a)) (lk : k < n) where
-      before : List (ℕ × Datum)
-      before = writes n (drop (suc j) zs) (drop (suc j) vs)
+  pub put_within : (k n : ℕ) → x ≡ exact.Natural k → n ≡ length ds → k < n → Replaced k d ds ds' (Ok tt) → Put_at (exact_held x) d ds ds'
+  unfolding exact_held
+  put_within k n e l m (replaced q) = put_there k (ap exact_held e) (omega arith) q
 
-      old_writer : Writer vs (length (rows_in a)) (get_or ws k 0) (written_at k before)
-      unfolding before
-      old_writer = let p : m - i ≡ suc j = omega arith in subst (λ s. Writer vs (length (rows_in a)) (get_or ws k 0) (written_at k (writes n (drop s zs) (drop s vs)))) p (h.each zs vs k y u lk)
-
-      module _ (v : Datum) (r : slice_get vs j ≡ Some v) where
-        more : writes n (drop j zs) (drop j vs) ≡ and_write n (exact_held z) v before
-        unfolding before
-        more = ap (λ t. writes n t (drop j vs)) (drop_row zs j (exact_held z) (read g x)) ∙ ap (λ t. writes n (exact_held z ∷ drop (suc j) zs) t) (drop_row vs j v r)
-          where
-            read : Row_is a j (Ok d) → Exact_is d (Ok z) → slice_get zs j ≡ Some (exact_held z)
-            read (row_is p) (exact_is q) = read_there (rows_in a) zs j d (exact_held z) y p q
-
-        new_writer : Claims z m j ws ws' → Writer vs (length (rows_in a)) (get_or ws' k 0) (written_at k (and_write n (exact_held z) v before))
-        unfolding exact_held
-        new_writer (below_all k0 p t) = subst (λ w. Writer vs (length (rows_in a)) (get_or w k 0) (written_at k (and_write n (exact_held z) v before))) (sym t)
-            (subst (λ b. Writer vs (length (rows_in a)) (get_or ws k 0) (written_at k (and_write n (exact_held b) v before))) (sym p) old_writer)
-        new_writer (no_such_place k0 p b t) = subst (λ w. Writer vs (length (rows_in a)) (get_or w k 0) (written_at k (and_write n (exact_held z) v before))) (sym t)
-            (subst (λ b. Writer vs (length (rows_in a)) (get_or ws k 0) (written_at k (and_write n (exact_held b) v before))) (sym p)
-            (subst (λ b. Writer vs (length (rows_in a)) (get_or ws k 0) (written_at k (cond b ((k0, v) ∷ before) before))) (sym (le-ltb k0 n (omega (arith, h.long)))) old_writer))
-        new_writer (has_writer k0 p b q t) = subst (λ w. Writer vs (length (rows_in a)) (get_or w k 0) (written_at k (and_write n (exact_held z) v before))) (sym t)
-            (subst (λ b. Writer vs (length (rows_in a)) (get_or ws k 0) (written_at k (and_write n (exact_held b) v before))) (sym p)
-            (subst (λ w. Writer vs (length (rows_in a)) (get_or ws k 0) w) (sym (written_first k0 k n v before (omega (arith, h.long)))) (by_place (same_or_not k0 k))))
-          where
-            still : Writer vs (length (rows_in a)) (get_or ws k 0) (written_at k before) → k0 ≡ k → Writer vs (length (rows_in a)) (get_or ws k 0) (v ∷ written_at k before)
-            still (nobody_writes s w) o = absurd (q (ap (λ k. get_or ws k 0) o ∙ s ∙ sym e))
-            still (somebody_writes v' s b w) o = somebody_writes v' s b (inr w)
-
-            by_place : (k0 ≡ k) ⊎ (k0 ≡ k → ⊥) → Writer vs (length (rows_in a)) (get_or ws k 0) (cond (nat_eq k0 k) (v ∷ written_at k before) (written_at k before))
-            by_place (inl o) = subst (λ b. Writer vs (length (rows_in a)) (get_or ws k 0) (cond b (v ∷ written_at k before) (written_at k before))) (sym (eq-eqb k0 k o)) (still old_writer o)
-            by_place (inr o) = subst (λ b. Writer vs (length (rows_in a)) (get_or ws k 0) (cond b (v ∷ written_at k before) (written_at k before))) (sym (ne_eqb k0 k o)) old_writer
-        new_writer (takes_place k0 p b q t) = subst (λ w. Writer vs (length (rows_in a)) (get_or w k 0) (written_at k (and_write n (exact_held z) v before))) (sym t)
-            (subst (λ b. Writer vs (length (rows_in a)) (get_or (slice_set ws k0 j) k 0) (written_at k (and_write n (exact_held b) v before))) (sym p)
-            (subst (λ w. Writer vs (length (rows_in a)) (get_or (slice_set ws k0 j) k 0) w) (sym (written_first k0 k n v before (omega (arith, h.long)))) (by_place (same_or_not k0 k))))
-          where
-            by_place : (k0 ≡ k) ⊎ (k0 ≡ k → ⊥) → Writer vs (length (rows_in a)) (get_or (slice_set ws k0 j) k 0) (cond (nat_eq k0 k) (v ∷ written_at k before) (written_at k before))
-            by_place (inl o) = subst (λ b. Writer vs (length (rows_in a)) (get_or (slice_set ws k0 j) k 0) (cond b (v ∷ written_at k before) (written_at k before))) (sym (eq-eqb k0 k o))
-                (subst (λ w. Writer vs (length (rows_in a)) w (v ∷ written_at k before)) (sym (ap (λ k. get_or (slice_set ws k0 j) k 0) (sym o) ∙ get_set ws k0 j b)) (somebody_writes v r (omega arith) (inl refl)))
-            by_place (inr o) = subst (λ b. Writer vs (length (rows_in a)) (get_or (slice_set ws k0 j) k 0) (cond b (v ∷ written_at k before) (written_at k before))) (sym (ne_eqb k0 k o))
-                (subst (λ w. Writer vs (length (rows_in a)) w (written_at k before)) (sym (get_other ws k0 k j o)) old_writer)
-
-      new_writer_there : Writer vs (length (rows_in a)) (get_or ws' k 0) (written_at k (writes n (drop j zs) (drop j vs)))
-      new_writer_there = let p = some_there vs j (omega arith) in subst (λ w. Writer vs (length (rows_in a)) (get_or ws' k 0) (written_at k w)) (sym (more p.0 p.1)) (new_writer p.0 p.1 c)
-
-    pub write_more : Writers (rows_in a) n (m - (i + 1)) ws'
-    write_more = let p : j ≡ m - (i + 1) = omega arith in subst (λ s. Writers (rows_in a) n s ws') p (record { long = same_size_after; each = λ zs vs k y u lk. new_writer_there zs vs k y u lk })
-
-  pub write_end : (i : ℕ) (ws : List ℕ) → m ≤ i → Writers (rows_in a) n (m - i) ws → Writers (rows_in a) n 0 ws
-  write_end i ws l h = let p : m - i ≡ 0 = omega arith in subst (λ s. Writers (rows_in a) n s ws) p h
-
-pub ruleset writing = (write_start, write_more, write_end)
-
--- ---- the row at a place
-
-pub pick_new : (a b : Datum) (m k w i : ℕ) (r : Result Datum Stop) → w < m → i ≡ w → Row_is b i r → Picked (rows_in a) (rows_in b) m k w r
-pick_new a b m k w i _ l e (row_is q) = picked_new l (ap (slice_get (rows_in b)) (sym e) ∙ q)
-pick_new a b m k w i _ l e no_memory_row = not_picked
-
-pub pick_old : (a b : Datum) (m k w : ℕ) (r : Result Datum Stop) → m ≤ w → Row_is a k r → Picked (rows_in a) (rows_in b) m k w r
-pick_old a b m k w _ l (row_is q) = picked_old l q
-pick_old a b m k w _ l no_memory_row = not_picked
-
-pub ruleset picking = (pick_new, pick_old)
+pub ruleset putting = (put_below, put_past, put_within)
 
 -- ---- all rows
 
-chosen_more : (xss : List (List Datum)) (ys : List Datum) (xs : List Datum) (y : Datum) → All_chosen xss ys → Is_one_of xs y → All_chosen (xss ++ xs ∷ []) (ys ++ y ∷ [])
-chosen_more _ _ xs y none_chosen h = one_chosen h none_chosen
-chosen_more _ _ xs y (one_chosen {xss = xss} {ys = ys} k g) h = one_chosen k (chosen_more xss ys xs y g h)
+-- each row is one that was written at its place, or the old one
+pub record Chosen (old : List Datum) (ws : List (ℕ × Datum)) (cells : List Datum) : Type 0 where
+  pub long : length cells ≡ length old
+  pub each : (k : ℕ) (o a : Datum) → slice_get old k ≡ Some o → slice_get cells k ≡ Some a → Is_one_of (or_old o (written_at k ws)) a
 
-get_place : (old : List Datum) (s i : ℕ) (d : Datum) (ws : List (ℕ × Datum)) → slice_get old i ≡ Some d → slice_get (places or_old s old ws) i ≡ Some (or_old d (written_at (s + i) ws))
-get_place [] s i d ws e = cc
-get_place (o ∷ old) s zero d ws e = let q : o ≡ d = cc in let p : s ≡ s + 0 = omega arith in ap (λ o. Some (or_old o (written_at s ws))) q ∙ ap (λ s. Some (or_old d (written_at s ws))) p
-get_place (o ∷ old) s (suc i) d ws e = let p : suc s + i ≡ s + suc i = omega arith in get_place old (suc s) i d ws e ∙ ap (λ s. Some (or_old d (written_at s ws))) p
+last_is_one : (o v : Datum) (xs : List Datum) → Is_one_of (or_old o (xs ++ v ∷ [])) v
+last_is_one o v [] = inl refl
+last_is_one o v (x ∷ xs) = inr (at_end xs)
+  where
+    at_end : (xs : List Datum) → Is_one_of (xs ++ v ∷ []) v
+    at_end [] = inl refl
+    at_end (x ∷ xs) = inr (at_end xs)
 
-places_long : (old : List Datum) (s : ℕ) (ws : List (ℕ × Datum)) → length (places or_old s old ws) ≡ length old
-places_long [] s ws = refl
-places_long (o ∷ old) s ws = ap suc (places_long old (suc s) ws)
+chosen_put : (old : List Datum) (ws : List (ℕ × Datum)) (cells cells' : List Datum) (z : ℤ) (v : Datum) → Chosen old ws cells → Put_at z v cells cells' → Chosen old (ws ++ and_write (length old) z v []) cells'
+chosen_put old ws cells cells' z v h (put_nowhere e q) =
+    subst (λ u. Chosen old (ws ++ u) cells') (sym (ap (λ n. and_write n z v []) (sym h.long) ∙ e)) (subst (λ u. Chosen old u cells') (sym (append-nil ws)) (subst (Chosen old ws) (sym q) h))
+chosen_put old ws cells cells' z v h (put_there k p l q) =
+    subst (λ u. Chosen old (ws ++ u) cells') (sym (ap (λ z. and_write (length old) z v []) p ∙ one_write (length old) k v (omega (arith, h.long)))) (subst (λ cs. Chosen old (ws ++ (k, v) ∷ []) cs) (sym q)
+    (record { long = set_long cells k v ∙ h.long; each = λ i o a x y. by_place i o a x y (same_or_not k i) }))
+  where
+    by_place : (i : ℕ) (o a : Datum) → slice_get old i ≡ Some o → slice_get (slice_set cells k v) i ≡ Some a → (k ≡ i) ⊎ (k ≡ i → ⊥) → Is_one_of (or_old o (written_at i (ws ++ (k, v) ∷ []))) a
+    by_place i o a x y (inl e) =
+        let t : slice_get (slice_set cells k v) k ≡ Some v = get_set cells k v l in
+        let t' : slice_get (slice_set cells k v) k ≡ Some a = ap (slice_get (slice_set cells k v)) e ∙ y in
+        let j : v ≡ a = cc in
+        subst (λ a. Is_one_of (or_old o (written_at i (ws ++ (k, v) ∷ []))) a) j (subst (λ xs. Is_one_of (or_old o xs) v) (sym (written_there k i v ws e)) (last_is_one o v (written_at i ws)))
+    by_place i o a x y (inr e) = subst (λ xs. Is_one_of (or_old o xs) a) (sym (written_elsewhere k i v ws e)) (h.each i o a x (sym (get_other cells k i v e) ∙ y))
 
-unfoldable pub Chosen_up_to : List Datum → List Datum → ℕ → List ℕ → ℕ → List Datum → Type 0
-Chosen_up_to old vs m ws i ds =
-    (is : List Datum) (zs : List ℤ) → Writers is (length old) 0 ws → each_out exact_of is ≡ Val zs → length is ≡ m → length vs ≡ m → All_chosen (take i (places or_old 0 old (writes (length old) zs vs))) ds
+all_chosen : (ws : List (ℕ × Datum)) (old cells : List Datum) (s : ℕ) → length cells ≡ length old
+    → ((k : ℕ) (o a : Datum) → slice_get old k ≡ Some o → slice_get cells k ≡ Some a → Is_one_of (or_old o (written_at (s + k) ws)) a) → All_chosen (places or_old s old ws) cells
+all_chosen ws [] [] s l h = none_chosen
+all_chosen ws [] (c ∷ cells) s l h = absurd (omega arith)
+all_chosen ws (o ∷ old) [] s l h = absurd (omega arith)
+all_chosen ws (o ∷ old) (c ∷ cells) s l h =
+    let p : s + 0 ≡ s = omega arith in
+    one_chosen (subst (λ z. Is_one_of (or_old o (written_at z ws)) c) p (h 0 o c refl refl))
+    (all_chosen ws old cells (suc s) (omega arith) (λ k x a e q. let j : s + suc k ≡ suc s + k = omega arith in subst (λ z. Is_one_of (or_old x (written_at z ws)) a) j (h (suc k) x a e q)))
 
-one_of_old : (d v : Datum) (l : List Datum) → Is_one_of l v → Is_one_of (or_old d l) v
-one_of_old d v [] h = absurd h
-one_of_old d v (x ∷ l) h = h
+unfoldable pub Chosen_up_to : (old is vs : List Datum) → ℕ → ℕ → List Datum → Type 0
+Chosen_up_to old is vs m i ds = (length ds ≡ length old) × ((zs : List ℤ) → each_out exact_of is ≡ Val zs → m ≡ length is → m ≡ length vs → Chosen old (writes (length old) (take i zs) (take i vs)) ds)
 
-module _ (old vs : List Datum) (m : ℕ) (ws : List ℕ) where
-  pub choose_start : (ds : List Datum) → ds ≡ [] → Chosen_up_to old vs m ws 0 ds
+module _ (old : List Datum) (is vs : Datum) (m : ℕ) where
+  pub choose_start : (ds : List Datum) → ds ≡ old → Chosen_up_to old (rows_in is) (rows_in vs) m 0 ds
   unfolding Chosen_up_to
-  choose_start ds e is zs h x y u = subst (λ ds. All_chosen [] ds) (sym e) none_chosen
+  choose_start ds e = (ap length e, λ zs q p p'. subst (Chosen old []) (sym e) (record { long = refl; each = λ k o a x y. let j : o ≡ a = cc in inl j }))
 
-  pub choose_more : (i : ℕ) (v : Datum) (ds ds' : List Datum) → i < length ws → Chosen_up_to old vs m ws i ds → Picked old vs m i (get_or ws i 0) (Ok v) → Added v ds ds' (Ok tt) → Chosen_up_to old vs m ws (i + 1) ds'
-  unfolding Chosen_up_to
-  choose_more i v ds ds' l h p (added q) is zs w x y u =
-      subst (λ t. All_chosen (take t (places or_old 0 old (writes (length old) zs vs))) ds') (sym (add-one i)) (subst (λ ds. All_chosen (take (suc i) (places or_old 0 old (writes (length old) zs vs))) ds) (sym q)
-      (let o = some_there old i (omega (arith, w.long)) in subst (λ z. All_chosen z (ds ++ v ∷ [])) (sym (take_row (places or_old 0 old (writes (length old) zs vs)) i (or_old o.0 (written_at i (writes (length old) zs vs))) (get_place old 0 i o.0 (writes (length old) zs vs) o.1 ∙ ap (λ k. Some (or_old o.0 (written_at k (writes (length old) zs vs)))) (omega arith))))
-      (chosen_more (take i (places or_old 0 old (writes (length old) zs vs))) ds (or_old o.0 (written_at i (writes (length old) zs vs))) v (h is zs w x y u) (by_writer o.0 o.1 p (w.each zs vs i x (u ∙ sym y) (omega (arith, w.long)))))))
+  module _ (i : ℕ) (ds : List Datum) (h : Chosen_up_to old (rows_in is) (rows_in vs) m i ds) where
+    pub choose_long : (n : ℕ) → n ≡ length old → n ≡ length ds
+    unfolding Chosen_up_to
+    choose_long n e = e ∙ sym h.0
+
+    pub choose_more : (x : Exact) (v : Datum) (ds' : List Datum) → Index_at (rows_in is) i x → Row_is vs i (Ok v) → Put_at (exact_held x) v ds ds' → Chosen_up_to old (rows_in is) (rows_in vs) m (i + 1) ds'
+    unfolding Chosen_up_to Index_at
+    choose_more x v ds' j (row_is g) p = (
+      by_put p ∙ h.0,
+      λ zs q l l'. subst (λ z. Chosen old (writes (length old) (take z zs) (take z (rows_in vs))) ds') (sym (add-one i))
+          (subst (λ ws. Chosen old ws ds') (sym (writes_more (length old) zs (rows_in vs) i (exact_held x) v (j zs q) g)) (chosen_put old (writes (length old) (take i zs) (take i (rows_in vs))) ds ds' (exact_held x) v (h.1 zs q l l') p)),
+    )
+      where
+        by_put : Put_at (exact_held x) v ds ds' → length ds' ≡ length ds
+        by_put (put_there k a b c) = ap length c ∙ set_long ds k v
+        by_put (put_nowhere a b) = ap length b
+
+    pub choose_end : m ≤ i → Rows_chosen old (rows_in is) (rows_in vs) m ds
+    unfolding Chosen_up_to Rows_chosen
+    choose_end l zs q p p' = let c = h.1 zs q p p' in
+        all_chosen (writes (length old) zs (rows_in vs)) old ds 0 c.long (λ k o a x y. let j : k ≡ 0 + k = omega arith in subst (λ z. Is_one_of (or_old o (written_at z (writes (length old) zs (rows_in vs)))) a) j
+        (subst (λ ws. Is_one_of (or_old o (written_at k ws)) a) (ap (λ z. writes (length old) z (take i (rows_in vs))) (take_all i zs (omega (arith, read_long (rows_in is) zs q))) ∙ ap (writes (length old) zs) (take_all i (rows_in vs) (omega arith))) (c.each k o a x y)))
+
+pub ruleset choosing = (choose_start, choose_long, choose_more, choose_end)
+
+-- ---- the sizes of what is written
+
+module _ (at : Place) (d is vs : Datum) (n m b : ℕ) (g : Counts d (Ok n)) (g' : Counts is (Ok m)) (g'' : Counts vs (Ok b)) where
+  sizes_of : (k : Rows → List (ℕ × Datum) → Out Job) → written_to at d is vs k ≡ fitting false (nat_eq m b) at (fitting false (nat_eq n 0 || (nat_eq b 0 || same_sizes (row_shape_in d) (row_shape_in vs))) at (all_written d is vs (k (row_shape_in d, rows_in d))))
+  unfolding written_to all_written
+  sizes_of k = by_counts g g' g''
     where
-      by_writer : (d : Datum) → slice_get old i ≡ Some d → Picked old vs m i (get_or ws i 0) (Ok v) → Writer vs (length is) (get_or ws i 0) (written_at i (writes (length old) zs vs)) → Is_one_of (or_old d (written_at i (writes (length old) zs vs))) v
-      by_writer d g (picked_new lw e) (nobody_writes s t) = absurd (omega (arith, s, y))
-      by_writer d g (picked_new lw e) (somebody_writes v' s b t) = let r : v' ≡ v = cc in one_of_old d v (written_at i (writes (length old) zs vs)) (subst (λ z. Is_one_of (written_at i (writes (length old) zs vs)) z) r t)
-      by_writer d g (picked_old lw e) (nobody_writes s t) = let r : d ≡ v = cc in subst (λ l. Is_one_of (or_old d l) v) (sym t) (inl r)
-      by_writer d g (picked_old lw e) (somebody_writes v' s b t) = absurd (omega (arith, y))
+      all : Out Job
+      all = and_then (each_out exact_of (rows_in is)) (λ zs. k (row_shape_in d, rows_in d) (writes (length (rows_in d)) zs (rows_in vs)))
 
-  pub choose_end : (i : ℕ) (ds : List Datum) → length ws ≤ i → Chosen_up_to old vs m ws i ds → Rows_chosen old vs m ws ds
-  unfolding Chosen_up_to Rows_chosen
-  choose_end i ds l h is zs w x y u = subst (λ z. All_chosen z ds) (take_all i (places or_old 0 old (writes (length old) zs vs)) (omega (arith, w.long, places_long old 0 (writes (length old) zs vs)))) (h is zs w x y u)
-
-pub ruleset choosing = (choose_start, choose_more, choose_end)
-
--- ---- a scatter
-
-module _ (at : Place) (d is vs : Datum) (n m k : ℕ) (g : Counts d (Ok n)) (g' : Counts is (Ok m)) (g'' : Counts vs (Ok k)) where
-  chosen_job : Out Job
-  chosen_job = and_then (each_out exact_of (rows_in is)) (λ zs. Val (Choose_each (writes (length (rows_in d)) zs (rows_in vs)) (rows_in d) (in_array (row_shape_in d))))
-
-  sizes_of : scattered false at d is vs ≡ fitting false (nat_eq m k) at (fitting false (nat_eq n 0 || (nat_eq k 0 || same_sizes (row_shape_in d) (row_shape_in vs))) at chosen_job)
-  unfolding chosen_job
-  sizes_of = by_counts g g' g''
-    where
-      by_counts : Counts d (Ok n) → Counts is (Ok m) → Counts vs (Ok k) → scattered false at d is vs ≡ fitting false (nat_eq m k) at (fitting false (nat_eq n 0 || (nat_eq k 0 || same_sizes (row_shape_in d) (row_shape_in vs))) at
-          (and_then (each_out exact_of (rows_in is)) (λ zs. Val (Choose_each (writes (length (rows_in d)) zs (rows_in vs)) (rows_in d) (in_array (row_shape_in d))))))
+      by_counts : Counts d (Ok n) → Counts is (Ok m) → Counts vs (Ok b) → on_rows d (λ r. written false at r is vs (k r)) ≡ fitting false (nat_eq m b) at (fitting false (nat_eq n 0 || (nat_eq b 0 || same_sizes (row_shape_in d) (row_shape_in vs))) at all)
       by_counts (counts q p) (counts q' p') (counts q'' p'') =
-          ap (λ o. and_then o (λ r. written false at r is vs (λ ws. Val (Choose_each ws r.1 (in_array r.0))))) q
-          ∙ ap (λ o. and_then o (λ i. and_then (rows_of vs) (λ s. fitting false (nat_eq (length i.1) (length s.1)) at (fitting false (shown_to_agree (row_shape_in d, rows_in d) s) at (and_then (each_out exact_of i.1) (λ zs. Val (Choose_each (writes (length (rows_in d)) zs s.1) (rows_in d) (in_array (row_shape_in d))))))))) q'
-          ∙ ap (λ o. and_then o (λ s. fitting false (nat_eq (length (rows_in is)) (length s.1)) at (fitting false (shown_to_agree (row_shape_in d, rows_in d) s) at (and_then (each_out exact_of (rows_in is)) (λ zs. Val (Choose_each (writes (length (rows_in d)) zs s.1) (rows_in d) (in_array (row_shape_in d)))))))) q''
-          ∙ ap (λ c. fitting false (nat_eq c (length (rows_in vs))) at (fitting false (shown_to_agree (row_shape_in d, rows_in d) (row_shape_in vs, rows_in vs)) at chosen)) (sym p')
-          ∙ ap (λ c. fitting false (nat_eq m c) at (fitting false (nat_eq (length (rows_in d)) 0 || (nat_eq c 0 || same_sizes (row_shape_in d) (row_shape_in vs))) at chosen)) (sym p'')
-          ∙ ap (λ c. fitting false (nat_eq m k) at (fitting false (nat_eq c 0 || (nat_eq k 0 || same_sizes (row_shape_in d) (row_shape_in vs))) at chosen)) (sym p)
-        where
-          chosen : Out Job
-          chosen = and_then (each_out exact_of (rows_in is)) (λ zs. Val (Choose_each (writes (length (rows_in d)) zs (rows_in vs)) (rows_in d) (in_array (row_shape_in d))))
+          ap (λ o. and_then o (λ r. written false at r is vs (k r))) q
+          ∙ ap (λ o. and_then o (λ i. and_then (rows_of vs) (λ s. fitting false (nat_eq (length i.1) (length s.1)) at (fitting false (shown_to_agree (row_shape_in d, rows_in d) s) at (and_then (each_out exact_of i.1) (λ zs. k (row_shape_in d, rows_in d) (writes (length (rows_in d)) zs s.1))))))) q'
+          ∙ ap (λ o. and_then o (λ s. fitting false (nat_eq (length (rows_in is)) (length s.1)) at (fitting false (shown_to_agree (row_shape_in d, rows_in d) s) at (and_then (each_out exact_of (rows_in is)) (λ zs. k (row_shape_in d, rows_in d) (writes (length (rows_in d)) zs s.1)))))) q''
+          ∙ ap (λ c. fitting false (nat_eq c (length (rows_in vs))) at (fitting false (shown_to_agree (row_shape_in d, rows_in d) (row_shape_in vs, rows_in vs)) at all)) (sym p')
+          ∙ ap (λ c. fitting false (nat_eq m c) at (fitting false (nat_eq (length (rows_in d)) 0 || (nat_eq c 0 || same_sizes (row_shape_in d) (row_shape_in vs))) at all)) (sym p'')
+          ∙ ap (λ c. fitting false (nat_eq m b) at (fitting false (nat_eq c 0 || (nat_eq b 0 || same_sizes (row_shape_in d) (row_shape_in vs))) at all)) (sym p)
 
-  pub scatter_sizes : (m ≡ k → ⊥) → Scatters (scattered false at d is vs) (Err (Failed (record { kind = kind.Size; place = at })))
-  scatter_sizes x = scatter_fails (sizes_of ∙ ap (λ b. fitting false b at (fitting false (nat_eq n 0 || (nat_eq k 0 || same_sizes (row_shape_in d) (row_shape_in vs))) at chosen_job)) (ne_eqb m k x))
+  pub counts_differ : (m ≡ b → ⊥) → Write_counts at d is vs (Err (Failed (record { kind = kind.Size; place = at })))
+  counts_differ x = writes_fail (λ k. sizes_of k ∙ ap (λ t. fitting false t at (fitting false (nat_eq n 0 || (nat_eq b 0 || same_sizes (row_shape_in d) (row_shape_in vs))) at (all_written d is vs (k (row_shape_in d, rows_in d))))) (ne_eqb m b x))
 
-  module _ (x : m ≡ k) (h i : Shape) (q : h ≡ row_shape_in d) (p : i ≡ row_shape_in vs) (t : Bool) (w : t ≡ (nat_eq n 0 || (nat_eq k 0 || same_sizes h i))) where
-    fit_so : scattered false at d is vs ≡ fitting false t at chosen_job
-    fit_so = sizes_of ∙ ap (λ b. fitting false b at (fitting false (nat_eq n 0 || (nat_eq k 0 || same_sizes (row_shape_in d) (row_shape_in vs))) at chosen_job)) (eq-eqb m k x)
-        ∙ ap (λ b. fitting false b at chosen_job) (sym (w ∙ ap (λ z. nat_eq n 0 || (nat_eq k 0 || same_sizes z i)) q ∙ ap (λ z. nat_eq n 0 || (nat_eq k 0 || same_sizes (row_shape_in d) z)) p))
+  module _ (x : m ≡ b) (h i : Shape) (q : h ≡ row_shape_in d) (p : i ≡ row_shape_in vs) (t : Bool) (w : t ≡ (nat_eq n 0 || (nat_eq b 0 || same_sizes h i))) where
+    fit_so : (k : Rows → List (ℕ × Datum) → Out Job) → written_to at d is vs k ≡ fitting false t at (all_written d is vs (k (row_shape_in d, rows_in d)))
+    fit_so k = sizes_of k ∙ ap (λ t. fitting false t at (fitting false (nat_eq n 0 || (nat_eq b 0 || same_sizes (row_shape_in d) (row_shape_in vs))) at (all_written d is vs (k (row_shape_in d, rows_in d))))) (eq-eqb m b x)
+        ∙ ap (λ t. fitting false t at (all_written d is vs (k (row_shape_in d, rows_in d)))) (sym (w ∙ ap (λ z. nat_eq n 0 || (nat_eq b 0 || same_sizes z i)) q ∙ ap (λ z. nat_eq n 0 || (nat_eq b 0 || same_sizes (row_shape_in d) z)) p))
 
-    pub scatter_misfits : t ≡ false → Scatters (scattered false at d is vs) (Err (Failed (record { kind = kind.Size; place = at })))
-    scatter_misfits y = scatter_fails (fit_so ∙ ap (λ b. fitting false b at chosen_job) y)
+    pub rows_differ : t ≡ false → Write_counts at d is vs (Err (Failed (record { kind = kind.Size; place = at })))
+    rows_differ y = writes_fail (λ k. fit_so k ∙ ap (λ t. fitting false t at (all_written d is vs (k (row_shape_in d, rows_in d)))) y)
 
-    pub scatter_done : (ws : List ℕ) (ds : List Datum) (v : Datum) → t ≡ true → Writers (rows_in is) n 0 ws → Rows_chosen (rows_in d) (rows_in vs) m ws ds → v ≡ Array_datum h (datums ds) → Scatters (scattered false at d is vs) (Ok v)
-    unfolding Rows_chosen chosen_job
-    scatter_done ws ds v y u c e = by_read (all_never (rows_in is))
+    pub all_fit : t ≡ true → Write_counts at d is vs (Ok (n, m))
+    all_fit y = write_counts (long g) (long g') (x ∙ long g'') (λ k. fit_so k ∙ ap (λ t. fitting false t at (all_written d is vs (k (row_shape_in d, rows_in d)))) y)
       where
         long : {a : Datum} {n : ℕ} → Counts a (Ok n) → n ≡ length (rows_in a)
         long (counts q p) = p
 
-        by_read : Never_fails (each_out exact_of (rows_in is)) → Scatters (scattered false at d is vs) (Ok v)
-        by_read (is_wrong z) = scatter_lost (fit_so ∙ ap (λ b. fitting false b at (and_then (each_out exact_of (rows_in is)) (λ zs. Val (Choose_each (writes (length (rows_in d)) zs (rows_in vs)) (rows_in d) (in_array (row_shape_in d)))))) y
-            ∙ ap (λ o. and_then o (λ zs. Val (Choose_each (writes (length (rows_in d)) zs (rows_in vs)) (rows_in d) (in_array (row_shape_in d))))) z)
-        by_read (has_value zs z) = scatters (writes (length (rows_in d)) zs (rows_in vs)) (rows_in d) (row_shape_in d) ds
-            (fit_so ∙ ap (λ b. fitting false b at (and_then (each_out exact_of (rows_in is)) (λ zs. Val (Choose_each (writes (length (rows_in d)) zs (rows_in vs)) (rows_in d) (in_array (row_shape_in d)))))) y
-            ∙ ap (λ o. and_then o (λ zs. Val (Choose_each (writes (length (rows_in d)) zs (rows_in vs)) (rows_in d) (in_array (row_shape_in d))))) z)
-            (c (rows_in is) zs (subst (λ n. Writers (rows_in is) n 0 ws) (long g) u) z (sym (long g')) (sym (long g'') ∙ sym x))
-            (e ∙ ap (λ h. Array_datum h (datums ds)) q)
+pub ruleset counting = (counts_differ, rows_differ, all_fit, writes_memory)
 
-pub scatter_no_memory : (o : Out Job) → Scatters o (Err Memory)
-scatter_no_memory o = scatter_memory
+-- ---- a scatter
 
-pub counted_long : (a : Datum) (n : ℕ) → Counts a (Ok n) → n ≡ length (rows_in a)
-counted_long a n (counts q p) = p
+module _ (at : Place) (d is vs : Datum) where
+  abbrev choosing_job : Rows → List (ℕ × Datum) → Out Job
+  choosing_job r ws = Val (Choose_each ws r.1 (in_array r.0))
 
-pub ruleset scattering = (scatter_sizes, scatter_misfits, scatter_done, scatter_memory, counted_long)
+  is_written : scattered false at d is vs ≡ written_to at d is vs choosing_job
+  unfolding written_to
+  is_written = refl
+
+  pub scatter_stop : (s : Stop) → Write_counts at d is vs (Err s) → Scatters (scattered false at d is vs) (Err s)
+  scatter_stop _ (writes_fail q) = scatter_fails (is_written ∙ q choosing_job)
+  scatter_stop _ writes_memory = scatter_memory
+
+  pub scatter_done : (n m : ℕ) (h : Shape) (ds : List Datum) (v : Datum) → Write_counts at d is vs (Ok (n, m)) → Rows_chosen (rows_in d) (rows_in is) (rows_in vs) m ds → h ≡ row_shape_in d → v ≡ Array_datum h (datums ds) → Scatters (scattered false at d is vs) (Ok v)
+  unfolding Rows_chosen all_written
+  scatter_done n m h ds v (write_counts l l' l'' k) c q e = by_read (all_never (rows_in is))
+    where
+      after : Out (List ℤ) → Out Job
+      after o = and_then o (λ zs. Val (Choose_each (writes (length (rows_in d)) zs (rows_in vs)) (rows_in d) (in_array (row_shape_in d))))
+
+      job_is : scattered false at d is vs ≡ after (each_out exact_of (rows_in is))
+      job_is = is_written ∙ k choosing_job
+
+      by_read : Never_fails (each_out exact_of (rows_in is)) → Scatters (scattered false at d is vs) (Ok v)
+      by_read (is_wrong z) = scatter_lost (job_is ∙ ap after z)
+      by_read (has_value zs z) = scatters (writes (length (rows_in d)) zs (rows_in vs)) (rows_in d) (row_shape_in d) ds (job_is ∙ ap after z) (c zs z l' l'') (e ∙ ap (λ h. Array_datum h (datums ds)) q)
+
+pub places_counted : (at : Place) (d is vs : Datum) (n m : ℕ) → Write_counts at d is vs (Ok (n, m)) → n ≡ length (rows_in d)
+places_counted at d is vs n m (write_counts l l' l'' k) = l
+
+pub ruleset scattering = (scatter_stop, scatter_done, scatter_memory, places_counted)
 
 -- ---- its plan
 
@@ -333,3 +250,45 @@ module _ (p : Primitive) (at : Place) (ds : List Data) (x y z : Data) (e : p ≡
   scatter_planned v h = plan_chosen (subst (λ o. Scatters o (Ok (held v))) (sym scatter_job) h)
 
 pub ruleset scatter_plans = (scatter_stops, scatter_planned, plan_memory)
+
+module _ (p : Primitive) (at : Place) (ds : List Data) (w x y z : Data) (e : p ≡ prim.ReduceByIndex) (l : length ds ≡ 4) where
+  abbrev combining_job : Datum → Rows → List (ℕ × Datum) → Out Job
+  combining_job ne r ws = Val (Reduce_each true ne (places and_old 0 r.1 ws) (in_place_of false at r.0))
+
+  combine_job : job false Unmet_shape p at (held_all ds) ≡ written_to at (held (get_or ds 0 w)) (held (get_or ds 2 y)) (held (get_or ds 3 z)) (combining_job (held (get_or ds 1 x)))
+  unfolding job held_all written_to
+  combine_job = ap (λ p. job false Unmet_shape p at (held_all ds)) e ∙ by_list ds l
+    where
+      by_list : (ds : List Data) → length ds ≡ 4 → job false Unmet_shape prim.ReduceByIndex at (map held ds) ≡ on_rows (held (get_or ds 0 w)) (λ r. written false at r (held (get_or ds 2 y)) (held (get_or ds 3 z)) (combining_job (held (get_or ds 1 x)) r))
+      by_list [] l = absurd (omega arith)
+      by_list (a ∷ []) l = absurd (omega arith)
+      by_list (a ∷ b ∷ []) l = absurd (omega arith)
+      by_list (a ∷ b ∷ c ∷ []) l = absurd (omega arith)
+      by_list (a ∷ b ∷ c ∷ d ∷ []) l = refl
+      by_list (a ∷ b ∷ c ∷ d ∷ f ∷ ds) l = absurd (omega arith)
+
+  pub combine_stops : (s : Stop) → Write_counts at (held (get_or ds 0 w)) (held (get_or ds 2 y)) (held (get_or ds 3 z)) (Err s) → Planned (job false Unmet_shape p at (held_all ds)) at (held_all ds) (Err s)
+  combine_stops _ (writes_fail q) = plan_fails (combine_job ∙ q (combining_job (held (get_or ds 1 x))))
+  combine_stops _ writes_memory = plan_memory
+
+  pub combine_planned : (n m : ℕ) → Write_counts at (held (get_or ds 0 w)) (held (get_or ds 2 y)) (held (get_or ds 3 z)) (Ok (n, m)) → Planned (job false Unmet_shape p at (held_all ds)) at (held_all ds) (Ok (plan.Combine m))
+  unfolding all_written
+  combine_planned n m (write_counts i i' i'' k) = by_read (all_never (rows_in is))
+    where
+      is : Datum
+      is = held (get_or ds 2 y)
+
+      vs : Datum
+      vs = held (get_or ds 3 z)
+
+      after : Out (List ℤ) → Out Job
+      after o = and_then o (λ zs. combining_job (held (get_or ds 1 x)) (row_shape_in (held (get_or ds 0 w)), rows_in (held (get_or ds 0 w))) (writes (length (rows_in (held (get_or ds 0 w)))) zs (rows_in vs)))
+
+      job_is : job false Unmet_shape p at (held_all ds) ≡ after (each_out exact_of (rows_in is))
+      job_is = combine_job ∙ k (combining_job (held (get_or ds 1 x)))
+
+      by_read : Never_fails (each_out exact_of (rows_in is)) → Planned (job false Unmet_shape p at (held_all ds)) at (held_all ds) (Ok (plan.Combine m))
+      by_read (is_wrong q) = plan_lost (job_is ∙ ap after q)
+      by_read (has_value zs q) = plan_combine (held (get_or ds 0 w)) (held (get_or ds 1 x)) is vs zs (four_held ds w x y z l) q i' i'' (job_is ∙ ap after q)
+
+pub ruleset combine_plans = (combine_stops, combine_planned, plan_memory)

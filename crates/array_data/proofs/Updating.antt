@@ -12,6 +12,7 @@ use Rattle.array_data.specs.declared.sizes.Exact.TheVariants as exact
 use Rattle.array_data.specs.declared.stop.Stop.{Stop}
 use Rattle.array_data.specs.declared.stop.Stop.TheVariants.{Failed}
 use Rattle.array_data.specs.Answers.{Tells, told, report_told, no_memory_told, lost, Copied, copied, not_copied, Added, added, not_added, All_added, all_added, not_all_added, Counts, counts, no_array, Row_is, row_is, no_memory_row, Exact_is, exact_is, no_integer, exact_held}
+use Rattle.array_data.specs.Changes.{Replaced, replaced}
 use Rattle.array_data.specs.Held.{held, held_all, as_held, rows_in, row_shape_in}
 use Rattle.array_data.specs.Updates.{Updated_inside, replaced_by, updated_at, updated_of}
 use Rattle.array_data.proofs.Asking.{Never_fails, has_value, is_wrong, all_never, rest_of}
@@ -19,23 +20,9 @@ use Rattle.array_data.proofs.Asking.{Never_fails, has_value, is_wrong, all_never
 pub long_there : (d : Datum) (n : ℕ) → Counts d (Ok n) → n ≡ length (rows_in d)
 long_there d n (counts q p) = p
 
-set_so : (xs : List Datum) (i m : ℕ) (v : Datum) → i + 1 + m ≡ length xs → (take i (drop 0 xs) ++ v ∷ []) ++ take m (drop (suc i) xs) ≡ slice_set xs i v
-set_so [] i m v e = absurd (omega arith)
-set_so (x ∷ xs) zero m v e = ap (λ z. v ∷ z) (all_of xs m (omega arith))
-  where
-    all_of : (xs : List Datum) (m : ℕ) → m ≡ length xs → take m xs ≡ xs
-    all_of [] zero e = refl
-    all_of [] (suc m) e = refl
-    all_of (x ∷ xs) zero e = absurd (omega arith)
-    all_of (x ∷ xs) (suc m) e = ap (λ z. x ∷ z) (all_of xs m (omega arith))
-set_so (x ∷ xs) (suc i) m v e = ap (λ z. x ∷ z) (let k : i + 1 + m ≡ length xs = omega arith in set_so xs i m v k)
-
-pub row_set : (d v : Data) (i n : ℕ) (c : Data) (h : Shape) (ds0 ds1 ds2 ds3 : List Datum) (w : Data) → n ≡ length (rows_in (held d)) → i < n → h ≡ row_shape_in (held d) → ds0 ≡ [] → All_added (take i (drop 0 (rows_in (held d)))) ds0 ds1 (Ok tt) → Copied v (Ok c) → Added (held c) ds1 ds2 (Ok tt)
-    → All_added (take (n - 1 - i) (drop (i + 1) (rows_in (held d)))) ds2 ds3 (Ok tt) → held w ≡ Array_datum h (datums ds3) → held w ≡ Array_datum (row_shape_in (held d)) (datums (slice_set (rows_in (held d)) i (held v)))
-row_set d v i n c h ds0 ds1 ds2 ds3 w e l p q (all_added x) (copied y) (added z) (all_added u) t =
-    t ∙ ap (λ h. Array_datum h (datums ds3)) p ∙ ap (λ z. Array_datum (row_shape_in (held d)) (datums z))
-    (u ∙ ap (λ l. l ++ take (n - 1 - i) (drop (i + 1) (rows_in (held d)))) (z ∙ ap (λ l. l ++ held c ∷ []) (x ∙ ap (λ l. l ++ take i (drop 0 (rows_in (held d)))) q) ∙ ap (λ c. take i (drop 0 (rows_in (held d))) ++ c ∷ []) y)
-    ∙ ap (λ k. (take i (drop 0 (rows_in (held d))) ++ held v ∷ []) ++ take (n - 1 - i) (drop k (rows_in (held d)))) (add-one i) ∙ set_so (rows_in (held d)) i (n - 1 - i) (held v) (omega arith))
+pub row_set : (d v c w : Data) (i : ℕ) (h : Shape) (ds ds' : List Datum) → h ≡ row_shape_in (held d) → ds ≡ rows_in (held d) → Copied v (Ok c) → Replaced i (held c) ds ds' (Ok tt) → held w ≡ Array_datum h (datums ds') → held w ≡ Array_datum (row_shape_in (held d)) (datums (slice_set (rows_in (held d)) i (held v)))
+row_set d v c w i h ds ds' p q (copied y) (replaced z) t =
+    t ∙ ap (λ h. Array_datum h (datums ds')) p ∙ ap (λ z. Array_datum (row_shape_in (held d)) (datums z)) (z ∙ ap (λ l. slice_set l i (held c)) q ∙ ap (slice_set (rows_in (held d)) i) y)
 
 pub ruleset setting = (row_set)
 

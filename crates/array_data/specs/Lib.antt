@@ -6,4 +6,6 @@ pub mod Ranges
 pub mod Slices
 pub mod Updates
 pub mod Nested
+pub mod Depths
+pub mod Changes
 pub mod Writes

@@ -1,10 +1,10 @@
 -- What is left to do of a primitive, once its data is known.
-use Rattle.std.specs.Prelude.{◌≡◌, ℕ, ◌<◌, ◌%◌, ◌==◌, false, true, Bool, List, [], ◌∷◌, ◌++◌, length, slice_get, Option, Some, Result, Ok, Err}
+use Rattle.std.specs.Prelude.{◌≡◌, ℕ, ℤ, ◌<◌, ◌%◌, ◌==◌, false, true, Bool, List, [], ◌∷◌, ◌++◌, length, slice_get, Option, Some, Result, Ok, Err}
 use Rattle.fut_scalar.specs.declared.place.Place.{Place}
 use Rattle.fut_scalar.specs.declared.report.Report.{Report}
 use Rattle.fut_value.specs.Data.{Datum, Array_datum, Unmet_shape, datums}
-use Rattle.fut_meaning.specs.Arrays.{Counted, i64, rows_of, array, all_fresh, fresh}
-use Rattle.fut_meaning.specs.Jobs.{Job, Apply_each, Reduce_each, array_of_results, array_of_indices, part_at, prefixes_on, truths, counting, sifted, two_arrays}
+use Rattle.fut_meaning.specs.Arrays.{Counted, i64, rows_of, array, all_fresh, fresh, each_out, exact_of}
+use Rattle.fut_meaning.specs.Jobs.{Job, Apply_each, Reduce_each, array_of_results, array_of_indices, part_at, places, prefixes_on, truths, counting, sifted, two_arrays, in_place_of, writes}
 use Rattle.fut_meaning.specs.Outcomes.{Out, Val, Fail, Wrong, and_then}
 use Rattle.array_data.specs.declared.data.Data.{Data}
 use Rattle.array_data.specs.declared.jobs.Finish.{Finish}
@@ -45,6 +45,14 @@ Source_is f ds rows = (i : ℕ) (es : List Datum) → i < length rows → source
 abbrev pub first_fresh : List Datum → Out Counted
 first_fresh ds = and_then (part_at 0 ds) fresh
 
+-- what is reduced at a place: the old row, and those that are written there
+abbrev pub and_old : Datum → List Datum → List Datum
+and_old v vs = v ∷ vs
+
+-- the reductions at all places
+abbrev pub combines : Place → (d ne vs : Datum) → List ℤ → Job
+combines at d ne vs zs = Reduce_each true ne (places and_old 0 (rows_in d) (writes (length (rows_in d)) zs (rows_in vs))) (in_place_of false at (row_shape_in d))
+
 -- what is left to do of a job
 pub data Planned (o : Out Job) (at : Place) (ds : List Datum) : Result Plan Stop → Type 0 where
   plan_done : {v : Data} → Does o (Ok (held v)) → Planned o at ds (Ok (plan.Done v))
@@ -52,6 +60,7 @@ pub data Planned (o : Out Job) (at : Place) (ds : List Datum) : Result Plan Stop
   plan_each : {f : Finish} {n : ℕ} (rows : List (List Datum)) → o ≡ Val (Apply_each rows (made_of f at ds)) → n ≡ length rows → Source_is f ds rows → Planned o at ds (Ok (plan.Each f n))
   plan_reduce : (any : Bool) (ne d : Datum) → ds ≡ ne ∷ d ∷ [] → o ≡ Val (Reduce_each any ne (rows_in d ∷ []) first_fresh) → Planned o at ds (Ok plan.Reduce)
   plan_scan : (ne d : Datum) → ds ≡ ne ∷ d ∷ [] → o ≡ Val (Reduce_each false ne (prefixes_on [] (rows_in d)) (λ es. all_fresh (array false at (row_shape_in d) es))) → Planned o at ds (Ok plan.Scan)
+  plan_combine : {n : ℕ} (d ne is vs : Datum) (zs : List ℤ) → ds ≡ d ∷ ne ∷ is ∷ vs ∷ [] → each_out exact_of (rows_in is) ≡ Val zs → n ≡ length (rows_in is) → n ≡ length (rows_in vs) → o ≡ Val (combines at d ne vs zs) → Planned o at ds (Ok (plan.Combine n))
   plan_fails : {r : Report} → o ≡ Fail r → Planned o at ds (Err (Failed r))
   plan_memory : Planned o at ds (Err Memory)
   plan_lost : {r : Result Plan Stop} → o ≡ Wrong → Planned o at ds r

@@ -1,14 +1,16 @@
--- Rows that are written at places of an array: who writes where, and what stands there in the end.
-use Rattle.std.specs.Prelude.{◌≡◌, ℕ, ◌<◌, ◌≤◌, ℤ, List, [], ◌∷◌, length, get_or, drop, slice_get, slice_set, Some, Result, Ok, Err}
+-- Rows that are written at places of an array, and what stands there in the end.
+use Rattle.std.specs.Prelude.{◌≡◌, ℕ, ◌<◌, ℤ, pos, false, List, [], ◌∷◌, length, slice_get, slice_set, Some, Result, Ok, Err}
+use Rattle.fut_scalar.specs.declared.place.Place.{Place}
 use Rattle.fut_scalar.specs.declared.report.Report.{Report}
 use Rattle.fut_value.specs.Data.{Shape, Datum, Array_datum, datums}
-use Rattle.fut_meaning.specs.Arrays.{Counted, each_out, exact_of, shared}
-use Rattle.fut_meaning.specs.Jobs.{Job, Choose_each, Is_one_of, or_old, places, writes, written_at}
-use Rattle.fut_meaning.specs.Outcomes.{Out, Val, Fail, Wrong}
+use Rattle.fut_meaning.specs.Arrays.{Counted, Rows, each_out, exact_of, shared}
+use Rattle.fut_meaning.specs.Jobs.{Job, Choose_each, Is_one_of, and_write, on_rows, or_old, places, writes, written}
+use Rattle.fut_meaning.specs.Outcomes.{Out, Val, Fail, Wrong, and_then}
 use Rattle.array_data.specs.declared.sizes.Exact.{Exact}
-use Rattle.array_data.specs.declared.sizes.Exact.TheVariants as exact
 use Rattle.array_data.specs.declared.stop.Stop.{Stop}
 use Rattle.array_data.specs.declared.stop.Stop.TheVariants.{Failed, Memory}
+use Rattle.array_data.specs.Answers.{exact_held}
+use Rattle.array_data.specs.Held.{row_shape_in, rows_in}
 
 -- one of each of these lists
 pub data All_chosen : List (List Datum) → List Datum → Type 0 where
@@ -26,30 +28,29 @@ pub data Scatters (o : Out Job) : Result Datum Stop → Type 0 where
   scatter_memory : Scatters o (Err Memory)
   scatter_lost : {r : Result Datum Stop} → o ≡ Wrong → Scatters o r
 
--- a row takes the place that an index names, where no other row has it
-pub data Claims (z : Exact) (nobody j : ℕ) (ws ws' : List ℕ) : Type 0 where
-  takes_place : (k : ℕ) → z ≡ exact.Natural k → k < length ws → get_or ws k 0 ≡ nobody → ws' ≡ slice_set ws k j → Claims z nobody j ws ws'
-  has_writer : (k : ℕ) → z ≡ exact.Natural k → k < length ws → (get_or ws k 0 ≡ nobody → ⊥) → ws' ≡ ws → Claims z nobody j ws ws'
-  no_such_place : (k : ℕ) → z ≡ exact.Natural k → length ws ≤ k → ws' ≡ ws → Claims z nobody j ws ws'
-  below_all : (k : ℕ) → z ≡ exact.Below k → ws' ≡ ws → Claims z nobody j ws ws'
+-- a job that writes rows at places, before their sizes are tested and after
+unfoldable pub written_to : Place → (d is vs : Datum) → (Rows → List (ℕ × Datum) → Out Job) → Out Job
+written_to at d is vs k = on_rows d (λ r. written false at r is vs (k r))
 
--- who writes at a place, of so many rows, and which rows are written there
-pub data Writer (vs : List Datum) (m w : ℕ) (l : List Datum) : Type 0 where
-  nobody_writes : w ≡ m → l ≡ [] → Writer vs m w l
-  somebody_writes : (v : Datum) → slice_get vs w ≡ Some v → w < m → Is_one_of l v → Writer vs m w l
+unfoldable pub all_written : (d is vs : Datum) → (List (ℕ × Datum) → Out Job) → Out Job
+all_written d is vs k = and_then (each_out exact_of (rows_in is)) (λ zs. k (writes (length (rows_in d)) zs (rows_in vs)))
 
--- these write at so many places, of the rows from one on
-pub record Writers (is : List Datum) (n j : ℕ) (ws : List ℕ) : Type 0 where
-  pub long : length ws ≡ n
-  pub each : (zs : List ℤ) (vs : List Datum) (k : ℕ) → each_out exact_of is ≡ Val zs → length vs ≡ length is → k < n → Writer vs (length is) (get_or ws k 0) (written_at k (writes n (drop j zs) (drop j vs)))
+-- how many places an array has, and how many rows are written, where these fit
+pub data Write_counts (at : Place) (d is vs : Datum) : Result (ℕ × ℕ) Stop → Type 0 where
+  write_counts : {n m : ℕ} → n ≡ length (rows_in d) → m ≡ length (rows_in is) → m ≡ length (rows_in vs)
+      → ((k : Rows → List (ℕ × Datum) → Out Job) → written_to at d is vs k ≡ all_written d is vs (k (row_shape_in d, rows_in d))) → Write_counts at d is vs (Ok (n, m))
+  writes_fail : {r : Report} → ((k : Rows → List (ℕ × Datum) → Out Job) → written_to at d is vs k ≡ Fail r) → Write_counts at d is vs (Err (Failed r))
+  writes_memory : Write_counts at d is vs (Err Memory)
 
--- the row at a place: one that is written there, or the old one
-pub data Picked (old vs : List Datum) (m k w : ℕ) : Result Datum Stop → Type 0 where
-  picked_new : {v : Datum} → w < m → slice_get vs w ≡ Some v → Picked old vs m k w (Ok v)
-  picked_old : {v : Datum} → m ≤ w → slice_get old k ≡ Some v → Picked old vs m k w (Ok v)
-  not_picked : Picked old vs m k w (Err Memory)
+-- the integer that a row is, where all rows are integers
+unfoldable pub Index_at : List Datum → ℕ → Exact → Type 0
+Index_at is i z = (zs : List ℤ) → each_out exact_of is ≡ Val zs → slice_get zs i ≡ Some (exact_held z)
+
+-- a row in the place of the one at an index, where there is one
+pub data Put_at (z : ℤ) (d : Datum) (ds ds' : List Datum) : Type 0 where
+  put_there : (k : ℕ) → z ≡ pos k → k < length ds → ds' ≡ slice_set ds k d → Put_at z d ds ds'
+  put_nowhere : and_write (length ds) z d [] ≡ [] → ds' ≡ ds → Put_at z d ds ds'
 
 -- the rows that stand at all places in the end
-unfoldable pub Rows_chosen : List Datum → List Datum → ℕ → List ℕ → List Datum → Type 0
-Rows_chosen old vs m ws ds =
-    (is : List Datum) (zs : List ℤ) → Writers is (length old) 0 ws → each_out exact_of is ≡ Val zs → length is ≡ m → length vs ≡ m → All_chosen (places or_old 0 old (writes (length old) zs vs)) ds
+unfoldable pub Rows_chosen : (old is vs : List Datum) → ℕ → List Datum → Type 0
+Rows_chosen old is vs m ds = (zs : List ℤ) → each_out exact_of is ≡ Val zs → m ≡ length is → m ≡ length vs → All_chosen (places or_old 0 old (writes (length old) zs vs)) ds

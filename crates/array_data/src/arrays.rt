@@ -1,14 +1,16 @@
 // Arrays that are made of rows.
-ghost use Rattle.std.specs.Prelude.{◌≡◌, ◌<◌, false, length, IfOk};
+ghost use Rattle.std.specs.Prelude.{◌≡◌, ◌+◌, ◌<◌, false, length, IfOk};
 ghost use Rattle.fut_value.specs.Data.{Shape, Array_datum, datums};
 ghost use Rattle.fut_meaning.specs.Arrays.{all_like, array as array_made, array_of, row_shape};
 ghost use Rattle.array_data.specs.Answers.{Tells};
-ghost use Rattle.array_data.specs.Held.{as_held, built_rows, held, held_all, scalars, shape_held};
+ghost use Rattle.array_data.specs.Changes.{Stands_in};
+ghost use Rattle.array_data.specs.Depths.{deepest};
+ghost use Rattle.array_data.specs.Held.{as_held, built_rows, held, held_all, row_shape_in, scalars, shape_held};
 
 use crate::built::Built;
 use crate::data::Data;
 use crate::form::{Form, agrees, form_of, is_light};
-use crate::rows::depth;
+use crate::rows::{depth, row_depth, row_form};
 use crate::sizes::failed;
 use crate::stop::Stop;
 use fut_scalar::{FailKind, List, NoMemory, Place, ScalarType, Shared};
@@ -17,8 +19,12 @@ use std::alloc::Global;
 /// Data is no deeper than this.
 const MOST_DEEP: u32 = 1_000;
 
-/// How deep an array of these rows is, where it is not too deep.
-pub fn deeper(deep: u32, rows: &[Data]) -> Result<u32, NoMemory> {
+/// How deep an array of these rows is at most: one more than the deepest of them, and than a depth. `NoMemory` where that is
+/// too deep.
+#[tactic(auto, using(crate::proofs::Depths::deepest_rows))]
+pub fn deeper(deep: u32, rows: &[Data]) -> Result<u32, NoMemory>
+    ensures { IfOk result (λ most. most ≡ deepest deep rows.now + 1) }
+{
     let mut most = deep;
     for row in rows {
         most = most.max(depth(row));
@@ -57,6 +63,35 @@ fn are_like(alloc: Global, form: &Form, rows: &[Data]) -> Result<bool, NoMemory>
         }
     }
     Ok(true)
+}
+
+/// Whether all rows that were put together have the sizes of a form.
+#[tactic(auto, using(crate::proofs::Making::all_rows_like))]
+fn all_are_like(alloc: Global, form: &Form, built: &Built) -> Result<bool, NoMemory>
+    ensures { IfOk result (λ like. like ≡ all_like (shape_held form.now) (built_rows built.now)) }
+{
+    if built.words.len() == 0 {
+        return are_like(alloc, form, built.rows.as_slice());
+    }
+    if built.rows.len() > 0 {
+        return Err(NoMemory);
+    }
+    match form {
+        Form::Scalar(_) => Ok(true),
+        Form::Unmet | Form::Tuple(_) | Form::Record(_, _) | Form::Array(_, _) => Err(NoMemory),
+    }
+}
+
+/// The array with other rows in the place of its own, which have to be like them.
+#[tactic(auto, using(crate::proofs::Making::standing_in))]
+pub fn in_place(alloc: Global, at: Place, whole: &Data, built: Built) -> Result<Data, Stop>
+    ensures { Stands_in at (row_shape_in (held whole.now)) (built_rows built) (as_held result) }
+{
+    let form = row_form(alloc, whole)?;
+    if !all_are_like(alloc, form.get(), &built)? {
+        return Err(failed(FailKind::Size, at));
+    }
+    Ok(untested(alloc, form, row_depth(whole), built)?)
 }
 
 /// The array of words.

@@ -22,7 +22,7 @@ use crate::sizes::{Exact, failed, whole_number};
 use crate::stop::Stop;
 use crate::summaries::fold;
 use crate::unzips::{unzip, unzip3};
-use crate::writes::scatter;
+use crate::writes::{scatter, write_counts};
 use crate::zips::zip;
 use fut_flat::Primitive;
 use fut_scalar::{FailKind, Place, Shared};
@@ -51,6 +51,9 @@ pub enum Plan {
     Reduce,
     /// The same of each prefix.
     Scan,
+    /// A reduction at each place of the first argument: of the row there and those rows of the fourth that are written at it,
+    /// by the indices of the third. The second is the neutral element, and so many rows are written.
+    Combine(usize),
 }
 
 /// What a primitive on one argument gives at once.
@@ -208,6 +211,19 @@ fn plan_scatter(alloc: Global, primitive: Primitive, at: Place, args: &[Data]) -
     Ok(Plan::Done(scatter(alloc, at, &args[0], &args[1], &args[2])?))
 }
 
+/// The reductions at the places of an array.
+#[tactic(auto, using(crate::proofs::Scattering::combine_plans))]
+fn plan_combine(alloc: Global, primitive: Primitive, at: Place, args: &[Data]) -> Result<Plan, Stop>
+    requires { primitive ≡ prim.ReduceByIndex }
+    ensures { Planned (job false Unmet_shape primitive at (held_all args.now)) at (held_all args.now) result }
+{
+    if args.len() != 4 {
+        return Err(Stop::Memory);
+    }
+    let (_, many) = write_counts(alloc, at, &args[0], &args[2], &args[3])?;
+    Ok(Plan::Combine(many))
+}
+
 /// Whether the arguments are some data and an array.
 #[tactic(auto, using(crate::proofs::Planning::two_arguments))]
 fn two_rows(args: &[Data]) -> Result<(), Stop>
@@ -253,6 +269,7 @@ pub fn plan_of(alloc: Global, primitive: Primitive, at: Place, args: &[Data]) ->
             }
         }
         Primitive::Scatter => plan_scatter(alloc, primitive, at, args),
+        Primitive::ReduceByIndex => plan_combine(alloc, primitive, at, args),
         Primitive::Zip => Ok(Plan::Done(done_zip(alloc, primitive, at, args)?)),
         Primitive::Zip3 => Ok(Plan::Done(done_zip(alloc, primitive, at, args)?)),
         _ => Ok(Plan::Done(done(alloc, primitive, at, args)?)),

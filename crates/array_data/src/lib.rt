@@ -6,6 +6,7 @@
 
 mod arrays;
 mod built;
+mod changes;
 mod columns;
 mod counting;
 mod cuts;
@@ -29,7 +30,7 @@ mod updates;
 mod writes;
 mod zips;
 
-pub use arrays::{array, array_of_form, untested};
+pub use arrays::{array, array_of_form, in_place, untested};
 pub use built::Built;
 pub use columns::{put_rows, same_counts};
 pub use counting::{copied, indices, iota, length, null, number, numbers, replicate};
@@ -49,4 +50,5 @@ pub use summaries::{fold, operation};
 pub use tuples::{array_of_parts, put_parts, tuple};
 pub use unzips::{unzip, unzip3};
 pub use updates::update;
+pub use writes::index_at;
 pub use zips::zip;

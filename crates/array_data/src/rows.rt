@@ -1,6 +1,7 @@
 // Arrays as they are read: their rows one by one.
 ghost use Rattle.std.specs.Prelude.{◌≡◌, ◌<◌, length, IfOk};
 ghost use Rattle.array_data.specs.Answers.{Counts, Row_is};
+ghost use Rattle.array_data.specs.Depths.{depth_told, row_depth_told};
 ghost use Rattle.array_data.specs.Held.{as_held, held, row_shape_in, rows_in, shape_held};
 
 use crate::data::{Data, copy};
@@ -61,18 +62,29 @@ pub fn row_form(alloc: Global, array: &Data) -> Result<Shared<Form>, NoMemory>
 }
 
 /// How deep data is at most.
-pub fn depth(whole: &Data) -> u32 {
+#[tactic(auto, using(crate::proofs::Depths::depths))]
+pub fn depth(whole: &Data) -> u32
+    ensures { result ≡ depth_told whole.now }
+{
     match whole {
         Data::Scalar(_) => 0,
         Data::Words(_, _) => 1,
-        Data::Rows(depth, _, _) | Data::Tuple(depth, _) | Data::Record(depth, _, _) => *depth,
+        Data::Rows(depth, _, _) => *depth,
+        Data::Tuple(depth, _) => *depth,
+        Data::Record(depth, _, _) => *depth,
     }
 }
 
 /// How deep the rows of an array are at most.
-pub fn row_depth(array: &Data) -> u32 {
+#[tactic(auto, using(crate::proofs::Depths::row_depths))]
+pub fn row_depth(array: &Data) -> u32
+    ensures { result ≡ row_depth_told array.now }
+{
     match array {
         Data::Rows(depth, _, _) => depth.saturating_sub(1),
-        Data::Scalar(_) | Data::Words(_, _) | Data::Tuple(_, _) | Data::Record(_, _, _) => 0,
+        Data::Scalar(_) => 0,
+        Data::Words(_, _) => 0,
+        Data::Tuple(_, _) => 0,
+        Data::Record(_, _, _) => 0,
     }
 }

@@ -1,5 +1,5 @@
 // Arrays with another row at an index.
-ghost use Rattle.std.specs.Prelude.{◌≡◌, ◌<◌, [], ◌∷◌, length, slice_set, IfOk};
+ghost use Rattle.std.specs.Prelude.{◌≡◌, [], ◌∷◌, slice_set, IfOk};
 ghost use Rattle.fut_value.specs.Data.{Array_datum, datums};
 ghost use Rattle.array_data.specs.Answers.{Tells};
 ghost use Rattle.array_data.specs.Held.{as_held, held, held_all, row_shape_in, rows_in};
@@ -10,39 +10,24 @@ use crate::built::Built;
 use crate::cuts::inner_row;
 use crate::data::{Data, copy};
 use crate::form::{agrees, form_of};
-use crate::parts::push_part;
 use crate::rows::{count, depth, row, row_depth, row_form};
 use crate::sizes::{Exact, failed, whole_number};
 use crate::stop::Stop;
 use fut_scalar::{FailKind, NoMemory, Place};
 use std::alloc::Global;
 
-/// The array with another row in place of one, which has its sizes.
+/// The array with another row in place of one, which has its sizes. The other rows are shared.
 #[tactic(auto, using(crate::proofs::Updating::setting))]
-fn with_row(
-    alloc: Global,
-    whole: &Data,
-    n: usize,
-    at: usize,
-    value: &Data,
-) -> Result<Data, NoMemory>
-    requires long { n ≡ length (rows_in (held whole.now)) }
-    requires there { at < n }
+fn with_row(alloc: Global, whole: &Data, at: usize, value: &Data) -> Result<Data, NoMemory>
     ensures { IfOk result (λ array. held array ≡ Array_datum (row_shape_in (held whole.now)) (datums (slice_set (rows_in (held whole.now)) at (held value.now)))) }
 {
     let form = row_form(alloc, whole)?;
-    let mut built = Built::new(alloc);
-    let Ok(()) = push_part(whole, 0, at, &mut built) else {
-        return Err(NoMemory);
-    };
+    let mut built = Built::of(alloc, whole)?;
     let Ok(value) = copy(value) else {
         return Err(NoMemory);
     };
     let deep = row_depth(whole).max(depth(&value));
-    let Ok(()) = built.push(value) else {
-        return Err(NoMemory);
-    };
-    let Ok(()) = push_part(whole, at + 1, n - 1 - at, &mut built) else {
+    let Ok(()) = built.set(at as u64, value) else {
         return Err(NoMemory);
     };
     Ok(untested(alloc, form, deep, built)?)
@@ -107,7 +92,7 @@ fn update_at(
                 return Err(failed(FailKind::Bounds, at));
             }
             let next = update_inside(alloc, at, whole, i, &indices[1..], value)?;
-            Ok(with_row(alloc, whole, n, i as usize, &next)?)
+            Ok(with_row(alloc, whole, i as usize, &next)?)
         }
     }
 }

@@ -1,8 +1,9 @@
 // Rows that are written at places of an array.
-ghost use Rattle.std.specs.Prelude.{◌≡◌, false, length, replicate, IfOk};
+ghost use Rattle.std.specs.Prelude.{◌≡◌, false, length, IfOk};
 ghost use Rattle.fut_meaning.specs.Jobs.{scattered};
+ghost use Rattle.array_data.specs.Answers.{exact_held};
 ghost use Rattle.array_data.specs.Held.{as_held, built_rows, held, rows_in};
-ghost use Rattle.array_data.specs.Writes.{Claims, Picked, Rows_chosen, Scatters, Writers};
+ghost use Rattle.array_data.specs.Writes.{Index_at, Put_at, Rows_chosen, Scatters, Write_counts};
 
 use crate::arrays::untested;
 use crate::built::Built;
@@ -11,97 +12,91 @@ use crate::joins::do_fit;
 use crate::rows::{count, row, row_depth, row_form};
 use crate::sizes::{Exact, failed, whole_number};
 use crate::stop::Stop;
-use fut_scalar::{FailKind, List, NoMemory, Place};
+use fut_scalar::{FailKind, NoMemory, Place};
 use std::alloc::Global;
 
-/// A list of so many numbers that are the same.
-#[tactic(auto, using(crate::proofs::Scattering::filling))]
-fn filled(alloc: Global, n: usize, value: u64) -> Result<List<u64>, NoMemory>
-    ensures { IfOk result (λ list. list ≡ replicate n value) }
+/// The place at which a row is written.
+#[tactic(auto, using(crate::proofs::Scattering::indexing))]
+pub fn index_at(indices: &Data, at: usize) -> Result<Exact, NoMemory>
+    ensures { IfOk result (Index_at (rows_in (held indices.now)) at) }
 {
-    let mut list = List::new(alloc);
-    for _ in 0..n {
-        list.push(value)?;
-    }
-    Ok(list)
+    let Ok(index) = row(indices, at) else {
+        return Err(NoMemory);
+    };
+    let Ok(index) = whole_number(&index) else {
+        return Err(NoMemory);
+    };
+    Ok(index)
 }
 
-/// Lets a row write at the place that an index names, where there is such a place and no row writes there yet.
-#[tactic(auto, using(crate::proofs::Scattering::claiming))]
-fn claim(writers: &mut List<u64>, index: Exact, nobody: u64, row: u64)
-    ensures { Claims index nobody row writers.old writers.new }
+/// How many places an array has, and how many rows are written: one for each index, like those of the array where both
+/// have some.
+#[tactic(auto, using(crate::proofs::Scattering::counting))]
+pub fn write_counts(
+    alloc: Global,
+    at: Place,
+    whole: &Data,
+    indices: &Data,
+    values: &Data,
+) -> Result<(usize, usize), Stop>
+    ensures { Write_counts at (held whole.now) (held indices.now) (held values.now) result }
+{
+    let (Ok(n), Ok(m), Ok(many)) = (count(whole), count(indices), count(values)) else {
+        return Err(Stop::Memory);
+    };
+    if m != many {
+        return Err(failed(FailKind::Size, at));
+    }
+    let form = row_form(alloc, whole)?;
+    let other = row_form(alloc, values)?;
+    if !do_fit(n, many, form.get(), other.get()) {
+        return Err(failed(FailKind::Size, at));
+    }
+    Ok((n, m))
+}
+
+/// Puts a row in the place of the one at an index, where there is one of so many.
+#[tactic(auto, using(crate::proofs::Scattering::putting))]
+fn put_at(rows: &mut Built, n: usize, index: Exact, value: Data) -> Result<(), NoMemory>
+    requires { n ≡ length (built_rows rows.old) }
+    ensures { IfOk result (λ _. Put_at (exact_held index) (held value) (built_rows rows.old) (built_rows rows.new)) }
 {
     match index {
-        Exact::Below(_) => {}
+        Exact::Below(_) => Ok(()),
         Exact::Natural(place) => {
-            if place < writers.len() as u64 {
-                if writers.as_slice()[place as usize] == nobody {
-                    writers.set(place as usize, row);
-                }
+            if place >= n as u64 {
+                return Ok(());
             }
+            let Ok(()) = rows.set(place, value) else {
+                return Err(NoMemory);
+            };
+            Ok(())
         }
     }
 }
 
-/// For each of so many places the last row that is written there. A place where none is written has the number of rows.
-#[tactic(auto, using(crate::proofs::Scattering::writing))]
-fn last_writers(alloc: Global, n: usize, indices: &Data, m: usize) -> Result<List<u64>, NoMemory>
-    requires { m ≡ length (rows_in (held indices.now)) }
-    ensures { IfOk result (λ writers. Writers (rows_in (held indices.now)) n 0 writers) }
-{
-    let mut writers = filled(alloc, n, m as u64)?;
-    for i in 0..m {
-        let at = m - 1 - i;
-        let Ok(index) = row(indices, at) else {
-            return Err(NoMemory);
-        };
-        let Ok(index) = whole_number(&index) else {
-            return Err(NoMemory);
-        };
-        claim(&mut writers, index, m as u64, at as u64);
-    }
-    Ok(writers)
-}
-
-/// The row that stands at a place in the end.
-#[tactic(auto, using(crate::proofs::Scattering::picking))]
-fn written_row(
-    whole: &Data,
-    values: &Data,
-    m: usize,
-    place: usize,
-    writer: u64,
-) -> Result<Data, Stop>
-    ensures { Picked (rows_in (held whole.now)) (rows_in (held values.now)) m place writer (as_held result) }
-{
-    if writer < m as u64 {
-        row(values, writer as usize)
-    } else {
-        row(whole, place)
-    }
-}
-
-/// The rows that stand at all places in the end.
+/// The rows that stand at all places in the end, one after the other written at its index.
 #[tactic(auto, using(crate::proofs::Scattering::choosing))]
 fn written_rows(
     alloc: Global,
     whole: &Data,
+    n: usize,
+    indices: &Data,
     values: &Data,
     m: usize,
-    writers: &[u64],
 ) -> Result<Built, NoMemory>
-    ensures { IfOk result (λ built. Rows_chosen (rows_in (held whole.now)) (rows_in (held values.now)) m writers.now (built_rows built)) }
+    requires { n ≡ length (rows_in (held whole.now)) }
+    ensures { IfOk result (λ built. Rows_chosen (rows_in (held whole.now)) (rows_in (held indices.now)) (rows_in (held values.now)) m (built_rows built)) }
 {
-    let mut built = Built::new(alloc);
-    for i in 0..writers.len() {
-        let Ok(next) = written_row(whole, values, m, i, writers[i]) else {
+    let mut rows = Built::of(alloc, whole)?;
+    for i in 0..m {
+        let index = index_at(indices, i)?;
+        let Ok(value) = row(values, i) else {
             return Err(NoMemory);
         };
-        let Ok(()) = built.push(next) else {
-            return Err(NoMemory);
-        };
+        put_at(&mut rows, n, index, value)?;
     }
-    Ok(built)
+    Ok(rows)
 }
 
 /// An array with rows written at places: those of one array, each at the index that another has for it. An index outside
@@ -116,19 +111,9 @@ pub fn scatter(
 ) -> Result<Data, Stop>
     ensures { Scatters (scattered false at (held whole.now) (held indices.now) (held values.now)) (as_held result) }
 {
-    let (Ok(n), Ok(m), Ok(many)) = (count(whole), count(indices), count(values)) else {
-        return Err(Stop::Memory);
-    };
-    if m != many {
-        return Err(failed(FailKind::Size, at));
-    }
+    let (n, m) = write_counts(alloc, at, whole, indices, values)?;
+    let rows = written_rows(alloc, whole, n, indices, values, m)?;
     let form = row_form(alloc, whole)?;
-    let other = row_form(alloc, values)?;
-    if !do_fit(n, many, form.get(), other.get()) {
-        return Err(failed(FailKind::Size, at));
-    }
-    let writers = last_writers(alloc, n, indices, m)?;
-    let rows = written_rows(alloc, whole, values, m, writers.as_slice())?;
     let deep = row_depth(whole).max(row_depth(values));
     Ok(untested(alloc, form, deep, rows)?)
 }

@@ -8,7 +8,7 @@ use Rattle.array_data.specs.declared.data.Data.{Data}
 use Rattle.array_data.specs.declared.stop.Stop.{Stop}
 use Rattle.array_data.specs.Held.{held_all}
 use Rattle.fut_eval.specs.Answers.{Tells, told, report_told, no_memory_told, lost, IfDone, done, Kept, Runs, ran, failed, no_memory, gone, Bound, is_bound, no_memory_bound, unbound, Takes, Pushed, pushed, not_pushed, Pops_one}
-use Rattle.fut_eval.specs.Primitives.{Gives, gave, gave_failure, gave_memory, gave_wrong, applies, Applied_runs, next_of, Next_runs}
+use Rattle.fut_eval.specs.Primitives.{Gives, gave, gave_failure, gave_memory, gave_wrong, applies, Applied_runs, Two_runs, next_of, Next_runs}
 use Rattle.fut_eval.specs.Runs.{Body_runs}
 use Rattle.fut_eval.proofs.Holding.{held_length}
 use Rattle.fut_eval.proofs.Steps.{body_rises, named_leads, named_wrong}
@@ -62,6 +62,20 @@ module _ (budget : ℕ) (b : Body) (xs : List ℕ) (mark : ℕ) (t s t1 s1 : Lis
 
 pub ruleset applying = (apply_no_names, apply_stop, apply_over)
 
+-- ---- two arguments
+
+module _ (budget : ℕ) (b : Body) (xs : List ℕ) (d e : Datum) (t : List Component) where
+  pub two_no_room : (c : Datum) (s0 s s1 : List Component) (x : Stop) → Pushed c s s1 (Err x) → Two_runs budget b xs d e t t s0 s1 (Err x)
+  unfolding Two_runs
+  two_no_room c s0 s s1 _ not_pushed env n mid last st u nb l = gave_memory
+
+  pub two_applied : (s : List Data) (s1 s2 s3 t1 : List Component) (mark : ℕ) (r : Result Datum Stop) → mark ≡ length s → Pushed d (held_all s) s1 (Ok tt) → Pushed e s1 s2 (Ok tt) → Applied_runs budget b xs mark t t1 s2 s3 r → Two_runs budget b xs d e t t1 (held_all s) s3 r
+  unfolding Two_runs Applied_runs
+  two_applied s s1 s2 s3 t1 mark r m (pushed p) (pushed q) a env n mid last st u nb l =
+      a env n mid last (held_all s) (d ∷ e ∷ []) st u nb l (q ∙ ap (λ z. z ++ e ∷ []) p ∙ append_assoc (held_all s) (d ∷ []) (e ∷ [])) (held_length s ∙ sym m)
+
+pub ruleset on_two = (two_no_room, two_applied)
+
 -- ---- one step of a fold
 
 module _ (budget : ℕ) (b : Body) (xs : List ℕ) (i : ℕ) (acc x : Datum) (t : List Component) where
@@ -69,17 +83,12 @@ module _ (budget : ℕ) (b : Body) (xs : List ℕ) (i : ℕ) (acc x : Datum) (t 
   unfolding Next_runs
   next_first s e env n mid last st u nb l = subst (λ z. Gives (next_of z (applies budget b xs env) acc x) n t t s s (Ok x)) (sym e) (gave 0 exact (kept_same n t) refl)
 
-  pub next_no_room : (d : Datum) (s0 s s1 : List Component) (e : Stop) → Pushed d s s1 (Err e) → Next_runs budget b xs i acc x t t s0 s1 (Err e)
-  unfolding Next_runs
-  next_no_room d s0 s s1 _ not_pushed env n mid last st u nb l = gave_memory
-
-  pub next_applied : (s : List Data) (s1 s2 s3 t1 : List Component) (mark : ℕ) (r : Result Datum Stop) → (i ≡ 0 → ⊥) → mark ≡ length s → Pushed acc (held_all s) s1 (Ok tt) → Pushed x s1 s2 (Ok tt) → Applied_runs budget b xs mark t t1 s2 s3 r → Next_runs budget b xs i acc x t t1 (held_all s) s3 r
-  unfolding Next_runs Applied_runs
-  next_applied s s1 s2 s3 t1 mark r j m (pushed p) (pushed q) a env n mid last st u nb l =
-      by_index i j (a env n mid last (held_all s) (acc ∷ x ∷ []) st u nb l (q ∙ ap (λ z. z ++ x ∷ []) p ∙ append_assoc (held_all s) (acc ∷ []) (x ∷ [])) (held_length s ∙ sym m))
+  pub next_applied : (s s1 t1 : List Component) (r : Result Datum Stop) → (i ≡ 0 → ⊥) → Two_runs budget b xs acc x t t1 s s1 r → Next_runs budget b xs i acc x t t1 s s1 r
+  unfolding Next_runs Two_runs
+  next_applied s s1 t1 r j a env n mid last st u nb l = by_index i j (a env n mid last st u nb l)
     where
-      by_index : (i : ℕ) → (i ≡ 0 → ⊥) → Gives (applies budget b xs env (acc ∷ x ∷ [])) n t t1 (held_all s) s3 r → Gives (next_of i (applies budget b xs env) acc x) n t t1 (held_all s) s3 r
+      by_index : (i : ℕ) → (i ≡ 0 → ⊥) → Gives (applies budget b xs env (acc ∷ x ∷ [])) n t t1 s s1 r → Gives (next_of i (applies budget b xs env) acc x) n t t1 s s1 r
       by_index zero j h = absurd (j refl)
       by_index (suc i) j h = h
 
-pub ruleset next_steps = (next_first, next_no_room, next_applied)
+pub ruleset next_steps = (next_first, next_applied)

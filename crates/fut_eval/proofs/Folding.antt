@@ -15,6 +15,7 @@ use Rattle.array_data.specs.Held.{held, rows_in}
 use Rattle.array_data.specs.Answers.{Added, added, not_added, Copied, copied, not_copied, Counts, counts, Row_is, row_is, no_memory_row}
 use Rattle.array_data.proofs.RowsRead.{take_row, drop_row}
 use Rattle.array_data.proofs.Forms.{drop_past}
+use Rattle.array_data.proofs.Writing.{cut_at, taken_long}
 use Rattle.fut_eval.specs.Answers.{Stands, Kept}
 use Rattle.fut_eval.specs.Primitives.{Gives, gave, gave_failure, gave_memory, gave_wrong, applies, next_of, Next_runs, reduction, Fold_runs, Scan_runs}
 use Rattle.fut_eval.proofs.Tells.{Leads, leads_trans, kept_same, kept_trans, stands_kept}
@@ -50,10 +51,10 @@ module _ (f : Applied) (ne : Datum) where
   folded_none : Folded f ne [] ne
   folded_none = record { tree = neutral; over = refl; few = omega arith; count = 0; gives = exact }
 
-  folded_first : (x : Datum) → Folded f ne (x ∷ []) x
+  pub folded_first : (x : Datum) → Folded f ne (x ∷ []) x
   folded_first x = record { tree = element x; over = refl; few = omega arith; count = 0; gives = exact }
 
-  folded_more : (ds : List Datum) (acc x v : Datum) (n : ℕ) → Folded f ne ds acc → f (acc ∷ x ∷ []) (Val v) n → Folded f ne (ds ++ x ∷ []) v
+  pub folded_more : (ds : List Datum) (acc x v : Datum) (n : ℕ) → Folded f ne ds acc → f (acc ∷ x ∷ []) (Val v) n → Folded f ne (ds ++ x ∷ []) v
   folded_more ds acc x v n h y = record {
     tree = node h.tree (element x);
     over = ap (λ z. z ++ x ∷ []) h.over;
@@ -72,7 +73,7 @@ module _ (f : Applied) (ne : Datum) where
   reduced : (any : Bool) (ds : List Datum) (t : Tree Datum) (o : Out Datum) (n : ℕ) → elements t ≡ ds → IsTight true t → tree_gives (two_of f) ne t o n → reduction any f ne ds o n
   reduced any ds t o n e i y = reduces tt (some_order any ds) (bracket t e i y)
 
-  fold_value : (any : Bool) (ds : List Datum) (acc : Datum) (h : Folded f ne ds acc) → reduction any f ne ds (Val acc) h.count
+  pub fold_value : (any : Bool) (ds : List Datum) (acc : Datum) (h : Folded f ne ds acc) → reduction any f ne ds (Val acc) h.count
   fold_value any ds acc h = reduced any ds h.tree (Val acc) h.count h.over (omega (arith, h.few, ap length h.over)) h.gives
 
   -- where the operator goes wrong, or fails, on what is folded and one more element
@@ -88,12 +89,12 @@ module _ (f : Applied) (ne : Datum) where
     unfolding whole
     few_all = omega (arith, h.few, ap length h.over, rest_neutrals rest, length-append (elements h.tree ++ x ∷ []) (elements (rest_tree rest)), length-append (elements h.tree) (x ∷ []))
 
-    next_fails : (i : ℕ) (r : Report) (n : ℕ) → next_of i f acc x (Fail r) n → (m : ℕ) × reduction any f ne ((ds ++ x ∷ []) ++ rest) (Fail r) m
+    pub next_fails : (i : ℕ) (r : Report) (n : ℕ) → next_of i f acc x (Fail r) n → (m : ℕ) × reduction any f ne ((ds ++ x ∷ []) ++ rest) (Fail r) m
     unfolding whole
     next_fails zero r n y = elim y [ ]
     next_fails (suc i) r n y = (h.count + 0 + n, reduced any ((ds ++ x ∷ []) ++ rest) whole (Fail r) (h.count + 0 + n) over_all few_all (stops_left (both h.gives exact y)))
 
-    next_wrong : (i : ℕ) (n : ℕ) → next_of i f acc x Wrong n → (m : ℕ) × reduction any f ne ((ds ++ x ∷ []) ++ rest) Wrong m
+    pub next_wrong : (i : ℕ) (n : ℕ) → next_of i f acc x Wrong n → (m : ℕ) × reduction any f ne ((ds ++ x ∷ []) ++ rest) Wrong m
     unfolding whole
     next_wrong zero n y = elim y [ ]
     next_wrong (suc i) n y = (h.count + 0 + n, reduced any ((ds ++ x ∷ []) ++ rest) whole Wrong (h.count + 0 + n) over_all few_all (sticks_left (both h.gives exact y)))
@@ -105,17 +106,6 @@ module _ (f : Applied) (ne : Datum) where
 
     last_wrong : (i : ℕ) (n : ℕ) → next_of i f acc x Wrong n → (m : ℕ) × reduction false f ne (ds ++ x ∷ []) Wrong m
     last_wrong i n y = let z = next_wrong false ds acc x [] h i n y in (z.0, subst (λ w. reduction false f ne w Wrong z.0) (append-nil (ds ++ x ∷ [])) z.1)
-
--- the elements in front of one, that one, and those behind it
-cut_at : (xs : List Datum) (i : ℕ) (x : Datum) → slice_get xs i ≡ Some x → xs ≡ (take i xs ++ x ∷ []) ++ drop (suc i) xs
-cut_at [] i x e = cc
-cut_at (y ∷ xs) zero x e = let q : y ≡ x = cc in ap (λ z. z ∷ xs) q
-cut_at (y ∷ xs) (suc i) x e = ap (λ z. y ∷ z) (cut_at xs i x e)
-
-taken_long : (xs : List Datum) (i : ℕ) (x : Datum) → slice_get xs i ≡ Some x → length (take i xs) ≡ i
-taken_long [] i x e = cc
-taken_long (y ∷ xs) zero x e = refl
-taken_long (y ∷ xs) (suc i) x e = ap suc (taken_long xs i x e)
 
 -- ---- the fold
 

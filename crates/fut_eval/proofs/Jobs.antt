@@ -4,9 +4,10 @@ use Rattle.fut_scalar.specs.declared.place.Place.{Place}
 use Rattle.fut_scalar.specs.declared.report.Report.{Report}
 use Rattle.fut_flat.specs.declared.prim.Primitive.{Primitive}
 use Rattle.fut_value.specs.Data.{Shape, Datum, Array_datum, Unmet_shape, datums, shape_of, array_words}
-use Rattle.fut_meaning.specs.Arrays.{array, all_fresh, fresh}
-use Rattle.fut_meaning.specs.Jobs.{Job, Done, Apply_each, Reduce_each, Choose_each, Some_of, some_of, shown, places, or_old, all_of, prefixes_on, job}
-use Rattle.fut_meaning.specs.Outcomes.{Out, Val, Fail, Wrong, exact, gives, the, Then, goes_on, stops, sticks, both, stops_left, sticks_left, each_of}
+use Rattle.std.specs.Prelude.{ℤ}
+use Rattle.fut_meaning.specs.Arrays.{array, all_fresh, fresh, each_out, exact_of}
+use Rattle.fut_meaning.specs.Jobs.{Applied, in_place_of, writes, Job, Done, Apply_each, Reduce_each, Choose_each, Some_of, some_of, shown, places, or_old, all_of, prefixes_on, job}
+use Rattle.fut_meaning.specs.Outcomes.{Rel, Out, Val, Fail, Wrong, exact, gives, the, Then, goes_on, stops, sticks, both, stops_left, sticks_left, each_of}
 use Rattle.fut_blocks.specs.declared.block.Atom.{Atom}
 use Rattle.fut_blocks.specs.Meaning.{Component, Names, values_of, function_of, job_given, act_means, body_means}
 use Rattle.fut_blocks.specs.Numbered.{Upward, Act_numbered, Body_numbered}
@@ -19,11 +20,12 @@ use Rattle.array_data.specs.declared.stop.Stop.{Stop}
 use Rattle.array_data.specs.declared.stop.Stop.TheVariants.{Failed, Memory}
 use Rattle.array_data.specs.Answers.{Does, does, does_lost}
 use Rattle.array_data.specs.Held.{held, held_all, rows_in, row_shape_in}
-use Rattle.array_data.specs.Plans.{made_of, first_fresh, Planned, plan_done, plan_chosen, plan_each, plan_reduce, plan_scan, plan_fails, plan_memory, plan_lost, Counted_is, counted_is, counted_fails, counted_memory, counted_lost}
+use Rattle.array_data.specs.Changes.{Stands_in, stands_in, misfits, no_memory_for}
+use Rattle.array_data.specs.Plans.{and_old, combines, plan_combine, made_of, first_fresh, Planned, plan_done, plan_chosen, plan_each, plan_reduce, plan_scan, plan_fails, plan_memory, plan_lost, Counted_is, counted_is, counted_fails, counted_memory, counted_lost}
 use Rattle.array_data.specs.Writes.{All_chosen, none_chosen, one_chosen, in_array, Scatters, scatters, scatter_lost}
-use Rattle.array_data.proofs.Planning.{two_held}
+use Rattle.array_data.proofs.Planning.{two_held, four_held}
 use Rattle.fut_eval.specs.Answers.{Answer, Tells, told, report_told, no_memory_told, lost, Stands, Kept, Runs, ran, failed, no_memory, gone, Pushed, pushed, not_pushed, Reads_data}
-use Rattle.fut_eval.specs.Primitives.{Gives, gave, gave_failure, gave_memory, gave_wrong, applies, Each_runs, reduction, Fold_runs, Scan_runs, Job_runs}
+use Rattle.fut_eval.specs.Primitives.{Gives, gave, gave_failure, gave_memory, gave_wrong, applies, Each_runs, reduction, Fold_runs, Scan_runs, Combine_runs, Job_runs}
 use Rattle.fut_eval.specs.Runs.{Act_runs}
 use Rattle.fut_eval.proofs.Tells.{the_is, then_stop, then_next, kept_same}
 
@@ -234,4 +236,63 @@ module _ (budget : ℕ) (b : Body) (xs : List ℕ) (o : Out Job) (at : Place) (d
       unfolding Job_runs
       scan_result v s2 a y x env n mid last st u nb l = scan_told (Ok v) y env n mid last st u nb l s2 a (λ w f q kr qr z. let j : v ≡ w = cc in result_runs budget b xs o env n t t1 s s1 s2 w f a kr qr z (subst (λ w. Pushed w s1 s2 a) j x)) (λ r f q z. cc) (λ q. cc)
 
-pub ruleset jobs = (no_job_memory, plan_stop, job_done, each_rows_stop, each_no_result, each_result, fold_no_result, fold_result, scan_no_result, scan_misfits, scan_result)
+-- ---- reductions at places
+
+module _ (budget : ℕ) (b : Body) (xs : List ℕ) (o : Out Job) (at : Place) (n : ℕ) (ds : List Data) (w x y z : Data) (four : length ds ≡ 4) (t t1 s s1 : List Component) (p : Planned o at (held_all ds) (Ok (plan.Combine n))) where
+  abbrev all_combined : Applied → (d ne vs : Datum) → List ℤ → Rel (List Datum)
+  all_combined f d ne vs zs = all_of (reduction true f ne) (places and_old 0 (rows_in d) (writes (length (rows_in d)) zs (rows_in vs)))
+
+  -- the arguments are what the plan says
+  same_four : (d ne is vs : Datum) → held_all ds ≡ d ∷ ne ∷ is ∷ vs ∷ [] → (held (get_or ds 0 w) ≡ d) × (held (get_or ds 2 y) ≡ is) × (held (get_or ds 3 z) ≡ vs)
+  same_four d ne is vs e =
+      let q : held (get_or ds 0 w) ∷ held (get_or ds 1 x) ∷ held (get_or ds 2 y) ∷ held (get_or ds 3 z) ∷ [] ≡ d ∷ ne ∷ is ∷ vs ∷ [] = sym (four_held ds w x y z four) ∙ e in
+      (let i : held (get_or ds 0 w) ≡ d = cc in i, let i : held (get_or ds 2 y) ≡ is = cc in i, let i : held (get_or ds 3 z) ≡ vs = cc in i)
+
+  -- what the plan says of a run
+  by_places : (r : Result (List Datum) Stop) → Combine_runs budget b xs (held (get_or ds 0 w)) (held (get_or ds 2 y)) (held (get_or ds 3 z)) n t t1 s s1 r
+      → (env : Names Component) (k mid last : ℕ) → Stands env k t → Upward k xs mid → Body_numbered mid b last → last ≤ length t
+      → (s2 : List Component) (a : Answer)
+      → ((d ne vs : Datum) (zs : List ℤ) → o ≡ Val (combines at d ne vs zs) → held (get_or ds 0 w) ≡ d → Gives (all_combined (applies budget b xs env) d ne vs zs) k t t1 s s1 r → Runs (Then (the o) (job_given true (applies budget b xs env))) k t t1 s s2 a)
+      → Runs (Then (the o) (job_given true (applies budget b xs env))) k t t1 s s2 a
+  unfolding Combine_runs
+  by_places r h env k mid last st u nb l s2 a with_plan = by_plan p
+    where
+      at_arguments : (d ne is vs : Datum) (zs : List ℤ) → (held (get_or ds 0 w) ≡ d) × (held (get_or ds 2 y) ≡ is) × (held (get_or ds 3 z) ≡ vs) → each_out exact_of (rows_in is) ≡ Val zs → n ≡ length (rows_in is) → n ≡ length (rows_in vs) → Gives (all_combined (applies budget b xs env) d ne vs zs) k t t1 s s1 r
+      at_arguments d ne is vs zs (i, i', i'') q e e' =
+          subst (λ v. Gives (all_combined (applies budget b xs env) d ne v zs) k t t1 s s1 r) i'' (subst (λ d. Gives (all_combined (applies budget b xs env) d ne (held (get_or ds 3 z)) zs) k t t1 s s1 r) i
+          (h ne zs (ap (λ v. each_out exact_of (rows_in v)) i' ∙ q) (e ∙ sym (ap (λ v. length (rows_in v)) i')) (e' ∙ sym (ap (λ v. length (rows_in v)) i'')) env k mid last st u nb l))
+
+      by_plan : Planned o at (held_all ds) (Ok (plan.Combine n)) → Runs (Then (the o) (job_given true (applies budget b xs env))) k t t1 s s2 a
+      by_plan (plan_combine d ne is vs zs i q e e' j) = let c = same_four d ne is vs i in with_plan d ne vs zs j c.0 (at_arguments d ne is vs zs c q e e')
+      by_plan (plan_lost q) = gone 0 (sticks (the_is o Wrong q))
+
+  pub combine_no_result : (e : Stop) → Combine_runs budget b xs (held (get_or ds 0 w)) (held (get_or ds 2 y)) (held (get_or ds 3 z)) n t t1 s s1 (Err e) → Job_runs budget b xs o t t1 s s1 (Err e)
+  unfolding Job_runs
+  combine_no_result e h env k mid last st u nb l = by_places (Err e) h env k mid last st u nb l s1 (Err e) (λ d ne vs zs q i g. by_gives d ne vs zs q g)
+    where
+      by_gives : {e : Stop} (d ne vs : Datum) (zs : List ℤ) → o ≡ Val (combines at d ne vs zs) → Gives (all_combined (applies budget b xs env) d ne vs zs) k t t1 s s1 (Err e) → Runs (Then (the o) (job_given true (applies budget b xs env))) k t t1 s s1 (Err e)
+      by_gives d ne vs zs q (gave_failure c g) = failed (0 + c) (goes_on (the_is o (Val (combines at d ne vs zs)) q) (stops (stops g)))
+      by_gives d ne vs zs q gave_memory = no_memory
+      by_gives d ne vs zs q (gave_wrong c g) = gone (0 + c) (goes_on (the_is o (Val (combines at d ne vs zs)) q) (sticks (sticks g)))
+
+  module _ (es : List Datum) (h : Combine_runs budget b xs (held (get_or ds 0 w)) (held (get_or ds 2 y)) (held (get_or ds 3 z)) n t t1 s s1 (Ok es)) where
+    pub combine_misfits : (e : Stop) → Stands_in at (row_shape_in (held (get_or ds 0 w))) es (Err e) → Job_runs budget b xs o t t1 s s1 (Err e)
+    unfolding Job_runs
+    combine_misfits e m env k mid last st u nb l = by_places (Ok es) h env k mid last st u nb l s1 (Err e) (λ d ne vs zs q i g. by_gives d ne vs zs q g (subst (λ d. Stands_in at (row_shape_in d) es (Err e)) i m))
+      where
+        by_gives : {e : Stop} (d ne vs : Datum) (zs : List ℤ) → o ≡ Val (combines at d ne vs zs) → Gives (all_combined (applies budget b xs env) d ne vs zs) k t t1 s s1 (Ok es) → Stands_in at (row_shape_in d) es (Err e) → Runs (Then (the o) (job_given true (applies budget b xs env))) k t t1 s s1 (Err e)
+        by_gives d ne vs zs q (gave c g kr qr) (misfits {r} j) = failed (0 + (c + 0)) (goes_on (the_is o (Val (combines at d ne vs zs)) q) (stops (goes_on g (stops (the_is (in_place_of false at (row_shape_in d) es) (Fail r) j)))))
+        by_gives d ne vs zs q (gave c g kr qr) no_memory_for = no_memory
+        by_gives d ne vs zs q (gave_wrong c g) m = gone (0 + c) (goes_on (the_is o (Val (combines at d ne vs zs)) q) (sticks (sticks g)))
+
+    pub combine_result : (v : Datum) (s2 : List Component) (a : Answer) → Stands_in at (row_shape_in (held (get_or ds 0 w))) es (Ok v) → Pushed v s1 s2 a → Job_runs budget b xs o t t1 s s2 a
+    unfolding Job_runs
+    combine_result v s2 a m put env k mid last st u nb l = by_places (Ok es) h env k mid last st u nb l s2 a (λ d ne vs zs q i g. by_gives d ne vs zs q g (subst (λ d. Stands_in at (row_shape_in d) es (Ok v)) i m))
+      where
+        by_gives : (d ne vs : Datum) (zs : List ℤ) → o ≡ Val (combines at d ne vs zs) → Gives (all_combined (applies budget b xs env) d ne vs zs) k t t1 s s1 (Ok es) → Stands_in at (row_shape_in d) es (Ok v) → Runs (Then (the o) (job_given true (applies budget b xs env))) k t t1 s s2 a
+        by_gives d ne vs zs q (gave c g kr qr) (stands_in j) =
+            result_runs budget b xs o env k t t1 s s1 s2 v (0 + (c + (0 + 0) + 0)) a kr qr
+            (goes_on (the_is o (Val (combines at d ne vs zs)) q) (goes_on (goes_on g (goes_on (the_is (in_place_of false at (row_shape_in d) es) (Val (0, v)) j) exact)) exact)) put
+        by_gives d ne vs zs q (gave_wrong c g) m = gone (0 + c) (goes_on (the_is o (Val (combines at d ne vs zs)) q) (sticks (sticks g)))
+
+pub ruleset jobs = (no_job_memory, plan_stop, job_done, each_rows_stop, each_no_result, each_result, fold_no_result, fold_result, scan_no_result, scan_misfits, scan_result, combine_no_result, combine_misfits, combine_result)

@@ -10,6 +10,7 @@ pub mod Acts
 pub mod Applying
 pub mod Rowing
 pub mod Folding
+pub mod Combining
 pub mod Jobs
 pub mod Makings
 pub mod Recording

@@ -1,8 +1,9 @@
 -- What runs of primitives answer: of functions on rows, one after the other, and of folds.
-use Rattle.std.specs.Prelude.{◌≡◌, ℕ, zero, suc, ◌≤◌, Bool, true, false, List, [], ◌∷◌, ◌++◌, length, Result, Ok, Err}
+use Rattle.std.specs.Prelude.{◌≡◌, ℕ, zero, suc, ◌≤◌, ℤ, pos, negsuc, Bool, true, false, List, [], ◌∷◌, ◌++◌, length, slice_get, slice_set, Option, Some, None, Result, Ok, Err}
 use Rattle.fut_scalar.specs.declared.report.Report.{Report}
 use Rattle.fut_value.specs.Data.{Datum}
-use Rattle.fut_meaning.specs.Jobs.{Job, Applied, Reduces, all_of, prefixes_on}
+use Rattle.fut_meaning.specs.Arrays.{each_out, exact_of}
+use Rattle.fut_meaning.specs.Jobs.{Job, Applied, Reduces, all_of, places, prefixes_on, writes}
 use Rattle.fut_meaning.specs.Outcomes.{Out, Val, Fail, Wrong, Rel, gives, the, Then, each_of}
 use Rattle.fut_blocks.specs.Plain.{Body}
 use Rattle.fut_blocks.specs.Meaning.{Component, Names, function_of, job_given, body_means}
@@ -12,7 +13,7 @@ use Rattle.array_data.specs.declared.jobs.Finish.{Finish}
 use Rattle.array_data.specs.declared.stop.Stop.{Stop}
 use Rattle.array_data.specs.declared.stop.Stop.TheVariants.{Failed, Memory}
 use Rattle.array_data.specs.Held.{built_rows, rows_in}
-use Rattle.array_data.specs.Plans.{Source_is}
+use Rattle.array_data.specs.Plans.{Source_is, and_old}
 use Rattle.fut_eval.specs.Answers.{Answer, Stands, Kept, Runs}
 
 abbrev pub as_built : Result Built Stop → Result (List Datum) Stop
@@ -35,6 +36,12 @@ unfoldable pub Applied_runs : ℕ → Body → List ℕ → ℕ → (table table
 Applied_runs budget b xs mark table table' stack stack' r =
     (env : Names Component) (next mid last : ℕ) (below args : List Component) → Stands env next table → Upward next xs mid → Body_numbered mid b last → last ≤ length table
     → stack ≡ below ++ args → length below ≡ mark → Gives (applies budget b xs env args) next table table' below stack' r
+
+-- the function on two arguments
+unfoldable pub Two_runs : ℕ → Body → List ℕ → (d e : Datum) → (table table' stack stack' : List Component) → Result Datum Stop → Type 0
+Two_runs budget b xs d e table table' stack stack' r =
+    (env : Names Component) (next mid last : ℕ) → Stands env next table → Upward next xs mid → Body_numbered mid b last → last ≤ length table
+    → Gives (applies budget b xs env (d ∷ e ∷ [])) next table table' stack stack' r
 
 -- one step of a fold
 abbrev pub next_of : ℕ → Applied → Datum → Datum → Rel Datum
@@ -67,6 +74,32 @@ unfoldable pub Scan_runs : ℕ → Body → List ℕ → (ne d : Datum) → (tab
 Scan_runs budget b xs ne d table table' stack stack' r =
     (env : Names Component) (next mid last : ℕ) → Stands env next table → Upward next xs mid → Body_numbered mid b last → last ≤ length table
     → Gives (all_of (reduction false (applies budget b xs env) ne) (prefixes_on [] (rows_in d))) next table table' stack stack' r
+
+-- one write: a row is combined with the one that stands at its index; where none stands there, nothing changes
+abbrev pub combined_with : Applied → List Datum → ℕ → Datum → Option Datum → Rel (List Datum)
+combined_with f cells k v None = gives 0 cells
+combined_with f cells k v (Some a) = Then (f (a ∷ v ∷ [])) (λ w. gives 0 (slice_set cells k w))
+
+abbrev pub write_of : Applied → List Datum → ℤ → Datum → Rel (List Datum)
+write_of f cells (pos k) v = combined_with f cells k v (slice_get cells k)
+write_of f cells (negsuc k) v = gives 0 cells
+
+-- an answer, with the rows that it leaves
+abbrev pub leaving : List Datum → Answer → Result (List Datum) Stop
+leaving ds (Ok u) = Ok ds
+leaving ds (Err e) = Err e
+
+unfoldable pub Write_runs : ℕ → Body → List ℕ → ℤ → Datum → (cells cells' : List Datum) → (table table' stack stack' : List Component) → Answer → Type 0
+Write_runs budget b xs z v cells cells' table table' stack stack' r =
+    (env : Names Component) (next mid last : ℕ) → Stands env next table → Upward next xs mid → Body_numbered mid b last → last ≤ length table
+    → Gives (write_of (applies budget b xs env) cells z v) next table table' stack stack' (leaving cells' r)
+
+-- a reduction at each place of an array, of so many rows that are written
+unfoldable pub Combine_runs : ℕ → Body → List ℕ → (d is vs : Datum) → ℕ → (table table' stack stack' : List Component) → Result (List Datum) Stop → Type 0
+Combine_runs budget b xs d is vs n table table' stack stack' r =
+    (ne : Datum) (zs : List ℤ) → each_out exact_of (rows_in is) ≡ Val zs → n ≡ length (rows_in is) → n ≡ length (rows_in vs)
+    → (env : Names Component) (next mid last : ℕ) → Stands env next table → Upward next xs mid → Body_numbered mid b last → last ≤ length table
+    → Gives (all_of (reduction true (applies budget b xs env) ne) (places and_old 0 (rows_in d) (writes (length (rows_in d)) zs (rows_in vs)))) next table table' stack stack' r
 
 -- a job, whose result is put on the stack
 unfoldable pub Job_runs : ℕ → Body → List ℕ → Out Job → (table table' stack stack' : List Component) → Answer → Type 0

@@ -3,16 +3,17 @@ ghost use Rattle.std.specs.Prelude.{◌≡◌, false, length};
 ghost use Rattle.fut_value.specs.Data.{Unmet_shape};
 ghost use Rattle.fut_meaning.specs.Jobs.{job};
 ghost use Rattle.fut_blocks.specs.Plain.{Job, action_of, binding_of, body_of};
-ghost use Rattle.array_data.specs.Held.{as_held, held, held_all, rows_in};
-ghost use Rattle.fut_eval.specs.Primitives.{Applied_runs, Each_runs, Fold_runs, Job_runs, Next_runs, Scan_runs, as_built};
+ghost use Rattle.array_data.specs.Answers.{exact_held};
+ghost use Rattle.array_data.specs.Held.{as_held, built_rows, held, held_all, rows_in};
+ghost use Rattle.fut_eval.specs.Primitives.{Applied_runs, Combine_runs, Each_runs, Fold_runs, Job_runs, Next_runs, Scan_runs, Two_runs, Write_runs, as_built};
 ghost use Rattle.fut_eval.specs.Runs.{Act_runs, Body_runs, For_runs, Over_runs, Step_runs, Test_runs, Turn_runs, While_runs};
 
 use crate::make::make;
 use crate::names::{bind, name, pop_one, pop_truth, push, push_all, read, read_data, take};
 use crate::operate::{operate, truth_at, turns_at};
 use array_data::{
-    Built, Data, Finish, Plan, Stop, array, copy, count, finish_rows, plan_of, put_row, row,
-    row_depth, row_form,
+    Built, Data, Exact, Finish, Plan, Stop, array, copy, count, finish_rows, in_place, index_at,
+    plan_of, put_row, row, row_depth, row_form,
 };
 use fut_blocks::{Act, Atom, Block, Step};
 use fut_flat::Primitive;
@@ -198,6 +199,16 @@ fn run_job(
             let value = array(alloc, place, &form, row_depth(&args[1]), built)?;
             push(stack, value)
         }
+        Plan::Combine(n) => {
+            if args.len() != 4 {
+                return Err(Stop::Memory);
+            }
+            let built = run_combine(
+                alloc, &args[0], &args[2], &args[3], n, params, body, turns, table, stack,
+            )?;
+            let value = in_place(alloc, place, &args[0], built)?;
+            push(stack, value)
+        }
     }
 }
 
@@ -246,6 +257,27 @@ fn run_each(
     Ok(built)
 }
 
+/// Applies a function to two arguments.
+#[tactic(auto, using(crate::proofs::Applying::on_two))]
+#[cycle(blocks)]
+fn apply_two(
+    alloc: Global,
+    first: Data,
+    second: Data,
+    params: &[u32],
+    body: &Block,
+    turns: u64,
+    table: &mut [Data],
+    stack: &mut Vec<Data>,
+) -> Result<Data, Stop>
+    ensures { Two_runs turns (body_of body.now) params.now (held first) (held second) (held_all table.old) (held_all table.new) (held_all stack.old.items) (held_all stack.new.items) (as_held result) }
+{
+    let mark = stack.len();
+    push(stack, first)?;
+    push(stack, second)?;
+    apply(alloc, params, body, mark, turns, table, stack)
+}
+
 /// One step of a fold. The first element stands for itself.
 #[tactic(auto, using(crate::proofs::Applying::next_steps))]
 #[cycle(blocks)]
@@ -265,10 +297,7 @@ fn fold_next(
     if i == 0 {
         return Ok(next);
     }
-    let mark = stack.len();
-    push(stack, sofar)?;
-    push(stack, next)?;
-    apply(alloc, params, body, mark, turns, table, stack)
+    apply_two(alloc, sofar, next, params, body, turns, table, stack)
 }
 
 /// Folds the rows of an array with an operator from the left. Without rows it is the neutral element.
@@ -323,6 +352,65 @@ fn run_scan(
         built.push(copy(&sofar)?)?;
     }
     Ok(built)
+}
+
+/// Combines the row that stands at an index with another one. Where no row stands there, nothing changes.
+#[tactic(auto, using(crate::proofs::Combining::writes_one))]
+#[cycle(blocks)]
+fn combine_at(
+    alloc: Global,
+    rows: &mut Built,
+    index: Exact,
+    value: Data,
+    params: &[u32],
+    body: &Block,
+    turns: u64,
+    table: &mut [Data],
+    stack: &mut Vec<Data>,
+) -> Result<(), Stop>
+    ensures { Write_runs turns (body_of body.now) params.now (exact_held index) (held value) (built_rows rows.old) (built_rows rows.new) (held_all table.old) (held_all table.new) (held_all stack.old.items) (held_all stack.new.items) result }
+{
+    match index {
+        Exact::Below(_) => Ok(()),
+        Exact::Natural(place) => {
+            let found = rows.row(place)?;
+            match found {
+                None => Ok(()),
+                Some(old) => {
+                    let next = apply_two(alloc, old, value, params, body, turns, table, stack)?;
+                    rows.set(place, next)
+                }
+            }
+        }
+    }
+}
+
+/// Combines rows with those of an array, each at the index that it has, one after the other.
+#[tactic(auto, using(crate::proofs::Combining::writes_combined))]
+#[cycle(blocks)]
+fn run_combine(
+    alloc: Global,
+    whole: &Data,
+    indices: &Data,
+    values: &Data,
+    n: usize,
+    params: &[u32],
+    body: &Block,
+    turns: u64,
+    table: &mut [Data],
+    stack: &mut Vec<Data>,
+) -> Result<Built, Stop>
+    ensures { Combine_runs turns (body_of body.now) params.now (held whole.now) (held indices.now) (held values.now) n (held_all table.old) (held_all table.new) (held_all stack.old.items) (held_all stack.new.items) (as_built result) }
+{
+    let mut rows = Built::of(alloc, whole)?;
+    for i in 0..n {
+        let index = index_at(indices, i)?;
+        let value = row(values, i)?;
+        combine_at(
+            alloc, &mut rows, index, value, params, body, turns, table, stack,
+        )?;
+    }
+    Ok(rows)
 }
 
 /// Takes the turns of a counted loop, whose values lie on the stack from the mark on.

@@ -14,4 +14,4 @@ mod program;
 mod records;
 
 pub use array_data::Data;
-pub use program::{EvalErr, eval};
+pub use program::{EvalErr, eval, run, table_of};

@@ -1,0 +1,78 @@
+-- How deep data says that it is at most.
+use Rattle.std.proofs.Common.{◌≡◌, ℕ, zero, suc, ◌+◌, ◌-◌, ◌<◌, ◌≤◌, List, [], ◌∷◌, length, get_or, drop, refl, sym, ap, ◌∙◌, arith, add-one}
+use Rattle.std.specs.Prelude.{max}
+use Rattle.std.proofs.Math.Seq.{drop-cons}
+use Rattle.fut_scalar.specs.declared.scalar.Scalar.{Scalar}
+use Rattle.fut_scalar.specs.declared.scalar.ScalarType.{ScalarType}
+use Rattle.fut_ast.specs.Sorts.{Text}
+use Rattle.array_data.specs.declared.form.Form.{Form}
+use Rattle.array_data.specs.declared.data.Data.{Data, fold-roll-Data}
+use Rattle.array_data.specs.declared.data.Data.TheOpen as open_data
+use Rattle.array_data.specs.declared.data.Data.TheVariants as hold
+use Rattle.array_data.specs.Depths.{depth_step, depth_told, row_depth_step, row_depth_told, deepest}
+use Rattle.array_data.proofs.Forms.{drop_past}
+
+module _ (d : Data) where
+  pub depth_scalar : (s : Scalar) → d ≡ hold.Scalar s → 0 ≡ depth_told d
+  unfolding depth_told depth_step
+  depth_scalar s e = sym (ap depth_told (e ∙ sym (hold.rolls-Scalar s)) ∙ fold-roll-Data ℕ depth_step (open_data.Scalar s))
+
+  pub depth_words : (t : ScalarType) (ws : List ℕ) → d ≡ hold.Words t ws → 1 ≡ depth_told d
+  unfolding depth_told depth_step
+  depth_words t ws e = sym (ap depth_told (e ∙ sym (hold.rolls-Words t ws)) ∙ fold-roll-Data ℕ depth_step (open_data.Words t ws))
+
+  pub depth_rows : (n : ℕ) (h : Form) (ds : List Data) → d ≡ hold.Rows n h ds → n ≡ depth_told d
+  unfolding depth_told depth_step
+  depth_rows n h ds e = sym (ap depth_told (e ∙ sym (hold.rolls-Rows n h ds)) ∙ fold-roll-Data ℕ depth_step (open_data.Rows n h ds))
+
+  pub depth_tuple : (n : ℕ) (ds : List Data) → d ≡ hold.Tuple n ds → n ≡ depth_told d
+  unfolding depth_told depth_step
+  depth_tuple n ds e = sym (ap depth_told (e ∙ sym (hold.rolls-Tuple n ds)) ∙ fold-roll-Data ℕ depth_step (open_data.Tuple n ds))
+
+  pub depth_record : (n : ℕ) (fs : List Text) (ds : List Data) → d ≡ hold.Record n fs ds → n ≡ depth_told d
+  unfolding depth_told depth_step
+  depth_record n fs ds e = sym (ap depth_told (e ∙ sym (hold.rolls-Record n fs ds)) ∙ fold-roll-Data ℕ depth_step (open_data.Record n fs ds))
+
+  pub row_depth_scalar : (s : Scalar) → d ≡ hold.Scalar s → 0 ≡ row_depth_told d
+  unfolding row_depth_told row_depth_step
+  row_depth_scalar s e = sym (ap row_depth_told (e ∙ sym (hold.rolls-Scalar s)) ∙ fold-roll-Data ℕ row_depth_step (open_data.Scalar s))
+
+  pub row_depth_words : (t : ScalarType) (ws : List ℕ) → d ≡ hold.Words t ws → 0 ≡ row_depth_told d
+  unfolding row_depth_told row_depth_step
+  row_depth_words t ws e = sym (ap row_depth_told (e ∙ sym (hold.rolls-Words t ws)) ∙ fold-roll-Data ℕ row_depth_step (open_data.Words t ws))
+
+  pub row_depth_rows : (n k : ℕ) (h : Form) (ds : List Data) → d ≡ hold.Rows n h ds → k ≡ n - 1 → k ≡ row_depth_told d
+  unfolding row_depth_told row_depth_step
+  row_depth_rows n k h ds e q = q ∙ sym (ap row_depth_told (e ∙ sym (hold.rolls-Rows n h ds)) ∙ fold-roll-Data ℕ row_depth_step (open_data.Rows n h ds))
+
+  pub row_depth_tuple : (n : ℕ) (ds : List Data) → d ≡ hold.Tuple n ds → 0 ≡ row_depth_told d
+  unfolding row_depth_told row_depth_step
+  row_depth_tuple n ds e = sym (ap row_depth_told (e ∙ sym (hold.rolls-Tuple n ds)) ∙ fold-roll-Data ℕ row_depth_step (open_data.Tuple n ds))
+
+  pub row_depth_record : (n : ℕ) (fs : List Text) (ds : List Data) → d ≡ hold.Record n fs ds → 0 ≡ row_depth_told d
+  unfolding row_depth_told row_depth_step
+  row_depth_record n fs ds e = sym (ap row_depth_told (e ∙ sym (hold.rolls-Record n fs ds)) ∙ fold-roll-Data ℕ row_depth_step (open_data.Record n fs ds))
+
+pub ruleset depths = (depth_scalar, depth_words, depth_rows, depth_tuple, depth_record)
+
+pub ruleset row_depths = (row_depth_scalar, row_depth_words, row_depth_rows, row_depth_tuple, row_depth_record)
+
+-- ---- the greatest of some
+
+unfoldable pub Deepest_from : ℕ → ℕ → List Data → ℕ → Type 0
+Deepest_from n m ds i = deepest n ds ≡ deepest m (drop i ds)
+
+module _ (n : ℕ) (ds : List Data) where
+  pub deepest_start : Deepest_from n n ds 0
+  unfolding Deepest_from
+  deepest_start = refl
+
+  pub deepest_more : (m m' k i : ℕ) (d : Data) → i < length ds → k ≡ depth_told (get_or ds i d) → m' ≡ max m k → Deepest_from n m ds i → Deepest_from n m' ds (i + 1)
+  unfolding Deepest_from deepest
+  deepest_more m m' k i d l e q h = h ∙ ap (deepest m) (drop-cons ds i d l) ∙ ap (λ z. deepest (max m z) (drop (suc i) ds)) (sym e) ∙ ap (λ z. deepest z (drop (suc i) ds)) (sym q) ∙ ap (λ z. deepest m' (drop z ds)) (sym (add-one i))
+
+  pub deepest_end : (m k i : ℕ) → length ds ≤ i → Deepest_from n m ds i → k ≡ m + 1 → k ≡ deepest n ds + 1
+  unfolding Deepest_from deepest
+  deepest_end m k i l h e = e ∙ ap (λ z. z + 1) (sym (h ∙ ap (deepest m) (drop_past ds i l)))
+
+pub ruleset deepest_rows = (deepest_start, deepest_more, deepest_end)

@@ -1,0 +1,29 @@
+-- How deep data says that it is at most.
+use Rattle.std.specs.Prelude.{ℕ, ◌-◌, max, List, [], ◌∷◌}
+use Rattle.array_data.specs.declared.data.Data.{Data, Data-F, fold-Data}
+
+unfoldable pub depth_step : Data-F ℕ → ℕ
+depth_step (Data-F.Scalar s) = 0
+depth_step (Data-F.Words t ws) = 1
+depth_step (Data-F.Rows n h rows) = n
+depth_step (Data-F.Tuple n parts) = n
+depth_step (Data-F.Record n fs parts) = n
+
+unfoldable pub depth_told : Data → ℕ
+depth_told = fold-Data ℕ depth_step
+
+unfoldable pub row_depth_step : Data-F ℕ → ℕ
+row_depth_step (Data-F.Scalar s) = 0
+row_depth_step (Data-F.Words t ws) = 0
+row_depth_step (Data-F.Rows n h rows) = n - 1
+row_depth_step (Data-F.Tuple n parts) = 0
+row_depth_step (Data-F.Record n fs parts) = 0
+
+-- of the rows of an array
+unfoldable pub row_depth_told : Data → ℕ
+row_depth_told = fold-Data ℕ row_depth_step
+
+-- the greatest of these, and of a first one
+unfoldable pub deepest : ℕ → List Data → ℕ
+deepest n [] = n
+deepest n (d ∷ ds) = deepest (max n (depth_told d)) ds
