@@ -29,7 +29,7 @@ use Rattle.fut_meaning.specs.Jobs.{Job, done, on_rows, on_exact, size_of, shown_
 use Rattle.fut_meaning.specs.Operators.{binary_result}
 use Rattle.fut_meaning.specs.Operations.{reported}
 use Rattle.fut_meaning.specs.Claims.{HasOut}
-use Rattle.fut_meaning.specs.Flats.{FlatValue, FlatTops, FlatMode}
+use Rattle.fut_meaning.specs.Flats.{FlatTops, FlatMode}
 use Rattle.fut_meaning.proofs.Safe.{Every}
 use Rattle.type_soundness.specs.Likeness.{All_datums, Is_empty, All_empty, Like, All_like}
 use Rattle.type_soundness.specs.Fits.{widest, Is_scalar, Fits, All_fit}
@@ -37,15 +37,15 @@ use Rattle.type_soundness.proofs.Binding.{has_then}
 use Rattle.type_soundness.proofs.Scalars.{result_type, integers_give}
 use Rattle.type_soundness.proofs.LikeLaws.{scalar_like, tuple_view, array_view, self_like}
 use Rattle.type_soundness.proofs.Making.{every_more, every_taken, every_dropped, every_reversed, every_copy, If_some, every_datums, listed_datums, has_so_many, has_checked, has_fitting, has_each, has_bounds, Of_counted, has_shared, Row, Rows_fit, of_rows, row_data, number_fits, truth_fits, every_as, every_listed}
-use Rattle.type_soundness.proofs.Applying.{Each_data, Jobs_fit}
+use Rattle.type_soundness.proofs.Application.{Application, Each_data, Jobs_fit}
 use Rattle.type_soundness.proofs.Jobs.{arrays, Gives_data, done_fits, on_rows_fits, on_exact_fits, sized_fits, array_done, array_taken, Each_row, row_shapes, each_row_data, columns_rows, rows_as}
 
 module _ (N : Names) (are : AreNames N) (integer_at : ℕ → IntType) (M : FlatMode) (budget : ℕ) (total : Bool) (K : Kinds) (tops : FlatTops) where
   abbrev D : Ty → Datum → Type 0
   D t d = Fits N integer_at M budget total t tops (as_value d)
 
-  abbrev Gives : FlatValue → Ty → Job → Type 0
-  Gives f u j = Gives_data N are integer_at M budget total K tops 0 f u j
+  abbrev Gives : Application total → Ty → Job → Type 0
+  Gives f u j = Gives_data N are integer_at M budget total K tops f u j
 
   abbrev Rows_are : Ty → Rows → Type 0
   Rows_are t r = Rows_fit N are integer_at M budget total tops K t r
@@ -53,26 +53,26 @@ module _ (N : Names) (are : AreNames N) (integer_at : ℕ → IntType) (M : Flat
   abbrev A_row : Ty → Shape → Datum → Type 0
   A_row t row d = Row N are integer_at M budget total tops K t row d
 
-  abbrev Jobs : Primitive → Place → Tys → Ty → Type 0
+  abbrev Jobs : Primitive → Place → Tys → Ty → Type 1
   Jobs p at ts u = Jobs_fit N are integer_at M budget total K tops p at ts u
 
-  on_array : (f : FlatValue) (u t : Ty) (d : Datum) (g : Rows → Out Job) → D (array_ty t) d → ((r : Rows) → Rows_are t r → HasOut (Gives f u) (g r)) → HasOut (Gives f u) (on_rows d g)
-  on_array f u t d g h go = on_rows_fits N are integer_at M budget total K tops 0 f u t d g h go
+  on_array : (f : Application total) (u t : Ty) (d : Datum) (g : Rows → Out Job) → D (array_ty t) d → ((r : Rows) → Rows_are t r → HasOut (Gives f u) (g r)) → HasOut (Gives f u) (on_rows d g)
+  on_array f u t d g h go = on_rows_fits N are integer_at M budget total K tops f u t d g h go
 
-  gives_new : (f : FlatValue) (t : Ty) (at : Place) (row : Shape) (ds : List Datum) → Every (A_row t row) ds → HasOut (Gives f (array_ty t)) (done (all_fresh (array_of at row ds)))
-  gives_new f t at row ds e = array_done N are integer_at M budget total K tops 0 f t at row ds e
+  gives_new : (f : Application total) (t : Ty) (at : Place) (row : Shape) (ds : List Datum) → Every (A_row t row) ds → HasOut (Gives f (array_ty t)) (done (all_fresh (array_of at row ds)))
+  gives_new f t at row ds e = array_done N are integer_at M budget total K tops f t at row ds e
 
-  gives_old : (f : FlatValue) (t : Ty) (at : Place) (row : Shape) (ds : List Datum) → Every (A_row t row) ds → HasOut (Gives f (array_ty t)) (some_rows at row ds)
-  gives_old f t at row ds e = array_taken N are integer_at M budget total K tops 0 f t at row ds e
+  gives_old : (f : Application total) (t : Ty) (at : Place) (row : Shape) (ds : List Datum) → Every (A_row t row) ds → HasOut (Gives f (array_ty t)) (some_rows at row ds)
+  gives_old f t at row ds e = array_taken N are integer_at M budget total K tops f t at row ds e
 
-  gives : (f : FlatValue) (u : Ty) (o : Out Counted) → HasOut (Of_counted (D u)) o → HasOut (Gives f u) (done o)
-  gives f u o h = done_fits N are integer_at M budget total K tops 0 f u o h
+  gives : (f : Application total) (u : Ty) (o : Out Counted) → HasOut (Of_counted (D u)) o → HasOut (Gives f u) (done o)
+  gives f u o h = done_fits N are integer_at M budget total K tops f u o h
 
   data_of : (t : Ty) (r : Rows) → Rows_are t r → Every (D t) r.1
   data_of t r e = row_data N are integer_at M budget total tops K t r.0 r.1 e
 
-  on_number : (f : FlatValue) (u : Ty) (d : Datum) (g : ℤ → Out Job) → D i64_ty d → ((z : ℤ) → HasOut (Gives f u) (g z)) → HasOut (Gives f u) (on_exact d g)
-  on_number f u d g h go = on_exact_fits N are integer_at M budget total K tops 0 f u d g h go
+  on_number : (f : Application total) (u : Ty) (d : Datum) (g : ℤ → Out Job) → D i64_ty d → ((z : ℤ) → HasOut (Gives f u) (g z)) → HasOut (Gives f u) (on_exact d g)
+  on_number f u d g h go = on_exact_fits N are integer_at M budget total K tops f u d g h go
 
   -- ---- numbers
   numbers_are : (n i : ℕ) → Every (A_row i64_ty i64_shape) (numbers_from n i)
@@ -84,7 +84,7 @@ module _ (N : Names) (are : AreNames N) (integer_at : ℕ → IntType) (M : Flat
 
   pub iota_fits : (at : Place) → Jobs prim.Iota at (more i64_ty none) (array_ty i64_ty)
   unfolding job
-  iota_fits at told f g h = on_number f (array_ty i64_ty) h.0 _ h.1 (λ z. sized_fits N are integer_at M budget total K tops 0 f (array_ty i64_ty) at z _ (λ n.
+  iota_fits at told f g h = on_number f (array_ty i64_ty) h.0 _ h.1 (λ z. sized_fits N are integer_at M budget total K tops f (array_ty i64_ty) at z _ (λ n.
       gives f (array_ty i64_ty) _ (has_checked (Of_counted (D (array_ty i64_ty))) (nat_le n most_words) fail.TooLarge at _ (λ l. numbers_made n))))
 
   pub indices_fits : (t : Ty) (at : Place) → Jobs prim.Indices at (more (array_ty t) none) (array_ty i64_ty)
@@ -101,7 +101,7 @@ module _ (N : Names) (are : AreNames N) (integer_at : ℕ → IntType) (M : Flat
 
   pub replicate_fits : (t : Ty) → HasKind K kind.Data t → (at : Place) → Jobs prim.Replicate at (more i64_ty (more t none)) (array_ty t)
   unfolding job
-  replicate_fits t k at told f g h = on_number f (array_ty t) h.0 _ h.1 (λ z. sized_fits N are integer_at M budget total K tops 0 f (array_ty t) at z _ (λ n.
+  replicate_fits t k at told f g h = on_number f (array_ty t) h.0 _ h.1 (λ z. sized_fits N are integer_at M budget total K tops f (array_ty t) at z _ (λ n.
       has_checked (Gives f (array_ty t)) (nat_le (weight (Array_shape n (shape_of h.2.0))) most_words) fail.TooLarge at _ (λ l.
       gives f (array_ty t) (fresh (Array_datum (shape_of h.2.0) (datums (replicate n h.2.0)))) (of_rows N are integer_at M budget total tops K t (shape_of h.2.0) (replicate n h.2.0)
       (every_copy (A_row t (shape_of h.2.0)) n h.2.0 (h.2.1, self_like N are integer_at M budget total tops K t h.2.0 k h.2.1))))))
@@ -138,7 +138,7 @@ module _ (N : Names) (are : AreNames N) (integer_at : ℕ → IntType) (M : Flat
   unfolding job
   tail_fits t at told f g h = on_array f (array_ty t) t h.0 _ h.1 (λ r e. has_checked (Gives f (array_ty t)) (not (nat_eq (length r.1) 0)) fail.Bounds at _ (λ some. gives_old f t at r.0 (drop 1 r.1) (every_dropped (A_row t r.0) 1 r.1 e)))
 
-  counted_fits : (f : FlatValue) (t : Ty) (at : Place) (z : ℤ) (r : Rows) (go : ℕ → List Datum) → ((n : ℕ) → Every (A_row t r.0) (go n)) → HasOut (Gives f (array_ty t)) (counted_rows at z r go)
+  counted_fits : (f : Application total) (t : Ty) (at : Place) (z : ℤ) (r : Rows) (go : ℕ → List Datum) → ((n : ℕ) → Every (A_row t r.0) (go n)) → HasOut (Gives f (array_ty t)) (counted_rows at z r go)
   counted_fits f t at (negsuc n) r go e = tt
   counted_fits f t at (pos n) r go e = has_checked (Gives f (array_ty t)) (nat_le n (size_of r)) fail.Bounds at _ (λ l. gives_old f t at r.0 (go n) (e n))
 
@@ -196,11 +196,11 @@ module _ (N : Names) (are : AreNames N) (integer_at : ℕ → IntType) (M : Flat
   combined_fits o at i e s (d ∷ ds) h a = has_then (Is_scalar (types.Int i)) (Is_scalar (types.Int i)) (scalar_of_datum d) _ (number_of i d a.0) (λ c k.
       has_then (Is_scalar (types.Int i)) (Is_scalar (types.Int i)) (reported at (binary_result o s c)) _ (one_type o at i e s c h k) (λ r q. combined_fits o at i e r ds q a.1))
 
-  pub summary_fits : (f : FlatValue) (o : BinOp) (at : Place) (i : IntType) → result_type o i ≡ types.Int i → (n : ℕ) (d : Datum) → D (array_ty (scalar_ty (types.Int i))) d → HasOut (Gives f (scalar_ty (types.Int i))) (summary o at (scalar.Int i n) d)
+  pub summary_fits : (f : Application total) (o : BinOp) (at : Place) (i : IntType) → result_type o i ≡ types.Int i → (n : ℕ) (d : Datum) → D (array_ty (scalar_ty (types.Int i))) d → HasOut (Gives f (scalar_ty (types.Int i))) (summary o at (scalar.Int i n) d)
   unfolding Fits
   summary_fits f o at i e n d h = on_array f (scalar_ty (types.Int i)) (scalar_ty (types.Int i)) d _ h (λ r a. gives f (scalar_ty (types.Int i)) _ (has_then (Is_scalar (types.Int i)) (Of_counted (D (scalar_ty (types.Int i)))) (combined o at (scalar.Int i n) r.1) _ (combined_fits o at i e (scalar.Int i n) r.1 refl (data_of (scalar_ty (types.Int i)) r a)) (λ s k. k)))
 
-  abbrev One_number : Primitive → IntType → Place → Type 0
+  abbrev One_number : Primitive → IntType → Place → Type 1
   One_number p i at = Jobs p at (more (array_ty (scalar_ty (types.Int i))) none) (scalar_ty (types.Int i))
 
   pub sum_fits : (i : IntType) (at : Place) → One_number (prim.Fold folding.Sum i) i at
@@ -277,7 +277,7 @@ module _ (N : Names) (are : AreNames N) (integer_at : ℕ → IntType) (M : Flat
   unflatten_fits t at told f g h =
       let u : Ty = array_ty (array_ty t) in
       on_number f u h.0 _ h.1 (λ z. on_number f u h.2.0 _ h.2.1 (λ w. on_array f u t h.2.2.0 _ h.2.2.1 (λ r e.
-      sized_fits N are integer_at M budget total K tops 0 f u at z _ (λ i. sized_fits N are integer_at M budget total K tops 0 f u at w _ (λ j.
+      sized_fits N are integer_at M budget total K tops f u at z _ (λ i. sized_fits N are integer_at M budget total K tops f u at w _ (λ j.
       has_checked (Gives f u) (nat_eq (i * j) (size_of r)) fail.Size at _ (λ same.
       has_checked (Gives f u) (nat_le (weight (Array_shape i (Array_shape j r.0))) most_words) fail.TooLarge at _ (λ l.
       gives f u (fresh (Array_datum (Array_shape j r.0) (datums (grouped r.0 i j r.1)))) (of_rows N are integer_at M budget total tops K (array_ty t) (Array_shape j r.0) (grouped r.0 i j r.1)
@@ -347,7 +347,7 @@ module _ (N : Names) (are : AreNames N) (integer_at : ℕ → IntType) (M : Flat
   tuples_fit ts hs [] lt m e = tt
   tuples_fit ts hs (r ∷ rs) lt m e = ((tupled_fits ts r lt (looks_data ts hs r e.0), parts_look ts hs r m e.0), tuples_fit ts hs rs lt m e.1)
 
-  zipped_fits : (f : FlatValue) (t : Ty) (ts : Tys) (at : Place) (d : Datum) (ds : List Datum) → count (more t ts) < widest → D (array_ty t) d → Data (arrays ts) ds → HasOut (Gives f (array_ty (Made head.Tuple (more t ts)))) (zipped false at (Tuple_shape (shape_and (row_of d) (row_shapes N are integer_at M budget total K tops ds))) (d ∷ ds))
+  zipped_fits : (f : Application total) (t : Ty) (ts : Tys) (at : Place) (d : Datum) (ds : List Datum) → count (more t ts) < widest → D (array_ty t) d → Data (arrays ts) ds → HasOut (Gives f (array_ty (Made head.Tuple (more t ts)))) (zipped false at (Tuple_shape (shape_and (row_of d) (row_shapes N are integer_at M budget total K tops ds))) (d ∷ ds))
   zipped_fits f t ts at d ds lt e es = let v = array_view N are integer_at M budget total tops K t d e in
       subst (λ z. HasOut (Gives f (array_ty (Made head.Tuple (more t ts)))) (zipped false at (Tuple_shape (shape_and (row_of z) (row_shapes N are integer_at M budget total K tops ds))) (z ∷ ds))) (sym v.2) (inside v.0 v.1 v.3)
     where

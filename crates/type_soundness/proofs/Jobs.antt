@@ -1,39 +1,28 @@
 -- What primitives on arrays do with data of their types gives data of the types of their results.
-use Rattle.std.proofs.Common.{◌≡◌, ◌⊎◌, ◌||◌, Bool, true, false, cond, ℕ, suc, ◌+◌, refl, sym, ap, subst, arith, List, [], ◌∷◌, length, nat_eq, nat_lt, ne_eqb, le-ltb, ℤ, pos, negsuc}
+use Rattle.std.proofs.Common.{◌≡◌, ◌⊎◌, ◌||◌, Bool, true, false, cond, ℕ, suc, refl, sym, ap, subst, arith, List, [], ◌∷◌, length, nat_eq, nat_lt, ne_eqb, le-ltb, ℤ, pos, negsuc}
 use mathlib.Core.Logic.{inl, inr}
-use Rattle.fut_scalar.specs.declared.place.BindId.{BindId}
 use Rattle.fut_scalar.specs.declared.place.Place.{Place}
 use Rattle.fut_scalar.specs.declared.scalar.IntType.{IntType}
 use Rattle.fut_scalar.specs.declared.scalar.IntType.TheVariants as int
-use Rattle.fut_flat.specs.declared.prim.Ref.{Ref}
 use Rattle.fut_types.specs.declared.Kind.TheVariants as kind
-use Rattle.fut_types.specs.Types.{Ty, Tys, none, more, Kinds, HasKind, fun_ty}
-use Rattle.fut_typing.specs.Names.{Names, AreNames, count}
-use Rattle.fut_typing.specs.Patterns.{arrows}
+use Rattle.fut_types.specs.Types.{Ty, Tys, none, more, Kinds, HasKind}
+use Rattle.fut_typing.specs.Names.{Names, AreNames}
 use Rattle.fut_typing.specs.Primitives.{array_ty, bool_ty, i64_ty}
 use Rattle.fut_meaning.specs.Outcomes.{Out, Val}
 use Rattle.fut_value.specs.Data.{Shape, Shapes, no_shape, shape_and, Datum, shape_of, same_sizes}
 use Rattle.fut_meaning.specs.Datums.{as_value}
 use Rattle.fut_meaning.specs.Arrays.{all_like, Rows, rows_of, exact_of, truth_of_datum, each_out, array_of, Counted, all_fresh}
 use Rattle.fut_meaning.specs.Jobs.{Job, Done, Apply_each, Reduce_each, Choose_each, done, on_rows, on_exact, sized, size_of, shown_to_agree, beside, alone, columns, mapped, array_of_results, row_of, truths, written, in_place_of, some_rows, and_write, writes, written_at, places}
-use Rattle.fut_meaning.specs.Meaning.{called_on, Lang}
 use Rattle.fut_meaning.specs.Claims.{HasOut, Correct}
-use Rattle.fut_meaning.specs.Flats.{FlatValue, FlatTops, FlatMode}
+use Rattle.fut_meaning.specs.Flats.{FlatTops, FlatMode}
 use Rattle.fut_meaning.proofs.Correct.{correct_exact}
 use Rattle.fut_meaning.proofs.JobCorrect.{good_apply, good_reduce, good_choose, correct_job}
 use Rattle.fut_meaning.proofs.Safe.{Every}
-use Rattle.type_soundness.specs.Fits.{lang, Fits}
+use Rattle.type_soundness.specs.Fits.{Fits}
 use Rattle.type_soundness.proofs.Binding.{has_then}
 use Rattle.type_soundness.proofs.LikeLaws.{both_are, array_view, self_like, same_like}
 use Rattle.type_soundness.proofs.Making.{every_as, every_listed, has_fitting, has_each, Of_counted, has_fresh, has_shared, Row, Rows_fit, of_rows, rows_fit, rows_made, row_data, array_made, integer_exact, truth_exact}
-use Rattle.type_soundness.proofs.Applying.{R, Each_data, applied_fits, Job_fits}
-
--- the mode asks nothing of operators and of writes where an outcome is to be shown
--- and reports what does not fit
-pub record Is_free (M : FlatMode) (budget : ℕ) (total : Bool) : Type 0 where
-  pub reports : M.misfit ≡ false
-  pub operators : total ≡ true → (L : Lang Ref BindId (Unit {0})) (k : ℕ) (f : FlatValue) (any : Bool) (ne : Datum) (xs : List Datum) → M.operator_fits L budget k f any ne xs
-  pub writes : total ≡ true → (ws : List (ℕ × Datum)) → M.scatter_fits ws
+use Rattle.type_soundness.proofs.Application.{Application, Each_data, Applies, Job_fits}
 
 -- arrays of each of these types
 abbrev pub arrays : Tys → Tys
@@ -44,44 +33,44 @@ module _ (N : Names) (are : AreNames N) (integer_at : ℕ → IntType) (M : Flat
   abbrev D : Ty → Datum → Type 0
   D t d = Fits N integer_at M budget total t tops (as_value d)
 
-  abbrev Of : Ty → FlatValue → Type 0
-  Of t v = Fits N integer_at M budget total t tops v
-
   abbrev Data : Tys → List Datum → Type 0
   Data ts ds = Each_data N are integer_at M budget total K tops ts ds
 
   -- a job that gives data of a type
-  abbrev pub Gives_data : ℕ → FlatValue → Ty → Job → Type 0
-  Gives_data k f u j = Job_fits N are integer_at M budget total K tops k f (D u) j
+  abbrev pub Gives_data : Application total → Ty → Job → Type 0
+  Gives_data f u j = Job_fits N are integer_at M budget total K tops f (D u) j
+
+  abbrev On_data : Tys → Ty → Application total → Type 0
+  On_data ts u f = Applies N are integer_at M budget total K tops ts u f
 
   abbrev Rows_are : Ty → Rows → Type 0
   Rows_are t r = Rows_fit N are integer_at M budget total tops K t r
 
-  pub done_fits : (k : ℕ) (f : FlatValue) (u : Ty) (o : Out Counted) → HasOut (Of_counted (D u)) o → HasOut (Gives_data k f u) (done o)
-  done_fits k f u o h = has_then (Of_counted (D u)) (Gives_data k f u) o (λ r. Val (Done r)) h (λ r p. correct_exact (D u) r.0 (Val r.1) p)
+  pub done_fits : (f : Application total) (u : Ty) (o : Out Counted) → HasOut (Of_counted (D u)) o → HasOut (Gives_data f u) (done o)
+  done_fits f u o h = has_then (Of_counted (D u)) (Gives_data f u) o (λ r. Val (Done r)) h (λ r p. correct_exact (D u) r.0 (Val r.1) p)
 
-  pub on_rows_fits : (k : ℕ) (f : FlatValue) (u t : Ty) (d : Datum) (g : Rows → Out Job) → D (array_ty t) d → ((r : Rows) → Rows_are t r → HasOut (Gives_data k f u) (g r)) → HasOut (Gives_data k f u) (on_rows d g)
-  on_rows_fits k f u t d g h go = has_then (Rows_are t) (Gives_data k f u) (rows_of d) g (rows_fit N are integer_at M budget total tops K t d h) go
+  pub on_rows_fits : (f : Application total) (u t : Ty) (d : Datum) (g : Rows → Out Job) → D (array_ty t) d → ((r : Rows) → Rows_are t r → HasOut (Gives_data f u) (g r)) → HasOut (Gives_data f u) (on_rows d g)
+  on_rows_fits f u t d g h go = has_then (Rows_are t) (Gives_data f u) (rows_of d) g (rows_fit N are integer_at M budget total tops K t d h) go
 
-  pub on_exact_fits : (k : ℕ) (f : FlatValue) (u : Ty) (d : Datum) (g : ℤ → Out Job) → D i64_ty d → ((z : ℤ) → HasOut (Gives_data k f u) (g z)) → HasOut (Gives_data k f u) (on_exact d g)
-  on_exact_fits k f u d g h go = has_then (λ z. Unit {0}) (Gives_data k f u) (exact_of d) g (integer_exact N are integer_at M budget total tops K int.I64 d h) (λ z p. go z)
+  pub on_exact_fits : (f : Application total) (u : Ty) (d : Datum) (g : ℤ → Out Job) → D i64_ty d → ((z : ℤ) → HasOut (Gives_data f u) (g z)) → HasOut (Gives_data f u) (on_exact d g)
+  on_exact_fits f u d g h go = has_then (λ z. Unit {0}) (Gives_data f u) (exact_of d) g (integer_exact N are integer_at M budget total tops K int.I64 d h) (λ z p. go z)
 
-  pub sized_fits : (k : ℕ) (f : FlatValue) (u : Ty) (at : Place) (z : ℤ) (g : ℕ → Out Job) → ((n : ℕ) → HasOut (Gives_data k f u) (g n)) → HasOut (Gives_data k f u) (sized at z g)
-  sized_fits k f u at (pos n) g go = go n
-  sized_fits k f u at (negsuc n) g go = tt
+  pub sized_fits : (f : Application total) (u : Ty) (at : Place) (z : ℤ) (g : ℕ → Out Job) → ((n : ℕ) → HasOut (Gives_data f u) (g n)) → HasOut (Gives_data f u) (sized at z g)
+  sized_fits f u at (pos n) g go = go n
+  sized_fits f u at (negsuc n) g go = tt
 
   -- an array of rows that look alike
-  pub array_done : (k : ℕ) (f : FlatValue) (t : Ty) (at : Place) (row : Shape) (ds : List Datum) → Every (Row N are integer_at M budget total tops K t row) ds → HasOut (Gives_data k f (array_ty t)) (done (all_fresh (array_of at row ds)))
-  array_done k f t at row ds e = done_fits k f (array_ty t) _ (has_fresh (D (array_ty t)) _ (rows_made N are integer_at M budget total tops K t at row ds e))
+  pub array_done : (f : Application total) (t : Ty) (at : Place) (row : Shape) (ds : List Datum) → Every (Row N are integer_at M budget total tops K t row) ds → HasOut (Gives_data f (array_ty t)) (done (all_fresh (array_of at row ds)))
+  array_done f t at row ds e = done_fits f (array_ty t) _ (has_fresh (D (array_ty t)) _ (rows_made N are integer_at M budget total tops K t at row ds e))
 
-  pub array_taken : (k : ℕ) (f : FlatValue) (t : Ty) (at : Place) (row : Shape) (ds : List Datum) → Every (Row N are integer_at M budget total tops K t row) ds → HasOut (Gives_data k f (array_ty t)) (some_rows at row ds)
-  array_taken k f t at row ds e = done_fits k f (array_ty t) _ (has_shared (D (array_ty t)) _ (rows_made N are integer_at M budget total tops K t at row ds e))
+  pub array_taken : (f : Application total) (t : Ty) (at : Place) (row : Shape) (ds : List Datum) → Every (Row N are integer_at M budget total tops K t row) ds → HasOut (Gives_data f (array_ty t)) (some_rows at row ds)
+  array_taken f t at row ds e = done_fits f (array_ty t) _ (has_shared (D (array_ty t)) _ (rows_made N are integer_at M budget total tops K t at row ds e))
 
   -- ---- a function on rows
 
-  pub apply_fits : (k : ℕ) (f : FlatValue) (q u : Ty) (rows : List (List Datum)) (g : List Datum → Out Counted) → Every (λ row. Correct total (D q) (called_on k (R N are integer_at M budget total K tops) f row)) rows
-      → ((es : List Datum) → Every (D q) es → length es ≡ length rows → HasOut (Of_counted (D u)) (g es)) → Gives_data k f u (Apply_each rows g)
-  apply_fits k f q u rows g e go = correct_job total M.tight (M.operator_fits (lang integer_at tops) budget k f) M.scatter_fits (called_on k (R N are integer_at M budget total K tops) f) (D q) (D u) (Apply_each rows g) (good_apply e go)
+  pub apply_fits : (f : Application total) (q u : Ty) (rows : List (List Datum)) (g : List Datum → Out Counted) → Every (λ row. Correct total (D q) (f.applied row)) rows
+      → ((es : List Datum) → Every (D q) es → length es ≡ length rows → HasOut (Of_counted (D u)) (g es)) → Gives_data f u (Apply_each rows g)
+  apply_fits f q u rows g e go = correct_job total f.tight f.operators f.writes f.applied (D q) (D u) (Apply_each rows g) (good_apply e go)
 
   -- rows of arguments, each of which looks as the rows of its array do
   abbrev pub Each_row : Tys → Shapes → List Datum → Type 0
@@ -130,14 +119,13 @@ module _ (N : Names) (are : AreNames N) (integer_at : ℕ → IntType) (M : Flat
       has_then (Every (Each_row (more u ts) (shape_and s.0 (row_shapes ds)))) Q (columns false at s ds) _ (columns_rows at u ts s ds q.0 h.1) (λ rs p.
       beside_rows t (more u ts) r.0 (shape_and (row_of d) (row_shapes ds)) r.1 rs e (subst (λ z. Every (Each_row (more u ts) (shape_and z (row_shapes ds))) rs) (sym q.1) p))))
 
-  pub rows_applied : (ts : Tys) (u : Ty) (f : FlatValue) → HasKind K kind.Data u → Of (arrows ts u) f → (rows : List (List Datum)) → Every (Data ts) rows → Every (λ row. Correct total (D u) (called_on (count ts) (R N are integer_at M budget total K tops) f row)) rows
-  rows_applied ts u f k h [] e = tt
-  rows_applied ts u f k h (r ∷ rs) e = (applied_fits N are integer_at M budget total K tops ts u f r k h e.0, rows_applied ts u f k h rs e.1)
+  pub rows_applied : (ts : Tys) (u : Ty) (f : Application total) → On_data ts u f → (rows : List (List Datum)) → Every (Data ts) rows → Every (λ row. Correct total (D u) (f.applied row)) rows
+  rows_applied ts u f h rows e = every_as (Data ts) (λ row. Correct total (D u) (f.applied row)) rows h e
 
-  pub mapped_fits : (t : Ty) (ts : Tys) (u : Ty) (told : Shape) (f : FlatValue) (at : Place) (d : Datum) (ds : List Datum) → HasKind K kind.Data u → Of (arrows (more t ts) u) f → D (array_ty t) d → Data (arrays ts) ds → HasOut (Gives_data (1 + count ts) f (array_ty u)) (mapped false told at (d ∷ ds))
-  mapped_fits t ts u told f at d ds k h e es = on_rows_fits (1 + count ts) f (array_ty u) t d _ e (λ r q.
-      has_then (Every (Each_row (more t ts) (shape_and r.0 (row_shapes ds)))) (Gives_data (1 + count ts) f (array_ty u)) (columns false at r ds) _ (columns_rows at t ts r ds q es) (λ rows p.
-      apply_fits (1 + count ts) f u (array_ty u) rows (array_of_results false told at) (rows_applied (more t ts) u f k h rows (every_as (Each_row (more t ts) (shape_and r.0 (row_shapes ds))) (Data (more t ts)) rows (λ y z. each_row_data (more t ts) (shape_and r.0 (row_shapes ds)) y z) p))
+  pub mapped_fits : (t : Ty) (ts : Tys) (u : Ty) (told : Shape) (f : Application total) (at : Place) (d : Datum) (ds : List Datum) → HasKind K kind.Data u → On_data (more t ts) u f → D (array_ty t) d → Data (arrays ts) ds → HasOut (Gives_data f (array_ty u)) (mapped false told at (d ∷ ds))
+  mapped_fits t ts u told f at d ds k h e es = on_rows_fits f (array_ty u) t d _ e (λ r q.
+      has_then (Every (Each_row (more t ts) (shape_and r.0 (row_shapes ds)))) (Gives_data f (array_ty u)) (columns false at r ds) _ (columns_rows at t ts r ds q es) (λ rows p.
+      apply_fits f u (array_ty u) rows (array_of_results false told at) (rows_applied (more t ts) u f h rows (every_as (Each_row (more t ts) (shape_and r.0 (row_shapes ds))) (Data (more t ts)) rows (λ y z. each_row_data (more t ts) (shape_and r.0 (row_shapes ds)) y z) p))
       (λ xs x l. has_fresh (D (array_ty u)) _ (array_made N are integer_at M budget total tops K u k at told xs x))))
 
   -- results of tests
@@ -146,15 +134,13 @@ module _ (N : Names) (are : AreNames N) (integer_at : ℕ → IntType) (M : Flat
 
   -- ---- reductions
 
-  module _ (free : Is_free M budget total) where
-    pub reduce_fits : (t u : Ty) (any : Bool) (f : FlatValue) (ne : Datum) (lists : List (List Datum)) (g : List Datum → Out Counted) → HasKind K kind.Data t → Of (fun_ty t (fun_ty t t)) f → D t ne → Every (Every (D t)) lists
-        → ((es : List Datum) → Every (D t) es → length es ≡ length lists → HasOut (Of_counted (D u)) (g es)) → Gives_data 2 f u (Reduce_each any ne lists g)
-    reduce_fits t u any f ne lists g k h n e go = correct_job total M.tight (M.operator_fits (lang integer_at tops) budget 2 f) M.scatter_fits (called_on 2 (R N are integer_at M budget total K tops) f) (D t) (D u) (Reduce_each any ne lists g)
-        (good_reduce n (λ a b p q. applied_fits N are integer_at M budget total K tops (more t (more t none)) t f (a ∷ b ∷ []) k h (p, (q, tt))) (λ z xs. free.operators z (lang integer_at tops) 2 f any ne xs) e go)
+  pub reduce_fits : (t u : Ty) (any : Bool) (f : Application total) (ne : Datum) (lists : List (List Datum)) (g : List Datum → Out Counted) → On_data (more t (more t none)) t f → D t ne → Every (Every (D t)) lists
+      → ((es : List Datum) → Every (D t) es → length es ≡ length lists → HasOut (Of_counted (D u)) (g es)) → Gives_data f u (Reduce_each any ne lists g)
+  reduce_fits t u any f ne lists g h n e go = correct_job total f.tight f.operators f.writes f.applied (D t) (D u) (Reduce_each any ne lists g) (good_reduce n (λ a b p q. h (a ∷ b ∷ []) (p, (q, tt))) (λ z xs. f.operators_free z any ne xs) e go)
 
-    -- ---- writes
-    pub choose_fits : (k : ℕ) (Q : Datum → Type 0) (u : Ty) (f : FlatValue) (ws : List (ℕ × Datum)) (old : List Datum) (g : List Datum → Out Counted) → Every (λ w. Q w.1) ws → Every Q old → ((es : List Datum) → Every Q es → length es ≡ length old → HasOut (Of_counted (D u)) (g es)) → Gives_data k f u (Choose_each ws old g)
-    choose_fits k Q u f ws old g e o go = correct_job total M.tight (M.operator_fits (lang integer_at tops) budget k f) M.scatter_fits (called_on k (R N are integer_at M budget total K tops) f) Q (D u) (Choose_each ws old g) (good_choose e o (λ z. free.writes z ws) go)
+  -- ---- writes
+  pub choose_fits : (Q : Datum → Type 0) (u : Ty) (f : Application total) (ws : List (ℕ × Datum)) (old : List Datum) (g : List Datum → Out Counted) → Every (λ w. Q w.1) ws → Every Q old → ((es : List Datum) → Every Q es → length es ≡ length old → HasOut (Of_counted (D u)) (g es)) → Gives_data f u (Choose_each ws old g)
+  choose_fits Q u f ws old g e o go = correct_job total f.tight f.operators f.writes f.applied Q (D u) (Choose_each ws old g) (good_choose e o (λ z. f.writes_free z ws) go)
 
   module _ (Q : Datum → Type 0) where
     and_written : (n : ℕ) (z : ℤ) (v : Datum) (ws : List (ℕ × Datum)) → Q v → Every (λ w. Q w.1) ws → Every (λ w. Q w.1) (and_write n z v ws)
@@ -223,12 +209,12 @@ module _ (N : Names) (are : AreNames N) (integer_at : ℕ → IntType) (M : Flat
   written_rows t r s zs (inl z) = subst (λ n. Every (λ w. Row N are integer_at M budget total tops K t r.0 w.1) (writes n zs s.1)) (sym z) (no_writes (Row N are integer_at M budget total tops K t r.0) zs s.1)
   written_rows t r s zs (inr e) = writes_data (Row N are integer_at M budget total tops K t r.0) (size_of r) zs s.1 e
 
-  pub written_fits : (k : ℕ) (f : FlatValue) (u t : Ty) → HasKind K kind.Data t → (at : Place) (r : Rows) (is vs : Datum) (g : List (ℕ × Datum) → Out Job) → Rows_are t r → D (array_ty i64_ty) is → D (array_ty t) vs
-      → ((ws : List (ℕ × Datum)) → Every (λ w. Row N are integer_at M budget total tops K t r.0 w.1) ws → HasOut (Gives_data k f u) (g ws)) → HasOut (Gives_data k f u) (written false at r is vs g)
-  written_fits k f u t kd at r is vs g e hi hv go = on_rows_fits k f u i64_ty is _ hi (λ i q. on_rows_fits k f u t vs _ hv (λ s p.
-      has_fitting (Gives_data k f u) (nat_eq (size_of i) (size_of s)) at _ (λ same.
-      has_fitting (Gives_data k f u) (shown_to_agree r s) at _ (λ agree.
-      has_then (Every (λ z. Unit {0})) (Gives_data k f u) (each_out exact_of i.1) (λ zs. g (writes (size_of r) zs s.1))
+  pub written_fits : (f : Application total) (u t : Ty) → HasKind K kind.Data t → (at : Place) (r : Rows) (is vs : Datum) (g : List (ℕ × Datum) → Out Job) → Rows_are t r → D (array_ty i64_ty) is → D (array_ty t) vs
+      → ((ws : List (ℕ × Datum)) → Every (λ w. Row N are integer_at M budget total tops K t r.0 w.1) ws → HasOut (Gives_data f u) (g ws)) → HasOut (Gives_data f u) (written false at r is vs g)
+  written_fits f u t kd at r is vs g e hi hv go = on_rows_fits f u i64_ty is _ hi (λ i q. on_rows_fits f u t vs _ hv (λ s p.
+      has_fitting (Gives_data f u) (nat_eq (size_of i) (size_of s)) at _ (λ same.
+      has_fitting (Gives_data f u) (shown_to_agree r s) at _ (λ agree.
+      has_then (Every (λ z. Unit {0})) (Gives_data f u) (each_out exact_of i.1) (λ zs. g (writes (size_of r) zs s.1))
       (has_each (D i64_ty) (λ z. Unit {0}) exact_of (integer_exact N are integer_at M budget total tops K int.I64) i.1 (row_data N are integer_at M budget total tops K i64_ty i.0 i.1 q))
       (λ zs z. go (writes (size_of r) zs s.1) (written_rows t r s zs (rows_as t kd r s e p agree)))))))
 

@@ -13,10 +13,12 @@ pub mod Using
 pub mod DataFits
 pub mod LikeLaws
 pub mod Making
+pub mod Application
 pub mod Applying
 pub mod Jobs
 pub mod DataPrimitives
 pub mod FunctionPrimitives
+pub mod ArrayPrimitives
 pub mod Makings
 pub mod Uses
 pub mod Operated

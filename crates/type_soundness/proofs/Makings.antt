@@ -33,7 +33,7 @@ use Rattle.type_soundness.proofs.DataFits.{fits_data}
 use Rattle.type_soundness.proofs.LikeLaws.{both_are, no_rows, scalar_like, array_view, self_like, same_like, through_like}
 use Rattle.type_soundness.proofs.Making.{some_is, has_as, has_so_many, listed_datums, has_fitting, every_as, every_taken, every_dropped, every_reversed, every_set, every_datums, every_listed, has_checked, Of_counted, has_fresh, has_shared, Row, of_rows, array_made, array_kind, integer_exact}
 use Rattle.type_soundness.proofs.Scalars.{integer_fits}
-use Rattle.type_soundness.proofs.Applying.{Each_data}
+use Rattle.type_soundness.proofs.Application.{Each_data}
 
 -- the row at an index below their number
 row_there : (P Q : Datum → Type 0) (i : ℕ) (xs : List Datum) (k : Datum → Out Datum) → i < length xs → Every P xs → ((d : Datum) → P d → HasOut Q (k d)) → HasOut Q (row_or_wrong (slice_get xs i) k)

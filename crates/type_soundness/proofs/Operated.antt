@@ -24,7 +24,8 @@ use Rattle.type_soundness.specs.Meant.{Operation_meant}
 use Rattle.type_soundness.proofs.Binding.{Each_fits}
 use Rattle.type_soundness.proofs.Operating.{Told, operate_fits}
 use Rattle.type_soundness.proofs.Making.{Of_counted}
-use Rattle.type_soundness.proofs.Applying.{Each_data, correct_known}
+use Rattle.type_soundness.proofs.Application.{Each_data}
+use Rattle.type_soundness.proofs.Applying.{correct_known}
 use Rattle.type_soundness.proofs.Makings.{data_kind, array_is, array_has, index_is, update_is, range_is, All_kinds, kinds_are, all_data_are}
 
 module _ (N : Names) (are : AreNames N) (integer_at : ℕ → IntType) (M : FlatMode) (budget : ℕ) (total : Bool) (tops : FlatTops) (K : Kinds) (places : Kind) (wide : level kind.Data ≤ level places) (misfit : Bool) (reports : misfit ≡ false) (told : Shape) where

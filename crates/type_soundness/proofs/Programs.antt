@@ -40,7 +40,7 @@ use Rattle.type_soundness.proofs.Environments.{env_moves, env_types}
 use Rattle.type_soundness.proofs.Using.{function_fits}
 use Rattle.type_soundness.proofs.Literals.{literal_kept}
 use Rattle.type_soundness.proofs.Running.{running}
-use Rattle.type_soundness.proofs.Jobs.{Is_free}
+use Rattle.type_soundness.proofs.Applying.{Is_free}
 
 pub or_left : (x y : Bool) → x ≡ true → (x || y) ≡ true
 or_left true y e = refl

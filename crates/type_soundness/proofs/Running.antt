@@ -45,7 +45,7 @@ use Rattle.type_soundness.proofs.Operating.{Told}
 use Rattle.type_soundness.proofs.Operated.{operation_fits}
 use Rattle.type_soundness.proofs.Making.{Rows_fit, rows_fit, row_data}
 use Rattle.type_soundness.proofs.Makings.{array_has}
-use Rattle.type_soundness.proofs.Jobs.{Is_free}
+use Rattle.type_soundness.proofs.Applying.{Is_free}
 use Rattle.type_soundness.proofs.DataFits.{fits_data}
 use Rattle.type_soundness.proofs.Uses.{use_fits}
 use Rattle.type_soundness.proofs.Environments.{env_entered, env_grows, env_moves, env_sizes, env_types}

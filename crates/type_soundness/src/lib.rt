@@ -6,8 +6,8 @@
 //! tells which terms the meaning and the walk know. `specs/Knows.antt` says what is known of values of a type before a program
 //! runs, and `specs/Walks.antt` is the law that the walk through a typed program is never lost.
 //!
-//! A primitive is one lemma in `proofs/DataPrimitives.antt` or `proofs/FunctionPrimitives.antt`, on what it does with data of its
-//! types, and one line in `proofs/Uses.antt`.
+//! A primitive on arrays is one lemma in `proofs/DataPrimitives.antt` or `proofs/FunctionPrimitives.antt`, on what it does with
+//! data of its types however its function is applied (`proofs/Application.antt`), and one line in `proofs/ArrayPrimitives.antt`.
 #![tactic(auto)]
 
 ghost use Rattle.type_soundness.specs.Programs.{Has_outcome, Never_wrong};

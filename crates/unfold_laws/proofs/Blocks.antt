@@ -1,4 +1,4 @@
--- Typed blocks in which no primitive on arrays stands never go wrong.
+-- Typed blocks never go wrong.
 use Rattle.std.proofs.Common.{◌≡◌, ℕ, suc, ◌≤◌, ◌<◌, refl, sym, subst, arith, List, [], ◌∷◌, Bool, true, false}
 use Rattle.fut_scalar.specs.declared.report.FailKind.TheVariants as fail
 use Rattle.fut_scalar.specs.declared.scalar.IntType.{IntType}
@@ -13,6 +13,8 @@ use Rattle.fut_typing.specs.Primitives.{array_ty, bool_ty}
 use Rattle.fut_value.specs.Data.{Scalar_datum, Tuple_datum, Unmet_shape, datums}
 use Rattle.fut_meaning.specs.Arrays.{Making, Make_array, Make_index, Make_update, Make_range, made, rows_of, truth_of_datum}
 use Rattle.fut_meaning.specs.Claims.{HasOut, Safe}
+use Rattle.fut_meaning.specs.Jobs.{Applied, job}
+use Rattle.fut_meaning.specs.Jobs as jobs
 use Rattle.fut_meaning.specs.Meaning.{plain, counts}
 use Rattle.fut_meaning.specs.Operations.{report}
 use Rattle.fut_meaning.specs.Outcomes.{Val, Fail, Wrong, Rel, Then, the, and_then}
@@ -20,7 +22,7 @@ use Rattle.fut_meaning.proofs.Safe.{Every, Any_truth, safe_exact, safe_then, saf
 use Rattle.fut_blocks.specs.declared.block.Atom.{Atom}
 use Rattle.fut_blocks.specs.declared.block.Operation.{Operation}
 use Rattle.fut_blocks.specs.declared.block.Operation.TheVariants as operation
-use Rattle.fut_blocks.specs.Meaning.{Component, Names as Environment, value_of, values_of, under, operated, turns_of_datum, holds, act_means, body_means}
+use Rattle.fut_blocks.specs.Meaning.{Component, Names as Environment, value_of, values_of, under, operated, turns_of_datum, holds, the_one, function_of, act_means, body_means}
 use Rattle.fut_blocks.specs.Numbered.{Act_numbered, Body_numbered}
 use Rattle.fut_blocks.specs.Plain.{Action, Operate, Tuple, Make, Read, Job, If, For, Over, While, Body, Give, Let, body_of}
 use Rattle.fut_blocks.specs.Programs.{Program_means}
@@ -28,9 +30,10 @@ use Rattle.fut_blocks.specs.Records.{reads}
 use Rattle.type_soundness.specs.Fits.{Fits}
 use Rattle.type_soundness.proofs.Making.{Of_counted, Rows_fit, rows_fit, row_data, has_as}
 use Rattle.type_soundness.proofs.Makings.{array_is, array_has, index_is, update_is, range_is}
-use Rattle.unfold_laws.specs.Safety.{Is_of, Are_of, Act_plain, Body_plain, PlainBlocksNeverStuck}
+use Rattle.unfold_laws.specs.Safety.{Is_of, Are_of, ProgramsNeverStuck}
 use Rattle.unfold_laws.specs.Typed.{Types, of_constants, Are, with_names, with_name, with_each, Operation_typed, Makes, Act_typed, Body_typed}
 use Rattle.unfold_laws.proofs.Binding.{upward_le, Sees, sees_nothing, values_are, with_value, with_values, sees_names, under_names, named_each}
+use Rattle.unfold_laws.proofs.Jobs.{Job_is, job_is}
 use Rattle.unfold_laws.proofs.Reading.{reads_are}
 use Rattle.unfold_laws.proofs.Safety.{as_each, integer_datum, truth_datum, binary_is, unary_is, convert_is, assert_is, parts_are, tuple_is}
 
@@ -133,6 +136,15 @@ module _ (N : Names) (are : AreNames N) (integer_at : ℕ → IntType) (K : Kind
   test_holds (v ∷ []) h = let r = truth_datum N are integer_at K tight budget v h.0 in subst (λ z. HasOut Any_truth (truth_of_datum z)) (sym r.1) tt
   test_holds (v ∷ w ∷ ws) h = absurd h.1
 
+  -- what a primitive's job gives
+  abbrev Job_gives : Applied → Ty → jobs.Job → Type 0
+  Job_gives g t j = Job_is N are integer_at K tight budget g t j
+
+  one_is : (t : Ty) (ws : List Component) → All_of (more t none) ws → HasOut (Of t) (the_one ws)
+  one_is t [] h = absurd h
+  one_is t (v ∷ []) h = h.0
+  one_is t (v ∷ w ∷ ws) h = absurd h.1
+
   -- what a step gives is of each type that it may have
   all_types : (Typed : Tys → Type 0) (means : Rel (List Component)) (ss : Tys) → Typed ss → ((us : Tys) → Typed us → Safe (All_of us) means) → Safe (λ ds. (us : Tys) → Typed us → All_of us ds) means
   all_types Typed means ss h safe (Val ds) f x = λ us k. safe us k (Val ds) f x
@@ -140,52 +152,60 @@ module _ (N : Names) (are : AreNames N) (integer_at : ℕ → IntType) (K : Kind
   all_types Typed means ss h safe Wrong f x = safe ss h Wrong f x
 
   mutual
-    unfolding Act_typed Body_typed Act_plain Body_plain act_means body_means Act_numbered Body_numbered
+    unfolding Act_typed Body_typed act_means body_means Act_numbered Body_numbered
 
-    act_safe : (a : Action) (G : Types) (env : Environment Component) (n m : ℕ) → Act_plain a → Act_numbered n a m → Sees_at G env n → (ts : Tys) → Act_typed N K a G ts → Safe (All_of ts) (act_means tight budget a env)
-    act_safe (Operate o) G env n m p u s ts h = safe_exact (All_of ts) 0 (operated env o) (operated_is G env n s o ts h)
-    act_safe (Tuple us) G env n m p u s ts (parts, h, lt, e) =
+    act_safe : (a : Action) (G : Types) (env : Environment Component) (n m : ℕ) → Act_numbered n a m → Sees_at G env n → (ts : Tys) → Act_typed N K a G ts → Safe (All_of ts) (act_means tight budget a env)
+    act_safe (Operate o) G env n m u s ts h = safe_exact (All_of ts) 0 (operated env o) (operated_is G env n s o ts h)
+    act_safe (Tuple us) G env n m u s ts (parts, h, lt, e) =
         subst (λ y. Safe (All_of y) (act_means tight budget (Tuple us) env)) (sym e)
         (safe_exact (All_of (more (Made head.Tuple parts) none)) 0 (and_then (values_of env us) (λ vs. Val (Tuple_datum (datums vs) ∷ [])))
         (with_values N integer_at tight budget G env n s (All_of (more (Made head.Tuple parts) none)) us parts (λ vs. Val (Tuple_datum (datums vs) ∷ [])) h (λ ds k. (tuple_is N are integer_at K tight budget parts ds lt k, tt))))
-    act_safe (Read k us) G env n m p u s ts (parts, h, r) = safe_exact (All_of ts) 0 (and_then (values_of env us) (reads k)) (with_values N integer_at tight budget G env n s (All_of ts) us parts (reads k) h (λ ds q. reads_are N are integer_at K tight budget k parts ts ds r q))
-    act_safe (Make o at us) G env n m p u s ts (parts, t, h, k, e) =
+    act_safe (Read k us) G env n m u s ts (parts, h, r) = safe_exact (All_of ts) 0 (and_then (values_of env us) (reads k)) (with_values N integer_at tight budget G env n s (All_of ts) us parts (reads k) h (λ ds q. reads_are N are integer_at K tight budget k parts ts ds r q))
+    act_safe (Make o at us) G env n m u s ts (parts, t, h, k, e) =
         subst (λ y. Safe (All_of y) (act_means tight budget (Make o at us) env)) (sym e)
         (safe_then (All_of parts) (All_of (more t none)) _ _ (safe_exact (All_of parts) 0 (values_of env us) (values_safe G env n s us parts h)) (λ ds q.
         safe_then (Of_counted (Of t)) (All_of (more t none)) _ _ (safe_exact (Of_counted (Of t)) 0 (made false Unmet_shape o at ds) (made_is o at parts t ds k q)) (λ r w. safe_exact (All_of (more t none)) r.0 (Val (r.1 ∷ [])) (w, tt))))
-    act_safe (Job q at us xs b) G env n m p u s ts h = absurd p
-    act_safe (If c a b) G env n m p (k, ga, gb) s ts (hc, ha, hb) =
-        safe_then Any_truth (All_of ts) _ _ (safe_exact Any_truth 0 _ (truth_safe G env n s c hc)) (λ t w. safe_choose (All_of ts) t _ _ (body_safe a G env n k p.0 ga s ts ha) (body_safe b G env k m p.1 gb (sees_more G env n k (body_le a n k ga) s) ts hb))
-    act_safe (For xs us i c b) G env n m p (k, up, le, gb) s ts (hu, l, t, integral, hn, hb) =
+    act_safe (Job p at us xs b) G env n m (k, up, gb) s ts (taken, fs, r, t, hu, typed, hb, l, e) =
+        subst (λ y. Safe (All_of y) (act_means tight budget (Job p at us xs b) env)) (sym e)
+        (safe_then (All_of taken) (All_of (more t none)) _ _ (safe_exact (All_of taken) 0 (values_of env us) (values_safe G env n s us taken hu)) (λ ds q.
+        safe_then (Job_gives (function_of (body_means tight budget b) xs env) t) (All_of (more t none)) _ _
+        (safe_exact (Job_gives (function_of (body_means tight budget b) xs env) t) 0 (job false Unmet_shape p at ds) (job_is N are integer_at K tight budget p at taken fs r t (function_of (body_means tight budget b) xs env) ds typed (λ es w.
+        safe_then (All_of (more r none)) (Of r) _ _
+        (under_names N integer_at tight budget G env n s (All_of (more r none)) fs xs n k es (body_means tight budget b) (let y : n ≤ n = omega arith in y) up l w (λ inner sees. body_safe b (with_names xs fs G) inner k m gb sees (more r none) hb))
+        (λ ws z. safe_exact (Of r) 0 (the_one ws) (one_is r ws z))) q))
+        (λ j w. safe_then (Of t) (All_of (more t none)) _ _ w (λ d z. safe_exact (All_of (more t none)) 0 (Val (d ∷ [])) (z, tt)))))
+    act_safe (If c a b) G env n m (k, ga, gb) s ts (hc, ha, hb) =
+        safe_then Any_truth (All_of ts) _ _ (safe_exact Any_truth 0 _ (truth_safe G env n s c hc)) (λ t w. safe_choose (All_of ts) t _ _ (body_safe a G env n k ga s ts ha) (body_safe b G env k m gb (sees_more G env n k (body_le a n k ga) s) ts hb))
+    act_safe (For xs us i c b) G env n m (k, up, le, gb) s ts (hu, l, t, integral, hn, hb) =
         safe_then (All_of ts) (All_of ts) _ _ (safe_exact (All_of ts) 0 (values_of env us) (values_safe G env n s us ts hu)) (λ ds q.
         safe_then (Turns_of t) (All_of ts) _ _ (safe_exact (Turns_of t) 0 _ (with_value N integer_at tight budget G env n s (Turns_of t) c t turns_of_datum hn (λ d w. turns_is t d integral w))) (λ r w.
         safe_turns (λ j. Unit {0}) (All_of ts) (λ j ws. under xs ws env (λ e. body_means tight budget b ((i, Scalar_datum (scalar.Int r.0 j)) ∷ e))) (λ j vs x z. under_names N integer_at tight budget G env n s (All_of ts) ts xs n k vs (λ e. body_means tight budget b ((i, Scalar_datum (scalar.Int r.0 j)) ∷ e)) (let y : n ≤ n = omega arith in y) up l z
-        (λ inner sees. body_safe b (with_name i t (with_names xs ts G)) ((i, Scalar_datum (scalar.Int r.0 j)) ∷ inner) (suc i) m p gb (sees_one (with_names xs ts G) inner k i t (Scalar_datum (scalar.Int r.0 j)) le sees (turn_number t r j w)) ts hb)) (counts r.1 0) ds (every_one (counts r.1 0)) q))
-    act_safe (Over xs us x rows b) G env n m p (k, up, le, gb) s ts (hu, l, t, hr, hb) =
+        (λ inner sees. body_safe b (with_name i t (with_names xs ts G)) ((i, Scalar_datum (scalar.Int r.0 j)) ∷ inner) (suc i) m gb (sees_one (with_names xs ts G) inner k i t (Scalar_datum (scalar.Int r.0 j)) le sees (turn_number t r j w)) ts hb)) (counts r.1 0) ds (every_one (counts r.1 0)) q))
+    act_safe (Over xs us x rows b) G env n m (k, up, le, gb) s ts (hu, l, t, hr, hb) =
         safe_then (All_of ts) (All_of ts) _ _ (safe_exact (All_of ts) 0 (values_of env us) (values_safe G env n s us ts hu)) (λ ds q.
         safe_then (λ rs. Every (Of t) rs.1) (All_of ts) _ _
         (safe_exact (λ rs. Every (Of t) rs.1) 0 _ (with_value N integer_at tight budget G env n s (λ rs. Every (Of t) rs.1) rows (array_ty t) rows_of hr (λ d w. has_as (Rows_fit N are integer_at (plain tight) budget false [] K t) (λ rs. Every (Of t) rs.1) (rows_of d) (λ rs z. row_data N are integer_at (plain tight) budget false [] K t rs.0 rs.1 z) (rows_fit N are integer_at (plain tight) budget false [] K t d w)))) (λ rs w.
         safe_turns (Of t) (All_of ts) (λ d ws. under xs ws env (λ e. body_means tight budget b ((x, d) ∷ e))) (λ d vs y z. under_names N integer_at tight budget G env n s (All_of ts) ts xs n k vs (λ e. body_means tight budget b ((x, d) ∷ e)) (let v : n ≤ n = omega arith in v) up l z
-        (λ inner sees. body_safe b (with_name x t (with_names xs ts G)) ((x, d) ∷ inner) (suc x) m p gb (sees_one (with_names xs ts G) inner k x t d le sees y) ts hb)) rs.1 ds w q))
-    act_safe (While at xs us c b) G env n m p (k, up, l', gc, gb) s ts (hu, l, hc, hb) =
+        (λ inner sees. body_safe b (with_name x t (with_names xs ts G)) ((x, d) ∷ inner) (suc x) m gb (sees_one (with_names xs ts G) inner k x t d le sees y) ts hb)) rs.1 ds w q))
+    act_safe (While at xs us c b) G env n m (k, up, l', gc, gb) s ts (hu, l, hc, hb) =
         safe_then (All_of ts) (All_of ts) _ _ (safe_exact (All_of ts) 0 (values_of env us) (values_safe G env n s us ts hu)) (λ ds q.
         safe_while (All_of ts) budget (report fail.Turns at) (λ vs. under xs vs env (λ e. Then (body_means tight budget c e) (λ ws. the (holds ws)))) (λ vs. under xs vs env (body_means tight budget b))
         (λ vs z. under_names N integer_at tight budget G env n s Any_truth ts xs n k vs (λ e. Then (body_means tight budget c e) (λ ws. the (holds ws))) (let y : n ≤ n = omega arith in y) up l z (λ inner sees.
-        safe_then (All_of (more bool_ty none)) Any_truth _ _ (body_safe c (with_names xs ts G) inner k l' p.0 gc sees (more bool_ty none) hc) (λ ws w. safe_exact Any_truth 0 (holds ws) (test_holds ws w))))
-        (λ vs z. under_names N integer_at tight budget G env n s (All_of ts) ts xs n k vs (body_means tight budget b) (let y : n ≤ n = omega arith in y) up l z (λ inner sees. body_safe b (with_names xs ts G) inner l' m p.1 gb (sees_more (with_names xs ts G) inner k l' (body_le c k l' gc) sees) ts hb))
+        safe_then (All_of (more bool_ty none)) Any_truth _ _ (body_safe c (with_names xs ts G) inner k l' gc sees (more bool_ty none) hc) (λ ws w. safe_exact Any_truth 0 (holds ws) (test_holds ws w))))
+        (λ vs z. under_names N integer_at tight budget G env n s (All_of ts) ts xs n k vs (body_means tight budget b) (let y : n ≤ n = omega arith in y) up l z (λ inner sees. body_safe b (with_names xs ts G) inner l' m gb (sees_more (with_names xs ts G) inner k l' (body_le c k l' gc) sees) ts hb))
         ds q)
 
-    body_safe : (b : Body) (G : Types) (env : Environment Component) (n m : ℕ) → Body_plain b → Body_numbered n b m → Sees_at G env n → (ts : Tys) → Body_typed N K b G ts → Safe (All_of ts) (body_means tight budget b env)
-    body_safe (Give us) G env n m p u s ts h = safe_exact (All_of ts) 0 (values_of env us) (values_safe G env n s us ts h)
-    body_safe (Let xs a b) G env n m (pa, pb) (k, ga, l, up, gb) s ts ((ss, ha, long), hb) =
+    body_safe : (b : Body) (G : Types) (env : Environment Component) (n m : ℕ) → Body_numbered n b m → Sees_at G env n → (ts : Tys) → Body_typed N K b G ts → Safe (All_of ts) (body_means tight budget b env)
+    body_safe (Give us) G env n m u s ts h = safe_exact (All_of ts) 0 (values_of env us) (values_safe G env n s us ts h)
+    body_safe (Let xs a b) G env n m (k, ga, l, up, gb) s ts ((ss, ha, long), hb) =
         safe_then (λ inner. Sees_at (with_each xs (Act_typed N K a G) G) inner l) (All_of ts) _ _
         (safe_then (λ ds. (us : Tys) → Act_typed N K a G us → All_of us ds) (λ inner. Sees_at (with_each xs (Act_typed N K a G) G) inner l) _ _
-        (all_types (Act_typed N K a G) (act_means tight budget a env) ss ha (λ us h. act_safe a G env n k pa ga s us h))
+        (all_types (Act_typed N K a G) (act_means tight budget a env) ss ha (λ us h. act_safe a G env n k ga s us h))
         (λ ds all. named_each N integer_at tight budget G env n s (Act_typed N K a G) xs k l ss ds (act_le a n k ga) up long ha all))
-        (λ inner sees. body_safe b (with_each xs (Act_typed N K a G) G) inner l m pb gb sees ts hb)
+        (λ inner sees. body_safe b (with_each xs (Act_typed N K a G) G) inner l m gb sees ts hb)
 
-pub plain_blocks_never_stuck : PlainBlocksNeverStuck
+pub programs_never_stuck : ProgramsNeverStuck
 unfolding Program_means
-plain_blocks_never_stuck N are K integer_at tight budget p ts us rising long without typed ds h =
+programs_never_stuck N are K integer_at tight budget p ts us rising long typed ds h =
     under_names N integer_at tight budget of_constants [] 0 (sees_nothing N integer_at tight budget) (Are_of N integer_at tight budget us) ts p.params.now 0 rising.first ds (body_means tight budget (body_of p.body)) (let z : 0 ≤ 0 = omega arith in z) rising.parameters long h
-    (λ inner sees. body_safe N are integer_at K tight budget (body_of p.body) (with_names p.params.now ts of_constants) inner rising.first p.names without rising.numbered sees us typed)
+    (λ inner sees. body_safe N are integer_at K tight budget (body_of p.body) (with_names p.params.now ts of_constants) inner rising.first p.names rising.numbered sees us typed)

@@ -18,5 +18,6 @@ pub mod Unstuck
 pub mod Binding
 pub mod Safety
 pub mod Reading
+pub mod Jobs
 pub mod Blocks
 mod Examples

@@ -32,7 +32,7 @@ use Rattle.fut_meaning.specs.Values.{Scalar_value}
 use Rattle.fut_meaning.proofs.Safe.{Any_truth}
 use Rattle.fut_blocks.specs.Meaning.{Component, as_flat, one, binary_scalar, asserted, parts_of}
 use Rattle.type_soundness.specs.Fits.{Fits, All_fit, widest}
-use Rattle.type_soundness.proofs.Applying.{Each_data}
+use Rattle.type_soundness.proofs.Application.{Each_data}
 use Rattle.type_soundness.proofs.Equal.{equal_fits}
 use Rattle.type_soundness.proofs.LikeLaws.{tuple_view}
 use Rattle.type_soundness.proofs.Scalars.{integer_fits, scalar_fits, scalar_inside, bool_value, integers_fit, integer_fit, complements}

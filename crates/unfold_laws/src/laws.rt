@@ -1,6 +1,6 @@
 // Laws of typed programs' blocks, each carried by a call.
 ghost use Rattle.unfold_laws.specs.Claims.{BlocksNeverWrong, ResultsAreOf, UnfoldedWellTyped, UnfoldingNeverStuck};
-ghost use Rattle.unfold_laws.specs.Safety.{PlainBlocksNeverStuck};
+ghost use Rattle.unfold_laws.specs.Safety.{ProgramsNeverStuck};
 
 /// The law that the blocks of a typed program give a value of its entry's result type or a report, and never go wrong.
 pub fn typed_blocks_never_go_wrong()
@@ -24,8 +24,7 @@ pub fn unfolded_programs_are_well_typed()
     ensures { UnfoldedWellTyped }
 {}
 
-/// The law that a well typed program of blocks in which no primitive on arrays stands never goes wrong, and gives results of
-/// its types or a report.
-pub fn programs_without_primitives_are_never_stuck()
-    ensures { PlainBlocksNeverStuck }
+/// The law that a well typed program of blocks never goes wrong, and gives results of its types or a report, whatever it comes of.
+pub fn programs_are_never_stuck()
+    ensures { ProgramsNeverStuck }
 {}

@@ -3,14 +3,13 @@
 //! Unfolding a typed program is never stuck ([`unfolding_of_typed_programs_is_never_stuck`]), its blocks are well typed
 //! ([`unfolded_programs_are_well_typed`]; `specs/Typed.antt`) and never go wrong ([`typed_blocks_never_go_wrong`]), and their
 //! results are of the types that `specs/Sorts.antt` tells of the result's type ([`results_are_of_their_types`];
-//! `specs/Claims.antt`). Typed blocks in which no primitive on arrays stands never go wrong, whatever they come of
-//! ([`programs_without_primitives_are_never_stuck`]; `specs/Safety.antt`). `specs/Fits.antt` says what is known of the values of a type where a program is unfolded.
+//! `specs/Claims.antt`). Typed blocks never go wrong, whatever they come of ([`programs_are_never_stuck`]; `specs/Safety.antt`).
+//! `specs/Fits.antt` says what is known of the values of a type where a program is unfolded.
 #![tactic(auto)]
 
 mod laws;
 
 pub use laws::{
-    programs_without_primitives_are_never_stuck, results_are_of_their_types,
-    typed_blocks_never_go_wrong, unfolded_programs_are_well_typed,
-    unfolding_of_typed_programs_is_never_stuck,
+    programs_are_never_stuck, results_are_of_their_types, typed_blocks_never_go_wrong,
+    unfolded_programs_are_well_typed, unfolding_of_typed_programs_is_never_stuck,
 };
