@@ -28,7 +28,7 @@ use Rattle.unfold.specs.Knowns.{Known, Scalar_known, Primitive_known, Knowns, no
 use Rattle.unfold.specs.Stuck.{No_primitive, Stuck_run, no_function, no_primitive, no_arguments, stuck_job, job_function}
 use Rattle.unfold.specs.Unfolding.{Bindings, step, named, constant, constant_of, Primitive_operates, p_convert, p_min, p_max, p_abs, p_popc, Applies, a_primitive_waits, a_primitive, a_job}
 use Rattle.unfold_laws.specs.Fits.{World, types_of, Learns, Comes, Is_data, Fits}
-use Rattle.unfold_laws.specs.Typed.{Act_typed}
+use Rattle.unfold_laws.specs.Typed.{Act_typed, any_types}
 use Rattle.unfold_laws.proofs.Fitting.{some_same, fits_learn, fits_data}
 use Rattle.unfold_laws.proofs.Functions.{fits_function}
 use Rattle.unfold_laws.proofs.Operating.{constant_type, fits_constant, scalar_fits, step_gives}
@@ -101,7 +101,7 @@ module _ (N : Names) (are : AreNames N) (integer_at : ℕ → IntType) (K : Kind
     two_scalars x takes world s r h k = let a = atom_is x world s h in let b = atom_is x world r k in
         subst (λ y. No_primitive p at (y ∷ r ∷ []) → ⊥) (sym a.1) (subst (λ y. No_primitive p at (Scalar_known a.0 ∷ y ∷ []) → ⊥) (sym b.1) (takes a.0 b.0))
 
-  step_of : (world : World) (x : ScalarType) (y : ℕ) (o : Operation) → Act_typed N K (Operate o) (types_of N K world.1) (more (scalar_ty x) none) → Comes N K world (step (y ∷ []) (Operate o)) (λ there. At there (scalar_ty x) (named y))
+  step_of : (world : World) (x : ScalarType) (y : ℕ) (o : Operation) → Act_typed N K any_types (Operate o) (types_of N K world.1) (more (scalar_ty x) none) → Comes N K world (step (y ∷ []) (Operate o)) (λ there. At there (scalar_ty x) (named y))
   step_of world x y o h = step_gives N integer_at K world (scalar_ty x) (scalar_data x) y (Operate o) h
 
   typed : (world : World) (x : ScalarType) (u : Atom) → At world (scalar_ty x) (Scalar_known u) → types_of N K world.1 u (scalar_ty x)

@@ -31,7 +31,7 @@ use Rattle.type_soundness.specs.Fits.{Fits}
 use Rattle.type_soundness.proofs.Making.{Of_counted, Rows_fit, rows_fit, row_data, has_as}
 use Rattle.type_soundness.proofs.Makings.{array_is, array_has, index_is, update_is, range_is}
 use Rattle.unfold_laws.specs.Safety.{Is_of, Are_of, ProgramsNeverStuck}
-use Rattle.unfold_laws.specs.Typed.{Types, of_constants, Are, with_names, with_name, with_each, Operation_typed, Makes, Act_typed, Body_typed}
+use Rattle.unfold_laws.specs.Typed.{Types, of_constants, Are, with_names, with_name, with_each, Operation_typed, Makes, Act_typed, Body_typed, Names_typed, any_types}
 use Rattle.unfold_laws.proofs.Binding.{upward_le, Sees, sees_nothing, values_are, with_value, with_values, sees_names, under_names, named_each}
 use Rattle.unfold_laws.proofs.Jobs.{Job_is, job_is}
 use Rattle.unfold_laws.proofs.Reading.{reads_are}
@@ -154,7 +154,7 @@ module _ (N : Names) (are : AreNames N) (integer_at : ℕ → IntType) (K : Kind
   mutual
     unfolding Act_typed Body_typed act_means body_means Act_numbered Body_numbered
 
-    act_safe : (a : Action) (G : Types) (env : Environment Component) (n m : ℕ) → Act_numbered n a m → Sees_at G env n → (ts : Tys) → Act_typed N K a G ts → Safe (All_of ts) (act_means tight budget a env)
+    act_safe : (a : Action) (G : Types) (env : Environment Component) (n m : ℕ) → Act_numbered n a m → Sees_at G env n → (ts : Tys) → Act_typed N K any_types a G ts → Safe (All_of ts) (act_means tight budget a env)
     act_safe (Operate o) G env n m u s ts h = safe_exact (All_of ts) 0 (operated env o) (operated_is G env n s o ts h)
     act_safe (Tuple us) G env n m u s ts (parts, h, lt, e) =
         subst (λ y. Safe (All_of y) (act_means tight budget (Tuple us) env)) (sym e)
@@ -165,7 +165,7 @@ module _ (N : Names) (are : AreNames N) (integer_at : ℕ → IntType) (K : Kind
         subst (λ y. Safe (All_of y) (act_means tight budget (Make o at us) env)) (sym e)
         (safe_then (All_of parts) (All_of (more t none)) _ _ (safe_exact (All_of parts) 0 (values_of env us) (values_safe G env n s us parts h)) (λ ds q.
         safe_then (Of_counted (Of t)) (All_of (more t none)) _ _ (safe_exact (Of_counted (Of t)) 0 (made false Unmet_shape o at ds) (made_is o at parts t ds k q)) (λ r w. safe_exact (All_of (more t none)) r.0 (Val (r.1 ∷ [])) (w, tt))))
-    act_safe (Job p at us xs b) G env n m (k, up, gb) s ts (taken, fs, r, t, hu, typed, hb, l, e) =
+    act_safe (Job p at us xs b) G env n m (k, up, gb) s ts (taken, fs, r, t, hu, typed, m', hb, l, e) =
         subst (λ y. Safe (All_of y) (act_means tight budget (Job p at us xs b) env)) (sym e)
         (safe_then (All_of taken) (All_of (more t none)) _ _ (safe_exact (All_of taken) 0 (values_of env us) (values_safe G env n s us taken hu)) (λ ds q.
         safe_then (Job_gives (function_of (body_means tight budget b) xs env) t) (All_of (more t none)) _ _
@@ -176,18 +176,18 @@ module _ (N : Names) (are : AreNames N) (integer_at : ℕ → IntType) (K : Kind
         (λ j w. safe_then (Of t) (All_of (more t none)) _ _ w (λ d z. safe_exact (All_of (more t none)) 0 (Val (d ∷ [])) (z, tt)))))
     act_safe (If c a b) G env n m (k, ga, gb) s ts (hc, ha, hb) =
         safe_then Any_truth (All_of ts) _ _ (safe_exact Any_truth 0 _ (truth_safe G env n s c hc)) (λ t w. safe_choose (All_of ts) t _ _ (body_safe a G env n k ga s ts ha) (body_safe b G env k m gb (sees_more G env n k (body_le a n k ga) s) ts hb))
-    act_safe (For xs us i c b) G env n m (k, up, le, gb) s ts (hu, l, t, integral, hn, hb) =
+    act_safe (For xs us i c b) G env n m (k, up, le, gb) s ts (hu, l, t, m', integral, hn, hb) =
         safe_then (All_of ts) (All_of ts) _ _ (safe_exact (All_of ts) 0 (values_of env us) (values_safe G env n s us ts hu)) (λ ds q.
         safe_then (Turns_of t) (All_of ts) _ _ (safe_exact (Turns_of t) 0 _ (with_value N integer_at tight budget G env n s (Turns_of t) c t turns_of_datum hn (λ d w. turns_is t d integral w))) (λ r w.
         safe_turns (λ j. Unit {0}) (All_of ts) (λ j ws. under xs ws env (λ e. body_means tight budget b ((i, Scalar_datum (scalar.Int r.0 j)) ∷ e))) (λ j vs x z. under_names N integer_at tight budget G env n s (All_of ts) ts xs n k vs (λ e. body_means tight budget b ((i, Scalar_datum (scalar.Int r.0 j)) ∷ e)) (let y : n ≤ n = omega arith in y) up l z
         (λ inner sees. body_safe b (with_name i t (with_names xs ts G)) ((i, Scalar_datum (scalar.Int r.0 j)) ∷ inner) (suc i) m gb (sees_one (with_names xs ts G) inner k i t (Scalar_datum (scalar.Int r.0 j)) le sees (turn_number t r j w)) ts hb)) (counts r.1 0) ds (every_one (counts r.1 0)) q))
-    act_safe (Over xs us x rows b) G env n m (k, up, le, gb) s ts (hu, l, t, hr, hb) =
+    act_safe (Over xs us x rows b) G env n m (k, up, le, gb) s ts (hu, l, t, m', hr, hb) =
         safe_then (All_of ts) (All_of ts) _ _ (safe_exact (All_of ts) 0 (values_of env us) (values_safe G env n s us ts hu)) (λ ds q.
         safe_then (λ rs. Every (Of t) rs.1) (All_of ts) _ _
         (safe_exact (λ rs. Every (Of t) rs.1) 0 _ (with_value N integer_at tight budget G env n s (λ rs. Every (Of t) rs.1) rows (array_ty t) rows_of hr (λ d w. has_as (Rows_fit N are integer_at (plain tight) budget false [] K t) (λ rs. Every (Of t) rs.1) (rows_of d) (λ rs z. row_data N are integer_at (plain tight) budget false [] K t rs.0 rs.1 z) (rows_fit N are integer_at (plain tight) budget false [] K t d w)))) (λ rs w.
         safe_turns (Of t) (All_of ts) (λ d ws. under xs ws env (λ e. body_means tight budget b ((x, d) ∷ e))) (λ d vs y z. under_names N integer_at tight budget G env n s (All_of ts) ts xs n k vs (λ e. body_means tight budget b ((x, d) ∷ e)) (let v : n ≤ n = omega arith in v) up l z
         (λ inner sees. body_safe b (with_name x t (with_names xs ts G)) ((x, d) ∷ inner) (suc x) m gb (sees_one (with_names xs ts G) inner k x t d le sees y) ts hb)) rs.1 ds w q))
-    act_safe (While at xs us c b) G env n m (k, up, l', gc, gb) s ts (hu, l, hc, hb) =
+    act_safe (While at xs us c b) G env n m (k, up, l', gc, gb) s ts (hu, l, m', hc, hb) =
         safe_then (All_of ts) (All_of ts) _ _ (safe_exact (All_of ts) 0 (values_of env us) (values_safe G env n s us ts hu)) (λ ds q.
         safe_while (All_of ts) budget (report fail.Turns at) (λ vs. under xs vs env (λ e. Then (body_means tight budget c e) (λ ws. the (holds ws)))) (λ vs. under xs vs env (body_means tight budget b))
         (λ vs z. under_names N integer_at tight budget G env n s Any_truth ts xs n k vs (λ e. Then (body_means tight budget c e) (λ ws. the (holds ws))) (let y : n ≤ n = omega arith in y) up l z (λ inner sees.
@@ -195,14 +195,14 @@ module _ (N : Names) (are : AreNames N) (integer_at : ℕ → IntType) (K : Kind
         (λ vs z. under_names N integer_at tight budget G env n s (All_of ts) ts xs n k vs (body_means tight budget b) (let y : n ≤ n = omega arith in y) up l z (λ inner sees. body_safe b (with_names xs ts G) inner l' m gb (sees_more (with_names xs ts G) inner k l' (body_le c k l' gc) sees) ts hb))
         ds q)
 
-    body_safe : (b : Body) (G : Types) (env : Environment Component) (n m : ℕ) → Body_numbered n b m → Sees_at G env n → (ts : Tys) → Body_typed N K b G ts → Safe (All_of ts) (body_means tight budget b env)
+    body_safe : (b : Body) (G : Types) (env : Environment Component) (n m : ℕ) → Body_numbered n b m → Sees_at G env n → (ts : Tys) → Body_typed N K any_types b G ts → Safe (All_of ts) (body_means tight budget b env)
     body_safe (Give us) G env n m u s ts h = safe_exact (All_of ts) 0 (values_of env us) (values_safe G env n s us ts h)
     body_safe (Let xs a b) G env n m (k, ga, l, up, gb) s ts ((ss, ha, long), hb) =
-        safe_then (λ inner. Sees_at (with_each xs (Act_typed N K a G) G) inner l) (All_of ts) _ _
-        (safe_then (λ ds. (us : Tys) → Act_typed N K a G us → All_of us ds) (λ inner. Sees_at (with_each xs (Act_typed N K a G) G) inner l) _ _
-        (all_types (Act_typed N K a G) (act_means tight budget a env) ss ha (λ us h. act_safe a G env n k ga s us h))
-        (λ ds all. named_each N integer_at tight budget G env n s (Act_typed N K a G) xs k l ss ds (act_le a n k ga) up long ha all))
-        (λ inner sees. body_safe b (with_each xs (Act_typed N K a G) G) inner l m gb sees ts hb)
+        safe_then (λ inner. Sees_at (with_each xs (Names_typed N K any_types a G) G) inner l) (All_of ts) _ _
+        (safe_then (λ ds. (us : Tys) → Names_typed N K any_types a G us → All_of us ds) (λ inner. Sees_at (with_each xs (Names_typed N K any_types a G) G) inner l) _ _
+        (all_types (Names_typed N K any_types a G) (act_means tight budget a env) ss ha (λ us h. act_safe a G env n k ga s us h.1))
+        (λ ds all. named_each N integer_at tight budget G env n s (Names_typed N K any_types a G) xs k l ss ds (act_le a n k ga) up long ha all))
+        (λ inner sees. body_safe b (with_each xs (Names_typed N K any_types a G) G) inner l m gb sees ts hb)
 
 pub programs_never_stuck : ProgramsNeverStuck
 unfolding Program_means

@@ -28,7 +28,7 @@ use Rattle.unfold.specs.Stuck.{Binds_to, turn_counted, turn_row, turn_tested, st
 use Rattle.unfold.specs.Unfolding.{Bindings, step, names, named, Binds, Packs, Unfolds, u_name, u_primitive, u_constant, u_strict, u_lambda, u_apply, u_let, u_packed, u_if, u_counted, u_over, u_while, Unfold_all, u_none, u_more}
 use Rattle.unfold_laws.specs.Components.{components}
 use Rattle.unfold_laws.specs.Fits.{Given, Bound, Context, behind, World, types_of, Learns, Comes, Fits, Names_fit}
-use Rattle.unfold_laws.specs.Typed.{Are, Act_typed, Body_typed}
+use Rattle.unfold_laws.specs.Typed.{Are, Act_typed, Body_typed, any_types}
 use Rattle.unfold_laws.proofs.Applying.{primitive_fits, number_fits}
 use Rattle.unfold_laws.proofs.Fitting.{some_same, none_some, fits_learn, fits_data, kind_data}
 use Rattle.unfold_laws.proofs.Functions.{function_fits}
@@ -227,14 +227,14 @@ module _ (N : Names) (are : AreNames N) (integer_at : ℕ → IntType) (P : ℕ 
         let b = laid_length h s r us [] ws [] l m in
         on_atoms there (there'.0, Given ws (parts_of h t) ∷ there'.1) h s r us ws t l m f (stand_are (types_of N K (Given ws (parts_of h t) ∷ there'.1)) ws (parts_of h t) (λ u v i. inl i) (omega (arith, a, b)))
 
-    on_step : (there there' : World) (h : Shape) (s r : Known) (us : List Atom) (xs : List ℕ) (t : Ty) (a : Action) → Laid h s us [] → Laid h r (names xs) [] → At there t s → Act_typed N K a (types_of N K there'.1) (parts_of h t) → Comes N K there' (step xs a) (Known_at t r)
+    on_step : (there there' : World) (h : Shape) (s r : Known) (us : List Atom) (xs : List ℕ) (t : Ty) (a : Action) → Laid h s us [] → Laid h r (names xs) [] → At there t s → Act_typed N K any_types a (types_of N K there'.1) (parts_of h t) → Comes N K there' (step xs a) (Known_at t r)
     on_step there there' h s r us xs t a l m f typed =
         let e = as_many there h s r us xs t l m f in
         comes_step N K there' xs a (parts_of h t) (Known_at t r) typed e
-        (on_atoms there (there'.0, Bound xs a ∷ there'.1) h s r us (names xs) t l m f (stand_are (types_of N K (Bound xs a ∷ there'.1)) (names xs) (parts_of h t) (λ u v i. inl (parts_of h t, typed, i)) (names_length xs ∙ e)))
+        (on_atoms there (there'.0, Bound xs a ∷ there'.1) h s r us (names xs) t l m f (stand_are (types_of N K (Bound xs a ∷ there'.1)) (names xs) (parts_of h t) (λ u v i. inl (parts_of h t, (tt, typed), i)) (names_length xs ∙ e)))
 
     -- steps whose results are laid out
-    block_of : (there : World) (h : Shape) (s : Known) (us : List Atom) (t : Ty) (bs : Bindings) → Comes N K there bs (Known_at t s) → Laid h s us [] → Body_typed N K (lets bs us) (types_of N K there.1) (parts_of h t)
+    block_of : (there : World) (h : Shape) (s : Known) (us : List Atom) (t : Ty) (bs : Bindings) → Comes N K there bs (Known_at t s) → Laid h s us [] → Body_typed N K any_types (lets bs us) (types_of N K there.1) (parts_of h t)
     block_of there h s us t bs c l = block_typed N K bs us there.1 (parts_of h t) c.0 (atoms_are (there.0, behind there.1 bs) h s us t l c.1)
 
     -- ---- branches
@@ -363,6 +363,7 @@ module _ (N : Names) (are : AreNames N) (integer_at : ℕ → IntType) (P : ℕ 
               first_are h s us l C g f D g',
               as_many (world.0, C) h s r us ps t l m f,
               row,
+              tt,
               outside.0,
               atom_typed (world.0, D) row u hu,
               block_of (world.0, on_turn y (names_on h s us l C g f ps D)) h s' ws t (es ++ ds)
@@ -376,6 +377,7 @@ module _ (N : Names) (are : AreNames N) (integer_at : ℕ → IntType) (P : ℕ 
               first_are h s us l C g f D g',
               as_many (world.0, C) h s r us ps t l m f,
               row,
+              tt,
               atom_typed (world.0, D) (array_ty row) u hu,
               block_of (world.0, on_turn y (names_on h s us l C g f ps D)) h s' ws t (es ++ (es' ++ ds))
                   (comes_then N K (world.0, on_turn y (names_on h s us l C g f ps D)) es (es' ++ ds) (λ there. Turn (Over o rows) there inside) (Known_at t s') ((turn_there h s us l C g f (Over o rows) turn r ps y D m g').1 inside (suc y) n4 es b)
@@ -389,6 +391,7 @@ module _ (N : Names) (are : AreNames N) (integer_at : ℕ → IntType) (P : ℕ 
             on_step (world.0, C) (world.0, C) h s e us xs t (act.While mark ps us (lets (es ++ cs) (u ∷ [])) (lets (es' ++ ds) ws)) l v f (
               first_are h s us l C g f C (learns_self N K (world.0, C)),
               as_many (world.0, C) h s r us ps t l m f,
+              tt,
               block_typed N K (es ++ cs) (u ∷ []) D (more bool_ty none) tested.0 (atom_typed (world.0, behind D (es ++ cs)) bool_ty u tested.1, tt),
               block_of (world.0, D) h s' ws t (es' ++ ds) (comes_then N K (world.0, D) es' ds (λ there. Turn (While test) there inner') (Known_at t s') (well.1 inner' n4 n5 es' d) (λ E l' tn. tn.1.1 _ _ ds s' z)) q,
             ))

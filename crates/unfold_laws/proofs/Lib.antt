@@ -20,4 +20,5 @@ pub mod Safety
 pub mod Reading
 pub mod Jobs
 pub mod Blocks
+pub mod Closing
 mod Examples

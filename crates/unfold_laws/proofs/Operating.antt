@@ -49,7 +49,7 @@ use Rattle.unfold.specs.Knowns.{Known, Scalar_known, Tuple_known, Record_known, 
 use Rattle.unfold.specs.Stuck.{No_operation}
 use Rattle.unfold.specs.Unfolding.{Bindings, step, named, constant, Packs_all, p_none, p_more, literal_type, Operates, o_integer, o_truth, o_tuple, o_record, o_binary, o_equal, o_unequal, o_negate, o_complement, o_project, o_part, o_changed, o_replace, o_made, o_ascribe, o_coerce, o_declared, o_assert}
 use Rattle.unfold_laws.specs.Fits.{Bound, World, types_of, Comes, On_component, Is_data, All_data, Fits, All_fit}
-use Rattle.unfold_laws.specs.Typed.{Are, Makes, Act_typed}
+use Rattle.unfold_laws.specs.Typed.{Are, Makes, Act_typed, any_types}
 use Rattle.unfold_laws.proofs.Fitting.{some_same, kind_data, fits_learn, data_fits, fits_data}
 use Rattle.unfold_laws.proofs.Comparing.{constant_typed, compared}
 use Rattle.unfold_laws.proofs.Packed.{packs_come, packs_all_come}
@@ -146,7 +146,7 @@ module _ (N : Names) (integer_at : ℕ → IntType) (K : Kinds) where
   boolean_data = tt
 
   -- a step with one name, for data
-  pub step_gives : (world : World) (t : Ty) → Is_data N t → (x : ℕ) (a : Action) → Act_typed N K a (types_of N K world.1) (more t none) → Comes N K world (step (x ∷ []) a) (λ there. At there t (named x))
+  pub step_gives : (world : World) (t : Ty) → Is_data N t → (x : ℕ) (a : Action) → Act_typed N K any_types a (types_of N K world.1) (more t none) → Comes N K world (step (x ∷ []) a) (λ there. At there t (named x))
   step_gives world t d x a h = comes_one N K world x a t (λ there. At there t (named x)) h (λ C g i. data_fits N integer_at K t (world.0, C) (atom.Name x) d i)
 
   -- what an operator gives is data

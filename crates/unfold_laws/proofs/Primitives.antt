@@ -28,7 +28,7 @@ use Rattle.unfold.specs.Knowns.{Known, Tuple_known, Scalar_known, Primitive_know
 use Rattle.unfold.specs.Stuck.{No_data, Stuck_run, no_function, no_primitive, no_arguments, stuck_job, job_function, Stuck_runs, stuck_run, stuck_on}
 use Rattle.unfold.specs.Unfolding.{Bindings, step, names, named, Packs, p_none, p_more, data_known, function_known, Applies, a_primitive_waits, a_primitive, a_job, Applies_all, a_none, a_more}
 use Rattle.unfold_laws.specs.Fits.{Given, Context, behind, World, types_of, Learns, Comes, Runs_well, Is_data, All_data, Fits, All_fit}
-use Rattle.unfold_laws.specs.Typed.{Are, data_types, function_type, Act_typed}
+use Rattle.unfold_laws.specs.Typed.{Are, data_types, function_type, Act_typed, any_types}
 use Rattle.unfold_laws.proofs.Fitting.{some_same, fits_learn, kind_data, fits_data, data_fits}
 use Rattle.unfold_laws.proofs.Operating.{step_gives}
 use Rattle.unfold_laws.proofs.Packed.{packs_come, packs_all_come}
@@ -251,7 +251,7 @@ module _ (N : Names) (are : AreNames N) (integer_at : ℕ → IntType) (K : Kind
           (stand_are (types_of N K (Given (names xs) fs ∷ world.1)) (names xs) fs (λ w v i. inl i) (names_length xs ∙ l ∙ sym q.1))
 
       job_typed : (world : World) → Each world ts (listed ss ++ s ∷ []) → (xs : List ℕ) (ws : List Atom) (cs ds : Bindings) (r : Known) (w : Atom) (n n' m m' : ℕ) → length xs ≡ takes (parameters_of p) → Are (types_of N K world.1) ws (data_types (parameters_of p) ts)
-          → Applies_all integer_at world.0 (map named xs) (the_function ss s) n cs r n' → Packs r m ds w m' → Act_typed N K (act.Job p at ws xs (lets (cs ++ ds) (w ∷ []))) (types_of N K world.1) (more u none)
+          → Applies_all integer_at world.0 (map named xs) (the_function ss s) n cs r n' → Packs r m ds w m' → Act_typed N K any_types (act.Job p at ws xs (lets (cs ++ ds) (w ∷ []))) (types_of N K world.1) (more u none)
       unfolding Act_typed
       job_typed world h xs ws cs ds r w n n' m m' l a x k =
           let g = function_arg world (parameters_of p) ts (listed ss ++ s ∷ []) used.takes_so h in
@@ -264,6 +264,7 @@ module _ (N : Names) (are : AreNames N) (integer_at : ℕ → IntType) (K : Kind
             u,
             a,
             record { on_arrays = of; some = used.some; given = given; kinds = kinds; parameters = ts; is = used.is; all = used.all; taken = refl; function = q.0; of_function = q.1 },
+            tt,
             block_typed N K (cs ++ ds) (w ∷ []) C (more rt none) c.0 ((fits_data N integer_at K rt (world.0, behind C (cs ++ ds)) w c.1).1, tt),
             l ∙ sym q.1,
             refl,

@@ -28,7 +28,7 @@ use Rattle.unfold.proofs.Names.{found_here, found_on}
 use Rattle.unfold.specs.Knowns.{Known, Scalar_known, Tuple_known, Record_known, Knowns, Known_fields, Scope as Seen, name_and, listed, find, record_parts}
 use Rattle.unfold.specs.Unfolding.{Bindings, step, names, named, Binds, b_bound, b_wild, b_tuple, b_parts, b_record, b_fields, b_typed, All_bind, b_none, b_more}
 use Rattle.unfold_laws.specs.Fits.{Given, Bound, World, types_of, Learns, Comes, All_data, Fits, All_fit, Names_fit}
-use Rattle.unfold_laws.specs.Typed.{Are, Act_typed}
+use Rattle.unfold_laws.specs.Typed.{Are, Act_typed, any_types}
 use Rattle.unfold_laws.proofs.Fitting.{some_same, find_learns, fits_learn, fits_data, data_fits}
 use Rattle.unfold_laws.proofs.Recording.{Each_fits, each_learn, each_listed, record_parts_fit, known_parts_fit, component_parts}
 use Rattle.unfold_laws.proofs.Shaping.{tuple_is}
@@ -109,10 +109,10 @@ module _ (N : Names) (integer_at : ℕ → IntType) (P : ℕ → Type 0) (K : Ki
     given_each : (world : World) (ts : Tys) (xs : List ℕ) → All_data N ts → length xs ≡ count ts → Each_fits N integer_at K (world.0, Given (names xs) ts ∷ world.1) ts (map named xs)
     given_each world ts xs d e = named_each (world.0, Given (names xs) ts ∷ world.1) ts xs d (stand_are (types_of N K (Given (names xs) ts ∷ world.1)) (names xs) ts (λ u t h. inl h) (names_length xs ∙ e))
 
-    step_each : (world : World) (ts : Tys) (xs : List ℕ) (b : Action) → All_data N ts → Act_typed N K b (types_of N K world.1) ts → length xs ≡ count ts → Comes N K world (step xs b) (λ there. Each_fits N integer_at K there ts (map named xs))
+    step_each : (world : World) (ts : Tys) (xs : List ℕ) (b : Action) → All_data N ts → Act_typed N K any_types b (types_of N K world.1) ts → length xs ≡ count ts → Comes N K world (step xs b) (λ there. Each_fits N integer_at K there ts (map named xs))
     step_each world ts xs b d h e =
         comes_step N K world xs b ts (λ there. Each_fits N integer_at K there ts (map named xs)) h e
-        (named_each (world.0, Bound xs b ∷ world.1) ts xs d (stand_are (types_of N K (Bound xs b ∷ world.1)) (names xs) ts (λ u t s. inl (ts, h, s)) (names_length xs ∙ e)))
+        (named_each (world.0, Bound xs b ∷ world.1) ts xs d (stand_are (types_of N K (Bound xs b ∷ world.1)) (names xs) ts (λ u t s. inl (ts, (tt, h), s)) (names_length xs ∙ e)))
 
     bound_length : (ps : Patterns Ref BindId) (lo : ℕ) (xs : List ℕ) {sc inner : Seen} {n m : ℕ} {bs : Bindings} → All_bind ps (map named xs) sc n bs inner m → length xs ≡ count (pattern_types a ps lo)
     bound_length no_pattern lo [] b = refl

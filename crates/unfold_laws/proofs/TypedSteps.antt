@@ -11,7 +11,7 @@ use Rattle.fut_blocks.specs.declared.block.Operation.TheVariants as operation
 use Rattle.fut_blocks.specs.Plain.{Action, Operate, Tuple, Make, Read, Job, If, For, Over, While, Body, Give, Let, lets}
 use Rattle.unfold.specs.Unfolding.{Bindings, step, names}
 use Rattle.unfold_laws.specs.Fits.{Given, Bound, Context, behind, World, Keeps, types_of, Steps_typed, Learns, Comes}
-use Rattle.unfold_laws.specs.Typed.{Types, Are, Stands_at, with_atoms, with_each, with_names, Operation_typed, Act_typed, Body_typed}
+use Rattle.unfold_laws.specs.Typed.{Types, Are, Stands_at, with_atoms, with_each, with_names, Operation_typed, Act_typed, Body_typed, Names_typed, any_types}
 
 pub are_kept : (G H : Types) → Keeps G H → (us : List Atom) (ts : Tys) → Are G us ts → Are H us ts
 are_kept G H k [] none h = tt
@@ -37,29 +37,31 @@ operation_kept K G H k (operation.Convert to a) ts (u, r, ha, e) = (u, r, k a u 
 operation_kept K G H k (operation.Assert at a) ts (ha, e) = (k a bool_ty ha, e)
 operation_kept K G H k (operation.Parts a) ts ha = k a _ ha
 
-module _ (N : Names) (K : Kinds) where
+-- and where names may have more types
+module _ (N : Names) (K : Kinds) (May Also : Tys → Type 0) (also : (ts : Tys) → May ts → Also ts) where
   mutual
     unfolding Act_typed Body_typed
 
-    pub act_kept : (a : Action) (G H : Types) → Keeps G H → (ts : Tys) → Act_typed N K a G ts → Act_typed N K a H ts
+    pub act_kept : (a : Action) (G H : Types) → Keeps G H → (ts : Tys) → Act_typed N K May a G ts → Act_typed N K Also a H ts
     act_kept (Operate o) G H k ts h = operation_kept K G H k o ts h
     act_kept (Tuple us) G H k ts (parts, h, w, e) = (parts, are_kept G H k us parts h, w, e)
     act_kept (Make m at us) G H k ts (parts, t, h, m', e) = (parts, t, are_kept G H k us parts h, m', e)
     act_kept (Read r us) G H k ts (parts, h, e) = (parts, are_kept G H k us parts h, e)
-    act_kept (Job p at us xs b) G H k ts (taken, fs, r, t, h, q, hb, l, e) = (taken, fs, r, t, are_kept G H k us taken h, q, body_kept b (with_names xs fs G) (with_names xs fs H) (names_kept G H k xs fs) (more r none) hb, l, e)
+    act_kept (Job p at us xs b) G H k ts (taken, fs, r, t, h, q, m, hb, l, e) = (taken, fs, r, t, are_kept G H k us taken h, q, also fs m, body_kept b (with_names xs fs G) (with_names xs fs H) (names_kept G H k xs fs) (more r none) hb, l, e)
     act_kept (If c a b) G H k ts (hc, ha, hb) = (k c bool_ty hc, body_kept a G H k ts ha, body_kept b G H k ts hb)
-    act_kept (For xs us i n b) G H k ts (hu, l, t, q, hn, hb) =
-        (are_kept G H k us ts hu, l, t, q, k n t hn, body_kept b _ _ (names_kept (with_names xs ts G) (with_names xs ts H) (names_kept G H k xs ts) (i ∷ []) (more t none)) ts hb)
-    act_kept (Over xs us x r b) G H k ts (hu, l, t, hr, hb) =
-        (are_kept G H k us ts hu, l, t, k r _ hr, body_kept b _ _ (names_kept (with_names xs ts G) (with_names xs ts H) (names_kept G H k xs ts) (x ∷ []) (more t none)) ts hb)
-    act_kept (While at xs us c b) G H k ts (hu, l, hc, hb) =
-        (are_kept G H k us ts hu, l, body_kept c _ _ (names_kept G H k xs ts) (more bool_ty none) hc, body_kept b _ _ (names_kept G H k xs ts) ts hb)
+    act_kept (For xs us i n b) G H k ts (hu, l, t, m, q, hn, hb) =
+        (are_kept G H k us ts hu, l, t, also (more t ts) m, q, k n t hn, body_kept b _ _ (names_kept (with_names xs ts G) (with_names xs ts H) (names_kept G H k xs ts) (i ∷ []) (more t none)) ts hb)
+    act_kept (Over xs us x r b) G H k ts (hu, l, t, m, hr, hb) =
+        (are_kept G H k us ts hu, l, t, also (more t ts) m, k r _ hr, body_kept b _ _ (names_kept (with_names xs ts G) (with_names xs ts H) (names_kept G H k xs ts) (x ∷ []) (more t none)) ts hb)
+    act_kept (While at xs us c b) G H k ts (hu, l, m, hc, hb) =
+        (are_kept G H k us ts hu, l, also ts m, body_kept c _ _ (names_kept G H k xs ts) (more bool_ty none) hc, body_kept b _ _ (names_kept G H k xs ts) ts hb)
 
-    pub body_kept : (b : Body) (G H : Types) → Keeps G H → (ts : Tys) → Body_typed N K b G ts → Body_typed N K b H ts
+    pub body_kept : (b : Body) (G H : Types) → Keeps G H → (ts : Tys) → Body_typed N K May b G ts → Body_typed N K Also b H ts
     body_kept (Give us) G H k ts h = are_kept G H k us ts h
-    body_kept (Let xs a b) G H k ts ((ss, ha, l), hb) =
-        ((ss, act_kept a G H k ss ha, l), body_kept b _ _ (each_kept G H (Act_typed N K a G) (Act_typed N K a H) k (λ us. act_kept a G H k us) xs) ts hb)
+    body_kept (Let xs a b) G H k ts ((ss, (m, ha), l), hb) =
+        ((ss, (also ss m, act_kept a G H k ss ha), l), body_kept b _ _ (each_kept G H (Names_typed N K May a G) (Names_typed N K Also a H) k (λ us h. (also us h.0, act_kept a G H k us h.1)) xs) ts hb)
 
+module _ (N : Names) (K : Kinds) where
   -- ---- steps
   pub behind_keeps : (C : Context) (bs : Bindings) → Keeps (types_of N K C) (types_of N K (behind C bs))
   behind_keeps C [] u t h = h
@@ -74,7 +76,7 @@ module _ (N : Names) (K : Kinds) where
   behind_then C (b ∷ bs) cs = behind_then (Bound b.0 b.1 ∷ C) bs cs
 
   -- steps and results, as one block
-  pub block_typed : (bs : Bindings) (us : List Atom) (C : Context) (ts : Tys) → Steps_typed N K C bs → Are (types_of N K (behind C bs)) us ts → Body_typed N K (lets bs us) (types_of N K C) ts
+  pub block_typed : (bs : Bindings) (us : List Atom) (C : Context) (ts : Tys) → Steps_typed N K C bs → Are (types_of N K (behind C bs)) us ts → Body_typed N K any_types (lets bs us) (types_of N K C) ts
   unfolding Body_typed lets
   block_typed [] us C ts h k = k
   block_typed (b ∷ bs) us C ts h k = (h.0, block_typed bs us (Bound b.0 b.1 ∷ C) ts h.1 k)
@@ -107,12 +109,12 @@ module _ (N : Names) (K : Kinds) where
     pub comes_map : (bs : Bindings) (Q R : World → Type 0) → Comes N K world bs Q → ((C : Context) → Learns N K world (world.0, C) → Q (world.0, C) → R (world.0, C)) → Comes N K world bs R
     comes_map bs Q R c k = (c.0, k (behind world.1 bs) (learns_steps bs world) c.1)
 
-    pub comes_step : (xs : List ℕ) (a : Action) (ss : Tys) (Q : World → Type 0) → Act_typed N K a (types_of N K world.1) ss → length xs ≡ count ss → Q (world.0, Bound xs a ∷ world.1) → Comes N K world (step xs a) Q
-    comes_step xs a ss Q h l q = (((ss, h, l), tt), q)
+    pub comes_step : (xs : List ℕ) (a : Action) (ss : Tys) (Q : World → Type 0) → Act_typed N K any_types a (types_of N K world.1) ss → length xs ≡ count ss → Q (world.0, Bound xs a ∷ world.1) → Comes N K world (step xs a) Q
+    comes_step xs a ss Q h l q = (((ss, (tt, h), l), tt), q)
 
     -- a step with one name
-    pub comes_one : (x : ℕ) (a : Action) (t : Ty) (Q : World → Type 0) → Act_typed N K a (types_of N K world.1) (more t none) → ((C : Context) → Learns N K world (world.0, C) → types_of N K C (atom.Name x) t → Q (world.0, C)) → Comes N K world (step (x ∷ []) a) Q
-    comes_one x a t Q h q = (((more t none, h, refl), tt), q (Bound (x ∷ []) a ∷ world.1) ((λ k s e. e), (λ u t h. inr h)) (inl (more t none, h, inl (refl, refl))))
+    pub comes_one : (x : ℕ) (a : Action) (t : Ty) (Q : World → Type 0) → Act_typed N K any_types a (types_of N K world.1) (more t none) → ((C : Context) → Learns N K world (world.0, C) → types_of N K C (atom.Name x) t → Q (world.0, C)) → Comes N K world (step (x ∷ []) a) Q
+    comes_one x a t Q h q = (((more t none, (tt, h), refl), tt), q (Bound (x ∷ []) a ∷ world.1) ((λ k s e. e), (λ u t h. inr h)) (inl (more t none, (tt, h), inl (refl, refl))))
 
 -- ---- rows
 pub stand_are : (G : Types) (us : List Atom) (ts : Tys) → ((u : Atom) (t : Ty) → Stands_at us ts u t → G u t) → length us ≡ count ts → Are G us ts

@@ -41,7 +41,7 @@ use Rattle.unfold_laws.specs.Claims.{UnfoldingNeverStuck, UnfoldedWellTyped}
 use Rattle.unfold_laws.specs.Components.{components, all_components}
 use Rattle.unfold_laws.specs.Fits.{Given, Context, behind, World, Keeps_tops, types_of, Steps_typed, Learns, Comes, Runs_well, Is_data, All_data, Fits, All_fit, Names_fit}
 use Rattle.unfold_laws.specs.Shaped.{Of_shape, scalar_of_shape, array_of_shape, tuple_of_shape, All_of_shapes, none_of_shapes, more_of_shapes}
-use Rattle.unfold_laws.specs.Typed.{Are, of_constants, with_names, Body_typed}
+use Rattle.unfold_laws.specs.Typed.{Are, of_constants, with_names, Body_typed, any_types}
 use Rattle.unfold_laws.proofs.Fitting.{some_same, none_some, fits_learn, all_fit_learn, kind_data}
 use Rattle.unfold_laws.proofs.Functions.{function_fits}
 use Rattle.unfold_laws.proofs.Going.{Goes, goes_as}
@@ -298,14 +298,14 @@ module _ (N : Names) (are : AreNames N) (K : Kinds) (a : Sub) (integer_at : ℕ 
         let r = shaped N integer_at K (tops, behind (behind (given us) bs) cs) u s (kind_data N K u result) k in
         let q = r.1 [] in lacks r.0 q.0 q.1
 
-    program_typed : (h : Shape) (p : Program) → Program_unfolds integer_at (tops_of 0 ds) entry.0 hs h p → Body_typed N K (body_of p.body) (with_names p.params.now (all_components N hs ts none) of_constants) (components N h u none)
+    program_typed : (h : Shape) (p : Program) → Program_unfolds integer_at (tops_of 0 ds) entry.0 hs h p → Body_typed N K any_types (body_of p.body) (with_names p.params.now (all_components N hs ts none) of_constants) (components N h u none)
     program_typed h p x =
         let us : List Atom = names p.params.now in
         let C : Context = given us in
         let d = (go C).1 x.first x.behind x.defined x.tops x.definitions in
         let c = (entry_runs us x.first x.behind x.defined x.tops x.function x.arguments x.definitions x.entry_known x.parameters).1 x.behind x.end x.applied x.result x.application in
         let results = laid_are N integer_at K (x.tops, behind (behind C x.defined) x.applied) h x.result x.results [] u none x.laid c.1 tt in
-        subst (λ b. Body_typed N K b (types_of N K C) (components N h u none)) (sym x.body)
+        subst (λ b. Body_typed N K any_types b (types_of N K C) (components N h u none)) (sym x.body)
         (block_typed N K (x.defined ++ x.applied) x.results C (components N h u none) (steps_then N K C x.defined x.applied d.0 c.0)
         (subst (λ D. Are (types_of N K D) x.results (components N h u none)) (sym (behind_then N K C x.defined x.applied)) results))
 

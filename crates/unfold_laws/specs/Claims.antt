@@ -23,10 +23,11 @@ use Rattle.fut_blocks.specs.Meaning.{Component}
 use Rattle.fut_blocks.specs.Plain.{body_of}
 use Rattle.fut_blocks.specs.Programs.{Program_means, AreOf}
 use Rattle.type_soundness.specs.Programs.{Is_typed, Arguments_fit, Result_fits}
+use Rattle.unfold_laws.specs.Closed.{Is_closed, All_closed}
 use Rattle.unfold_laws.specs.Components.{components, all_components}
 use Rattle.unfold_laws.specs.Shaped.{All_of_shapes}
 use Rattle.unfold_laws.specs.Sorts.{Sorts, parts}
-use Rattle.unfold_laws.specs.Typed.{of_constants, with_names, Body_typed}
+use Rattle.unfold_laws.specs.Typed.{of_constants, with_names, Body_typed, any_types}
 use Rattle.unfold.specs.Programs.{Program_unfolds}
 use Rattle.unfold.specs.Shapes.{Shape, Shapes, All_split, Is_value}
 use Rattle.unfold.specs.Stuck.{Program_stuck}
@@ -64,4 +65,13 @@ UnfoldedWellTyped =
     (N : Names) → AreNames N → (K : Kinds) (a : Sub) (integer_at : ℕ → IntType) (flat : Flat) → Is_typed N kind.Data K a integer_at flat
     → (entry : BindId) (ts : Tys) (u : Ty) → (scope_behind N kind.Data (program_of flat) 0 nothing).uses entry.0 K a (arrows ts u) → HasKind K kind.Data u
     → (hs : Shapes) → All_of_shapes ts hs → (h : Shape) (p : Program) → Program_unfolds integer_at (flat_tops 0 (named_terms flat)) entry.0 hs h p
-    → Body_typed N K (body_of p.body) (with_names p.params.now (all_components N hs ts none) of_constants) (components N h u none)
+    → Body_typed N K any_types (body_of p.body) (with_names p.params.now (all_components N hs ts none) of_constants) (components N h u none)
+
+-- And where the types of its parameters and of its result have no variables, so it is where names have no other types: a name has
+-- each that its step may have, and each use takes one.
+abbrev pub UnfoldedClosed : Type 0
+UnfoldedClosed =
+    (N : Names) → AreNames N → (K : Kinds) (a : Sub) (integer_at : ℕ → IntType) (flat : Flat) → Is_typed N kind.Data K a integer_at flat
+    → (entry : BindId) (ts : Tys) (u : Ty) → (scope_behind N kind.Data (program_of flat) 0 nothing).uses entry.0 K a (arrows ts u) → HasKind K kind.Data u → All_closed ts → Is_closed u
+    → (hs : Shapes) → All_of_shapes ts hs → (h : Shape) (p : Program) → Program_unfolds integer_at (flat_tops 0 (named_terms flat)) entry.0 hs h p
+    → Body_typed N K All_closed (body_of p.body) (with_names p.params.now (all_components N hs ts none) of_constants) (components N h u none)

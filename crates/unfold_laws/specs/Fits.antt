@@ -18,7 +18,7 @@ use Rattle.type_soundness.specs.Fits.{widest, FlatFields, Are_keys}
 use Rattle.unfold.specs.Knowns.{Known, Scalar_known, Tuple_known, Record_known, Knowns, no_known, known_and, Known_fields, no_known_field, known_field_and, Scope as Seen, Tops, find}
 use Rattle.unfold.specs.Stuck.{is_function, Stuck_run}
 use Rattle.unfold.specs.Unfolding.{Bindings, Applies}
-use Rattle.unfold_laws.specs.Typed.{Types, of_constants, with_atoms, with_each, Act_typed}
+use Rattle.unfold_laws.specs.Typed.{Types, of_constants, with_atoms, with_each, Names_typed, any_types}
 
 -- ---- worlds
 
@@ -51,12 +51,12 @@ module _ (N : Names) (K : Kinds) where
   abbrev pub types_of : Context → Types
   types_of [] = of_constants
   types_of (Given us ts ∷ C) = with_atoms us ts (types_of C)
-  types_of (Bound xs a ∷ C) = with_each xs (Act_typed N K a (types_of C)) (types_of C)
+  types_of (Bound xs a ∷ C) = with_each xs (Names_typed N K any_types a (types_of C)) (types_of C)
 
   -- each step has some types
   abbrev pub Steps_typed : Context → Bindings → Type 0
   Steps_typed C [] = Unit {0}
-  Steps_typed C (b ∷ bs) = ((ss : Tys) × Act_typed N K b.1 (types_of C) ss × (length b.0 ≡ count ss)) × Steps_typed (Bound b.0 b.1 ∷ C) bs
+  Steps_typed C (b ∷ bs) = ((ss : Tys) × Names_typed N K any_types b.1 (types_of C) ss × (length b.0 ≡ count ss)) × Steps_typed (Bound b.0 b.1 ∷ C) bs
 
   -- all that is known is known there too
   abbrev pub Learns : World → World → Type 0

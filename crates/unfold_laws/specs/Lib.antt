@@ -5,3 +5,4 @@ pub mod Fits
 pub mod Typed
 pub mod Components
 pub mod Safety
+pub mod Closed

@@ -11,7 +11,7 @@ use Rattle.fut_blocks.specs.Meaning.{Component}
 use Rattle.fut_blocks.specs.Plain.{body_of}
 use Rattle.fut_blocks.specs.Programs.{Program_means, Rising}
 use Rattle.type_soundness.specs.Fits.{Fits}
-use Rattle.unfold_laws.specs.Typed.{of_constants, with_names, Body_typed}
+use Rattle.unfold_laws.specs.Typed.{of_constants, with_names, Body_typed, any_types}
 
 -- data of a type: as a value it is of that type
 abbrev pub Is_of : Names → (ℕ → IntType) → Bool → ℕ → Ty → Component → Type 0
@@ -27,5 +27,5 @@ Are_of N integer_at tight budget (more t ts) (d ∷ ds) = Is_of N integer_at tig
 -- whatever the budget of turns.
 abbrev pub ProgramsNeverStuck : Type 0
 ProgramsNeverStuck =
-    (N : Names) → AreNames N → (K : Kinds) (integer_at : ℕ → IntType) (tight : Bool) (budget : ℕ) (p : Program) (ts us : Tys) → Rising p → length p.params.now ≡ count ts → Body_typed N K (body_of p.body) (with_names p.params.now ts of_constants) us
+    (N : Names) → AreNames N → (K : Kinds) (integer_at : ℕ → IntType) (tight : Bool) (budget : ℕ) (p : Program) (ts us : Tys) → Rising p → length p.params.now ≡ count ts → Body_typed N K any_types (body_of p.body) (with_names p.params.now ts of_constants) us
     → (ds : List Component) → Are_of N integer_at tight budget ts ds → Safe (Are_of N integer_at tight budget us) (Program_means tight budget p ds)

@@ -138,7 +138,8 @@ pub record Primitive_typed (K : Kinds) (p : Primitive) (us fs : Tys) (r t : Ty) 
 
 -- ---- blocks
 
-module _ (N : Names) (K : Kinds) where
+-- new names may have each row of types of which `May` holds
+module _ (N : Names) (K : Kinds) (May : Tys → Type 0) where
   unfoldable mutual
     pub Act_typed : Action → Types → Tys → Type 0
     Act_typed (Operate o) G ts = Operation_typed K G o ts
@@ -146,13 +147,21 @@ module _ (N : Names) (K : Kinds) where
     Act_typed (Make m at us) G ts = (parts : Tys) × (t : Ty) × Are G us parts × Makes N K m parts t × (ts ≡ more t none)
     Act_typed (Read k us) G ts = (parts : Tys) × Are G us parts × Reads N k parts ts
     Act_typed (Job p at us xs b) G ts =
-        (taken : Tys) × (fs : Tys) × (r : Ty) × (t : Ty) × Are G us taken × Primitive_typed K p taken fs r t × Body_typed b (with_names xs fs G) (more r none) × (length xs ≡ count fs) × (ts ≡ more t none)
+        (taken : Tys) × (fs : Tys) × (r : Ty) × (t : Ty) × Are G us taken × Primitive_typed K p taken fs r t × May fs × Body_typed b (with_names xs fs G) (more r none) × (length xs ≡ count fs) × (ts ≡ more t none)
     Act_typed (If c a b) G ts = G c bool_ty × Body_typed a G ts × Body_typed b G ts
-    Act_typed (For xs us i n b) G ts = Are G us ts × (length xs ≡ count ts) × (t : Ty) × HasKind K kind.Integer t × G n t × Body_typed b (with_name i t (with_names xs ts G)) ts
-    Act_typed (Over xs us x rows b) G ts = Are G us ts × (length xs ≡ count ts) × (t : Ty) × G rows (array_ty t) × Body_typed b (with_name x t (with_names xs ts G)) ts
-    Act_typed (While at xs us c b) G ts = Are G us ts × (length xs ≡ count ts) × Body_typed c (with_names xs ts G) (more bool_ty none) × Body_typed b (with_names xs ts G) ts
+    Act_typed (For xs us i n b) G ts = Are G us ts × (length xs ≡ count ts) × (t : Ty) × May (more t ts) × HasKind K kind.Integer t × G n t × Body_typed b (with_name i t (with_names xs ts G)) ts
+    Act_typed (Over xs us x rows b) G ts = Are G us ts × (length xs ≡ count ts) × (t : Ty) × May (more t ts) × G rows (array_ty t) × Body_typed b (with_name x t (with_names xs ts G)) ts
+    Act_typed (While at xs us c b) G ts = Are G us ts × (length xs ≡ count ts) × May ts × Body_typed c (with_names xs ts G) (more bool_ty none) × Body_typed b (with_names xs ts G) ts
 
     -- each step has some types, and its names have all of them
     pub Body_typed : Body → Types → Tys → Type 0
     Body_typed (Give us) G ts = Are G us ts
-    Body_typed (Let xs a b) G ts = ((ss : Tys) × Act_typed a G ss × (length xs ≡ count ss)) × Body_typed b (with_each xs (Act_typed a G) G) ts
+    Body_typed (Let xs a b) G ts = ((ss : Tys) × (May ss × Act_typed a G ss) × (length xs ≡ count ss)) × Body_typed b (with_each xs (λ us. May us × Act_typed a G us) G) ts
+
+-- the rows of types of names for what an act gives
+abbrev pub Names_typed : Names → Kinds → (Tys → Type 0) → Action → Types → Tys → Type 0
+Names_typed N K May a G ts = May ts × Act_typed N K May a G ts
+
+-- where names may have any types
+abbrev pub any_types : Tys → Type 0
+any_types ts = Unit {0}
