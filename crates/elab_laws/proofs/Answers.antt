@@ -12,9 +12,9 @@ use Rattle.elab_laws.specs.Claims.{source_of}
 use Rattle.elab_laws.specs.Answers.{LawfulFilesHaveOneAnswer, TightFilesAllowNoMore}
 
 pub lawful_files_have_one_answer : LawfulFilesHaveOneAnswer
-lawful_files_have_one_answer ps flat integer_at budget entry arguments answer other words others tight x y =
-    sym (answer_is_one Spelled Label Outside answer other (source_one_result integer_at tight budget (source_of ps flat) entry (all_values arguments) (out_of answer) (out_of other) words others x y))
+lawful_files_have_one_answer ps flat told budget entry arguments answer other words others tight x y =
+    sym (answer_is_one Spelled Label Outside answer other (source_one_result told tight budget (source_of ps flat) entry (all_values arguments) (out_of answer) (out_of other) words others x y))
 
 pub tight_files_allow_no_more : TightFilesAllowNoMore
-tight_files_allow_no_more ps flat integer_at budget entry arguments answer words x =
-    loosest (source_names integer_at) true budget entry (source_of ps flat) (all_values arguments) (out_of answer) words x
+tight_files_allow_no_more ps flat told budget entry arguments answer words x =
+    loosest (source_names told) true budget entry (source_of ps flat) (all_values arguments) (out_of answer) words x

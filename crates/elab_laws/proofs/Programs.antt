@@ -153,19 +153,19 @@ unfolding resolve_program
 elaborated ps flat e z = program_is _ flat e (λ s h. let r = files_go 0 ps (record { own = []; scope = []; made = [] }) s flat.definitions h in tops_resolved 0 r nothing_below (plain_tops r z))
 
 pub elaborated_adds_nothing : ElaboratedAddsNothing
-elaborated_adds_nothing ps flat e p integer_at tight budget entry vs ws s o f x = go_back (program_sim integer_at tight budget entry true (elaborated ps flat e p) s) o f x
+elaborated_adds_nothing ps flat e p told tight budget entry vs ws s o f x = go_back (program_sim told tight budget entry true (elaborated ps flat e p) s) o f x
 
 pub elaborated_loses_nothing : ElaboratedLosesNothing
-elaborated_loses_nothing ps flat e p integer_at tight budget entry vs ws s o f x = go_forth (program_sim integer_at tight budget entry false (elaborated ps flat e p) s) o f x
+elaborated_loses_nothing ps flat e p told tight budget entry vs ws s o f x = go_forth (program_sim told tight budget entry false (elaborated ps flat e p) s) o f x
 
 pub same_results : SameResults
-same_results ps flat e p integer_at tight budget entry arguments result words = (
-  λ x. source_allows _ result words (elaborated_adds_nothing ps flat e p integer_at tight budget entry _ _ (all_datums_same arguments) _ words x),
-  λ x. flat_allows _ result words (elaborated_loses_nothing ps flat e p integer_at tight budget entry _ _ (all_datums_same arguments) _ words x),
+same_results ps flat e p told tight budget entry arguments result words = (
+  λ x. source_allows _ result words (elaborated_adds_nothing ps flat e p told tight budget entry _ _ (all_datums_same arguments) _ words x),
+  λ x. flat_allows _ result words (elaborated_loses_nothing ps flat e p told tight budget entry _ _ (all_datums_same arguments) _ words x),
 )
 
 pub same_reports : SameReports
-same_reports ps flat e p integer_at tight budget entry arguments report words = (
-  λ x. source_reports _ report words (elaborated_adds_nothing ps flat e p integer_at tight budget entry _ _ (all_datums_same arguments) _ words x),
-  λ x. flat_reports _ report words (elaborated_loses_nothing ps flat e p integer_at tight budget entry _ _ (all_datums_same arguments) _ words x),
+same_reports ps flat e p told tight budget entry arguments report words = (
+  λ x. source_reports _ report words (elaborated_adds_nothing ps flat e p told tight budget entry _ _ (all_datums_same arguments) _ words x),
+  λ x. flat_reports _ report words (elaborated_loses_nothing ps flat e p told tight budget entry _ _ (all_datums_same arguments) _ words x),
 )

@@ -1,8 +1,8 @@
 -- What is proved of elaboration: the flat program means what the files mean by their names.
 use Rattle.std.specs.Prelude.{◌≡◌, ◌↔◌, ℕ, List, Bool, [], Ok}
 use Rattle.fut_scalar.specs.declared.report.Report.{Report}
-use Rattle.fut_scalar.specs.declared.scalar.IntType.{IntType}
 use Rattle.fut_ast.specs.declared.module.Program.{Program}
+use Rattle.fut_meaning.specs.Found.{Told}
 use Rattle.fut_meaning.specs.Datums.{Datum, as_value, all_values}
 use Rattle.fut_meaning.specs.Outcomes.{Out, Val, Fail}
 use Rattle.fut_meaning.specs.Meaning.{plain}
@@ -24,29 +24,29 @@ flat_of flat = flat_tops 0 (named_values flat.definitions)
 abbrev pub ElaboratedAddsNothing : Type 0
 ElaboratedAddsNothing =
     (ps : List Program) (flat : FlatProgram) → resolve_program ps ≡ Ok flat → Definitions_sizeless flat.definitions
-    → (integer_at : ℕ → IntType) (tight : Bool) (budget entry : ℕ) (vs : List SourceValue) (ws : List FlatValue) → All_same Same vs ws
-    → (o : Out FlatValue) (f : ℕ) → Program_means (flat_names integer_at) (plain tight) budget (flat_of flat) entry ws o f → Left Same (Source_means integer_at (plain tight) budget (source_of ps flat) entry vs) o f
+    → (told : Told) (tight : Bool) (budget entry : ℕ) (vs : List SourceValue) (ws : List FlatValue) → All_same Same vs ws
+    → (o : Out FlatValue) (f : ℕ) → Program_means (flat_names told) (plain tight) budget (flat_of flat) entry ws o f → Left Same (Source_means told (plain tight) budget (source_of ps flat) entry vs) o f
 
 -- and what the files allow, the flat program does
 abbrev pub ElaboratedLosesNothing : Type 0
 ElaboratedLosesNothing =
     (ps : List Program) (flat : FlatProgram) → resolve_program ps ≡ Ok flat → Definitions_sizeless flat.definitions
-    → (integer_at : ℕ → IntType) (tight : Bool) (budget entry : ℕ) (vs : List SourceValue) (ws : List FlatValue) → All_same Same vs ws
-    → (o : Out SourceValue) (f : ℕ) → Source_means integer_at (plain tight) budget (source_of ps flat) entry vs o f → Right Same (Program_means (flat_names integer_at) (plain tight) budget (flat_of flat) entry ws) o f
+    → (told : Told) (tight : Bool) (budget entry : ℕ) (vs : List SourceValue) (ws : List FlatValue) → All_same Same vs ws
+    → (o : Out SourceValue) (f : ℕ) → Source_means told (plain tight) budget (source_of ps flat) entry vs o f → Right Same (Program_means (flat_names told) (plain tight) budget (flat_of flat) entry ws) o f
 
 -- a result that is data is allowed of the flat program where it is allowed of the files, for arguments that are data, with
 -- the same count of words
 abbrev pub SameResults : Type 0
 SameResults =
     (ps : List Program) (flat : FlatProgram) → resolve_program ps ≡ Ok flat → Definitions_sizeless flat.definitions
-    → (integer_at : ℕ → IntType) (tight : Bool) (budget entry : ℕ) (arguments : List Datum) (result : Datum) (words : ℕ)
-    → Program_means (flat_names integer_at) (plain tight) budget (flat_of flat) entry (all_values arguments) (Val (as_value result)) words
-    ↔ Source_means integer_at (plain tight) budget (source_of ps flat) entry (all_values arguments) (Val (as_value result)) words
+    → (told : Told) (tight : Bool) (budget entry : ℕ) (arguments : List Datum) (result : Datum) (words : ℕ)
+    → Program_means (flat_names told) (plain tight) budget (flat_of flat) entry (all_values arguments) (Val (as_value result)) words
+    ↔ Source_means told (plain tight) budget (source_of ps flat) entry (all_values arguments) (Val (as_value result)) words
 
 -- and so is the report of a failure
 abbrev pub SameReports : Type 0
 SameReports =
     (ps : List Program) (flat : FlatProgram) → resolve_program ps ≡ Ok flat → Definitions_sizeless flat.definitions
-    → (integer_at : ℕ → IntType) (tight : Bool) (budget entry : ℕ) (arguments : List Datum) (report : Report) (words : ℕ)
-    → Program_means (flat_names integer_at) (plain tight) budget (flat_of flat) entry (all_values arguments) (Fail report) words
-    ↔ Source_means integer_at (plain tight) budget (source_of ps flat) entry (all_values arguments) (Fail report) words
+    → (told : Told) (tight : Bool) (budget entry : ℕ) (arguments : List Datum) (report : Report) (words : ℕ)
+    → Program_means (flat_names told) (plain tight) budget (flat_of flat) entry (all_values arguments) (Fail report) words
+    ↔ Source_means told (plain tight) budget (source_of ps flat) entry (all_values arguments) (Fail report) words

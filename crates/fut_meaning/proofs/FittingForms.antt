@@ -11,9 +11,9 @@ use Rattle.fut_meaning.specs.Outcomes.{Out, Wrong, Then, the}
 use Rattle.fut_meaning.specs.Arrays.{Making}
 use Rattle.fut_meaning.specs.Jobs.{Job}
 use Rattle.fut_meaning.specs.Datums.{Datum, as_value, takes, function_argument}
-use Rattle.fut_meaning.specs.Values.{Value, Scalar_value, Tuple_value, Record_value, Array_value, Closure, Primitive_value, Env, base, bind, Task, Evaluate, Call, Meanings, listed}
+use Rattle.fut_meaning.specs.Values.{Value, Scalar_value, Tuple_value, Record_value, Array_value, Closure, Primitive_value, Env, base, bind, entered, Task, Evaluate, Call, Meanings, listed}
 use Rattle.fut_meaning.specs.Operations.{report, operated_by, making, parameters_of, arity, is_of_scalars}
-use Rattle.fut_meaning.specs.Meaning.{Lang, plain, unrestricted, row_told, Of_literal, counts, placed, under, called, called_on, no_function, job_of, given, entering, call, looped, step, Means, Ever, ever}
+use Rattle.fut_meaning.specs.Meaning.{Lang, plain, unrestricted, row_told, Of_literal, counts, placed, under, called, called_on, no_function, job_of, given, first_node, call, looped, step, Means, Ever, ever}
 use Rattle.fut_meaning.specs.Programs.{Top, Tops, Names, is_reached, evaluated, applied_to, Program_means}
 use Rattle.fut_meaning.specs.Flats.{flat_names, flat_tops}
 use Rattle.fut_meaning.specs.Claims.{FittedAddsNothing, FittedLosesNothing}
@@ -21,8 +21,8 @@ use Rattle.fut_meaning.proofs.Fitting.{Fitted, Goes_wrong, misfits, fitted_same,
 use Rattle.fut_meaning.proofs.FittingJobs.{Job_like, job_same, Jobs_like, jobs_go, jobs_stop, jobs_misfit, job_fits, made_fits, fitted_job}
 
 module _ {P B S : Type 0} (L : Lang P B S) (tight : Bool) (budget : ℕ) (R T : Meanings P B S) (hr : (t : Task P B S) → Fitted (R t) (T t)) where
-  fitted_under : (p : Pattern P B) (v : Value P B S) (env : Env P B S) (task : Env P B S → Task P B S) → Fitted (under R p v env task) (under T p v env task)
-  fitted_under p v env task = fitted_then _ _ _ _ (fitted_same _) (λ e. hr (task e))
+  fitted_under : (q : ℕ) (p : Pattern P B) (v : Value P B S) (env : Env P B S) (task : Env P B S → Task P B S) → Fitted (under R q p v env task) (under T q p v env task)
+  fitted_under q p v env task = fitted_then _ _ _ _ (fitted_same _) (λ e. hr (task e))
 
   fitted_called : (f : Value P B S) (ds : List Datum) → Fitted (called R f ds) (called T f ds)
   fitted_called f [] = fitted_same _
@@ -52,17 +52,17 @@ module _ {P B S : Type 0} (L : Lang P B S) (tight : Bool) (budget : ℕ) (R T : 
   fitted_call (Record_value fs) v = fitted_same _
   fitted_call (Array_value row ds) v = fitted_same _
   fitted_call (Closure no_pattern body lo env) v = fitted_same _
-  fitted_call (Closure (pattern_and p no_pattern) body lo env) v = fitted_under p v (entering (pattern_and p no_pattern) lo v env) (λ e. Evaluate e lo body)
+  fitted_call (Closure (pattern_and p no_pattern) body lo env) v = fitted_under (first_node (pattern_and p no_pattern) lo) p v env (λ e. Evaluate e lo body)
   fitted_call (Closure (pattern_and p (pattern_and q ps)) body lo env) v = fitted_same _
   fitted_call (Primitive_value p at vs) v = fitted_given p at (listed vs ++ v ∷ []) (nat_lt (length (listed vs ++ v ∷ [])) (arity p))
 
-  fitted_looped : (env : Env P B S) (p : Pattern P B) (mark : Place) (ts : Turns P B) (body : Term P B) (lo mid : ℕ) (v : Value P B S) → Fitted (looped budget R env p mark ts body lo mid v) (looped budget T env p mark ts body lo mid v)
-  fitted_looped env p mark (Counted i n) body lo mid v =
-      fitted_then _ _ _ _ (hr _) (λ k. fitted_then _ _ _ _ (fitted_same _) (λ c. fitted_turns _ _ (λ j w. fitted_under p w env (λ e. Evaluate (bind i (Scalar_value (scalar.Int c.0 j)) e) mid body)) (counts c.1 0) v))
-  fitted_looped env p mark (Over q a) body lo mid v =
-      fitted_then _ _ _ _ (hr _) (λ w. fitted_then _ _ _ _ (fitted_same _) (λ r. fitted_turns _ _ (λ d w. fitted_then _ _ _ _ (fitted_same _) (λ e. fitted_under q (as_value d) e (λ e. Evaluate e mid body))) r.1 v))
-  fitted_looped env p mark (While c) body lo mid v =
-      fitted_while budget (report kind.Turns mark) _ _ _ _ (λ w. fitted_then _ _ _ _ (fitted_under p w env (λ e. Evaluate e lo c)) (λ b. fitted_same _)) (λ w. fitted_under p w env (λ e. Evaluate e mid body)) v
+  fitted_looped : (env : Env P B S) (q : ℕ) (p : Pattern P B) (mark : Place) (ts : Turns P B) (body : Term P B) (lo mid : ℕ) (v : Value P B S) → Fitted (looped budget R env q p mark ts body lo mid v) (looped budget T env q p mark ts body lo mid v)
+  fitted_looped env q p mark (Counted i n) body lo mid v =
+      fitted_then _ _ _ _ (hr _) (λ k. fitted_then _ _ _ _ (fitted_same _) (λ c. fitted_turns _ _ (λ j w. fitted_under q p w env (λ e. Evaluate (bind i (Scalar_value (scalar.Int c.0 j)) (entered lo (Scalar_value (scalar.Int c.0 j)) e)) mid body)) (counts c.1 0) v))
+  fitted_looped env q p mark (Over r a) body lo mid v =
+      fitted_then _ _ _ _ (hr _) (λ w. fitted_then _ _ _ _ (fitted_same _) (λ ds. fitted_turns _ _ (λ d w. fitted_then _ _ _ _ (fitted_same _) (λ e. fitted_under lo r (as_value d) e (λ e. Evaluate e mid body))) ds.1 v))
+  fitted_looped env q p mark (While c) body lo mid v =
+      fitted_while budget (report kind.Turns mark) _ _ _ _ (λ w. fitted_then _ _ _ _ (fitted_under q p w env (λ e. Evaluate e lo c)) (λ b. fitted_same _)) (λ w. fitted_under q p w env (λ e. Evaluate e mid body)) v
 
   fitted_worked : (told : Shape) (m : Option Making) (o : Out (Value P B S)) (at : Place) (vs : List (Value P B S)) → Fitted (operated_by false told m o at vs) (operated_by true told m o at vs)
   fitted_worked told None o at vs = fitted_same _
@@ -78,10 +78,10 @@ module _ {P B S : Type 0} (L : Lang P B S) (tight : Bool) (budget : ℕ) (R T : 
   fitted_step (Evaluate env lo (Strict o mark ts)) = fitted_strict env lo o mark ts
   fitted_step (Evaluate env lo (Lambda ps e)) = fitted_same _
   fitted_step (Evaluate env lo (Apply f e)) = fitted_then _ _ _ _ (hr _) (λ h. fitted_then _ _ _ _ (hr _) (λ v. hr _))
-  fitted_step (Evaluate env lo (Let b v e)) = fitted_then _ _ _ _ (hr _) (λ w. fitted_under b.pattern w env (λ inner. Evaluate inner (1 + lo + pattern_numbers b.pattern + numbers v) e))
+  fitted_step (Evaluate env lo (Let b v e)) = fitted_then _ _ _ _ (hr _) (λ w. fitted_under (1 + lo) b.pattern w env (λ inner. Evaluate inner (1 + lo + pattern_numbers b.pattern + numbers v) e))
   fitted_step (Evaluate env lo (If c a b)) = fitted_then _ _ _ _ (hr _) (λ v. fitted_then _ _ _ _ (fitted_same _) (λ holds. fitted_choose holds _ _ _ _ (hr _) (hr _)))
   fitted_step (Evaluate env lo (Loop mark sizes p first ts body)) =
-      fitted_then _ _ _ _ (hr _) (λ v. fitted_looped env p mark ts body (1 + lo + pattern_numbers p + numbers first) (1 + lo + pattern_numbers p + numbers first + turn_numbers ts) v)
+      fitted_then _ _ _ _ (hr _) (λ v. fitted_looped env (1 + lo) p mark ts body (1 + lo + pattern_numbers p + numbers first) (1 + lo + pattern_numbers p + numbers first + turn_numbers ts) v)
 
 module _ {P B S : Type 0} (L : Lang P B S) (tight : Bool) (budget : ℕ) where
   fitted_means : (n : ℕ) (t : Task P B S) → Fitted (Means L (plain tight) budget n t) (Means L (unrestricted tight true) budget n t)
@@ -121,7 +121,7 @@ module _ {P B S : Type 0} (N : Names P B S) (tight : Bool) (budget entry : ℕ) 
       fitted_then _ _ _ _ (fitted_evaluated ds []) (λ tops. fitted_then _ _ _ _ (fitted_same _) (λ f. fitted_applied (Ever (N.lang tops) (plain tight) budget) (Ever (N.lang tops) (unrestricted tight true) budget) (fitted_ever (N.lang tops) tight budget) arguments f))
 
 pub fitted_adds_nothing : FittedAddsNothing
-fitted_adds_nothing integer_at tight budget ds entry arguments o f x = (fitted_program (flat_names integer_at) tight budget entry.0 (flat_tops 0 ds) arguments).kept o f x
+fitted_adds_nothing told tight budget ds entry arguments o f x = (fitted_program (flat_names told) tight budget entry.0 (flat_tops 0 ds) arguments).kept o f x
 
 pub fitted_loses_nothing : FittedLosesNothing
-fitted_loses_nothing integer_at tight budget ds entry arguments o f x = (fitted_program (flat_names integer_at) tight budget entry.0 (flat_tops 0 ds) arguments).lost o f x
+fitted_loses_nothing told tight budget ds entry arguments o f x = (fitted_program (flat_names told) tight budget entry.0 (flat_tops 0 ds) arguments).lost o f x

@@ -6,7 +6,7 @@ use Rattle.fut_primitives.specs.Written.{Written, Variable, Scalar, Own, From, A
 use Rattle.fut_primitives.specs.Table.{written, own_of, from_of}
 use Rattle.fut_types.specs.Types.{fun_ty}
 use Rattle.fut_typing.specs.Primitives.{array_ty, pair_ty, triple_ty, plain_type, prim_type}
-use Rattle.fut_sizes.specs.Sizes.{levels, erased, all_erased}
+use Rattle.sized_types.specs.Sizes.{levels, erased, all_erased}
 use Rattle.fut_sizes.specs.Primitives.{Frames, chosen, argument, sized_type, prim_size}
 
 pub erased_type : (own from : ScalarType) (φ : Frames) (i : ℕ) (w : Written) → erased (sized_type own from φ i w) ≡ plain_type own from w

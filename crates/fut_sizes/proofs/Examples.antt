@@ -4,7 +4,7 @@ use Rattle.fut_scalar.specs.declared.scalar.ScalarType.TheVariants as scalar
 use Rattle.fut_scalar.specs.declared.scalar.IntType.TheVariants as int
 use Rattle.fut_flat.specs.declared.prim.Folding.TheVariants as folding
 use Rattle.fut_flat.specs.declared.prim.Primitive.TheVariants as prim
-use Rattle.fut_sizes.specs.Sizes.{Bound, Inferred, Size, Hole, Level, Fun, levels, all_levels}
+use Rattle.sized_types.specs.Sizes.{Bound, Inferred, Size, Hole, Level, Fun, levels, all_levels}
 use Rattle.fut_sizes.specs.Primitives.{scalar_size, pair_size, triple_size, sized_type, prim_size}
 
 abbrev bool : Size

@@ -3,7 +3,7 @@
 use Rattle.std.specs.Prelude.{ℕ, suc, ◌+◌, Bool, true, false, cond, nat_eq, List, [], ◌∷◌, Result, Ok, Err}
 use Rattle.fut_types.specs.declared.Head.TheVariants as head
 use Rattle.fut_types.specs.Types.{Ty, Var, Made, Tys, none, more}
-use Rattle.fut_sizes.specs.Sizes.{Free, Name, Unknown, Dim, At, Bound, Inferred, Written, Size, Hole, Level, Built, Fun, Sizes, no_size, size_and, is_dim, levels, renamed, takes}
+use Rattle.sized_types.specs.Sizes.{Free, Name, Unknown, Dim, At, Bound, Inferred, Written, Size, Hole, Level, Built, Fun, Sizes, no_size, size_and, is_dim, levels, renamed, takes}
 
 -- the first that is met, at a node
 pub data Refusal : Type 0 where

@@ -7,7 +7,7 @@ use Rattle.fut_flat.specs.Terms.{Integer, Use, Strict, no_term}
 use Rattle.fut_flat.specs.Erased.{FlatTerm}
 use Rattle.fut_types.specs.Types.{Ty, Made}
 use Rattle.fut_types.specs.declared.Head.TheVariants as head
-use Rattle.fut_sizes.specs.Sizes.{Free, Const, Name, Unknown, Slot, Dim, At, Variable, Size, Hole, Open, Level, Built, Fun, Sizes, no_size, size_and, levels}
+use Rattle.sized_types.specs.Sizes.{Free, Const, Name, Unknown, Slot, Dim, At, Variable, Size, Hole, Open, Level, Built, Fun, Sizes, no_size, size_and, levels}
 use Rattle.fut_sizes.specs.Agreeing.{type_levels, of_type, Answer, then_do}
 use Rattle.fut_sizes.specs.Matching.{Found, type_found, counted, read, Opened, none_opened, inside, in_opened, meet, data_way, function_way}
 use Rattle.fut_sizes.specs.Steps.{Step, give, ask, and_then}

@@ -9,7 +9,7 @@ use Rattle.fut_flat.specs.declared.prim.Ref.TheVariants as ref
 use Rattle.fut_flat.specs.Terms.{Bound_pattern, no_pattern, pattern_and, Binding, Use, Lambda, Apply, Let}
 use Rattle.fut_flat.specs.Erased.{FlatTerm, FlatPattern}
 use Rattle.fut_types.specs.Types.{Ty}
-use Rattle.fut_sizes.specs.Sizes.{Inferred, Size, Open, Fun}
+use Rattle.sized_types.specs.Sizes.{Inferred, Size, Open, Fun}
 use Rattle.fut_sizes.specs.Applications.{Later}
 
 abbrev pub is_place : Place → Place → Bool

@@ -5,7 +5,7 @@ use Rattle.std.specs.Prelude.{ℕ, suc, ◌+◌, ◌-◌, Bool, true, false, ◌
 use Rattle.fut_scalar.specs.declared.place.BindId.{BindId}
 use Rattle.fut_flat.specs.Terms.{Bound_pattern, Typed_pattern, Parameter, Size_parameter, Type_parameter}
 use Rattle.fut_flat.specs.Erased.{FlatPattern}
-use Rattle.fut_sizes.specs.Sizes.{Free, Name, Own, Unknown, Slot, Dim, At, Bound, Size, Hole, Open, Level, Built, Fun, Sizes, no_size, size_and, is_free, replaced, bound, renamed}
+use Rattle.sized_types.specs.Sizes.{Free, Name, Own, Unknown, Slot, Dim, At, Bound, Size, Hole, Open, Level, Built, Fun, Sizes, no_size, size_and, is_free, replaced, bound, renamed}
 use Rattle.fut_sizes.specs.Agreeing.{is_among}
 
 -- ---- the sizes of some property that stand in a sized type, each once, as they are read

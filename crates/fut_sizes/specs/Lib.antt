@@ -1,4 +1,3 @@
-pub mod Sizes
 pub mod Primitives
 pub mod Agreeing
 pub mod WrittenSizes

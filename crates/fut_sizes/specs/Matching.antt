@@ -3,7 +3,7 @@
 -- later one has to agree.
 use Rattle.std.specs.Prelude.{ℕ, zero, suc, ◌+◌, ◌-◌, Bool, true, false, not, ◌&&◌, cond, nat_eq, nat_lt, Ok, Err}
 use Rattle.fut_types.specs.Types.{Ty}
-use Rattle.fut_sizes.specs.Sizes.{Free, Unknown, Slot, Dim, At, Bound, Variable, is_variable, Size, Hole, Open, Level, Built, Fun, Sizes, no_size, size_and, is_free, levels, replaced, renamed, has}
+use Rattle.sized_types.specs.Sizes.{Free, Unknown, Slot, Dim, At, Bound, Variable, is_variable, Size, Hole, Open, Level, Built, Fun, Sizes, no_size, size_and, is_free, levels, replaced, renamed, has}
 use Rattle.fut_sizes.specs.Agreeing.{Mismatch, Irregular, Answer, then_do}
 
 -- ---- what has been found: a substitution, which leaves what it gives as it is

@@ -16,7 +16,7 @@ use Rattle.fut_flat.specs.Erased.{FlatTerm}
 use Rattle.fut_types.specs.declared.Head.TheVariants as head
 use Rattle.fut_types.specs.Types.{Ty, Made, none, more, Sub}
 use Rattle.fut_typing.specs.Names.{Names}
-use Rattle.fut_sizes.specs.Sizes.{Free, Const, Name, Unknown, At, Size, Level, Built, Sizes, no_size, size_and}
+use Rattle.sized_types.specs.Sizes.{Free, Const, Name, Unknown, At, Size, Level, Built, Sizes, no_size, size_and}
 use Rattle.fut_sizes.specs.Agreeing.{Irregular, Answer, then_do, agree, no_size_of, type_levels, of_type}
 use Rattle.fut_sizes.specs.WrittenSizes.{part_of, changed_part, ascribed, coercion, declared}
 

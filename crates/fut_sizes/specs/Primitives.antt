@@ -10,7 +10,7 @@ use Rattle.fut_primitives.specs.declared.written.Size.TheVariants as size
 use Rattle.fut_primitives.specs.Written.{Written, Variable, Scalar, Own, From, Array, Unique, Pair, Triple, Named, Function, number}
 use Rattle.fut_primitives.specs.Table.{written, own_of, from_of}
 use Rattle.fut_types.specs.declared.Head.TheVariants as head
-use Rattle.fut_sizes.specs.Sizes.{Const, Dim, At, Bound, Inferred, Size, Hole, Level, Built, Fun, no_size, size_and, levels}
+use Rattle.sized_types.specs.Sizes.{Const, Dim, At, Bound, Inferred, Size, Hole, Level, Built, Fun, no_size, size_and, levels}
 
 -- a sized type of the table, a scalar
 abbrev pub scalar_size : ScalarType → Size

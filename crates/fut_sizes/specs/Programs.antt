@@ -4,7 +4,7 @@ use Rattle.fut_flat.specs.Numbers.{pattern_numbers, numbers}
 use Rattle.fut_types.specs.Types.{Sub}
 use Rattle.fut_typing.specs.Names.{Names}
 use Rattle.fut_typing.specs.Program.{Defined}
-use Rattle.fut_sizes.specs.Sizes.{Size, Hole, Inferred}
+use Rattle.sized_types.specs.Sizes.{Size, Hole, Inferred}
 use Rattle.fut_sizes.specs.Agreeing.{Answer, then_do}
 use Rattle.fut_sizes.specs.Scopes.{Scope, nothing}
 use Rattle.fut_sizes.specs.Functions.{size_names}

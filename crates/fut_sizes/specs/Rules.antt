@@ -11,7 +11,7 @@ use Rattle.fut_flat.specs.Erased.{FlatTerm, FlatTurns, FlatPattern}
 use Rattle.fut_types.specs.declared.Head.TheVariants as head
 use Rattle.fut_types.specs.Types.{Sub}
 use Rattle.fut_typing.specs.Names.{Names}
-use Rattle.fut_sizes.specs.Sizes.{Free, Const, Name, Own, Unknown, Slot, Variable, Size, Hole, Open, Level, Built, Fun, Sizes, no_size, size_and, erased, opened, renamed, takes}
+use Rattle.sized_types.specs.Sizes.{Free, Const, Name, Own, Unknown, Slot, Variable, Size, Hole, Open, Level, Built, Fun, Sizes, no_size, size_and, erased, opened, renamed, takes}
 use Rattle.fut_sizes.specs.Primitives.{prim_size}
 use Rattle.fut_sizes.specs.Agreeing.{kept, leave, is_among, names_one}
 use Rattle.fut_sizes.specs.WrittenSizes.{part_of}
@@ -20,7 +20,8 @@ use Rattle.fut_sizes.specs.Scopes.{i64_size, names}
 use Rattle.fut_sizes.specs.Functions.{value_name}
 use Rattle.fut_sizes.specs.Sizing.{lacking, differing, all_part_names, bind_ids, row_of}
 use Rattle.fut_sizes.specs.Suiting.{Each, Scoped, Of_positions, Data, Never_at, Instance, Suits}
-use Rattle.fut_sizes.specs.Scoping.{stands, has_hole, Context, with_name, with_scheme, with_entered, with_positions, with_size_names, with_pattern}
+use Rattle.sized_types.specs.Standing.{stands, has_hole}
+use Rattle.fut_sizes.specs.Scoping.{Context, with_name, with_scheme, with_entered, with_positions, with_size_names, with_pattern}
 
 abbrev pub Any_free : Free → Type 0
 Any_free d = Unit {0}

@@ -10,7 +10,7 @@ use Rattle.fut_flat.specs.Erased.{FlatPattern}
 use Rattle.fut_types.specs.declared.Head.TheVariants as head
 use Rattle.fut_types.specs.Types.{Ty, Made, Tys, none, more}
 use Rattle.fut_typing.specs.Names.{Names}
-use Rattle.fut_sizes.specs.Sizes.{Free, Name, Slot, Variable, is_variable, Size, Hole, Open, Level, Built, Fun, Sizes, no_size, size_and, erased, renamed}
+use Rattle.sized_types.specs.Sizes.{Free, Name, Slot, Variable, is_variable, Size, Hole, Open, Level, Built, Fun, Sizes, no_size, size_and, erased, renamed}
 use Rattle.fut_sizes.specs.Primitives.{scalar_size}
 use Rattle.fut_sizes.specs.Agreeing.{Answer, then_do, Escapes}
 use Rattle.fut_sizes.specs.WrittenSizes.{part_of, has_sizes, coerced}

@@ -10,7 +10,7 @@ use Rattle.fut_flat.specs.Numbers.{pattern_numbers, all_pattern_numbers, own_num
 use Rattle.fut_flat.specs.Erased.{FlatTerm, FlatTurns, FlatPattern}
 use Rattle.fut_types.specs.Types.{Sub}
 use Rattle.fut_typing.specs.Names.{Names}
-use Rattle.fut_sizes.specs.Sizes.{Name, Own, Unknown, Slot, Dim, At, Bound, Size, Hole, Open, Level, Built, Fun, Sizes, no_size, size_and, is_dim, levels, renamed, has}
+use Rattle.sized_types.specs.Sizes.{Name, Own, Unknown, Slot, Dim, At, Bound, Size, Hole, Open, Level, Built, Fun, Sizes, no_size, size_and, is_dim, levels, renamed, has}
 use Rattle.fut_sizes.specs.Primitives.{prim_size, is_regular}
 use Rattle.fut_sizes.specs.Agreeing.{Escapes, Answer, then_do, kept, no_size_of, is_among, leaving, of_type}
 use Rattle.fut_sizes.specs.WrittenSizes.{part_of, coerced, same_dim, parameter_size}

@@ -1,6 +1,6 @@
 -- Sizing goes by steps: each gives a result or the first refusal, and keeps the sized type of each node.
 use Rattle.std.specs.Prelude.{ℕ, cond, nat_eq, List, ◌++◌, Ok}
-use Rattle.fut_sizes.specs.Sizes.{Size}
+use Rattle.sized_types.specs.Sizes.{Size}
 use Rattle.fut_sizes.specs.Agreeing.{Answer, then_do}
 
 pub record State : Type 0 where

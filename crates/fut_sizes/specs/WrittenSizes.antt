@@ -9,7 +9,7 @@ use Rattle.fut_flat.specs.Terms.{Size_term, Size_use, Size_const, Size_blank, Ar
 use Rattle.fut_flat.specs.Erased.{FlatType}
 use Rattle.fut_types.specs.Shapes.{place}
 use Rattle.fut_typing.specs.Names.{Names}
-use Rattle.fut_sizes.specs.Sizes.{Free, Const, Name, Own, Unknown, Dim, At, Bound, Size, Level, Built, Fun, Sizes, no_size, size_and, levels, opened, bound}
+use Rattle.sized_types.specs.Sizes.{Free, Const, Name, Own, Unknown, Dim, At, Bound, Size, Level, Built, Fun, Sizes, no_size, size_and, levels, opened, bound}
 use Rattle.fut_sizes.specs.Agreeing.{Answer, then_do, compare}
 
 -- ---- parts by their places

@@ -1,7 +1,7 @@
 //! Sizing: which size each level of an array has in the types of a program.
 //!
-//! The definitions (`specs/`) speak of terms and know no code. `specs/Sizes.antt` has sized types, and `specs/Primitives.antt`
-//! those of the primitives, read off the language's table. `specs/Sizing.antt` has one clause a form: by structure, in the
+//! The definitions (`specs/`) speak of terms and know no code. Sized types stand in `sized_types`; `specs/Primitives.antt` has those
+//! of the primitives, read off the language's table. `specs/Sizing.antt` has one clause a form: by structure, in the
 //! order of evaluation, the sized type of each node or the first refusal. It is told in words of `specs/Agreeing.antt` (what is
 //! refused, and what becomes of sizes), `specs/WrittenSizes.antt`, `specs/Operations.antt`, `specs/Scopes.antt` (names and
 //! patterns), `specs/Functions.antt` (the sizes that a function type binds), `specs/Matching.antt` and

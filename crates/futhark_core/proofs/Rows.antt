@@ -10,6 +10,7 @@ use Rattle.fut_value.specs.Data.{Datum}
 use Rattle.fut_value.specs.Values.{datum_of}
 use Rattle.fut_value.specs.declared.value.Value.{Value}
 use Rattle.fut_blocks.specs.declared.block.Program.{Program}
+use Rattle.fut_meaning.specs.Found.{unsized}
 use Rattle.fut_meaning.specs.Answers.{Answer, Gives, Fails}
 use Rattle.elab_laws.proofs.Answers.{lawful_files_have_one_answer}
 use Rattle.array_data.specs.Held.{held_all}
@@ -54,7 +55,7 @@ module _ (asked : Command) (source : Source) (e : Entered) (ready : IsReady aske
     -- where files lawfully allow an answer, it is the one that is allowed
     alone : (answer : Answer) (words : ℕ) → Allows source e asked.turns given true answer words → Alone source e asked.turns given answer
     alone answer words allows other lawful =
-        sym (lawful_files_have_one_answer source.files (flat_of source.flat) e.integer_at asked.turns e.number given other answer lawful.0 words true lawful.1 allows.0)
+        sym (lawful_files_have_one_answer source.files (flat_of source.flat) (unsized e.integer_at) asked.turns e.number given other answer lawful.0 words true lawful.1 allows.0)
 
     by_kind : (kind : FailKind) (report : Report) (path : List ℕ) → report.kind ≡ kind → ComesTo asked source old.input new.input (Fails report) → path ≡ asked.file → new.out ≡ old.out → ProgramRow (kind_status kind report path) asked source old new
     by_kind fail.Division report path k c is out = ((λ t. absurd (let z : fail.Division ≡ fail.Turns = sym k ∙ t in cc)), record { path_is = is; comes = c; out = out })

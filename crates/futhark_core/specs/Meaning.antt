@@ -12,6 +12,7 @@ use Rattle.fut_typing.specs.Free.{has_types}
 use Rattle.fut_typing.specs.Program.{program_of, Program_typed}
 use Rattle.fut_typing.specs.Answers.{Typing_is}
 use Rattle.fut_typing.specs.Exact.{scope_behind}
+use Rattle.fut_meaning.specs.Found.{unsized}
 use Rattle.fut_meaning.specs.Flats.{FlatTop, flat_tops, named_terms}
 use Rattle.fut_value.specs.Data.{Datum}
 use Rattle.fut_meaning.specs.Answers.{Answer}
@@ -58,11 +59,11 @@ pub record IsEntered (source : Source) (name : Text) (e : Entered) : Type 0 wher
 -- for these arguments, with this budget of turns for each `while`, making so many words; tight where the trees of its reductions
 -- have few neutral leaves
 abbrev pub Allows : Source → Entered → ℕ → List Datum → (tight : Bool) → Answer → (words : ℕ) → Type 0
-Allows source e turns arguments tight answer words = Files_allow source.files (flat_of source.flat) e.integer_at turns e.number arguments tight answer words × Answer_is_of e.tuple e.results answer
+Allows source e turns arguments tight answer words = Files_allow source.files (flat_of source.flat) (unsized e.integer_at) turns e.number arguments tight answer words × Answer_is_of e.tuple e.results answer
 
 -- with lawful operators alone, and no place that a scatter names twice
 abbrev pub Lawfully_allows : Source → Entered → ℕ → List Datum → Answer → Type 0
-Lawfully_allows source e turns arguments answer = (words : ℕ) × Files_lawfully_allow source.files (flat_of source.flat) e.integer_at turns e.number arguments answer words
+Lawfully_allows source e turns arguments answer = (words : ℕ) × Files_lawfully_allow source.files (flat_of source.flat) (unsized e.integer_at) turns e.number arguments answer words
 
 -- where the files lawfully allow an answer, it is this one
 abbrev pub Alone : Source → Entered → ℕ → List Datum → Answer → Type 0

@@ -1,7 +1,7 @@
 -- Whether two sized types agree, form by form.
 use Rattle.std.proofs.Common.{◌≡◌, ℕ, ◌+◌, ◌<◌, ◌≤◌, List, length, get_or, drop, true, false, refl, sym, ap, ◌∙◌, Result, Ok, Err}
 use Rattle.fut_types.specs.declared.Head.{Head}
-use Rattle.fut_sizes.specs.Sizes.{Dim, Size, Hole, Open, Level, Built, Fun, Sizes, size_and, is_dim}
+use Rattle.sized_types.specs.Sizes.{Dim, Size, Hole, Open, Level, Built, Fun, Sizes, size_and, is_dim}
 use Rattle.fut_sizes.specs.Agreeing.{then_do, compare, agree, all_agree}
 use Rattle.size_arena.specs.declared.agreeing.Refusal.{Refusal}
 use Rattle.size_arena.specs.declared.agreeing.Refusal.TheVariants as refusal

@@ -3,7 +3,7 @@ use Rattle.std.proofs.Common.{◌≡◌, ℕ, List, sym, ap, ◌∙◌}
 use Rattle.std.specs.Borrow.{Bor}
 use Rattle.fut_types.specs.declared.Head.{Head}
 use Rattle.fut_types.specs.Types.{Var, Made}
-use Rattle.fut_sizes.specs.Sizes.{Hole, Open, Level, Built, Fun}
+use Rattle.sized_types.specs.Sizes.{Hole, Open, Level, Built, Fun}
 use Rattle.size_arena.specs.declared.dims.Dim.{Dim}
 use Rattle.size_arena.specs.declared.dims.Variable.{Variable}
 use Rattle.size_arena.specs.declared.trees.SizeTree.{SizeTree, fold-roll-SizeTree}

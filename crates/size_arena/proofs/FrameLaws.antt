@@ -4,7 +4,7 @@ use Rattle.std.proofs.lemmas.Bool.{eqb-true}
 use Rattle.std.specs.Prelude.{IfOk}
 use Rattle.std.specs.Borrow.{Bor}
 use Rattle.fut_scalar.specs.declared.memory.NoMemory.{NoMemory}
-use Rattle.fut_sizes.specs.Sizes.{Free, Unknown, Slot, Dim, At, Bound}
+use Rattle.sized_types.specs.Sizes.{Free, Unknown, Slot, Dim, At, Bound}
 use Rattle.fut_sizes.specs.Matching.{Opened, none_opened, inside, wanted_frame, found_frame, dim_in}
 use Rattle.size_arena.specs.declared.dims.Dim as dims
 use Rattle.size_arena.specs.declared.dims.Free as frees

@@ -1,7 +1,7 @@
 -- What two sized types both have, form by form.
 use Rattle.std.proofs.Common.{◌≡◌, ℕ, ◌+◌, ◌<◌, ◌≤◌, List, [], ◌∷◌, ◌++◌, length, get_or, drop, true, false, refl, sym, ap, ◌∙◌, arith, add-one}
 use Rattle.fut_types.specs.declared.Head.{Head}
-use Rattle.fut_sizes.specs.Sizes.{Unknown, Dim, At, Size, Hole, Open, Level, Built, Fun, Sizes, size_and, is_dim, levels}
+use Rattle.sized_types.specs.Sizes.{Unknown, Dim, At, Size, Hole, Open, Level, Built, Fun, Sizes, size_and, is_dim, levels}
 use Rattle.fut_sizes.specs.Agreeing.{kept_dim, kept, all_kept}
 use Rattle.size_arena.specs.declared.trees.SizeTree.{SizeTree}
 use Rattle.size_arena.specs.Trees.{size_of, sizes_of}

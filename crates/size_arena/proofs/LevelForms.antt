@@ -4,7 +4,7 @@ use Rattle.std.specs.Prelude.{IfOk}
 use Rattle.std.specs.Borrow.{Bor}
 use Rattle.fut_scalar.specs.declared.memory.NoMemory.{NoMemory}
 use Rattle.fut_types.specs.declared.Head.{Head}
-use Rattle.fut_sizes.specs.Sizes.{levels, all_levels}
+use Rattle.sized_types.specs.Sizes.{levels, all_levels}
 use Rattle.size_arena.specs.declared.dims.Dim as dims
 use Rattle.size_arena.specs.declared.dims.Variable as variables
 use Rattle.size_arena.specs.declared.trees.SizeTree.{SizeTree}

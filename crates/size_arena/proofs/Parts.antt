@@ -1,7 +1,7 @@
 -- The parts of a tree, one after another.
 use Rattle.std.proofs.Common.{◌≡◌, ℕ, zero, suc, ◌+◌, ◌<◌, ◌≤◌, List, [], ◌∷◌, ◌++◌, length, get_or, drop, refl, sym, ap, ◌∙◌, add-one, arith}
 use Rattle.std.proofs.Math.Seq.{drop-cons}
-use Rattle.fut_sizes.specs.Sizes.{Sizes, no_size, size_and}
+use Rattle.sized_types.specs.Sizes.{Sizes, no_size, size_and}
 use Rattle.size_arena.specs.declared.trees.SizeTree.{SizeTree}
 use Rattle.size_arena.specs.Trees.{size_of, sizes, sizes_of}
 

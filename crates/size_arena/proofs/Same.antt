@@ -1,6 +1,6 @@
 -- When sizes are one, form by form.
 use Rattle.std.proofs.Common.{◌≡◌, ℕ, false, nat_eq, cond, refl}
-use Rattle.fut_sizes.specs.Sizes.{Free, Const, Name, Own, Unknown, Slot, At, Bound, is_free, is_dim}
+use Rattle.sized_types.specs.Sizes.{Free, Const, Name, Own, Unknown, Slot, At, Bound, is_free, is_dim}
 
 module _ (c d b n i m j : ℕ) where
   pub const_const : is_free (Const c) (Const d) ≡ nat_eq c d

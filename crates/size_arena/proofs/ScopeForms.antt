@@ -4,7 +4,7 @@ use Rattle.std.proofs.Math.Seq.{drop-cons}
 use Rattle.std.specs.Borrow.{Bor}
 use Rattle.fut_types.specs.declared.Head.{Head}
 use Rattle.fut_types.specs.Types.{Ty}
-use Rattle.fut_sizes.specs.Sizes.{Name, Unknown, Dim, At, Variable, Size, Hole, Open, Level, Built, Fun, Sizes, size_and, replaced, all_replaced, renaming, has, some_has, takes, some_takes}
+use Rattle.sized_types.specs.Sizes.{Name, Unknown, Dim, At, Variable, Size, Hole, Open, Level, Built, Fun, Sizes, size_and, replaced, all_replaced, renaming, has, some_has, takes, some_takes}
 use Rattle.fut_sizes.specs.Agreeing.{is_among, left, leave, leaving, names_one}
 use Rattle.fut_sizes.specs.Matching.{is_unknown}
 use Rattle.size_arena.specs.declared.agreeing.Refusal.TheVariants as refusal

@@ -1,6 +1,6 @@
 -- Two sized types that are of different forms, or have neither levels nor parts.
 use Rattle.std.proofs.Common.{Bool, true, false}
-use Rattle.fut_sizes.specs.Sizes.{Size, Level, Built, Fun}
+use Rattle.sized_types.specs.Sizes.{Size, Level, Built, Fun}
 
 abbrev pub unlike : Size → Size → Bool
 unlike (Level d t) (Level e u) = false

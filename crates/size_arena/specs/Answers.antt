@@ -1,7 +1,7 @@
 -- What answers say.
 use Rattle.std.specs.Prelude.{◌≡◌, Result, Ok, Err}
 use Rattle.std.specs.Borrow.{Bor}
-use Rattle.fut_sizes.specs.Sizes.{Size}
+use Rattle.sized_types.specs.Sizes.{Size}
 use Rattle.fut_sizes.specs.Agreeing.{Answer, Mismatch, Escapes, Irregular}
 use Rattle.fut_sizes.specs.Agreeing as agreeing
 use Rattle.size_arena.specs.declared.agreeing.Refusal.{Refusal}

@@ -1,6 +1,6 @@
 -- How the sizes of a tree are changed, and what is looked for among them.
 use Rattle.std.specs.Prelude.{ℕ, Bool, cond, nat_eq, nat_lt}
-use Rattle.fut_sizes.specs.Sizes.{Free, Own, Unknown, Dim, renaming, given}
+use Rattle.sized_types.specs.Sizes.{Free, Own, Unknown, Dim, renaming, given}
 use Rattle.fut_sizes.specs.Agreeing.{leave, names_one}
 use Rattle.fut_sizes.specs.Matching.{is_unknown, dim_in}
 use Rattle.size_arena.specs.declared.scopes.Change.{Change}

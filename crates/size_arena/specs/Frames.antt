@@ -1,6 +1,6 @@
 -- What the positions of opened function types stand for.
 use Rattle.std.specs.Prelude.{ℕ, ◌+◌, cond, nat_eq, nat_lt, Option, Some, None}
-use Rattle.fut_sizes.specs.Sizes.{Free, Unknown, Slot, Dim, At}
+use Rattle.sized_types.specs.Sizes.{Free, Unknown, Slot, Dim, At}
 use Rattle.fut_sizes.specs.Matching.{Opened, none_opened, inside, wanted_frame, found_frame}
 use Rattle.size_arena.specs.declared.dims.Free as frees
 use Rattle.size_arena.specs.Trees.{free_of}

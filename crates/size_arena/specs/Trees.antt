@@ -1,7 +1,7 @@
 -- The sized types, and the types, that trees in the arena are.
 use Rattle.std.specs.Prelude.{List, [], ◌∷◌, map}
 use Rattle.fut_types.specs.Types.{Ty, Var, Made, Tys, none, more}
-use Rattle.fut_sizes.specs.Sizes.{Free, Const, Name, Own, Unknown, Slot, Dim, At, Bound, Variable, Inferred, Written, Size, Hole, Open, Level, Built, Fun, Sizes, no_size, size_and}
+use Rattle.sized_types.specs.Sizes.{Free, Const, Name, Own, Unknown, Slot, Dim, At, Bound, Variable, Inferred, Written, Size, Hole, Open, Level, Built, Fun, Sizes, no_size, size_and}
 use Rattle.size_arena.specs.declared.dims.Free as frees
 use Rattle.size_arena.specs.declared.dims.Free.TheVariants as free
 use Rattle.size_arena.specs.declared.dims.Dim as dims

@@ -1,6 +1,6 @@
 // Sizes by themselves, and type variables.
 ghost use Rattle.std.specs.Prelude.{◌≡◌};
-ghost use Rattle.fut_sizes.specs.Sizes.{is_free, is_dim};
+ghost use Rattle.sized_types.specs.Sizes.{is_free, is_dim};
 ghost use Rattle.size_arena.specs.Trees.{free_of, dim_of};
 
 use fut_types::Kind;

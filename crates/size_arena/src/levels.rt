@@ -1,6 +1,6 @@
 // How many levels a sized type has outside of functions.
 ghost use Rattle.std.specs.Prelude.{◌≡◌, ◌+◌, IfOk};
-ghost use Rattle.fut_sizes.specs.Sizes.{all_levels, levels};
+ghost use Rattle.sized_types.specs.Sizes.{all_levels, levels};
 ghost use Rattle.size_arena.specs.Trees.{size_of, sizes_of};
 
 use crate::trees::SizeTree;

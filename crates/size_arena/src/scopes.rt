@@ -1,6 +1,6 @@
 // What becomes of sizes where names go out of scope, and where function types are opened.
 ghost use Rattle.std.specs.Prelude.{◌≡◌, IfOk};
-ghost use Rattle.fut_sizes.specs.Sizes.{all_replaced, has, replaced, some_has, some_takes, takes};
+ghost use Rattle.sized_types.specs.Sizes.{all_replaced, has, replaced, some_has, some_takes, takes};
 ghost use Rattle.fut_sizes.specs.Agreeing.{is_among, leaving, left};
 ghost use Rattle.size_arena.specs.Answers.{Gives};
 ghost use Rattle.size_arena.specs.Changes.{change_of, given_at, property_of};

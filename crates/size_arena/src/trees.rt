@@ -1,6 +1,6 @@
 // Sized types as trees.
 ghost use Rattle.std.specs.Prelude.{◌≡◌, IfOk};
-ghost use Rattle.fut_sizes.specs.Sizes.{Built, Fun, Hole, Level, Open};
+ghost use Rattle.sized_types.specs.Sizes.{Built, Fun, Hole, Level, Open};
 ghost use Rattle.size_arena.specs.Trees.{dim_of, size_of, sizes_of, type_of, variable_of};
 
 use crate::dims::{Dim, Variable};

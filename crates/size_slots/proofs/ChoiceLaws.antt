@@ -2,7 +2,7 @@
 use Rattle.std.proofs.Common.{◌≡◌, ℕ, ◌+◌, ◌<◌, ◌≤◌, List, length, get_or, drop, true, false, cond, Some, None, sym, ap, ◌∙◌, add-one}
 use Rattle.std.proofs.Math.Seq.{drop-cons}
 use Rattle.fut_types.specs.Types.{Ty}
-use Rattle.fut_sizes.specs.Sizes.{Variable}
+use Rattle.sized_types.specs.Sizes.{Variable}
 use Rattle.fut_sizes.specs.Matching.{is_open}
 use Rattle.size_arena.specs.Trees.{variable_of, size_of}
 use Rattle.size_arena.proofs.Parts.{drop_past}

@@ -4,7 +4,7 @@ use Rattle.std.specs.Prelude.{slice_set}
 use Rattle.std.proofs.lemmas.Bool.{eqb-true, eqb-false}
 use Rattle.std.proofs.lemmas.List.{get_or-set_same, get_or-set_other}
 use Rattle.fut_types.specs.Types.{Ty}
-use Rattle.fut_sizes.specs.Sizes.{Free, Const, Name, Own, Unknown, Slot, Variable, Open, replaced, renamed}
+use Rattle.sized_types.specs.Sizes.{Free, Const, Name, Own, Unknown, Slot, Variable, Open, replaced, renamed}
 use Rattle.fut_sizes.specs.Matching as matching
 use Rattle.fut_sizes.specs.Matching.{nothing_found, found_size, put, size_found}
 use Rattle.size_arena.specs.declared.dims.Free as frees

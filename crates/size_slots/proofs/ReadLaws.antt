@@ -5,7 +5,7 @@ use Rattle.std.specs.Borrow.{Bor}
 use Rattle.fut_scalar.specs.declared.memory.NoMemory.{NoMemory}
 use Rattle.fut_types.specs.declared.Head.{Head}
 use Rattle.fut_types.specs.Types.{Ty}
-use Rattle.fut_sizes.specs.Sizes.{Free, Variable, size_and, renamed, Dim, At, Bound, Hole, Open, Level, Built, Fun, replaced, all_replaced, renaming}
+use Rattle.sized_types.specs.Sizes.{Free, Variable, size_and, renamed, Dim, At, Bound, Hole, Open, Level, Built, Fun, replaced, all_replaced, renaming}
 use Rattle.fut_sizes.specs.Matching as matching
 use Rattle.fut_sizes.specs.Matching.{found_size, found_dim, read, all_read}
 use Rattle.size_arena.specs.declared.dims.Dim as dims

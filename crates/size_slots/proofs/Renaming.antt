@@ -1,6 +1,6 @@
 -- Sizes by themselves replaced, one after another.
 use Rattle.std.proofs.Common.{◌≡◌, ℕ, suc, refl, ap}
-use Rattle.fut_sizes.specs.Sizes.{Free, Dim, At, Bound, Size, Hole, Open, Level, Built, Fun, Sizes, no_size, size_and, replaced, all_replaced, renaming, renamed}
+use Rattle.sized_types.specs.Sizes.{Free, Dim, At, Bound, Size, Hole, Open, Level, Built, Fun, Sizes, no_size, size_and, replaced, all_replaced, renaming, renamed}
 
 module _ (ρ π τ : Free → Free) (h : (e : Free) → ρ (π e) ≡ τ e) where
   dim_twice : (j : ℕ) (d : Dim) → renaming ρ j (renaming π j d) ≡ renaming τ j d

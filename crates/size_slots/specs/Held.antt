@@ -2,7 +2,7 @@
 use Rattle.std.specs.Prelude.{◌≡◌, ℕ, ◌<◌, cond, List, [], ◌∷◌, Option, Some, None, Result, Ok, Err, slice_index_or}
 use Rattle.std.specs.Borrow.{Bor}
 use Rattle.fut_types.specs.Types.{Ty}
-use Rattle.fut_sizes.specs.Sizes.{Free, Slot, Variable, Size, Open, renamed}
+use Rattle.sized_types.specs.Sizes.{Free, Slot, Variable, Size, Open, renamed}
 use Rattle.fut_sizes.specs.Agreeing.{Answer}
 use Rattle.fut_sizes.specs.Matching as matching
 use Rattle.fut_sizes.specs.Matching.{found_size, is_open}

@@ -1,6 +1,6 @@
 // Open variables, and the sized types that they took.
 ghost use Rattle.std.specs.Prelude.{◌≡◌};
-ghost use Rattle.fut_sizes.specs.Sizes.{is_variable};
+ghost use Rattle.sized_types.specs.Sizes.{is_variable};
 ghost use Rattle.fut_sizes.specs.Matching.{is_open};
 ghost use Rattle.size_arena.specs.Trees.{variable_of};
 ghost use Rattle.size_slots.specs.Held.{Choice};

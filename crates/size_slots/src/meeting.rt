@@ -1,6 +1,6 @@
 // A size that is wanted meets one that is found.
 ghost use Rattle.std.specs.Prelude.{◌≡◌, ◌<◌, ◌&&◌, ℕ, Ok};
-ghost use Rattle.fut_sizes.specs.Sizes.{At, Slot as TheSlot};
+ghost use Rattle.sized_types.specs.Sizes.{At, Slot as TheSlot};
 ghost use Rattle.fut_sizes.specs.Matching.{Found as Finding, found_size, is_unknown, linked, meet_dim, meet_dims, meet_size, size_found, slot_takes};
 ghost use Rattle.size_arena.specs.Trees.{dim_of, free_of};
 ghost use Rattle.size_slots.specs.Held.{Fall, Holds, Is_slot, Met, way_of};

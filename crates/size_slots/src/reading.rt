@@ -1,6 +1,6 @@
 // Sized types are read: slots stand for what they took, and so do open variables.
 ghost use Rattle.std.specs.Prelude.{◌≡◌, ℕ, IfOk};
-ghost use Rattle.fut_sizes.specs.Sizes.{all_replaced, renaming, replaced};
+ghost use Rattle.sized_types.specs.Sizes.{all_replaced, renaming, replaced};
 ghost use Rattle.fut_sizes.specs.Matching.{Found as Finding, all_read, found_size, read};
 ghost use Rattle.size_arena.specs.Trees.{dim_of, size_of, sizes_of};
 ghost use Rattle.size_slots.specs.Held.{Fall, Holds};

@@ -7,7 +7,7 @@ use Rattle.fut_value.specs.Data.{Shape}
 use Rattle.fut_meaning.specs.Flats.{FlatValue, FlatEnv, flat_look}
 use Rattle.fut_meaning.specs.Outcomes.{Out, Val, Fail, Wrong}
 use Rattle.fut_meaning.specs.Values.{bind, entered}
-use Rattle.fut_sizes.specs.Sizes.{Free, Const, Name, Own, Unknown, Slot, Dim, At, Bound, Variable, Size}
+use Rattle.sized_types.specs.Sizes.{Free, Const, Name, Own, Unknown, Slot, Dim, At, Bound, Variable, Size}
 use Rattle.fut_sizes.specs.Scopes.{i64_size}
 use Rattle.fut_sizes.specs.Scoping.{Context, with_name, with_entered, with_positions, if_some}
 use Rattle.fut_sizes.specs.Suiting.{Scoped}
@@ -96,9 +96,6 @@ module _ (N : Names) (types : Sub) (s : ℕ → Size) (home : ℕ → ℕ) where
     pub env_entered : (lo hi q : ℕ) (m : Worth) (G : Context) (env : FlatEnv) (t : Size) (v : FlatValue) → Env_fits N types s home τ W lo hi m G env → Env_fits N types s home τ W lo hi m (with_entered t G) (entered q v env)
     unfolding flat_look
     env_entered lo hi q m G env t v E = record { found = E.found; away = E.away; none_general = E.none_general; fresh = E.fresh }
-
-    pub env_noted : (lo hi : ℕ) (m : Worth) (G : Context) (env : FlatEnv) (t : Size) → Env_fits N types s home τ W lo hi m G env → Env_fits N types s home τ W lo hi m (with_entered t G) env
-    env_noted lo hi m G env t E = record { found = E.found; away = E.away; none_general = E.none_general; fresh = E.fresh }
 
     -- sizes that a parameter chooses have names, and no values
     pub env_positions : (lo mid hi : ℕ) (m : Worth) (G : Context) (env : FlatEnv) (position : Free → Option ℕ) → mid ≤ hi → ((d : Free) (i : ℕ) → position d ≡ Some i → Inside N types s home lo mid d) → Env_fits N types s home τ W lo hi m G env → Away N types s home mid hi i64_size

@@ -10,7 +10,7 @@ use Rattle.fut_types.specs.Types.{Sub}
 use Rattle.fut_typing.specs.Names.{Names}
 use Rattle.fut_sizes.specs.Primitives.{scalar_size}
 use Rattle.fut_sizes.specs.Scoping.{Context}
-use Rattle.fut_sizes.specs.Sizes.{Free, Name, Unknown, Dim, At, Bound, Size, Level, Fun, replaced, all_replaced}
+use Rattle.sized_types.specs.Sizes.{Free, Name, Unknown, Dim, At, Bound, Size, Level, Fun, replaced, all_replaced}
 use Rattle.fut_sizes.specs.Suiting.{Each, Each_all, suits_same}
 use Rattle.fut_sizes.specs.Rules.{Outside, Applies, Sized}
 

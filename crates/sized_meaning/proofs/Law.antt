@@ -14,11 +14,11 @@ use Rattle.fut_value.specs.Data.{Shape}
 use Rattle.fut_meaning.specs.Accessors.{bound}
 use Rattle.fut_meaning.specs.Flats.{FlatValue, FlatEnv, flat_look, flat_names}
 use Rattle.fut_meaning.specs.Meaning.{placed, plain, step}
-use Rattle.fut_meaning.specs.Operations.{operate}
+use Rattle.fut_meaning.specs.Operations.{operate, coerced}
 use Rattle.fut_meaning.specs.Outcomes.{Val, the, Then, each_of}
 use Rattle.fut_meaning.specs.Values.{Tuple_value, Closure, bind, entered, Evaluate, Call, values}
 use Rattle.fut_meaning.proofs.Ever.{open_up}
-use Rattle.fut_sizes.specs.Sizes.{Free, Const, Name, Own, Unknown, Slot, Bound, Variable, Size, Built, Fun, Sizes, no_size, size_and, opened, renamed}
+use Rattle.sized_types.specs.Sizes.{Free, Const, Name, Own, Unknown, Slot, Bound, Variable, Size, Built, Fun, Sizes, no_size, size_and, opened, renamed}
 use Rattle.fut_sizes.specs.Agreeing.{Answer, leave, is_among}
 use Rattle.fut_sizes.specs.Operations.{operation}
 use Rattle.fut_sizes.specs.Scopes.{i64_size, names}
@@ -33,7 +33,7 @@ use Rattle.sized_meaning.proofs.Ways.{gives_as}
 use Rattle.sized_meaning.proofs.Outcomes.{gives_exact, gives_then, gives_all, gives_more, out_of, is_exactly}
 use Rattle.sized_meaning.proofs.Reading.{Any_position, each_as, fits_same, fits_opened, opened_fits, fits_renamed, fits_renamed_in}
 use Rattle.sized_meaning.proofs.Suiting.{at_node, node_else, node_here, free_is, in_order, any_position, a_function, suits_fits, instance_fits}
-use Rattle.sized_meaning.proofs.Environments.{outside_narrower, apart, fits_away, env_moves, env_bind, env_entered, env_noted, env_positions}
+use Rattle.sized_meaning.proofs.Environments.{outside_narrower, apart, fits_away, env_moves, env_bind, env_entered, env_positions}
 
 -- a name is worth this
 named_as : ℕ → ℕ → Worth → Worth
@@ -87,8 +87,8 @@ module _ (N : Names) (types : Sub) (s : ℕ → Size) (home : ℕ → ℕ) (τ :
   abbrev All_results : ℕ → ℕ → Context → FlatEnv → Size → FlatValue → Type 0
   All_results lo hi G env t v = (w : Worths lo hi G env) → R_of lo hi w.0 t v
 
-  evaluates : (P : FlatValue → Type 0) (t : FlatTask) → Gives P (step ((flat_names W.integer_at).lang W.tops) (plain W.tight) W.budget (means W) t) → Gives P (means W t)
-  evaluates P t h o f x = h o f (open_up ((flat_names W.integer_at).lang W.tops) (plain W.tight) W.budget t o f x)
+  evaluates : (P : FlatValue → Type 0) (t : FlatTask) → Gives P (step ((flat_names W.told).lang W.tops) (plain W.tight) W.budget (means W) t) → Gives P (means W t)
+  evaluates P t h o f x = h o f (open_up ((flat_names W.told).lang W.tops) (plain W.tight) W.budget t o f x)
 
   beyond_node : (lo : ℕ) (F : ℕ → ℕ) (m : Worth) (d : Free) → Beyond lo (1 + lo) d → at_node lo F m d ≡ m d
   unfolding at_node
@@ -114,7 +114,7 @@ module _ (N : Names) (types : Sub) (s : ℕ → Size) (home : ℕ → ℕ) (τ :
   argument_worth : (e : FlatTerm) (lo mid i : ℕ) (G : Context) (env : FlatEnv) (d : Free) → Plain_term e → Is_value N types s home e G d ⊎ (d ≡ Unknown lo i) → (v : FlatValue) (f : ℕ) → means W (Evaluate env mid e) (Val v) f → Worth_of lo i G env d v
   unfolding flat_names
   argument_worth e lo mid i G env d p (inr a) v f r = inl a
-  argument_worth (Use (ref.Bound x) at j) lo mid i G env d p (inl a) v f r = inr (x.0, a.0, a.1, is_exactly 0 (flat_look W.tops env x.0) (Val v) f (open_up ((flat_names W.integer_at).lang W.tops) (plain W.tight) W.budget (Evaluate env mid (Use (ref.Bound x) at j)) (Val v) f r))
+  argument_worth (Use (ref.Bound x) at j) lo mid i G env d p (inl a) v f r = inr (x.0, a.0, a.1, is_exactly 0 (flat_look W.tops env x.0) (Val v) f (open_up ((flat_names W.told).lang W.tops) (plain W.tight) W.budget (Evaluate env mid (Use (ref.Bound x) at j)) (Val v) f r))
   argument_worth (Strict Tuple_of mark ts) lo mid i G env d p (inl a) v f r = absurd a
   argument_worth (Lambda ps b) lo mid i G env d p (inl a) v f r = absurd a
   argument_worth (Apply g b) lo mid i G env d p (inl a) v f r = absurd a
@@ -385,7 +385,7 @@ module _ (N : Names) (types : Sub) (s : ℕ → Size) (home : ℕ → ℕ) (τ :
       named_away b e = apart N types s home q (q + pattern_numbers p) hi (Name b) (subst (λ d. Inside N types s home q (q + pattern_numbers p) d) e (B.own (B.inside B.chosen) B.chosen (B.placed B.chosen (omega arith))))
 
   entered_fits : (lo at hi : ℕ) (p : FlatPattern) (q : ℕ) (u : Size) (B : Binder N types s home lo at hi p q u) (le : q + pattern_numbers p ≤ at) (le' : at ≤ hi) (m : Worth) (F : ℕ → ℕ) (G : Context) (env : FlatEnv) (v : FlatValue) → Simple p → Env_of q hi m G env → F B.chosen ≡ word v → Fits N τ (calls W) m (push F no_frames) B.from v → (q' : ℕ)
-      → Out_fits (λ x. Env_of (q + pattern_numbers p) hi (placed_as B.position F m) (with_pattern s p q (with_positions B.position G)) x) (bound p v (entered q' v env))
+      → Out_fits (λ x. Env_of (q + pattern_numbers p) hi (placed_as B.position F m) (with_pattern s p q (with_positions B.position G)) x) (bound q' p v env)
   unfolding bound
   entered_fits lo at hi (Bound_pattern b) q u B le le' m F G env v simple E eF h q' = env_bind N types s home τ W (q + 1) hi (placed_as B.position F m) (with_entered (s q) (with_positions B.position G)) (entered q' v env) b (s q) v
       (positioned lo at hi (Bound_pattern b) q u B le le' m F G env v E eF h q') (taken lo at hi (Bound_pattern b) q u B le le' m F v h) B.away (named_away lo at hi (Bound_pattern b) q u B le le' m F G env v E eF h q' b.0 B.named) (named_worth lo at hi (Bound_pattern b) q u B le le' m F G env v E eF h q' b.0 B.named)
@@ -492,11 +492,11 @@ module _ (N : Names) (types : Sub) (s : ℕ → Size) (home : ℕ → ℕ) (τ :
         stays (Unknown n i) = refl
         stays (Slot i) = refl
 
-    with_value : (m : Worth) (E : Env_of lo hi m G env) → Env_of at hi (named_as x.0 (word w) (valued m E).now) (with_name x.0 (s (1 + lo)) (with_entered (s (1 + lo)) G)) (bind x w env)
+    with_value : (m : Worth) (E : Env_of lo hi m G env) → Env_of at hi (named_as x.0 (word w) (valued m E).now) (with_name x.0 (s (1 + lo)) (with_entered (s (1 + lo)) G)) (bind x w (entered (1 + lo) w env))
     with_value m E =
         let r = valued m E in
         let moved : (d : Free) → Beyond lo hi d → named_as x.0 (word w) r.now d ≡ m d = λ d o. named_else x.0 (word w) r.now d (other_name (1 + lo) mid x.0 d L.bound_here (outside_narrower N types s home lo hi (1 + lo) mid (omega arith) (omega (arith, l2, l3)) d o)) ∙ r.old d (outside_narrower N types s home lo hi mid at (omega (arith, l1)) l3 d o) in
-        env_bind N types s home τ W at hi (named_as x.0 (word w) r.now) (with_entered (s (1 + lo)) G) env x (s (1 + lo)) w (env_noted N types s home τ W at hi (named_as x.0 (word w) r.now) G env (s (1 + lo)) (env_moves N types s home τ W lo hi at hi m (named_as x.0 (word w) r.now) G env (omega (arith, l1, l2)) (omega arith) moved E))
+        env_bind N types s home τ W at hi (named_as x.0 (word w) r.now) (with_entered (s (1 + lo)) G) (entered (1 + lo) w env) x (s (1 + lo)) w (env_entered N types s home τ W at hi (1 + lo) (named_as x.0 (word w) r.now) G env (s (1 + lo)) w (env_moves N types s home τ W lo hi at hi m (named_as x.0 (word w) r.now) G env (omega (arith, l1, l2)) (omega arith) moved E))
         (at_pattern (named_as x.0 (word w) r.now) (fits_away N types s home τ W (1 + lo) mid r.now (named_as x.0 (word w) r.now) (s mid) w L.value_away (λ d o. named_else x.0 (word w) r.now d (other_name (1 + lo) mid x.0 d L.bound_here o)) r.fits))
         L.body_away (outside_narrower N types s home mid hi at hi l2 (omega arith) (Name x.0) (apart N types s home (1 + lo) mid hi (Name x.0) L.bound_here)) (sym (named_here x.0 (word w) r.now))
 
@@ -553,20 +553,20 @@ module _ (N : Names) (types : Sub) (s : ℕ → Size) (home : ℕ → ℕ) (τ :
   narrowed lo hi lo' hi' G env l l' w = (w.0, env_moves N types s home τ W lo hi lo' hi' w.0 w.0 G env l l' (λ d o. refl) w.1)
 
   let_gives : (x : BindId) (v e : FlatTerm) (lo mid at hi : ℕ) (G : Context) (env : FlatEnv) → 1 + lo + 1 ≡ mid → mid + numbers v ≡ at → at + numbers e ≡ hi → Plain_term v → Plain_term e → Law v → Law e → Sized N types s home v mid G → Sized N types s home e at (with_name x.0 (s (1 + lo)) (with_entered (s (1 + lo)) G)) → One_name x.0 lo mid at hi
-      → Gives (All_results lo hi G env (s lo)) (Then (means W (Evaluate env mid v)) (λ w. Then (the (Val (bind x w env))) (λ inner. means W (Evaluate inner at e))))
+      → Gives (All_results lo hi G env (s lo)) (Then (means W (Evaluate env mid v)) (λ w. Then (the (Val (bind x w (entered (1 + lo) w env)))) (λ inner. means W (Evaluate inner at e))))
   let_gives x v e lo mid at hi G env z z' z'' plain_v plain_e law_v law_e sized_v sized_e L =
       gives_then (All_results mid at G env (s mid)) (All_results lo hi G env (s lo)) _ _
       (subst (λ n. Gives (All_results mid n G env (s mid)) (means W (Evaluate env mid v))) z' (law_v mid G env plain_v sized_v))
       (λ w hw. gives_then (λ inner. Gives (All_results lo hi G env (s lo)) (means W (Evaluate inner at e))) (All_results lo hi G env (s lo)) _ _
-      (gives_exact (λ inner. Gives (All_results lo hi G env (s lo)) (means W (Evaluate inner at e))) 0 (Val (bind x w env)) (body w hw))
+      (gives_exact (λ inner. Gives (All_results lo hi G env (s lo)) (means W (Evaluate inner at e))) 0 (Val (bind x w (entered (1 + lo) w env))) (body w hw))
       (λ inner g. g))
     where
-      body : (w : FlatValue) → All_results mid at G env (s mid) w → Gives (All_results lo hi G env (s lo)) (means W (Evaluate (bind x w env) at e))
-      body w hw = gives_all (λ X u. R_of lo hi X.0 (s lo) u) (means W (Evaluate (bind x w env) at e))
+      body : (w : FlatValue) → All_results mid at G env (s mid) w → Gives (All_results lo hi G env (s lo)) (means W (Evaluate (bind x w (entered (1 + lo) w env)) at e))
+      body w hw = gives_all (λ X u. R_of lo hi X.0 (s lo) u) (means W (Evaluate (bind x w (entered (1 + lo) w env)) at e))
           (λ X. let m' = named_as x.0 (word w) (valued lo mid at hi x G env L (omega (arith, z)) (omega (arith, z')) (omega (arith, z'')) (omega (arith, z, z', z'')) w hw X.0 X.1).now in
-          let E' : Env_of at hi m' (with_name x.0 (s (1 + lo)) (with_entered (s (1 + lo)) G)) (bind x w env) = with_value lo mid at hi x G env L (omega (arith, z)) (omega (arith, z')) (omega (arith, z'')) (omega (arith, z, z', z'')) w hw X.0 X.1 in
-          gives_as (All_results at hi (with_name x.0 (s (1 + lo)) (with_entered (s (1 + lo)) G)) (bind x w env) (s at)) (R_of lo hi X.0 (s lo)) (means W (Evaluate (bind x w env) at e))
-          (subst (λ n. Gives (All_results at n (with_name x.0 (s (1 + lo)) (with_entered (s (1 + lo)) G)) (bind x w env) (s at)) (means W (Evaluate (bind x w env) at e))) z'' (law_e at (with_name x.0 (s (1 + lo)) (with_entered (s (1 + lo)) G)) (bind x w env) plain_e sized_e))
+          let E' : Env_of at hi m' (with_name x.0 (s (1 + lo)) (with_entered (s (1 + lo)) G)) (bind x w (entered (1 + lo) w env)) = with_value lo mid at hi x G env L (omega (arith, z)) (omega (arith, z')) (omega (arith, z'')) (omega (arith, z, z', z'')) w hw X.0 X.1 in
+          gives_as (All_results at hi (with_name x.0 (s (1 + lo)) (with_entered (s (1 + lo)) G)) (bind x w (entered (1 + lo) w env)) (s at)) (R_of lo hi X.0 (s lo)) (means W (Evaluate (bind x w (entered (1 + lo) w env)) at e))
+          (subst (λ n. Gives (All_results at n (with_name x.0 (s (1 + lo)) (with_entered (s (1 + lo)) G)) (bind x w (entered (1 + lo) w env)) (s at)) (means W (Evaluate (bind x w (entered (1 + lo) w env)) at e))) z'' (law_e at (with_name x.0 (s (1 + lo)) (with_entered (s (1 + lo)) G)) (bind x w (entered (1 + lo) w env)) plain_e sized_e))
           (λ u r. let_result lo mid at hi x G env L (omega (arith, z)) (omega (arith, z')) (omega (arith, z'')) (omega (arith, z, z', z'')) w hw X.0 X.1 u (r (m', E'))))
 
   -- what is known of a let of this pattern, with these names of sizes
@@ -585,7 +585,7 @@ module _ (N : Names) (types : Sub) (s : ℕ → Size) (home : ℕ → ℕ) (τ :
 
   let_any : (p : FlatPattern) (sizes : List BindId) (v e : FlatTerm) (lo mid at hi : ℕ) (G : Context) (env : FlatEnv) → Named p → sizes ≡ [] → Plain_term v → Plain_term e → Law v → Law e → 1 + lo + pattern_numbers p ≡ mid → mid + numbers v ≡ at → at + numbers e ≡ hi → Sized N types s home v mid G
       → Let_facts p sizes lo mid at hi × Sized N types s home e at (with_pattern s p (1 + lo) (with_size_names (bind_ids sizes) G))
-      → Gives (All_results lo hi G env (s lo)) (Then (means W (Evaluate env mid v)) (λ w. Then (the (bound p w env)) (λ inner. means W (Evaluate inner at e))))
+      → Gives (All_results lo hi G env (s lo)) (Then (means W (Evaluate env mid v)) (λ w. Then (the (bound (1 + lo) p w env)) (λ inner. means W (Evaluate inner at e))))
   unfolding bound
   let_any (Bound_pattern x) sizes v e lo mid at hi G env named none plain_v plain_e law_v law_e z z' z'' sized_v q =
       let facts : Let_facts (Bound_pattern x) [] lo mid at hi × Sized N types s home e at (with_pattern s (Bound_pattern x) (1 + lo) (with_size_names (bind_ids []) G)) = subst (λ y. Let_facts (Bound_pattern x) y lo mid at hi × Sized N types s home e at (with_pattern s (Bound_pattern x) (1 + lo) (with_size_names (bind_ids y) G))) none q in
@@ -608,7 +608,7 @@ module _ (N : Names) (types : Sub) (s : ℕ → Size) (home : ℕ → ℕ) (τ :
   use_fits b lo hi G env (inr q) v l = λ w. absurd (none_some (G.schemes b.0) q.0 ((w.1).none_general b.0) q.1)
 
   mutual
-    unfolding flat_names operate operation
+    unfolding flat_names operate coerced operation
 
     pub law : (t : FlatTerm) → Law t
     law (Use (ref.Bound b) at k) = λ lo G env p h. evaluates (All_results lo (lo + (1 + (k + k))) G env (s lo)) (Evaluate env lo (Use (ref.Bound b) at k))
@@ -649,7 +649,7 @@ module _ (N : Names) (types : Sub) (s : ℕ → Size) (home : ℕ → ℕ) (τ :
         let at : ℕ = 1 + lo + pattern_numbers b.pattern + numbers v in
         let hi : ℕ = 1 + lo + pattern_numbers b.pattern + numbers v + numbers e in
         evaluates (All_results lo (lo + numbers (Let b v e)) G env (s lo)) (Evaluate env lo (Let b v e))
-        (subst (λ z. Gives (All_results lo z G env (s lo)) (Then (means W (Evaluate env mid v)) (λ w. Then (the (bound b.pattern w env)) (λ inner. means W (Evaluate inner at e))))) (let z : hi ≡ lo + numbers (Let b v e) = omega arith in z)
+        (subst (λ z. Gives (All_results lo z G env (s lo)) (Then (means W (Evaluate env mid v)) (λ w. Then (the (bound (1 + lo) b.pattern w env)) (λ inner. means W (Evaluate inner at e))))) (let z : hi ≡ lo + numbers (Let b v e) = omega arith in z)
         (let_any b.pattern b.sizes v e lo mid at hi G env plain.0 plain.1 plain.3 plain.4 (law v) (law e) refl refl refl h.0
         (let_choice b v e lo mid at hi G plain.2 h.1)))
     law t = λ lo G env plain h. absurd plain

@@ -5,7 +5,7 @@ use Rattle.fut_typing.specs.Names.{Names}
 use Rattle.fut_value.specs.Data.{Shape, Shapes, Named_shapes}
 use Rattle.fut_meaning.specs.Flats.{FlatValue}
 use Rattle.fut_meaning.specs.Outcomes.{Rel}
-use Rattle.fut_sizes.specs.Sizes.{Free, Const, Name, Own, Unknown, Slot, Dim, At, Bound, Variable, Size, Hole, Open, Level, Built, Fun, Sizes, no_size, size_and, replaced, all_replaced, given, opened, renaming, renamed}
+use Rattle.sized_types.specs.Sizes.{Free, Const, Name, Own, Unknown, Slot, Dim, At, Bound, Variable, Size, Hole, Open, Level, Built, Fun, Sizes, no_size, size_and, replaced, all_replaced, given, opened, renaming, renamed}
 use Rattle.fut_sizes.specs.Suiting.{Each, Each_all, Scoped, Of_positions}
 use Rattle.sized_meaning.specs.Worth.{Worth, free, Frames, push, number}
 use Rattle.sized_meaning.specs.Shapes.{Has_shape, Have_shapes, Have_named}

@@ -5,7 +5,7 @@ use Rattle.fut_typing.specs.Names.{Names}
 use Rattle.fut_value.specs.Data.{Shape}
 use Rattle.fut_meaning.specs.Flats.{FlatValue}
 use Rattle.fut_meaning.specs.Outcomes.{Rel}
-use Rattle.fut_sizes.specs.Sizes.{Free, Const, Name, Own, Unknown, Slot, Dim, At, Bound, Variable, Size, Fun, Sizes, opened}
+use Rattle.sized_types.specs.Sizes.{Free, Const, Name, Own, Unknown, Slot, Dim, At, Bound, Variable, Size, Fun, Sizes, opened}
 use Rattle.fut_sizes.specs.Suiting.{Each, Scoped, Of_positions, Free_of, Instance, Suits, suits_same, suits_parts, suits_function, All_suit, suit_none, suit_more}
 use Rattle.sized_meaning.specs.Worth.{Worth, free, no_frames, push}
 use Rattle.sized_meaning.specs.Fits.{FlatValues, FlatFields, Gives, word, Fits, All_fit, Named_fit}

@@ -8,7 +8,7 @@ use Rattle.fut_meaning.specs.Flats.{FlatValue}
 use Rattle.fut_meaning.specs.Meaning.{Lang, plain, Ever}
 use Rattle.fut_meaning.specs.Outcomes.{Rel}
 use Rattle.fut_meaning.specs.Values.{Call}
-use Rattle.fut_sizes.specs.Sizes.{Variable, Size}
+use Rattle.sized_types.specs.Sizes.{Variable, Size}
 use Rattle.fut_sizes.specs.Suiting.{Suits}
 use Rattle.sized_meaning.specs.Worth.{Worth, no_frames}
 use Rattle.sized_meaning.specs.Fits.{Fits}

@@ -17,7 +17,7 @@ use Rattle.fut_meaning.specs.Outcomes.{Out, Val, Fail, Wrong, Rel}
 use Rattle.fut_meaning.specs.Values.{Scalar_value, Tuple_value, Record_value, Values, no_value, value_and, Fields, field}
 use Rattle.fut_flat.specs.declared.prim.Ref.{Ref}
 use Rattle.fut_scalar.specs.declared.place.BindId.{BindId}
-use Rattle.fut_sizes.specs.Sizes.{Variable, Size, Hole, Open, Level, Built, Fun, Sizes, no_size, size_and}
+use Rattle.sized_types.specs.Sizes.{Variable, Size, Hole, Open, Level, Built, Fun, Sizes, no_size, size_and}
 use Rattle.sized_meaning.specs.Worth.{Worth, Frames, push}
 use Rattle.sized_meaning.specs.Shapes.{Has_shape}
 

@@ -1,7 +1,6 @@
 -- Each value that a sized term may give is of its sized type. It is said here of the terms that use names, make tuples and
 -- functions, apply them and bind names by lets.
 use Rattle.std.specs.Prelude.{◌≡◌, ℕ, ◌+◌, Bool, [], Some, None}
-use Rattle.fut_scalar.specs.declared.scalar.IntType.{IntType}
 use Rattle.fut_flat.specs.declared.prim.Ref.TheVariants as ref
 use Rattle.fut_flat.specs.Numbers.{numbers}
 use Rattle.fut_flat.specs.Terms.{Bound_pattern, Wild_pattern, Patterns, no_pattern, pattern_and, Tuple_of, Use, Strict, Lambda, Apply, Let, Terms, no_term, term_and}
@@ -10,10 +9,11 @@ use Rattle.fut_types.specs.Types.{Sub}
 use Rattle.fut_typing.specs.Names.{Names}
 use Rattle.fut_value.specs.Data.{Shape}
 use Rattle.fut_meaning.specs.Flats.{FlatValue, FlatEnv, FlatTops, flat_look, flat_names}
+use Rattle.fut_meaning.specs.Found.{Told}
 use Rattle.fut_meaning.specs.Meaning.{plain, Ever}
 use Rattle.fut_meaning.specs.Outcomes.{Val, Rel}
 use Rattle.fut_meaning.specs.Values.{Task, Evaluate, Call}
-use Rattle.fut_sizes.specs.Sizes.{Free, Name, Variable, Size}
+use Rattle.sized_types.specs.Sizes.{Free, Name, Variable, Size}
 use Rattle.fut_sizes.specs.Scoping.{Context}
 use Rattle.fut_sizes.specs.Rules.{Outside, Inside, Away, Sized}
 use Rattle.fut_scalar.specs.declared.place.BindId.{BindId}
@@ -55,10 +55,10 @@ abbrev mutual
   Plain_terms no_term = Unit {0}
   Plain_terms (term_and t ts) = Plain_term t × Plain_terms ts
 
--- ---- the meaning in which they are evaluated: under these definitions, with integers of these types
+-- ---- the meaning in which they are evaluated: under these definitions, where a typing and a sizing tell this
 
 pub record World : Type 0 where
-  pub integer_at : ℕ → IntType
+  pub told : Told
   pub tops : FlatTops
   pub tight : Bool
   pub budget : ℕ
@@ -67,7 +67,7 @@ abbrev pub FlatTask : Type 0
 FlatTask = Task Ref BindId (Unit {0})
 
 abbrev pub means : World → FlatTask → Rel FlatValue
-means W t = Ever ((flat_names W.integer_at).lang W.tops) (plain W.tight) W.budget t
+means W t = Ever ((flat_names W.told).lang W.tops) (plain W.tight) W.budget t
 
 abbrev pub calls : World → FlatValue → FlatValue → Rel FlatValue
 calls W f v = means W (Call f v)

@@ -6,7 +6,7 @@ use Rattle.fut_types.specs.declared.Head.TheVariants as head
 use Rattle.fut_types.specs.Shapes.{place}
 use Rattle.fut_typing.specs.Names.{Names}
 use Rattle.fut_value.specs.Data.{Shape, Scalar_shape, Tuple_shape, Record_shape, Array_shape, Shapes, no_shape, shape_and, Named_shapes, no_named_shape, named_shape_and}
-use Rattle.fut_sizes.specs.Sizes.{Variable, Size, Hole, Open, Level, Built, Fun, Sizes, no_size, size_and}
+use Rattle.sized_types.specs.Sizes.{Variable, Size, Hole, Open, Level, Built, Fun, Sizes, no_size, size_and}
 use Rattle.sized_meaning.specs.Worth.{Worth, Frames, number}
 
 abbrev pub On_array_shape : (ℕ → Shape → Type 0) → Shape → Type 0

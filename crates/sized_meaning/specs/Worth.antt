@@ -1,6 +1,6 @@
 -- What sizes are worth: names have values, and numbers are met at nodes.
 use Rattle.std.specs.Prelude.{ℕ, zero, suc}
-use Rattle.fut_sizes.specs.Sizes.{Free, Const, Name, Own, Unknown, Slot, Dim, At, Bound}
+use Rattle.sized_types.specs.Sizes.{Free, Const, Name, Own, Unknown, Slot, Dim, At, Bound}
 
 abbrev pub Worth : Type 0
 Worth = Free → ℕ

@@ -2,13 +2,13 @@
 -- of the data that stands beside it.
 use Rattle.std.proofs.Common.{◌≡◌, Bool, true, false, ℕ, zero, suc, List, [], ◌∷◌}
 use Rattle.fut_scalar.specs.declared.place.Place.{Place}
-use Rattle.fut_scalar.specs.declared.scalar.IntType.{IntType}
 use Rattle.fut_flat.specs.declared.prim.Primitive.{Primitive}
 use Rattle.fut_types.specs.declared.Kind.TheVariants as kind
 use Rattle.fut_types.specs.Types.{Ty, Tys, none, more, Kinds, HasKind}
 use Rattle.fut_typing.specs.Names.{Names, AreNames, count}
 use Rattle.fut_typing.specs.Patterns.{arrows}
 use Rattle.fut_value.specs.Data.{Datum, Shape}
+use Rattle.fut_meaning.specs.Found.{Told}
 use Rattle.fut_meaning.specs.Datums.{as_value}
 use Rattle.fut_meaning.specs.Jobs.{Job, Applied, job, job_means}
 use Rattle.fut_meaning.specs.Operations.{parameters_of}
@@ -34,9 +34,9 @@ Takes_data K (k ∷ ks) none = ⊥
 Takes_data K (zero ∷ ks) (more t ts) = HasKind K kind.Data t × Takes_data K ks ts
 Takes_data K (suc k ∷ ks) (more t ts) = Takes_data K ks ts
 
-module _ (N : Names) (are : AreNames N) (integer_at : ℕ → IntType) (M : FlatMode) (budget : ℕ) (total : Bool) (K : Kinds) where
+module _ (N : Names) (are : AreNames N) (T : Told) (M : FlatMode) (budget : ℕ) (total : Bool) (K : Kinds) where
   abbrev D : FlatTops → Ty → Datum → Type 0
-  D tops t d = Fits N integer_at M budget total t tops (as_value d)
+  D tops t d = Fits N T M budget total t tops (as_value d)
 
   -- data of these types
   abbrev pub Each_data : FlatTops → Tys → List Datum → Type 0

@@ -1,7 +1,6 @@
 -- Values of a type without functions are data.
 use Rattle.std.proofs.Common.{◌≡◌, ◌≢◌, Bool, cond, ℕ, ◌≤◌, refl, sym, ap, ◌∙◌, subst, arith, List, [], ◌∷◌, Some, min}
 use mathlib.Core.Logic.{inl, inr}
-use Rattle.fut_scalar.specs.declared.scalar.IntType.{IntType}
 use Rattle.fut_scalar.specs.declared.scalar.ScalarType.{ScalarType}
 use Rattle.fut_ast.specs.Sorts.{Text}
 use Rattle.fut_types.specs.declared.Kind.TheVariants as kind
@@ -11,6 +10,7 @@ use Rattle.fut_types.specs.Types.{Ty, Var, Made, Tys, none, more, Kinds, rank, l
 use Rattle.fut_types.proofs.TyLaws.{rank_made, least_more}
 use Rattle.fut_typing.specs.Names.{Names, AreNames}
 use Rattle.fut_typing.proofs.Members.{In, in_list}
+use Rattle.fut_meaning.specs.Found.{Told}
 use Rattle.fut_meaning.specs.Outcomes.{Val, and_then}
 use Rattle.fut_value.specs.Data.{Datum, Scalar_datum, Tuple_datum, Record_datum, Array_datum, Datums, no_datum, datum_and, Named_datums, no_named, named_and}
 use Rattle.fut_meaning.specs.Datums.{as_value, as_values, as_fields, datum_of, datums_of, named_datums_of}
@@ -52,7 +52,7 @@ fields_data (field_and f v fs) h each =
 some_is : {A : Type 0} {x y : A} → Some x ≡ Some y → x ≡ y
 some_is e = cc
 
-module _ (N : Names) (are : AreNames N) (integer_at : ℕ → IntType) (M : FlatMode) (budget : ℕ) (total : Bool) (tops : FlatTops) (K : Kinds) where
+module _ (N : Names) (are : AreNames N) (T : Told) (M : FlatMode) (budget : ℕ) (total : Bool) (tops : FlatTops) (K : Kinds) where
   pub parts_kind : (h : Head) (ts : Tys) → HasKind K kind.Data (Made h ts) → 1 ≤ least K ts
   parts_kind h ts p = let e : rank K (Made h ts) ≡ min (cap h) (least K ts) = rank_made K h ts in let q : 1 ≤ rank K (Made h ts) = p in omega (arith, e, q)
 
@@ -69,7 +69,7 @@ module _ (N : Names) (are : AreNames N) (integer_at : ℕ → IntType) (M : Flat
   mutual
     unfolding Fits All_fit Fields_fit datum_of datums_of
 
-    pub fits_data : (t : Ty) (v : FlatValue) → HasKind K kind.Data t → Fits N integer_at M budget total t tops v → Is_data v
+    pub fits_data : (t : Ty) (v : FlatValue) → HasKind K kind.Data t → Fits N T M budget total t tops v → Is_data v
     fits_data (Var n) v k h = absurd h
     fits_data (Made (head.Scalar s) ts) v k h = scalar_data s v h
     fits_data (Made head.Array none) v k h = absurd h
@@ -102,7 +102,7 @@ module _ (N : Names) (are : AreNames N) (integer_at : ℕ → IntType) (M : Flat
     fits_data (Made (head.Rigid n d) ts) v k h = absurd h
     fits_data (Made (head.Abstract n d) ts) v k h = absurd h
 
-    all_data_fit : (ts : Tys) (vs : FlatValues) → 1 ≤ least K ts → All_fit N integer_at M budget total ts tops vs → All_are_data vs
+    all_data_fit : (ts : Tys) (vs : FlatValues) → 1 ≤ least K ts → All_fit N T M budget total ts tops vs → All_are_data vs
     all_data_fit none no_value k h = (no_datum, refl, refl)
     all_data_fit none (value_and v vs) k h = absurd h
     all_data_fit (more t ts) no_value k h = absurd h
@@ -111,7 +111,7 @@ module _ (N : Names) (are : AreNames N) (integer_at : ℕ → IntType) (M : Flat
         let b = all_data_fit ts vs (rest_kind t ts k) h.1 in
         (datum_and a.0 b.0, ap (λ z. and_then z (λ d. and_then (datums_of vs) (λ ds. Val (datum_and d ds)))) a.1 ∙ ap (λ z. and_then z (λ ds. Val (datum_and a.0 ds))) b.1, ap (λ z. value_and z vs) a.2 ∙ ap (λ z. value_and (as_value a.0) z) b.2)
 
-    fields_data_fit : (ls : List ℕ) (ts : Tys) (fs : FlatFields) → 1 ≤ least K ts → Fields_fit N integer_at M budget total ls ts tops fs → (l : ℕ) → In l ls → Found l fs
+    fields_data_fit : (ls : List ℕ) (ts : Tys) (fs : FlatFields) → 1 ≤ least K ts → Fields_fit N T M budget total ls ts tops fs → (l : ℕ) → In l ls → Found l fs
     fields_data_fit [] none fs k h l i = absurd i
     fields_data_fit [] (more t ts) fs k h l i = absurd h
     fields_data_fit (x ∷ ls) none fs k h l i = absurd h

@@ -21,6 +21,7 @@ use Rattle.fut_types.specs.declared.Head.TheVariants as head
 use Rattle.fut_types.specs.Types.{Ty, Made, Tys, none, more, Kinds, HasKind, scalar_ty}
 use Rattle.fut_typing.specs.Names.{Names, AreNames, count}
 use Rattle.fut_typing.specs.Primitives.{array_ty, bool_ty, i64_ty, pair_ty, triple_ty}
+use Rattle.fut_meaning.specs.Found.{Told}
 use Rattle.fut_meaning.specs.Outcomes.{Out, Val, and_then}
 use Rattle.fut_value.specs.Data.{Shape, Scalar_shape, Tuple_shape, Record_shape, Array_shape, Unmet_shape, Shapes, no_shape, shape_and, Datum, Scalar_datum, Tuple_datum, Record_datum, Array_datum, Datums, no_datum, datum_and, listed, datums, shape_of, weight}
 use Rattle.fut_meaning.specs.Datums.{as_value, as_values}
@@ -40,51 +41,51 @@ use Rattle.type_soundness.proofs.Making.{every_more, every_taken, every_dropped,
 use Rattle.type_soundness.proofs.Application.{Application, Each_data, Jobs_fit}
 use Rattle.type_soundness.proofs.Jobs.{arrays, Gives_data, done_fits, on_rows_fits, on_exact_fits, sized_fits, array_done, array_taken, Each_row, row_shapes, each_row_data, columns_rows, rows_as}
 
-module _ (N : Names) (are : AreNames N) (integer_at : ℕ → IntType) (M : FlatMode) (budget : ℕ) (total : Bool) (K : Kinds) (tops : FlatTops) where
+module _ (N : Names) (are : AreNames N) (T : Told) (M : FlatMode) (budget : ℕ) (total : Bool) (K : Kinds) (tops : FlatTops) where
   abbrev D : Ty → Datum → Type 0
-  D t d = Fits N integer_at M budget total t tops (as_value d)
+  D t d = Fits N T M budget total t tops (as_value d)
 
   abbrev Gives : Application total → Ty → Job → Type 0
-  Gives f u j = Gives_data N are integer_at M budget total K tops f u j
+  Gives f u j = Gives_data N are T M budget total K tops f u j
 
   abbrev Rows_are : Ty → Rows → Type 0
-  Rows_are t r = Rows_fit N are integer_at M budget total tops K t r
+  Rows_are t r = Rows_fit N are T M budget total tops K t r
 
   abbrev A_row : Ty → Shape → Datum → Type 0
-  A_row t row d = Row N are integer_at M budget total tops K t row d
+  A_row t row d = Row N are T M budget total tops K t row d
 
   abbrev Jobs : Primitive → Place → Tys → Ty → Type 1
-  Jobs p at ts u = Jobs_fit N are integer_at M budget total K tops p at ts u
+  Jobs p at ts u = Jobs_fit N are T M budget total K tops p at ts u
 
   on_array : (f : Application total) (u t : Ty) (d : Datum) (g : Rows → Out Job) → D (array_ty t) d → ((r : Rows) → Rows_are t r → HasOut (Gives f u) (g r)) → HasOut (Gives f u) (on_rows d g)
-  on_array f u t d g h go = on_rows_fits N are integer_at M budget total K tops f u t d g h go
+  on_array f u t d g h go = on_rows_fits N are T M budget total K tops f u t d g h go
 
   gives_new : (f : Application total) (t : Ty) (at : Place) (row : Shape) (ds : List Datum) → Every (A_row t row) ds → HasOut (Gives f (array_ty t)) (done (all_fresh (array_of at row ds)))
-  gives_new f t at row ds e = array_done N are integer_at M budget total K tops f t at row ds e
+  gives_new f t at row ds e = array_done N are T M budget total K tops f t at row ds e
 
   gives_old : (f : Application total) (t : Ty) (at : Place) (row : Shape) (ds : List Datum) → Every (A_row t row) ds → HasOut (Gives f (array_ty t)) (some_rows at row ds)
-  gives_old f t at row ds e = array_taken N are integer_at M budget total K tops f t at row ds e
+  gives_old f t at row ds e = array_taken N are T M budget total K tops f t at row ds e
 
   gives : (f : Application total) (u : Ty) (o : Out Counted) → HasOut (Of_counted (D u)) o → HasOut (Gives f u) (done o)
-  gives f u o h = done_fits N are integer_at M budget total K tops f u o h
+  gives f u o h = done_fits N are T M budget total K tops f u o h
 
   data_of : (t : Ty) (r : Rows) → Rows_are t r → Every (D t) r.1
-  data_of t r e = row_data N are integer_at M budget total tops K t r.0 r.1 e
+  data_of t r e = row_data N are T M budget total tops K t r.0 r.1 e
 
   on_number : (f : Application total) (u : Ty) (d : Datum) (g : ℤ → Out Job) → D i64_ty d → ((z : ℤ) → HasOut (Gives f u) (g z)) → HasOut (Gives f u) (on_exact d g)
-  on_number f u d g h go = on_exact_fits N are integer_at M budget total K tops f u d g h go
+  on_number f u d g h go = on_exact_fits N are T M budget total K tops f u d g h go
 
   -- ---- numbers
   numbers_are : (n i : ℕ) → Every (A_row i64_ty i64_shape) (numbers_from n i)
   numbers_are zero i = tt
-  numbers_are (suc n) i = ((number_fits N are integer_at M budget total tops K int.I64 i, scalar_like i64_shape (scalar.Int int.I64 i)), numbers_are n (suc i))
+  numbers_are (suc n) i = ((number_fits N are T M budget total tops K int.I64 i, scalar_like i64_shape (scalar.Int int.I64 i)), numbers_are n (suc i))
 
   numbers_made : (n : ℕ) → D (array_ty i64_ty) (Array_datum i64_shape (datums (numbers_from n 0)))
-  numbers_made n = of_rows N are integer_at M budget total tops K i64_ty i64_shape (numbers_from n 0) (numbers_are n 0)
+  numbers_made n = of_rows N are T M budget total tops K i64_ty i64_shape (numbers_from n 0) (numbers_are n 0)
 
   pub iota_fits : (at : Place) → Jobs prim.Iota at (more i64_ty none) (array_ty i64_ty)
   unfolding job
-  iota_fits at told f g h = on_number f (array_ty i64_ty) h.0 _ h.1 (λ z. sized_fits N are integer_at M budget total K tops f (array_ty i64_ty) at z _ (λ n.
+  iota_fits at told f g h = on_number f (array_ty i64_ty) h.0 _ h.1 (λ z. sized_fits N are T M budget total K tops f (array_ty i64_ty) at z _ (λ n.
       gives f (array_ty i64_ty) _ (has_checked (Of_counted (D (array_ty i64_ty))) (nat_le n most_words) fail.TooLarge at _ (λ l. numbers_made n))))
 
   pub indices_fits : (t : Ty) (at : Place) → Jobs prim.Indices at (more (array_ty t) none) (array_ty i64_ty)
@@ -93,18 +94,18 @@ module _ (N : Names) (are : AreNames N) (integer_at : ℕ → IntType) (M : Flat
 
   pub length_fits : (t : Ty) (at : Place) → Jobs prim.Length at (more (array_ty t) none) i64_ty
   unfolding job
-  length_fits t at told f g h = on_array f i64_ty t h.0 _ h.1 (λ r e. gives f i64_ty (shared (i64 (size_of r))) (number_fits N are integer_at M budget total tops K int.I64 (size_of r)))
+  length_fits t at told f g h = on_array f i64_ty t h.0 _ h.1 (λ r e. gives f i64_ty (shared (i64 (size_of r))) (number_fits N are T M budget total tops K int.I64 (size_of r)))
 
   pub null_fits : (t : Ty) (at : Place) → Jobs prim.Null at (more (array_ty t) none) bool_ty
   unfolding job
-  null_fits t at told f g h = on_array f bool_ty t h.0 _ h.1 (λ r e. gives f bool_ty (shared (Scalar_datum (scalar.Bool (nat_eq (size_of r) 0)))) (truth_fits N are integer_at M budget total tops K (nat_eq (size_of r) 0)))
+  null_fits t at told f g h = on_array f bool_ty t h.0 _ h.1 (λ r e. gives f bool_ty (shared (Scalar_datum (scalar.Bool (nat_eq (size_of r) 0)))) (truth_fits N are T M budget total tops K (nat_eq (size_of r) 0)))
 
   pub replicate_fits : (t : Ty) → HasKind K kind.Data t → (at : Place) → Jobs prim.Replicate at (more i64_ty (more t none)) (array_ty t)
   unfolding job
-  replicate_fits t k at told f g h = on_number f (array_ty t) h.0 _ h.1 (λ z. sized_fits N are integer_at M budget total K tops f (array_ty t) at z _ (λ n.
+  replicate_fits t k at told f g h = on_number f (array_ty t) h.0 _ h.1 (λ z. sized_fits N are T M budget total K tops f (array_ty t) at z _ (λ n.
       has_checked (Gives f (array_ty t)) (nat_le (weight (Array_shape n (shape_of h.2.0))) most_words) fail.TooLarge at _ (λ l.
-      gives f (array_ty t) (fresh (Array_datum (shape_of h.2.0) (datums (replicate n h.2.0)))) (of_rows N are integer_at M budget total tops K t (shape_of h.2.0) (replicate n h.2.0)
-      (every_copy (A_row t (shape_of h.2.0)) n h.2.0 (h.2.1, self_like N are integer_at M budget total tops K t h.2.0 k h.2.1))))))
+      gives f (array_ty t) (fresh (Array_datum (shape_of h.2.0) (datums (replicate n h.2.0)))) (of_rows N are T M budget total tops K t (shape_of h.2.0) (replicate n h.2.0)
+      (every_copy (A_row t (shape_of h.2.0)) n h.2.0 (h.2.1, self_like N are T M budget total tops K t h.2.0 k h.2.1))))))
 
   -- ---- one row
   found_first : (P : Datum → Type 0) (ds : List Datum) → Every P ds → If_some P (first_of_rows ds)
@@ -163,7 +164,7 @@ module _ (N : Names) (are : AreNames N) (integer_at : ℕ → IntType) (M : Flat
   both_rows : (t : Ty) → HasKind K kind.Data t → (r s : Rows) → Rows_are t r → Rows_are t s → shown_to_agree r s ≡ true → Every (A_row t (either_row r s)) (r.1 ++ s.1)
   both_rows t k (h, []) (j, []) e i a = tt
   both_rows t k (h, []) (j, y ∷ ys) e i a = subst (λ b. Every (A_row t (cond b (or_met h j) j)) (y ∷ ys)) (sym (ne_eqb (suc (length ys)) 0 (omega arith))) i
-  both_rows t k (h, x ∷ xs) s e i a = subst (λ b. Every (A_row t (cond b (cond (nat_eq (size_of s) 0) (or_met h s.0) s.0) h)) (x ∷ xs ++ s.1)) (sym (ne_eqb (suc (length xs)) 0 (omega arith))) (also (rows_as N are integer_at M budget total K tops t k (h, x ∷ xs) s e i a))
+  both_rows t k (h, x ∷ xs) s e i a = subst (λ b. Every (A_row t (cond b (cond (nat_eq (size_of s) 0) (or_met h s.0) s.0) h)) (x ∷ xs ++ s.1)) (sym (ne_eqb (suc (length xs)) 0 (omega arith))) (also (rows_as N are T M budget total K tops t k (h, x ∷ xs) s e i a))
     where
       also : (suc (length xs) ≡ 0) ⊎ Every (A_row t h) s.1 → Every (A_row t h) (x ∷ xs ++ s.1)
       also (inl z) = absurd (omega (arith, z))
@@ -235,7 +236,7 @@ module _ (N : Names) (are : AreNames N) (integer_at : ℕ → IntType) (M : Flat
 
   inner_of : (t : Ty) (row : Shape) (d : Datum) → A_row (array_ty t) row d → HasOut (Long_rows t (inner row) (size row)) (and_then (rows_of d) (λ r. Val r.1))
   unfolding Like Is_empty
-  inner_of t row d h = let v = array_view N are integer_at M budget total tops K t d h.0 in
+  inner_of t row d h = let v = array_view N are T M budget total tops K t d h.0 in
       subst (λ z. HasOut (Long_rows t (inner row) (size row)) (and_then (rows_of z) (λ r. Val r.1))) (sym v.2) (by_shape row v.0 v.1 v.3 (subst (Like row) v.2 h.1))
     where
       by_shape : (row r : Shape) (ds : Datums) → All_datums (λ d. D t d × Like r d) ds → Like row (Array_datum r ds) → Long_rows t (inner row) (size row) (listed ds)
@@ -261,7 +262,7 @@ module _ (N : Names) (are : AreNames N) (integer_at : ℕ → IntType) (M : Flat
   -- an array of so many rows
   an_array : (t : Ty) (row : Shape) (n : ℕ) (ds : List Datum) → Every (A_row t row) ds → length ds ≡ n → A_row (array_ty t) (Array_shape n row) (Array_datum row (datums ds))
   unfolding Like
-  an_array t row n ds e l = (of_rows N are integer_at M budget total tops K t row ds e, (ap length (listed_datums ds) ∙ l, every_datums (Like row) ds (every_as (A_row t row) (Like row) ds (λ d q. q.1) e)))
+  an_array t row n ds e l = (of_rows N are T M budget total tops K t row ds e, (ap length (listed_datums ds) ∙ l, every_datums (Like row) ds (every_as (A_row t row) (Like row) ds (λ d q. q.1) e)))
 
   groups_fit : (t : Ty) (row : Shape) (n m : ℕ) (ds : List Datum) → Every (A_row t row) ds → n * m ≤ length ds → Every (A_row (array_ty t) (Array_shape m row)) (grouped row n m ds)
   groups_fit t row zero m ds e le = tt
@@ -277,10 +278,10 @@ module _ (N : Names) (are : AreNames N) (integer_at : ℕ → IntType) (M : Flat
   unflatten_fits t at told f g h =
       let u : Ty = array_ty (array_ty t) in
       on_number f u h.0 _ h.1 (λ z. on_number f u h.2.0 _ h.2.1 (λ w. on_array f u t h.2.2.0 _ h.2.2.1 (λ r e.
-      sized_fits N are integer_at M budget total K tops f u at z _ (λ i. sized_fits N are integer_at M budget total K tops f u at w _ (λ j.
+      sized_fits N are T M budget total K tops f u at z _ (λ i. sized_fits N are T M budget total K tops f u at w _ (λ j.
       has_checked (Gives f u) (nat_eq (i * j) (size_of r)) fail.Size at _ (λ same.
       has_checked (Gives f u) (nat_le (weight (Array_shape i (Array_shape j r.0))) most_words) fail.TooLarge at _ (λ l.
-      gives f u (fresh (Array_datum (Array_shape j r.0) (datums (grouped r.0 i j r.1)))) (of_rows N are integer_at M budget total tops K (array_ty t) (Array_shape j r.0) (grouped r.0 i j r.1)
+      gives f u (fresh (Array_datum (Array_shape j r.0) (datums (grouped r.0 i j r.1)))) (of_rows N are T M budget total tops K (array_ty t) (Array_shape j r.0) (grouped r.0 i j r.1)
       (groups_fit t r.0 i j r.1 e (let q : i * j ≡ size_of r = eqb-true (i * j) (size_of r) same in omega (arith, q)))))))))))
 
   -- the columns that stand below the size of the rows
@@ -303,13 +304,13 @@ module _ (N : Names) (are : AreNames N) (integer_at : ℕ → IntType) (M : Flat
       has_checked (Gives f u) (nat_le (weight (Array_shape (size r.0) (Array_shape (size_of r) (inner r.0)))) most_words) fail.TooLarge at _ (λ l.
       has_then (λ dss. Every (Long_rows t (inner r.0) (size r.0)) dss × (length dss ≡ length r.1)) (Gives f u) (inner_rows r.1) _ (all_inner t r e) (λ dss q.
       has_then (Every (A_row (array_ty t) (Array_shape (length dss) (inner r.0)))) (Gives f u) (crossed (inner r.0) (size r.0) 0 dss) _ (crossed_fits t (inner r.0) (size r.0) 0 (size r.0) dss q.0 (omega arith)) (λ ds p.
-      gives f u (shared (Array_datum (Array_shape (size_of r) (inner r.0)) (datums ds))) (of_rows N are integer_at M budget total tops K (array_ty t) (Array_shape (size_of r) (inner r.0)) ds (subst (λ n. Every (A_row (array_ty t) (Array_shape n (inner r.0))) ds) q.1 p))))))
+      gives f u (shared (Array_datum (Array_shape (size_of r) (inner r.0)) (datums ds))) (of_rows N are T M budget total tops K (array_ty t) (Array_shape (size_of r) (inner r.0)) ds (subst (λ n. Every (A_row (array_ty t) (Array_shape n (inner r.0))) ds) q.1 p))))))
 
   -- ---- tuples of rows
   abbrev Data : Tys → List Datum → Type 0
-  Data ts ds = Each_data N are integer_at M budget total K tops ts ds
+  Data ts ds = Each_data N are T M budget total K tops ts ds
 
-  parts_fit : (ts : Tys) (ds : List Datum) → Data ts ds → All_fit N integer_at M budget total ts tops (as_values (datums ds))
+  parts_fit : (ts : Tys) (ds : List Datum) → Data ts ds → All_fit N T M budget total ts tops (as_values (datums ds))
   unfolding All_fit
   parts_fit none [] h = tt
   parts_fit none (d ∷ ds) h = absurd h
@@ -321,10 +322,10 @@ module _ (N : Names) (are : AreNames N) (integer_at : ℕ → IntType) (M : Flat
   tupled_fits ts ds lt h = (lt, parts_fit ts ds h)
 
   abbrev Each_look : Tys → Shapes → List Datum → Type 0
-  Each_look ts hs ds = Each_row N are integer_at M budget total K tops ts hs ds
+  Each_look ts hs ds = Each_row N are T M budget total K tops ts hs ds
 
   looks_data : (ts : Tys) (hs : Shapes) (ds : List Datum) → Each_look ts hs ds → Data ts ds
-  looks_data ts hs ds h = each_row_data N are integer_at M budget total K tops ts hs ds h
+  looks_data ts hs ds h = each_row_data N are T M budget total K tops ts hs ds h
 
   -- a tuple looks as its parts do, of which there are as many as shapes
   abbrev As_many : Tys → Shapes → Type 0
@@ -347,20 +348,20 @@ module _ (N : Names) (are : AreNames N) (integer_at : ℕ → IntType) (M : Flat
   tuples_fit ts hs [] lt m e = tt
   tuples_fit ts hs (r ∷ rs) lt m e = ((tupled_fits ts r lt (looks_data ts hs r e.0), parts_look ts hs r m e.0), tuples_fit ts hs rs lt m e.1)
 
-  zipped_fits : (f : Application total) (t : Ty) (ts : Tys) (at : Place) (d : Datum) (ds : List Datum) → count (more t ts) < widest → D (array_ty t) d → Data (arrays ts) ds → HasOut (Gives f (array_ty (Made head.Tuple (more t ts)))) (zipped false at (Tuple_shape (shape_and (row_of d) (row_shapes N are integer_at M budget total K tops ds))) (d ∷ ds))
-  zipped_fits f t ts at d ds lt e es = let v = array_view N are integer_at M budget total tops K t d e in
-      subst (λ z. HasOut (Gives f (array_ty (Made head.Tuple (more t ts)))) (zipped false at (Tuple_shape (shape_and (row_of z) (row_shapes N are integer_at M budget total K tops ds))) (z ∷ ds))) (sym v.2) (inside v.0 v.1 v.3)
+  zipped_fits : (f : Application total) (t : Ty) (ts : Tys) (at : Place) (d : Datum) (ds : List Datum) → count (more t ts) < widest → D (array_ty t) d → Data (arrays ts) ds → HasOut (Gives f (array_ty (Made head.Tuple (more t ts)))) (zipped false at (Tuple_shape (shape_and (row_of d) (row_shapes N are T M budget total K tops ds))) (d ∷ ds))
+  zipped_fits f t ts at d ds lt e es = let v = array_view N are T M budget total tops K t d e in
+      subst (λ z. HasOut (Gives f (array_ty (Made head.Tuple (more t ts)))) (zipped false at (Tuple_shape (shape_and (row_of z) (row_shapes N are T M budget total K tops ds))) (z ∷ ds))) (sym v.2) (inside v.0 v.1 v.3)
     where
-      many : (ts : Tys) (ds : List Datum) → Data (arrays ts) ds → As_many ts (row_shapes N are integer_at M budget total K tops ds)
+      many : (ts : Tys) (ds : List Datum) → Data (arrays ts) ds → As_many ts (row_shapes N are T M budget total K tops ds)
       many none [] h = tt
       many none (x ∷ xs) h = absurd h
       many (more u us) [] h = absurd h
       many (more u us) (x ∷ xs) h = many us xs h.1
 
-      inside : (row : Shape) (xs : Datums) → All_datums (λ x. D t x × Like row x) xs → HasOut (Gives f (array_ty (Made head.Tuple (more t ts)))) (zipped false at (Tuple_shape (shape_and row (row_shapes N are integer_at M budget total K tops ds))) (Array_datum row xs ∷ ds))
+      inside : (row : Shape) (xs : Datums) → All_datums (λ x. D t x × Like row x) xs → HasOut (Gives f (array_ty (Made head.Tuple (more t ts)))) (zipped false at (Tuple_shape (shape_and row (row_shapes N are T M budget total K tops ds))) (Array_datum row xs ∷ ds))
       inside row xs a =
-          let hs : Shapes = shape_and row (row_shapes N are integer_at M budget total K tops ds) in
-          has_then (Every (Each_look (more t ts) hs)) (Gives f (array_ty (Made head.Tuple (more t ts)))) (columns false at (row, listed xs) ds) _ (columns_rows N are integer_at M budget total K tops at t ts (row, listed xs) ds (every_listed (A_row t row) xs a) es) (λ rows p.
+          let hs : Shapes = shape_and row (row_shapes N are T M budget total K tops ds) in
+          has_then (Every (Each_look (more t ts) hs)) (Gives f (array_ty (Made head.Tuple (more t ts)))) (columns false at (row, listed xs) ds) _ (columns_rows N are T M budget total K tops at t ts (row, listed xs) ds (every_listed (A_row t row) xs a) es) (λ rows p.
           gives_new f (Made head.Tuple (more t ts)) at (Tuple_shape hs) (map tupled rows) (tuples_fit (more t ts) hs rows lt (many ts ds es) p))
 
   pub zip_fits : (t u : Ty) (at : Place) → Jobs prim.Zip at (more (array_ty t) (more (array_ty u) none)) (array_ty (pair_ty t u))
@@ -377,7 +378,7 @@ module _ (N : Names) (are : AreNames N) (integer_at : ℕ → IntType) (M : Flat
   part_of zero (more t ts) = t
   part_of (suc k) (more t ts) = part_of k ts
 
-  part_like : (k : ℕ) (ts : Tys) (hs : Shapes) (ds : Datums) → k < count ts → All_fit N integer_at M budget total ts tops (as_values ds) → All_like hs ds → HasOut (A_row (part_of k ts) (part_shape k (Tuple_shape hs))) (part_at k (listed ds))
+  part_like : (k : ℕ) (ts : Tys) (hs : Shapes) (ds : Datums) → k < count ts → All_fit N T M budget total ts tops (as_values ds) → All_like hs ds → HasOut (A_row (part_of k ts) (part_shape k (Tuple_shape hs))) (part_at k (listed ds))
   unfolding All_fit All_like
   part_like k none hs ds lt a l = absurd (omega (arith, lt))
   part_like k (more t ts) hs no_datum lt a l = absurd a
@@ -385,7 +386,7 @@ module _ (N : Names) (are : AreNames N) (integer_at : ℕ → IntType) (M : Flat
   part_like zero (more t ts) (shape_and h hs) (datum_and d ds) lt a l = (a.0, l.0)
   part_like (suc k) (more t ts) (shape_and h hs) (datum_and d ds) lt a l = part_like k ts hs ds (omega (arith, lt)) a.1 l.1
 
-  part_empty : (k : ℕ) (ts : Tys) (ds : Datums) → k < count ts → All_fit N integer_at M budget total ts tops (as_values ds) → All_empty ds → HasOut (A_row (part_of k ts) Unmet_shape) (part_at k (listed ds))
+  part_empty : (k : ℕ) (ts : Tys) (ds : Datums) → k < count ts → All_fit N T M budget total ts tops (as_values ds) → All_empty ds → HasOut (A_row (part_of k ts) Unmet_shape) (part_at k (listed ds))
   unfolding All_fit All_empty Like
   part_empty k none ds lt a l = absurd (omega (arith, lt))
   part_empty k (more t ts) no_datum lt a l = absurd a
@@ -398,10 +399,10 @@ module _ (N : Names) (are : AreNames N) (integer_at : ℕ → IntType) (M : Flat
 
   tuple_part_fits : (k : ℕ) (ts : Tys) (row : Shape) (d : Datum) → k < count ts → A_row (Made head.Tuple ts) row d → HasOut (A_row (part_of k ts) (part_shape k row)) (tuple_part k d)
   unfolding Like Is_empty
-  tuple_part_fits k ts row d lt h = let v = tuple_view N are integer_at M budget total tops K ts d h.0 in
+  tuple_part_fits k ts row d lt h = let v = tuple_view N are T M budget total tops K ts d h.0 in
       subst (λ z. HasOut (A_row (part_of k ts) (part_shape k row)) (tuple_part k z)) (sym v.1) (by_shape row v.0 v.2 (subst (Like row) v.1 h.1))
     where
-      by_shape : (row : Shape) (ds : Datums) → All_fit N integer_at M budget total ts tops (as_values ds) → Like row (Tuple_datum ds) → HasOut (A_row (part_of k ts) (part_shape k row)) (part_at k (listed ds))
+      by_shape : (row : Shape) (ds : Datums) → All_fit N T M budget total ts tops (as_values ds) → Like row (Tuple_datum ds) → HasOut (A_row (part_of k ts) (part_shape k row)) (part_at k (listed ds))
       by_shape (Scalar_shape s) ds a l = absurd l
       by_shape (Tuple_shape hs) ds a l = part_like k ts hs ds lt a l
       by_shape (Record_shape hs) ds a l = absurd l
@@ -410,7 +411,7 @@ module _ (N : Names) (are : AreNames N) (integer_at : ℕ → IntType) (M : Flat
 
   column_fits : (k : ℕ) (ts : Tys) (r : Rows) → k < count ts → Rows_are (Made head.Tuple ts) r → HasOut (D (array_ty (part_of k ts))) (column k r)
   column_fits k ts r lt e = has_then (Every (A_row (part_of k ts) (part_shape k r.0))) (D (array_ty (part_of k ts))) _ _ (has_each (A_row (Made head.Tuple ts) r.0) (A_row (part_of k ts) (part_shape k r.0)) (tuple_part k) (λ d q. tuple_part_fits k ts r.0 d lt q) r.1 e) (λ ds q.
-      of_rows N are integer_at M budget total tops K (part_of k ts) (part_shape k r.0) ds q)
+      of_rows N are T M budget total tops K (part_of k ts) (part_shape k r.0) ds q)
 
   abbrev parts_of : List ℕ → Tys → Tys
   parts_of [] ts = none

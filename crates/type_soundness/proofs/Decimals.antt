@@ -6,12 +6,12 @@ use Rattle.std.specs.Str.Parse.{digits_value}
 use Rattle.std.proofs.lemmas.Str.Parse.{IsDigitsTest, FoldsDigits, IsNumeralModel, numerals_by_fold}
 use Rattle.std.proofs.lemmas.Fmt.{decimal-digits_value, decimal_is_IsNumeral}
 use Rattle.std.specs.Str.{bytes_eq}
-use Rattle.fut_scalar.specs.declared.scalar.IntType.{IntType}
 use Rattle.fut_ast.specs.Sorts.{Text}
 use Rattle.fut_types.specs.declared.Head.TheVariants as head
 use Rattle.fut_types.specs.Types.{Ty, Made, Tys, none, more}
 use Rattle.fut_types.specs.Shapes.{place, part_at, part_named, HasPart}
 use Rattle.fut_typing.specs.Names.{Names, AreNames, Digits, Spells, count}
+use Rattle.fut_meaning.specs.Found.{Told}
 use Rattle.fut_meaning.specs.Values.{no_value, value_and}
 use Rattle.fut_meaning.specs.Accessors.{or_wrong, part_from}
 use Rattle.fut_meaning.specs.Claims.{HasOut}
@@ -73,27 +73,27 @@ no_number N are f t ts lacks h = known (N.shapes.position (N.label f)) refl h
     known None is e = let z : None ≡ Some t = e in cc
     known (Some i) is e = lacks i ((are.position f i).0 is)
 
-module _ (N : Names) (integer_at : ℕ → IntType) (M : FlatMode) (budget : ℕ) (total : Bool) (tops : FlatTops) where
-  part_found : (ts : Tys) (vs : FlatValues) (i k : ℕ) (f : Text) (u : Ty) → part_at (Some i) ts ≡ Some u → All_fit N integer_at M budget total ts tops vs → decimal (k + i) ≡ f → k + count ts ≤ widest → HasOut (Fits N integer_at M budget total u tops) (or_wrong (part_from k f vs))
+module _ (N : Names) (T : Told) (M : FlatMode) (budget : ℕ) (total : Bool) (tops : FlatTops) where
+  part_found : (ts : Tys) (vs : FlatValues) (i k : ℕ) (f : Text) (u : Ty) → part_at (Some i) ts ≡ Some u → All_fit N T M budget total ts tops vs → decimal (k + i) ≡ f → k + count ts ≤ widest → HasOut (Fits N T M budget total u tops) (or_wrong (part_from k f vs))
   unfolding All_fit part_at
   part_found none vs i k f u e h d le = absurd (let z : None ≡ Some u = e in cc)
   part_found (more t ts) no_value i k f u e h d le = absurd h
   part_found (more t ts) (value_and v vs) zero k f u e h d le =
       let same : t ≡ u = cc in
       let here : decimal k ≡ f = ap decimal (let w : k ≡ k + 0 = omega arith in w) ∙ d in
-      subst (λ b. HasOut (Fits N integer_at M budget total u tops) (or_wrong (cond b (Some v) (part_from (suc k) f vs)))) (sym (ap (λ g. bytes_eq g f) here ∙ eq_here f)) (subst (λ x. Fits N integer_at M budget total x tops v) same h.0)
+      subst (λ b. HasOut (Fits N T M budget total u tops) (or_wrong (cond b (Some v) (part_from (suc k) f vs)))) (sym (ap (λ g. bytes_eq g f) here ∙ eq_here f)) (subst (λ x. Fits N T M budget total x tops v) same h.0)
   part_found (more t ts) (value_and v vs) (suc i) k f u e h d le =
       let some : i < count ts = part_low ts i u e in
       let z : k + (1 + count ts) ≤ widest = le in
       let ne : decimal k ≢ f = λ same. let q : k ≡ k + suc i = one_number k (k + suc i) (omega arith) (omega arith) (same ∙ sym d) in omega arith in
-      subst (λ b. HasOut (Fits N integer_at M budget total u tops) (or_wrong (cond b (Some v) (part_from (suc k) f vs)))) (sym (eq_other (decimal k) f ne))
+      subst (λ b. HasOut (Fits N T M budget total u tops) (or_wrong (cond b (Some v) (part_from (suc k) f vs)))) (sym (eq_other (decimal k) f ne))
       (part_found ts vs i (suc k) f u e h.1 (ap decimal (let w : suc k + i ≡ k + suc i = omega arith in w) ∙ d) (omega arith))
 
   -- the part of a tuple that a label names
-  pub part_fits : AreNames N → (f : Text) (ts : Tys) (u : Ty) (vs : FlatValues) → HasPart N.shapes (N.label f) (Made head.Tuple ts) u → count ts < widest → All_fit N integer_at M budget total ts tops vs → HasOut (Fits N integer_at M budget total u tops) (or_wrong (part_from 0 f vs))
+  pub part_fits : AreNames N → (f : Text) (ts : Tys) (u : Ty) (vs : FlatValues) → HasPart N.shapes (N.label f) (Made head.Tuple ts) u → count ts < widest → All_fit N T M budget total ts tops vs → HasOut (Fits N T M budget total u tops) (or_wrong (part_from 0 f vs))
   unfolding part_named place part_at
   part_fits are f ts u vs h lt k = known (N.shapes.position (N.label f)) refl h
     where
-      known : (o : Option ℕ) → N.shapes.position (N.label f) ≡ o → part_at o ts ≡ Some u → HasOut (Fits N integer_at M budget total u tops) (or_wrong (part_from 0 f vs))
+      known : (o : Option ℕ) → N.shapes.position (N.label f) ≡ o → part_at o ts ≡ Some u → HasOut (Fits N T M budget total u tops) (or_wrong (part_from 0 f vs))
       known None is e = absurd (let z : None ≡ Some u = e in cc)
       known (Some i) is e = let some : i < count ts = part_low ts i u e in part_found ts vs i 0 f u e k (ap decimal (let w : 0 + i ≡ i = omega arith in w) ∙ spelled f i ((are.position f i).0 is) (omega arith)) (omega arith)

@@ -3,7 +3,6 @@ use Rattle.std.proofs.Common.{◌≡◌, ◌≢◌, Bool, cond, ℕ, ◌≤◌, 
 use Rattle.std.specs.Str.{bytes_eq}
 use mathlib.Core.Logic.{inl, inr}
 use Rattle.fut_scalar.specs.declared.operator.BinOp.TheVariants as op
-use Rattle.fut_scalar.specs.declared.scalar.IntType.{IntType}
 use Rattle.fut_scalar.specs.declared.scalar.Scalar.{Scalar}
 use Rattle.fut_scalar.specs.declared.scalar.Scalar.TheVariants as scalar
 use Rattle.fut_scalar.specs.declared.scalar.ScalarType.{ScalarType}
@@ -17,6 +16,7 @@ use Rattle.fut_types.specs.Types.{Ty, Var, Made, Tys, none, more, Kinds, rank, l
 use Rattle.fut_types.proofs.TyLaws.{rank_made, least_more}
 use Rattle.fut_typing.specs.Names.{Names, AreNames}
 use Rattle.fut_typing.proofs.Members.{In, in_list}
+use Rattle.fut_meaning.specs.Found.{Told}
 use Rattle.fut_meaning.specs.Outcomes.{Out, Wrong, and_then}
 use Rattle.fut_meaning.specs.Values.{Array_value, Scalar_value, Tuple_value, Record_value, Closure, Primitive_value, no_value, value_and, no_field, field_and, field}
 use Rattle.fut_meaning.specs.Operators.{by_kind, binary_result}
@@ -60,7 +60,7 @@ records_equal (field_and f v fs) (field_and g w gs) e h k each =
     let ne : f ≢ s = λ same. no_key f fs h.0 (subst (λ z. Is_key z fs) (sym same) i) in
     each s (inr i) x y (ap (λ b. cond b (Some v) (field s fs)) (eq_other f s ne) ∙ p) (ap (λ b. cond b (Some w) (field s gs)) (ap (λ z. bytes_eq z s) (sym e.0) ∙ eq_other f s ne) ∙ q))))
 
-module _ (N : Names) (are : AreNames N) (integer_at : ℕ → IntType) (M : FlatMode) (budget : ℕ) (total : Bool) (tops : FlatTops) (K : Kinds) where
+module _ (N : Names) (are : AreNames N) (T : Told) (M : FlatMode) (budget : ℕ) (total : Bool) (tops : FlatTops) (K : Kinds) where
   parts_kind : (h : Head) (ts : Tys) → HasKind K kind.Equal (Made h ts) → 2 ≤ least K ts
   parts_kind h ts p = let e : rank K (Made h ts) ≡ min (cap h) (least K ts) = rank_made K h ts in let q : 2 ≤ rank K (Made h ts) = p in omega (arith, e, q)
 
@@ -102,7 +102,7 @@ module _ (N : Names) (are : AreNames N) (integer_at : ℕ → IntType) (M : Flat
   mutual
     unfolding Fits All_fit Fields_fit equal all_equal
 
-    pub equal_fits : (t : Ty) (v w : FlatValue) → HasKind K kind.Equal t → Fits N integer_at M budget total t tops v → Fits N integer_at M budget total t tops w → HasOut Any_truth (equal v w)
+    pub equal_fits : (t : Ty) (v w : FlatValue) → HasKind K kind.Equal t → Fits N T M budget total t tops v → Fits N T M budget total t tops w → HasOut Any_truth (equal v w)
     equal_fits (Var n) v w k h g = absurd h
     equal_fits (Made (head.Scalar s) ts) v w k h g = on_scalars s v w h g
     equal_fits (Made head.Array ts) v w k h g = absurd (let p : 2 ≤ 1 = below_kind K kind.Equal head.Array ts k in omega arith)
@@ -134,7 +134,7 @@ module _ (N : Names) (are : AreNames N) (integer_at : ℕ → IntType) (M : Flat
     equal_fits (Made (head.Rigid n d) ts) v w k h g = absurd h
     equal_fits (Made (head.Abstract n d) ts) v w k h g = absurd h
 
-    all_equal_fits : (ts : Tys) (vs ws : FlatValues) → 2 ≤ least K ts → All_fit N integer_at M budget total ts tops vs → All_fit N integer_at M budget total ts tops ws → HasOut Any_truth (all_equal vs ws)
+    all_equal_fits : (ts : Tys) (vs ws : FlatValues) → 2 ≤ least K ts → All_fit N T M budget total ts tops vs → All_fit N T M budget total ts tops ws → HasOut Any_truth (all_equal vs ws)
     all_equal_fits none no_value no_value k h g = tt
     all_equal_fits none no_value (value_and w ws) k h g = absurd g
     all_equal_fits none (value_and v vs) ws k h g = absurd h
@@ -142,7 +142,7 @@ module _ (N : Names) (are : AreNames N) (integer_at : ℕ → IntType) (M : Flat
     all_equal_fits (more t ts) (value_and v vs) no_value k h g = absurd g
     all_equal_fits (more t ts) (value_and v vs) (value_and w ws) k h g = both_true (equal v w) (all_equal vs ws) (equal_fits t v w (first_kind t ts k) h.0 g.0) (all_equal_fits ts vs ws (rest_kind t ts k) h.1 g.1)
 
-    fields_equal_fits : (ls : List ℕ) (ts : Tys) (fs gs : FlatFields) → 2 ≤ least K ts → Fields_fit N integer_at M budget total ls ts tops fs → Fields_fit N integer_at M budget total ls ts tops gs → (l : ℕ) → In l ls → Pair l fs gs
+    fields_equal_fits : (ls : List ℕ) (ts : Tys) (fs gs : FlatFields) → 2 ≤ least K ts → Fields_fit N T M budget total ls ts tops fs → Fields_fit N T M budget total ls ts tops gs → (l : ℕ) → In l ls → Pair l fs gs
     fields_equal_fits [] none fs gs k h g l i = absurd i
     fields_equal_fits [] (more t ts) fs gs k h g l i = absurd h
     fields_equal_fits (x ∷ ls) none fs gs k h g l i = absurd h

@@ -1,12 +1,12 @@
 -- The parts of a record of a type: the field of a name has the type that the name's label tells.
 use Rattle.std.proofs.Common.{◌≡◌, ℕ, suc, refl, sym, ap, ◌∙◌, subst, List, [], ◌∷◌, Option, Some, None, if◌then◌else◌, ◌==◌, ne_eqb, eq-eqb, Bool}
 use native.Mathlib.Decide.{ℕ_discrete}
-use Rattle.fut_scalar.specs.declared.scalar.IntType.{IntType}
 use Rattle.fut_ast.specs.Sorts.{Text}
 use Rattle.fut_types.specs.declared.Head.TheVariants as head
 use Rattle.fut_types.specs.Types.{Ty, Made, Tys, none, more}
 use Rattle.fut_types.specs.Shapes.{place, place_from, part_at, part_named, HasPart}
 use Rattle.fut_typing.specs.Names.{Names, AreNames}
+use Rattle.fut_meaning.specs.Found.{Told}
 use Rattle.fut_meaning.specs.Values.{field}
 use Rattle.fut_meaning.specs.Flats.{FlatValue, FlatTops, FlatMode}
 use Rattle.type_soundness.specs.Fits.{FlatFields, Fits, Fields_fit}
@@ -35,12 +35,12 @@ some_one e = cc
 no_some : {A : Type 0} {x : A} → None ≡ Some x → ⊥
 no_some e = cc
 
-module _ (N : Names) (integer_at : ℕ → IntType) (M : FlatMode) (budget : ℕ) (total : Bool) where
+module _ (N : Names) (T : Told) (M : FlatMode) (budget : ℕ) (total : Bool) where
   -- a field whose name has this label, with a value of this type
   abbrev pub Field_of : ℕ → Ty → FlatTops → FlatFields → Type 0
-  Field_of l t tops fs = (s : Text) × (v : FlatValue) × (N.label s ≡ l) × (field s fs ≡ Some v) × Fits N integer_at M budget total t tops v
+  Field_of l t tops fs = (s : Text) × (v : FlatValue) × (N.label s ≡ l) × (field s fs ≡ Some v) × Fits N T M budget total t tops v
 
-  pub field_found : (l : ℕ) (u : Ty) (tops : FlatTops) (fs : FlatFields) (ls : List ℕ) (ts : Tys) → part_at (place_from 0 l ls) ts ≡ Some u → Fields_fit N integer_at M budget total ls ts tops fs → Field_of l u tops fs
+  pub field_found : (l : ℕ) (u : Ty) (tops : FlatTops) (fs : FlatFields) (ls : List ℕ) (ts : Tys) → part_at (place_from 0 l ls) ts ≡ Some u → Fields_fit N T M budget total ls ts tops fs → Field_of l u tops fs
   unfolding Fields_fit place_from part_at
   field_found l u tops fs [] none e h = absurd (no_some e)
   field_found l u tops fs [] (more t ts) e h = absurd h
@@ -55,11 +55,11 @@ module _ (N : Names) (integer_at : ℕ → IntType) (M : FlatMode) (budget : ℕ
   ]
 
   module _ (are : AreNames N) where
-    field_value : (f : Text) (u : Ty) (tops : FlatTops) (fs : FlatFields) → Field_of (N.label f) u tops fs → (v : FlatValue) × (field f fs ≡ Some v) × Fits N integer_at M budget total u tops v
+    field_value : (f : Text) (u : Ty) (tops : FlatTops) (fs : FlatFields) → Field_of (N.label f) u tops fs → (v : FlatValue) × (field f fs ≡ Some v) × Fits N T M budget total u tops v
     field_value f u tops fs h = (h.1, ap (λ s. field s fs) (sym (are.one_label h.0 f h.2)) ∙ h.3, h.4)
 
     -- the field of a name
-    pub field_fits : (f : Text) (u : Ty) (tops : FlatTops) (n : ℕ) (ts : Tys) (fs : FlatFields) → HasPart N.shapes (N.label f) (Made (head.Record n) ts) u → Fields_fit N integer_at M budget total (N.shapes.fields n) ts tops fs
-        → (v : FlatValue) × (field f fs ≡ Some v) × Fits N integer_at M budget total u tops v
+    pub field_fits : (f : Text) (u : Ty) (tops : FlatTops) (n : ℕ) (ts : Tys) (fs : FlatFields) → HasPart N.shapes (N.label f) (Made (head.Record n) ts) u → Fields_fit N T M budget total (N.shapes.fields n) ts tops fs
+        → (v : FlatValue) × (field f fs ≡ Some v) × Fits N T M budget total u tops v
     unfolding part_named place
     field_fits f u tops n ts fs h k = field_value f u tops fs (field_found (N.label f) u tops fs (N.shapes.fields n) ts h k)

@@ -1,7 +1,6 @@
 -- Data of one type looks alike where its shapes have the same sizes.
 use Rattle.std.proofs.Common.{◌≡◌, Bool, true, false, ◌&&◌, ℕ, ◌≤◌, refl, sym, ◌∙◌, subst, arith, suc, length, nat_eq}
 use Rattle.std.proofs.lemmas.Bool.{eqb-true}
-use Rattle.fut_scalar.specs.declared.scalar.IntType.{IntType}
 use Rattle.fut_scalar.specs.declared.scalar.ScalarType.{ScalarType}
 use Rattle.fut_types.specs.declared.Kind.TheVariants as kind
 use Rattle.fut_types.specs.declared.Head.TheVariants as head
@@ -9,6 +8,7 @@ use Rattle.fut_types.specs.Types.{Ty, Var, Made, Tys, none, more, Kinds, HasKind
 use Rattle.fut_typing.specs.Names.{Names, AreNames}
 use Rattle.fut_typing.specs.Primitives.{array_ty}
 use Rattle.fut_value.specs.Data.{Shape, Scalar_shape, Tuple_shape, Record_shape, Array_shape, Unmet_shape, Shapes, no_shape, shape_and, Datum, Scalar_datum, Tuple_datum, Record_datum, Array_datum, Datums, no_datum, datum_and, listed, shape_of, shapes_of, is_unmet, all_unmet, same_sizes, all_same_sizes}
+use Rattle.fut_meaning.specs.Found.{Told}
 use Rattle.fut_meaning.specs.Datums.{as_value, as_values}
 use Rattle.fut_meaning.specs.Flats.{FlatTops, FlatMode}
 use Rattle.type_soundness.specs.Likeness.{All_datums, Is_empty, All_empty, Like, All_like}
@@ -70,12 +70,12 @@ mutual
   all_unmet_like (shape_and k ks) no_datum u l = absurd l
   all_unmet_like (shape_and k ks) (datum_and e es) u l = let b = both_are (is_unmet k) (all_unmet ks) u in (unmet_like k e b.0 l.0, all_unmet_like ks es b.1 l.1)
 
-module _ (N : Names) (are : AreNames N) (integer_at : ℕ → IntType) (M : FlatMode) (budget : ℕ) (total : Bool) (tops : FlatTops) (K : Kinds) where
+module _ (N : Names) (are : AreNames N) (T : Told) (M : FlatMode) (budget : ℕ) (total : Bool) (tops : FlatTops) (K : Kinds) where
   abbrev D : Ty → Datum → Type 0
-  D t d = Fits N integer_at M budget total t tops (as_value d)
+  D t d = Fits N T M budget total t tops (as_value d)
 
   abbrev All_D : Tys → Datums → Type 0
-  All_D ts ds = All_fit N integer_at M budget total ts tops (as_values ds)
+  All_D ts ds = All_fit N T M budget total ts tops (as_values ds)
 
   -- ---- what data of a type is
   pub scalar_view : (s : ScalarType) (ts : Tys) (d : Datum) → D (Made (head.Scalar s) ts) d → (h : Shape) → Like h d
@@ -129,7 +129,7 @@ module _ (N : Names) (are : AreNames N) (integer_at : ℕ → IntType) (M : Flat
     self_like (Made head.Array none) d k h = absurd h
     self_like (Made head.Array (more t none)) d k h = let v = array_view t d h in subst (λ z. Like (shape_of z) z) (sym v.2) (refl, rows_like (λ d. D t d × Like v.0 d) v.0 v.1 (λ d p. p.1) v.3)
     self_like (Made head.Array (more t (more u ts))) d k h = absurd h
-    self_like (Made head.Tuple ts) d k h = let v = tuple_view ts d h in subst (λ z. Like (shape_of z) z) (sym v.1) (all_self_like ts v.0 (parts_kind N are integer_at M budget total tops K head.Tuple ts k) v.2)
+    self_like (Made head.Tuple ts) d k h = let v = tuple_view ts d h in subst (λ z. Like (shape_of z) z) (sym v.1) (all_self_like ts v.0 (parts_kind N are T M budget total tops K head.Tuple ts k) v.2)
     self_like (Made (head.Record n) ts) d k h = record_view n ts d h (shape_of d)
     self_like (Made head.Fun ts) d k h = absurd (let p : 1 ≤ 0 = below_kind K kind.Data head.Fun ts k in omega arith)
     self_like (Made (head.Rigid n j) ts) d k h = absurd h
@@ -139,7 +139,7 @@ module _ (N : Names) (are : AreNames N) (integer_at : ℕ → IntType) (M : Flat
     all_self_like none no_datum k h = tt
     all_self_like none (datum_and d ds) k h = absurd h
     all_self_like (more t ts) no_datum k h = absurd h
-    all_self_like (more t ts) (datum_and d ds) k h = (self_like t d (first_kind N are integer_at M budget total tops K t ts k) h.0, all_self_like ts ds (rest_kind N are integer_at M budget total tops K t ts k) h.1)
+    all_self_like (more t ts) (datum_and d ds) k h = (self_like t d (first_kind N are T M budget total tops K t ts k) h.0, all_self_like ts ds (rest_kind N are T M budget total tops K t ts k) h.1)
 
   -- ---- data looks as other data of its type does
   unmet_sizes : (h : Shape) → is_unmet h ≡ true → same_sizes h Unmet_shape ≡ true
@@ -197,12 +197,12 @@ module _ (N : Names) (are : AreNames N) (integer_at : ℕ → IntType) (M : Flat
     same_like (Made head.Array (more t none)) kd h k x e a b l m s =
         let v = array_view t x a in
         let w = array_view t e b in
-        subst (Like h) (sym w.2) (arrays_same t (same_like t (first_kind N are integer_at M budget total tops K t none (parts_kind N are integer_at M budget total tops K head.Array (more t none) kd))) h k v.0 w.0 v.1 w.1 v.3 w.3 (subst (Like h) v.2 l) (subst (Like k) w.2 m) s)
+        subst (Like h) (sym w.2) (arrays_same t (same_like t (first_kind N are T M budget total tops K t none (parts_kind N are T M budget total tops K head.Array (more t none) kd))) h k v.0 w.0 v.1 w.1 v.3 w.3 (subst (Like h) v.2 l) (subst (Like k) w.2 m) s)
     same_like (Made head.Array (more t (more u ts))) kd h k x e a b l m s = absurd a
     same_like (Made head.Tuple ts) kd h k x e a b l m s =
         let v = tuple_view ts x a in
         let w = tuple_view ts e b in
-        let p = parts_kind N are integer_at M budget total tops K head.Tuple ts kd in
+        let p = parts_kind N are T M budget total tops K head.Tuple ts kd in
         subst (Like h) (sym w.1) (tuples_same ts (all_same_like ts p) (all_none_like ts p) h k v.0 w.0 v.2 w.2 (subst (Like h) v.1 l) (subst (Like k) w.1 m) s)
     same_like (Made (head.Record n) ts) kd h k x e a b l m s = record_view n ts e b h
     same_like (Made head.Fun ts) kd h k x e a b l m s = absurd (let p : 1 ≤ 0 = below_kind K kind.Data head.Fun ts kd in omega arith)
@@ -219,7 +219,7 @@ module _ (N : Names) (are : AreNames N) (integer_at : ℕ → IntType) (M : Flat
     all_same_like (more t ts) kd (shape_and h hs) no_shape (datum_and x xs) (datum_and e es) a b l m s = absurd m
     all_same_like (more t ts) kd (shape_and h hs) (shape_and k ks) (datum_and x xs) (datum_and e es) a b l m s =
         let q = both_are (same_sizes h k) (all_same_sizes hs ks) s in
-        (same_like t (first_kind N are integer_at M budget total tops K t ts kd) h k x e a.0 b.0 l.0 m.0 q.0, all_same_like ts (rest_kind N are integer_at M budget total tops K t ts kd) hs ks xs es a.1 b.1 l.1 m.1 q.1)
+        (same_like t (first_kind N are T M budget total tops K t ts kd) h k x e a.0 b.0 l.0 m.0 q.0, all_same_like ts (rest_kind N are T M budget total tops K t ts kd) hs ks xs es a.1 b.1 l.1 m.1 q.1)
 
     all_none_like : (ts : Tys) → 1 ≤ least K ts → (hs : Shapes) (xs es : Datums) → All_D ts xs → All_D ts es → All_like hs xs → All_empty es → all_unmet hs ≡ true → All_like hs es
     all_none_like none kd hs (datum_and x xs) es a b l m s = absurd a
@@ -230,7 +230,7 @@ module _ (N : Names) (are : AreNames N) (integer_at : ℕ → IntType) (M : Flat
     all_none_like (more t ts) kd no_shape (datum_and x xs) (datum_and e es) a b l m s = absurd l
     all_none_like (more t ts) kd (shape_and h hs) (datum_and x xs) (datum_and e es) a b l m s =
         let q = both_are (is_unmet h) (all_unmet hs) s in
-        (same_like t (first_kind N are integer_at M budget total tops K t ts kd) h Unmet_shape x e a.0 b.0 l.0 (empty_like e m.0) (unmet_sizes h q.0), all_none_like ts (rest_kind N are integer_at M budget total tops K t ts kd) hs xs es a.1 b.1 l.1 m.1 q.1)
+        (same_like t (first_kind N are T M budget total tops K t ts kd) h Unmet_shape x e a.0 b.0 l.0 (empty_like e m.0) (unmet_sizes h q.0), all_none_like ts (rest_kind N are T M budget total tops K t ts kd) hs xs es a.1 b.1 l.1 m.1 q.1)
 
   -- ---- data looks as what looks like it does
   arrays_through : (t : Ty) → ((h k : Shape) (x e : Datum) → D t x → D t e → Like h x → Like k x → Like k e → Like h e) → (h k : Shape) (rx re : Shape) (xs es : Datums) → All_datums (λ d. D t d × Like rx d) xs → All_datums (λ d. D t d × Like re d) es
@@ -301,12 +301,12 @@ module _ (N : Names) (are : AreNames N) (integer_at : ℕ → IntType) (M : Flat
     through_like (Made head.Array (more t none)) kd h k x e a b l m s =
         let v = array_view t x a in
         let w = array_view t e b in
-        subst (Like h) (sym w.2) (arrays_through t (through_like t (first_kind N are integer_at M budget total tops K t none (parts_kind N are integer_at M budget total tops K head.Array (more t none) kd))) h k v.0 w.0 v.1 w.1 v.3 w.3 (subst (Like h) v.2 l) (subst (Like k) v.2 m) (subst (Like k) w.2 s))
+        subst (Like h) (sym w.2) (arrays_through t (through_like t (first_kind N are T M budget total tops K t none (parts_kind N are T M budget total tops K head.Array (more t none) kd))) h k v.0 w.0 v.1 w.1 v.3 w.3 (subst (Like h) v.2 l) (subst (Like k) v.2 m) (subst (Like k) w.2 s))
     through_like (Made head.Array (more t (more u ts))) kd h k x e a b l m s = absurd a
     through_like (Made head.Tuple ts) kd h k x e a b l m s =
         let v = tuple_view ts x a in
         let w = tuple_view ts e b in
-        subst (Like h) (sym w.1) (tuples_through ts (all_through_like ts (parts_kind N are integer_at M budget total tops K head.Tuple ts kd)) h k v.0 w.0 v.2 w.2 (subst (Like h) v.1 l) (subst (Like k) v.1 m) (subst (Like k) w.1 s))
+        subst (Like h) (sym w.1) (tuples_through ts (all_through_like ts (parts_kind N are T M budget total tops K head.Tuple ts kd)) h k v.0 w.0 v.2 w.2 (subst (Like h) v.1 l) (subst (Like k) v.1 m) (subst (Like k) w.1 s))
     through_like (Made (head.Record n) ts) kd h k x e a b l m s = record_view n ts e b h
     through_like (Made head.Fun ts) kd h k x e a b l m s = absurd (let p : 1 ≤ 0 = below_kind K kind.Data head.Fun ts kd in omega arith)
     through_like (Made (head.Rigid n j) ts) kd h k x e a b l m s = absurd a
@@ -321,4 +321,4 @@ module _ (N : Names) (are : AreNames N) (integer_at : ℕ → IntType) (M : Flat
     all_through_like (more t ts) kd no_shape ks (datum_and x xs) (datum_and e es) a b l m n = absurd l
     all_through_like (more t ts) kd (shape_and h hs) no_shape (datum_and x xs) (datum_and e es) a b l m n = absurd m
     all_through_like (more t ts) kd (shape_and h hs) (shape_and k ks) (datum_and x xs) (datum_and e es) a b l m n =
-        (through_like t (first_kind N are integer_at M budget total tops K t ts kd) h k x e a.0 b.0 l.0 m.0 n.0, all_through_like ts (rest_kind N are integer_at M budget total tops K t ts kd) hs ks xs es a.1 b.1 l.1 m.1 n.1)
+        (through_like t (first_kind N are T M budget total tops K t ts kd) h k x e a.0 b.0 l.0 m.0 n.0, all_through_like ts (rest_kind N are T M budget total tops K t ts kd) hs ks xs es a.1 b.1 l.1 m.1 n.1)

@@ -11,6 +11,7 @@ use Rattle.fut_types.specs.declared.Kind.TheVariants as kind
 use Rattle.fut_types.specs.Types.{Ty, Kinds, HasKind, rank, least, scalar_ty}
 use Rattle.fut_typing.specs.Names.{Names, AreNames}
 use Rattle.fut_typing.specs.Primitives.{array_ty, bool_ty}
+use Rattle.fut_meaning.specs.Found.{Told}
 use Rattle.fut_meaning.specs.Outcomes.{Val, Fail, Wrong, Out}
 use Rattle.fut_value.specs.Data.{Shape, Datum, Scalar_datum, Tuple_datum, Record_datum, Array_datum, Datums, no_datum, datum_and, listed, datums, shape_of, same_sizes, weight}
 use Rattle.fut_meaning.specs.Datums.{as_value}
@@ -124,9 +125,9 @@ listed_datums (d ∷ ds) = ap (λ z. d ∷ z) (listed_datums ds)
 
 -- ---- arrays
 
-module _ (N : Names) (are : AreNames N) (integer_at : ℕ → IntType) (M : FlatMode) (budget : ℕ) (total : Bool) (tops : FlatTops) (K : Kinds) where
+module _ (N : Names) (are : AreNames N) (T : Told) (M : FlatMode) (budget : ℕ) (total : Bool) (tops : FlatTops) (K : Kinds) where
   abbrev D : Ty → Datum → Type 0
-  D t d = Fits N integer_at M budget total t tops (as_value d)
+  D t d = Fits N T M budget total t tops (as_value d)
 
   -- a row of an array whose rows look like that
   abbrev pub Row : Ty → Shape → Datum → Type 0
@@ -140,7 +141,7 @@ module _ (N : Names) (are : AreNames N) (integer_at : ℕ → IntType) (M : Flat
   of_rows t row ds e = every_datums (Row t row) ds e
 
   pub rows_fit : (t : Ty) (d : Datum) → D (array_ty t) d → HasOut (Rows_fit t) (rows_of d)
-  rows_fit t d h = let v = array_view N are integer_at M budget total tops K t d h in subst (λ z. HasOut (Rows_fit t) (rows_of z)) (sym v.2) (every_listed (Row t v.0) v.1 v.3)
+  rows_fit t d h = let v = array_view N are T M budget total tops K t d h in subst (λ z. HasOut (Rows_fit t) (rows_of z)) (sym v.2) (every_listed (Row t v.0) v.1 v.3)
 
   pub row_data : (t : Ty) (row : Shape) (ds : List Datum) → Every (Row t row) ds → Every (D t) ds
   row_data t row ds e = every_as (Row t row) (D t) ds (λ d p. p.0) e
@@ -150,7 +151,7 @@ module _ (N : Names) (are : AreNames N) (integer_at : ℕ → IntType) (M : Flat
   all_look t k d h [] e l = tt
   all_look t k d h (x ∷ xs) e l =
       let q = both_are (same_sizes (shape_of d) (shape_of x)) (all_like (shape_of d) xs) l in
-      ((e.0, same_like N are integer_at M budget total tops K t k (shape_of d) (shape_of x) d x h e.0 (self_like N are integer_at M budget total tops K t d k h) (self_like N are integer_at M budget total tops K t x k e.0) q.0), all_look t k d h xs e.1 q.1)
+      ((e.0, same_like N are T M budget total tops K t k (shape_of d) (shape_of x) d x h e.0 (self_like N are T M budget total tops K t d k h) (self_like N are T M budget total tops K t x k e.0) q.0), all_look t k d h xs e.1 q.1)
 
   rows_look : (t : Ty) → HasKind K kind.Data t → (otherwise : Shape) (ds : List Datum) → Every (D t) ds → all_like (row_shape otherwise ds) ds ≡ true → Every (Row t (row_shape otherwise ds)) ds
   rows_look t k otherwise [] e l = tt

@@ -19,6 +19,7 @@ use Rattle.fut_typing.specs.Names.{Names, AreNames, count}
 use Rattle.fut_typing.specs.Primitives.{array_ty, i64_ty}
 use Rattle.fut_typing.specs.Rules.{All_are, bounds, left_of, Indexed, Updated}
 use Rattle.fut_typing.specs.Scopes.{IsArray}
+use Rattle.fut_meaning.specs.Found.{Told}
 use Rattle.fut_meaning.specs.Outcomes.{Out, Val, and_then}
 use Rattle.fut_value.specs.Data.{Shape, Scalar_shape, Tuple_shape, Record_shape, Array_shape, Unmet_shape, Datum, Scalar_datum, Tuple_datum, Record_datum, Array_datum, Datums, no_datum, datum_and, listed, datums, shape_of, same_sizes, weight}
 use Rattle.fut_meaning.specs.Datums.{as_value, all_data}
@@ -108,15 +109,15 @@ abbrev pub count_of : Bool → ℕ
 count_of true = 3
 count_of false = 2
 
-module _ (N : Names) (are : AreNames N) (integer_at : ℕ → IntType) (M : FlatMode) (budget : ℕ) (total : Bool) (tops : FlatTops) (K : Kinds) where
+module _ (N : Names) (are : AreNames N) (T : Told) (M : FlatMode) (budget : ℕ) (total : Bool) (tops : FlatTops) (K : Kinds) where
   abbrev D : Ty → Datum → Type 0
-  D t d = Fits N integer_at M budget total t tops (as_value d)
+  D t d = Fits N T M budget total t tops (as_value d)
 
   abbrev Data : Tys → List Datum → Type 0
-  Data ts ds = Each_data N are integer_at M budget total K tops ts ds
+  Data ts ds = Each_data N are T M budget total K tops ts ds
 
   abbrev A_row : Ty → Shape → Datum → Type 0
-  A_row t row d = Row N are integer_at M budget total tops K t row d
+  A_row t row d = Row N are T M budget total tops K t row d
 
   as_type : (t u : Ty) (d : Datum) → t ≡ u → D u d → D t d
   as_type t u d e h = subst (λ x. D x d) (sym e) h
@@ -167,7 +168,7 @@ module _ (N : Names) (are : AreNames N) (integer_at : ℕ → IntType) (M : Flat
 
   cut_one : (x u : Ty) (h : Shape) (i : ℕ) (cs : List Cut) → i < size h → Cuts_fit x u (inner h) cs → Cuts_fit (array_ty x) u h (Cut_at i ∷ cs)
   unfolding cut
-  cut_one x u h i cs lt rest d a l = let v = array_view N are integer_at M budget total tops K x d a in
+  cut_one x u h i cs lt rest d a l = let v = array_view N are T M budget total tops K x d a in
       subst (λ z. HasOut (Taken u (Cut_at i ∷ cs) z) (cut (Cut_at i ∷ cs) z)) (sym v.2) (inside v.0 v.1 v.3 (subst (Like h) v.2 l))
     where
       inside : (r : Shape) (ds : Datums) → All_datums (λ d. D x d × Like r d) ds → Like h (Array_datum r ds) → HasOut (Taken u (Cut_at i ∷ cs) (Array_datum r ds)) (cut (Cut_at i ∷ cs) (Array_datum r ds))
@@ -180,7 +181,7 @@ module _ (N : Names) (are : AreNames N) (integer_at : ℕ → IntType) (M : Flat
       → HasOut (λ e. D (array_ty u) e × ((row : Shape) → All_datums (Like row) ds → Like (Array_shape (length xs) (cut_shape cs row)) e)) (and_then (each_out (cut cs) xs) (λ es. Val (Array_datum (cut_shape cs r) (datums es))))
   some_cut x u h r ds cs xs rest e own = has_then (λ es. Every (Cut_row u cs ds) es × (length es ≡ length xs)) _ (each_out (cut cs) xs) (λ es. Val (Array_datum (cut_shape cs r) (datums es))) (has_so_many (Known_row x h ds) (Cut_row u cs ds) (cut cs) (λ d k. cut_row x u h cs ds rest d k) xs e)
       (λ es q. (
-        of_rows N are integer_at M budget total tops K u (cut_shape cs r) es (every_as (Cut_row u cs ds) (A_row u (cut_shape cs r)) es (λ y p. (p.0, p.1 r own)) q.0),
+        of_rows N are T M budget total tops K u (cut_shape cs r) es (every_as (Cut_row u cs ds) (A_row u (cut_shape cs r)) es (λ y p. (p.0, p.1 r own)) q.0),
         λ row m. array_like (length xs) (cut_shape cs row) (cut_shape cs r) (datums es) (ap length (listed_datums es) ∙ q.1) (every_datums (Like (cut_shape cs row)) es (every_as (Cut_row u cs ds) (Like (cut_shape cs row)) es (λ y p. p.1 row m) q.0)),
       ))
 
@@ -190,7 +191,7 @@ module _ (N : Names) (are : AreNames N) (integer_at : ℕ → IntType) (M : Flat
 
   cut_slice : (x u : Ty) (h : Shape) (i j : ℕ) (cs : List Cut) → i ≤ j → j ≤ size h → Cuts_fit x u (inner h) cs → Cuts_fit (array_ty x) (array_ty u) h (Cut_slice i j ∷ cs)
   unfolding cut
-  cut_slice x u h i j cs le below rest d a l = let v = array_view N are integer_at M budget total tops K x d a in
+  cut_slice x u h i j cs le below rest d a l = let v = array_view N are T M budget total tops K x d a in
       subst (λ z. HasOut (Taken (array_ty u) (Cut_slice i j ∷ cs) z) (cut (Cut_slice i j ∷ cs) z)) (sym v.2) (inside v.0 v.1 v.3 (subst (Like h) v.2 l))
     where
       inside : (r : Shape) (ds : Datums) → All_datums (λ d. D x d × Like r d) ds → Like h (Array_datum r ds) → HasOut (Taken (array_ty u) (Cut_slice i j ∷ cs) (Array_datum r ds)) (cut (Cut_slice i j ∷ cs) (Array_datum r ds))
@@ -205,7 +206,7 @@ module _ (N : Names) (are : AreNames N) (integer_at : ℕ → IntType) (M : Flat
 
   cut_backwards : (x u : Ty) (h : Shape) (cs : List Cut) → Cuts_fit x u (inner h) cs → Cuts_fit (array_ty x) (array_ty u) h (Cut_backwards ∷ cs)
   unfolding cut
-  cut_backwards x u h cs rest d a l = let v = array_view N are integer_at M budget total tops K x d a in
+  cut_backwards x u h cs rest d a l = let v = array_view N are T M budget total tops K x d a in
       subst (λ z. HasOut (Taken (array_ty u) (Cut_backwards ∷ cs) z) (cut (Cut_backwards ∷ cs) z)) (sym v.2) (inside v.0 v.1 v.3 (subst (Like h) v.2 l))
     where
       inside : (r : Shape) (ds : Datums) → All_datums (λ d. D x d × Like r d) ds → Like h (Array_datum r ds) → HasOut (Taken (array_ty u) (Cut_backwards ∷ cs) (Array_datum r ds)) (cut (Cut_backwards ∷ cs) (Array_datum r ds))
@@ -276,10 +277,10 @@ module _ (N : Names) (are : AreNames N) (integer_at : ℕ → IntType) (M : Flat
     indexed_fits : (at : Place) (ps : List Part) (x t : Ty) (d : Datum) (is : List Datum) → HasKind K kind.Data x → length is ≡ bounds ps → Indexed N places K ps x t → D x d → Every (D i64_ty) is → HasOut (D t) (indexed at ps d is)
     unfolding indexed
     indexed_fits at ps x t d is k long r a e =
-        has_then (λ zs. Every (λ z. Unit {0}) zs × (length zs ≡ length is)) (D t) (each_out exact_of is) _ (has_so_many (D i64_ty) (λ z. Unit {0}) exact_of (integer_exact N are integer_at M budget total tops K int.I64) is e) (λ zs z.
+        has_then (λ zs. Every (λ z. Unit {0}) zs × (length zs ≡ length is)) (D t) (each_out exact_of is) _ (has_so_many (D i64_ty) (λ z. Unit {0}) exact_of (integer_exact N are T M budget total tops K int.I64) is e) (λ zs z.
         has_then (Picked ps) (D t) (picks ps zs) _ (picks_fit ps zs (z.1 ∙ long)) (λ qs q.
         has_then (Cuts_fit x t (shape_of d)) (D t) (cuts at qs (shape_of d)) _ (cuts_fit at ps qs x t (shape_of d) q r) (λ cs w.
-        has_then (Taken t cs d) (D t) (cut cs d) _ (w d a (self_like N are integer_at M budget total tops K x d k a)) (λ y v.
+        has_then (Taken t cs d) (D t) (cut cs d) _ (w d a (self_like N are T M budget total tops K x d k a)) (λ y v.
         has_checked (D t) (nat_le (weight (shape_of y)) most_words) fail.TooLarge at _ (λ l. v.0)))))
 
   -- ---- updates
@@ -290,8 +291,8 @@ module _ (N : Names) (are : AreNames N) (integer_at : ℕ → IntType) (M : Flat
   whole_fits : (at : Place) (x : Ty) (v : Datum) → HasKind K kind.Data x → D x v → Update_fits at x [] v
   unfolding updated
   whole_fits at x v k b d a = has_fitting (λ e. D x e × ((h : Shape) → Like h d → Like h e)) (same_sizes (shape_of d) (shape_of v)) at _ (λ s.
-      let own = self_like N are integer_at M budget total tops K x d k a in
-      (b, λ h l. through_like N are integer_at M budget total tops K x k h (shape_of d) d v a b l own (same_like N are integer_at M budget total tops K x k (shape_of d) (shape_of v) d v a b own (self_like N are integer_at M budget total tops K x v k b) s)))
+      let own = self_like N are T M budget total tops K x d k a in
+      (b, λ h l. through_like N are T M budget total tops K x k h (shape_of d) d v a b l own (same_like N are T M budget total tops K x k (shape_of d) (shape_of v) d v a b own (self_like N are T M budget total tops K x v k b) s)))
 
   get_every : (P : Datum → Type 0) (n : ℕ) (xs : List Datum) (e : Datum) → slice_get xs n ≡ Some e → Every P xs → P e
   get_every P n [] e q a = let z : None ≡ Some e = q in cc
@@ -300,7 +301,7 @@ module _ (N : Names) (are : AreNames N) (integer_at : ℕ → IntType) (M : Flat
 
   row_fits : (at : Place) (x : Ty) (zs : List ℤ) (v : Datum) → Update_fits at x zs v → (z : ℤ) → Update_fits at (array_ty x) (z ∷ zs) v
   unfolding updated
-  row_fits at x zs v go z d a = let w = array_view N are integer_at M budget total tops K x d a in
+  row_fits at x zs v go z d a = let w = array_view N are T M budget total tops K x d a in
       subst (λ y. HasOut (λ e. D (array_ty x) e × ((h : Shape) → Like h y → Like h e)) (updated false at (z ∷ zs) v y)) (sym w.2) (inside z w.0 w.1 w.3)
     where
       inside : (z : ℤ) (r : Shape) (ds : Datums) → All_datums (λ d. D x d × Like r d) ds → HasOut (λ e. D (array_ty x) e × ((h : Shape) → Like h (Array_datum r ds) → Like h e)) (updated false at (z ∷ zs) v (Array_datum r ds))
@@ -313,7 +314,7 @@ module _ (N : Names) (are : AreNames N) (integer_at : ℕ → IntType) (M : Flat
               let rows = every_listed (λ d. D x d × Like r d) ds b in
               let own = get_every (λ d. D x d × Like r d) n (listed ds) e q rows in
               has_then (λ y. D x y × ((h : Shape) → Like h e → Like h y)) (λ y. D (array_ty x) y × ((h : Shape) → Like h (Array_datum r ds) → Like h y)) (updated false at zs v e) _ (go e own.0) (λ y p. (
-                of_rows N are integer_at M budget total tops K x r (slice_set (listed ds) n y) (every_set (A_row x r) n (listed ds) y rows (p.0, p.1 r own.1)),
+                of_rows N are T M budget total tops K x r (slice_set (listed ds) n y) (every_set (A_row x r) n (listed ds) y rows (p.0, p.1 r own.1)),
                 λ h l. other_rows h r ds (datums (slice_set (listed ds) n y)) (ap length (listed_datums (slice_set (listed ds) n y)) ∙ length-set (listed ds) n y)
                     (λ m. every_datums (Like (inner h)) (slice_set (listed ds) n y) (every_set (Like (inner h)) n (listed ds) y (every_listed (Like (inner h)) ds m) (p.1 (inner h) (get_every (Like (inner h)) n (listed ds) e q (every_listed (Like (inner h)) ds m))))) l,
               ))
@@ -333,7 +334,7 @@ module _ (N : Names) (are : AreNames N) (integer_at : ℕ → IntType) (M : Flat
         let el : Ty = u.1.0 in
         let arr = u.1.1 in
         has_then (λ r. HasOut (λ zs. Update_fits at el zs r.1) (each_out exact_of r.0)) _ (last_apart (e ∷ ds)) _ (updates_fit at (more v vs) el (e ∷ ds) (data_kind el arr.1) u.1.2 h.1) (λ r q.
-        has_then (λ z. Unit {0}) _ (exact_of d) _ (integer_exact N are integer_at M budget total tops K int.I64 d (as_type i64_ty i d (sym u.0) h.0)) (λ z any.
+        has_then (λ z. Unit {0}) _ (exact_of d) _ (integer_exact N are T M budget total tops K int.I64 d (as_type i64_ty i d (sym u.0) h.0)) (λ z any.
         has_then (λ zs. Update_fits at el zs r.1) _ (each_out exact_of r.0) _ q (λ zs w.
         subst (λ y. Update_fits at y (z ∷ zs) r.1) (sym arr.0) (row_fits at el zs r.1 w z))))
 
@@ -347,7 +348,7 @@ module _ (N : Names) (are : AreNames N) (integer_at : ℕ → IntType) (M : Flat
     range_of_fits : (at : Place) (i : IntType) (ts : Tys) (z step : ℤ) (o : Option ℕ) → HasOut (D (array_ty (Made (head.Scalar (types.Int i)) ts))) (range_of at i z step o)
     range_of_fits at i ts z step None = tt
     range_of_fits at i ts z step (Some n) = has_checked (D (array_ty (Made (head.Scalar (types.Int i)) ts))) (nat_le n most_words) fail.TooLarge at _ (λ l.
-        of_rows N are integer_at M budget total tops K (Made (head.Scalar (types.Int i)) ts) (Scalar_shape (types.Int i)) (stepped_from i z step n) (stepped_rows i ts z step n))
+        of_rows N are T M budget total tops K (Made (head.Scalar (types.Int i)) ts) (Scalar_shape (types.Int i)) (stepped_from i z step n) (stepped_rows i ts z step n))
 
     range_by_fits : (at : Place) (i : IntType) (ts : Tys) (e : End) (from step to : ℤ) → HasOut (D (array_ty (Made (head.Scalar (types.Int i)) ts))) (range_by at e i from step to)
     range_by_fits at i ts e from step to = range_of_fits at i ts from step (range_count e from step to)
@@ -390,7 +391,7 @@ module _ (N : Names) (are : AreNames N) (integer_at : ℕ → IntType) (M : Flat
 
     pub array_is : (told : Shape) (at : Place) (t el : Ty) (ts : Tys) (ds : List Datum) → IsArray places K t el → All_are el ts → Data ts ds → HasOut (Of_counted (D t)) (made false told Make_array at ds)
     unfolding made
-    array_is told at t el ts ds arr a h = same_made t (array_ty el) _ arr.0 (has_fresh (D (array_ty el)) _ (array_made N are integer_at M budget total tops K el (data_kind el arr.1) at told ds (all_as el ts ds a h)))
+    array_is told at t el ts ds arr a h = same_made t (array_ty el) _ arr.0 (has_fresh (D (array_ty el)) _ (array_made N are T M budget total tops K el (data_kind el arr.1) at told ds (all_as el ts ds a h)))
 
     as_long : (ts : Tys) (ds : List Datum) → Data ts ds → length ds ≡ count ts
     as_long none [] h = refl
@@ -399,7 +400,7 @@ module _ (N : Names) (are : AreNames N) (integer_at : ℕ → IntType) (M : Flat
     as_long (more t ts) (d ∷ ds) h = let r = as_long ts ds h.1 in omega (arith, r)
 
     pub array_has : (x el : Ty) → IsArray places K x el → HasKind K kind.Data x
-    array_has x el arr = subst (λ y. HasKind K kind.Data y) (sym arr.0) (array_kind N are integer_at M budget total tops K el (data_kind el arr.1))
+    array_has x el arr = subst (λ y. HasKind K kind.Data y) (sym arr.0) (array_kind N are T M budget total tops K el (data_kind el arr.1))
 
     pub index_is : (told : Shape) (at : Place) (ps : List Part) (t x : Ty) (is : Tys) (ds : List Datum) → HasKind K kind.Data x → All_are i64_ty is → count is ≡ bounds ps → Indexed N places K ps x t → Data (more x is) ds → HasOut (Of_counted (D t)) (made false told (Make_index ps) at ds)
     unfolding made
@@ -423,7 +424,7 @@ module _ (N : Names) (are : AreNames N) (integer_at : ℕ → IntType) (M : Flat
 
         by_first : (ds : List Datum) → Every (D el) ds → length ds ≡ count_of stepped → HasOut (D (array_ty el)) (range at stepped e ds)
         by_first [] b l = absurd (some_count stepped l)
-        by_first (d ∷ ds) b l = let r = integer_fits N integer_at M budget total tops K el (as_value d) k b.0 in
+        by_first (d ∷ ds) b l = let r = integer_fits N T M budget total tops K el (as_value d) k b.0 in
             subst (λ y. HasOut (D (array_ty y)) (range at stepped e (d ∷ ds))) (sym r.3) (range_fits at stepped e r.0 r.1 (d ∷ ds) (subst (λ y. Every (D y) (d ∷ ds)) r.3 b) l)
 
     -- ---- data of the parts
@@ -435,11 +436,11 @@ module _ (N : Names) (are : AreNames N) (integer_at : ℕ → IntType) (M : Flat
     kinds_are u none k a = tt
     kinds_are u (more t ts) k a = (subst (λ y. HasKind K kind.Data y) (sym a.0) k, kinds_are u ts k a.1)
 
-    pub all_data_are : (ts : Tys) (vs : List FlatValue) → All_kinds ts → Each_fits N integer_at M budget total ts tops vs → (ds : List Datum) × (all_data vs ≡ Val ds) × Data ts ds
+    pub all_data_are : (ts : Tys) (vs : List FlatValue) → All_kinds ts → Each_fits N T M budget total ts tops vs → (ds : List Datum) × (all_data vs ≡ Val ds) × Data ts ds
     all_data_are none [] k h = ([], refl, tt)
     all_data_are none (v ∷ vs) k h = absurd h
     all_data_are (more t ts) [] k h = absurd h
     all_data_are (more t ts) (v ∷ vs) k h =
-        let i = fits_data N are integer_at M budget total tops K t v k.0 h.0 in
+        let i = fits_data N are T M budget total tops K t v k.0 h.0 in
         let r = all_data_are ts vs k.1 h.1 in
-        (i.0 ∷ r.0, ap (λ z. and_then z (λ d. and_then (all_data vs) (λ ds. Val (d ∷ ds)))) i.1 ∙ ap (λ z. and_then z (λ ds. Val (i.0 ∷ ds))) r.1, (subst (λ y. Fits N integer_at M budget total t tops y) i.2 h.0, r.2))
+        (i.0 ∷ r.0, ap (λ z. and_then z (λ d. and_then (all_data vs) (λ ds. Val (d ∷ ds)))) i.1 ∙ ap (λ z. and_then z (λ ds. Val (i.0 ∷ ds))) r.1, (subst (λ y. Fits N T M budget total t tops y) i.2 h.0, r.2))

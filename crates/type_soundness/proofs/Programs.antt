@@ -3,7 +3,6 @@ use Rattle.std.proofs.Common.{◌≡◌, Bool, true, false, ◌||◌, ◌&&◌, 
 use mathlib.Core.Logic.{inl, inr}
 use native.Mathlib.Decide.{ℕ_discrete}
 use Rattle.fut_scalar.specs.declared.place.BindId.{BindId}
-use Rattle.fut_scalar.specs.declared.scalar.IntType.{IntType}
 use Rattle.fut_flat.specs.declared.prim.Ref.{Ref}
 use Rattle.fut_flat.specs.declared.prim.Ref.TheVariants as ref
 use Rattle.fut_flat.specs.declared.program.Definition.{Definition}
@@ -24,6 +23,7 @@ use Rattle.fut_typing.specs.Exact.{scope_behind}
 use Rattle.fut_typing.proofs.Cong.{within_no}
 use Rattle.fut_typing.proofs.Local.{AllLocal, all_local_more, local_parameters}
 use Rattle.fut_typing.proofs.Exact.{behind_local}
+use Rattle.fut_meaning.specs.Found.{Told}
 use Rattle.fut_meaning.specs.Outcomes.{Val, Fail, Wrong, the, Then, choose}
 use Rattle.fut_meaning.specs.Values.{base, Evaluate}
 use Rattle.fut_meaning.specs.Meaning.{plain, Ever}
@@ -96,9 +96,9 @@ tops_of lo ds = flat_tops lo (map (λ (d : Definition). (d.bind, term_of d.value
 abbrev pub Reached : BindId → ℕ → List Definition → ℕ → Type 0
 Reached entry lo ds k = is_reached is_flat_use entry.0 (tops_of lo ds) k ≡ true
 
-module _ (N : Names) (are : AreNames N) (places : Kind) (K : Kinds) (a : Sub) (integer_at : ℕ → IntType) (M : FlatMode) (budget : ℕ) (total : Bool) (free : Is_free M budget total) (wide : level kind.Data ≤ level places) (entry : BindId) where
+module _ (N : Names) (are : AreNames N) (places : Kind) (K : Kinds) (a : Sub) (T : Told) (M : FlatMode) (budget : ℕ) (total : Bool) (free : Is_free M budget total) (wide : level kind.Data ≤ level places) (entry : BindId) where
   abbrev In_tops : FlatTops → (ℕ → Type 0) → Scope → Type 0
-  In_tops tops P scope = Env_fits N integer_at M budget total tops P scope K a (base tt)
+  In_tops tops P scope = Env_fits N T M budget total tops P scope K a (base tt)
 
   -- the definitions that were evaluated are not among those that are left
   abbrev Left : FlatTops → List Definition → Type 0
@@ -111,14 +111,14 @@ module _ (N : Names) (are : AreNames N) (places : Kind) (K : Kinds) (a : Sub) (i
     abbrev whole : Scheme
     whole = definition_scheme N places (defined d) lo scope
 
-    value_runs : (P : ℕ → Type 0) (tops : FlatTops) (c other : Sub) → ((n : ℕ) → n < lo → other n ≡ a n) → ((m : ℕ) → Literal value (lo + 1) m → other m ≡ a m) → whole.typed c K other → No_sizes [] (parameters d.heads.now) → Meant P value → Literals_told integer_at a value (lo + 1)
-        → lo + (1 + numbers value) < widest → In_tops tops P scope → Correct total (Fits N integer_at M budget total (other lo) tops) (Ever (lang integer_at tops) M budget (Evaluate (base tt) (1 + lo) value))
+    value_runs : (P : ℕ → Type 0) (tops : FlatTops) (c other : Sub) → ((n : ℕ) → n < lo → other n ≡ a n) → ((m : ℕ) → Literal value (lo + 1) m → other m ≡ a m) → whole.typed c K other → No_sizes [] (parameters d.heads.now) → Meant P value → Literals_told T.integer_at a value (lo + 1)
+        → lo + (1 + numbers value) < widest → In_tops tops P scope → Correct total (Fits N T M budget total (other lo) tops) (Ever (lang T tops) M budget (Evaluate (base tt) (1 + lo) value))
     value_runs P tops c other outside literals typed sizes meant told small h =
-        correct_as (Fits N integer_at M budget total (other (lo + 1)) tops) (Fits N integer_at M budget total (other lo) tops) _
-        (subst (λ n. Correct total (Fits N integer_at M budget total (other (lo + 1)) tops) (Ever (lang integer_at tops) M budget (Evaluate (base tt) n value))) (let z : lo + 1 ≡ 1 + lo = omega arith in z)
-        (running N are integer_at M budget total P places K free wide value (lo + 1) _ other tops (base tt) (local_parameters (λ n. n < lo + 1) (parameters d.heads.now) c scope (all_local_more (λ n. n < lo) (λ n. n < lo + 1) scope (λ n p. omega (arith, p)) all)) typed.0.1 meant (λ m l. literals m l ∙ told m l) (omega (arith, small))
-        (env_types N integer_at M budget total P K tops [] (parameters d.heads.now) c scope other (base tt) sizes (env_moves N integer_at M budget total P K tops scope lo a other (base tt) all outside h))))
-        (λ w k. subst (λ t. Fits N integer_at M budget total t tops w) (sym typed.1) k)
+        correct_as (Fits N T M budget total (other (lo + 1)) tops) (Fits N T M budget total (other lo) tops) _
+        (subst (λ n. Correct total (Fits N T M budget total (other (lo + 1)) tops) (Ever (lang T tops) M budget (Evaluate (base tt) n value))) (let z : lo + 1 ≡ 1 + lo = omega arith in z)
+        (running N are T M budget total P places K free wide value (lo + 1) _ other tops (base tt) (local_parameters (λ n. n < lo + 1) (parameters d.heads.now) c scope (all_local_more (λ n. n < lo) (λ n. n < lo + 1) scope (λ n p. omega (arith, p)) all)) typed.0.1 meant (λ m l. literals m l ∙ told m l) (omega (arith, small))
+        (env_types N T M budget total P K tops [] (parameters d.heads.now) c scope other (base tt) sizes (env_moves N T M budget total P K tops scope lo a other (base tt) all outside h))))
+        (λ w k. subst (λ t. Fits N T M budget total t tops w) (sym typed.1) k)
 
     literal_stays : (other : Sub) → ((n : ℕ) → lo ≤ n → n < lo + (1 + numbers value) → whole.free n ≡ false → other n ≡ a n) → (m : ℕ) → Literal value (lo + 1) m → other m ≡ a m
     literal_stays other kept m l = let r = literal_kept value (lo + 1) m l in let r0 : lo + 1 ≤ m = r.0.0 in let r1 : m < lo + 1 + numbers value = r.0.1 in
@@ -129,18 +129,18 @@ module _ (N : Names) (are : AreNames N) (places : Kind) (K : Kinds) (a : Sub) (i
         neither false y e k = k
 
     -- its value is of each type of its uses
-    each_use : (P : ℕ → Type 0) (tops : FlatTops) → Generalised places whole K a → No_sizes [] (parameters d.heads.now) → Meant P value → Literals_told integer_at a value (lo + 1) → lo + (1 + numbers value) < widest → In_tops tops P scope
-        → Correct total (λ w. (t : Ty) → Reused places whole lo K a t → Fits N integer_at M budget total t tops w) (Ever (lang integer_at tops) M budget (Evaluate (base tt) (1 + lo) value))
+    each_use : (P : ℕ → Type 0) (tops : FlatTops) → Generalised places whole K a → No_sizes [] (parameters d.heads.now) → Meant P value → Literals_told T.integer_at a value (lo + 1) → lo + (1 + numbers value) < widest → In_tops tops P scope
+        → Correct total (λ w. (t : Ty) → Reused places whole lo K a t → Fits N T M budget total t tops w) (Ever (lang T tops) M budget (Evaluate (base tt) (1 + lo) value))
     each_use P tops g sizes meant told small h = record { safe = each; some = own.some }
       where
-        own : Correct total (Fits N integer_at M budget total (a lo) tops) (Ever (lang integer_at tops) M budget (Evaluate (base tt) (1 + lo) value))
+        own : Correct total (Fits N T M budget total (a lo) tops) (Ever (lang T tops) M budget (Evaluate (base tt) (1 + lo) value))
         own = value_runs P tops (own_types places (parameters d.heads.now)) a (λ n p. refl) (λ m l. refl) g.0 sizes meant told small h
 
-        each : Safe (λ w. (t : Ty) → Reused places whole lo K a t → Fits N integer_at M budget total t tops w) (Ever (lang integer_at tops) M budget (Evaluate (base tt) (1 + lo) value))
+        each : Safe (λ w. (t : Ty) → Reused places whole lo K a t → Fits N T M budget total t tops w) (Ever (lang T tops) M budget (Evaluate (base tt) (1 + lo) value))
         each (Val w) f y = λ t u.
             let x = u.2.0 in
             let is = value_runs P tops u.0 x.other (λ n p. x.outside n (inl p)) (literal_stays x.other x.kept) x.typed sizes meant told small h in
-            subst (λ z. Fits N integer_at M budget total z tops w) (sym u.2.1) (is.safe (Val w) f y)
+            subst (λ z. Fits N T M budget total z tops w) (sym u.2.1) (is.safe (Val w) f y)
         each (Fail r) f y = tt
         each Wrong f y = own.safe Wrong f y
 
@@ -148,18 +148,18 @@ module _ (N : Names) (are : AreNames N) (places : Kind) (K : Kinds) (a : Sub) (i
     new_top tops w left k v e = ap (λ b. cond b (Val w) (top tops k)) (ne_eqb d.bind.0 k (left k v e).0) ∙ e
 
     -- the names behind it, where it has been evaluated
-    behind_evaluated : (P Q : ℕ → Type 0) (tops : FlatTops) (w : FlatValue) → ((k : ℕ) → Q k → P k) → Left tops (d ∷ ds) → ((t : Ty) → Reused places whole lo K a t → Fits N integer_at M budget total t tops w) → In_tops tops P scope
+    behind_evaluated : (P Q : ℕ → Type 0) (tops : FlatTops) (w : FlatValue) → ((k : ℕ) → Q k → P k) → Left tops (d ∷ ds) → ((t : Ty) → Reused places whole lo K a t → Fits N T M budget total t tops w) → In_tops tops P scope
         → In_tops ((d.bind.0, w) ∷ tops) Q (with_uses d.bind.0 (Reused places whole lo) scope)
     unfolding flat_look
-    behind_evaluated P Q tops w into left each h n q t = elim (ℕ_discrete n d.bind.0) as (λ x. (elim x as (λ x. Uses) [ yes e ↦ Reused places whole lo | no ne ↦ scope.uses n ]) K a t → (v : FlatValue) × (top ((d.bind.0, w) ∷ tops) n ≡ Val v) × Fits N integer_at M budget total t ((d.bind.0, w) ∷ tops) v) [
-      | yes e ↦ λ u. (w, ap (λ b. cond b (Val w) (top tops n)) (eq-eqb d.bind.0 n (sym e)), fits_grow N integer_at M budget total t tops ((d.bind.0, w) ∷ tops) (new_top tops w left) w (each t u))
-      | no ne ↦ λ u. let r = h n (into n q) t u in (r.0, new_top tops w left n r.0 r.1, fits_grow N integer_at M budget total t tops ((d.bind.0, w) ∷ tops) (new_top tops w left) r.0 r.2)
+    behind_evaluated P Q tops w into left each h n q t = elim (ℕ_discrete n d.bind.0) as (λ x. (elim x as (λ x. Uses) [ yes e ↦ Reused places whole lo | no ne ↦ scope.uses n ]) K a t → (v : FlatValue) × (top ((d.bind.0, w) ∷ tops) n ≡ Val v) × Fits N T M budget total t ((d.bind.0, w) ∷ tops) v) [
+      | yes e ↦ λ u. (w, ap (λ b. cond b (Val w) (top tops n)) (eq-eqb d.bind.0 n (sym e)), fits_grow N T M budget total t tops ((d.bind.0, w) ∷ tops) (new_top tops w left) w (each t u))
+      | no ne ↦ λ u. let r = h n (into n q) t u in (r.0, new_top tops w left n r.0 r.1, fits_grow N T M budget total t tops ((d.bind.0, w) ∷ tops) (new_top tops w left) r.0 r.2)
     ]
 
     -- and where it has not been
     behind_left : (P Q : ℕ → Type 0) (tops : FlatTops) → ((k : ℕ) → Q k → P k) → (Q d.bind.0 → ⊥) → In_tops tops P scope → In_tops tops Q (with_uses d.bind.0 (Reused places whole lo) scope)
     unfolding flat_look
-    behind_left P Q tops into never h n q t = elim (ℕ_discrete n d.bind.0) as (λ x. (elim x as (λ x. Uses) [ yes e ↦ Reused places whole lo | no ne ↦ scope.uses n ]) K a t → (v : FlatValue) × (top tops n ≡ Val v) × Fits N integer_at M budget total t tops v) [
+    behind_left P Q tops into never h n q t = elim (ℕ_discrete n d.bind.0) as (λ x. (elim x as (λ x. Uses) [ yes e ↦ Reused places whole lo | no ne ↦ scope.uses n ]) K a t → (v : FlatValue) × (top tops n ≡ Val v) × Fits N T M budget total t tops v) [
       | yes e ↦ λ u. absurd (never (subst Q e q))
       | no ne ↦ λ u. h n (into n q) t u
     ]
@@ -174,8 +174,8 @@ module _ (N : Names) (are : AreNames N) (places : Kind) (K : Kinds) (a : Sub) (i
   abbrev Ends : List Definition → ℕ → Scope → FlatTops → Type 0
   Ends ds lo scope tops = In_tops tops (λ k. nat_eq k entry.0 ≡ true) (scope_behind N places (map defined ds) lo scope)
 
-  evaluated_fit : (ds : List Definition) (lo : ℕ) (scope : Scope) (tops : FlatTops) → AllLocal (λ n. n < lo) scope → Definitions_typed N places (map defined ds) lo scope K a → Definitions_meant (map defined ds) → Definitions_told integer_at a (map defined ds) lo → One_each ds
-      → lo + program_numbers (map defined ds) < widest → Left tops ds → In_tops tops (Reached entry lo ds) scope → Correct total (Ends ds lo scope) (evaluated (flat_names integer_at) M budget entry.0 (tops_of lo ds) tops)
+  evaluated_fit : (ds : List Definition) (lo : ℕ) (scope : Scope) (tops : FlatTops) → AllLocal (λ n. n < lo) scope → Definitions_typed N places (map defined ds) lo scope K a → Definitions_meant (map defined ds) → Definitions_told T.integer_at a (map defined ds) lo → One_each ds
+      → lo + program_numbers (map defined ds) < widest → Left tops ds → In_tops tops (Reached entry lo ds) scope → Correct total (Ends ds lo scope) (evaluated (flat_names T) M budget entry.0 (tops_of lo ds) tops)
   unfolding flat_tops flat_names
   evaluated_fit [] lo scope tops all typed meant told once small left h = correct_exact (Ends [] lo scope) 0 (Val tops) h
   evaluated_fit (d ∷ ds) lo scope tops all typed meant told once small left h = known (is_reached is_flat_use entry.0 (tops_of (lo + (1 + numbers (term_of d.value.now))) ds) d.bind.0) refl
@@ -183,41 +183,41 @@ module _ (N : Names) (are : AreNames N) (places : Kind) (K : Kinds) (a : Sub) (i
     where
       known : (b : Bool) → is_reached is_flat_use entry.0 (tops_of (lo + (1 + numbers (term_of d.value.now))) ds) d.bind.0 ≡ b
           → ((scope : Scope) (tops : FlatTops) → AllLocal (λ n. n < lo + (1 + numbers (term_of d.value.now))) scope → Definitions_typed N places (map defined ds) (lo + (1 + numbers (term_of d.value.now))) scope K a → Left tops ds → In_tops tops (Reached entry (lo + (1 + numbers (term_of d.value.now))) ds) scope
-          → Correct total (Ends ds (lo + (1 + numbers (term_of d.value.now))) scope) (evaluated (flat_names integer_at) M budget entry.0 (tops_of (lo + (1 + numbers (term_of d.value.now))) ds) tops))
-          → Correct total (Ends (d ∷ ds) lo scope) (choose b (Then (Ever (lang integer_at tops) M budget (Evaluate (base tt) (1 + lo) (term_of d.value.now))) (λ v. evaluated (flat_names integer_at) M budget entry.0 (tops_of (lo + (1 + numbers (term_of d.value.now))) ds) ((d.bind.0, v) ∷ tops)))
-          (evaluated (flat_names integer_at) M budget entry.0 (tops_of (lo + (1 + numbers (term_of d.value.now))) ds) tops))
+          → Correct total (Ends ds (lo + (1 + numbers (term_of d.value.now))) scope) (evaluated (flat_names T) M budget entry.0 (tops_of (lo + (1 + numbers (term_of d.value.now))) ds) tops))
+          → Correct total (Ends (d ∷ ds) lo scope) (choose b (Then (Ever (lang T tops) M budget (Evaluate (base tt) (1 + lo) (term_of d.value.now))) (λ v. evaluated (flat_names T) M budget entry.0 (tops_of (lo + (1 + numbers (term_of d.value.now))) ds) ((d.bind.0, v) ∷ tops)))
+          (evaluated (flat_names T) M budget entry.0 (tops_of (lo + (1 + numbers (term_of d.value.now))) ds) tops))
       known true e rec =
-          correct_then (λ w. (t : Ty) → Reused places (definition_scheme N places (defined d) lo scope) lo K a t → Fits N integer_at M budget total t tops w) (Ends (d ∷ ds) lo scope) _ _
+          correct_then (λ w. (t : Ty) → Reused places (definition_scheme N places (defined d) lo scope) lo K a t → Fits N T M budget total t tops w) (Ends (d ∷ ds) lo scope) _ _
           (each_use d ds lo scope all (Reached entry lo (d ∷ ds)) tops typed.0 meant.0 (uses_of (Reached entry lo (d ∷ ds)) (term_of d.value.now) [] meant.1 (λ k u. or_left _ _ (both _ _ e u))) told.0 (omega (arith, small)) h)
           (λ w each. rec (with_uses d.bind.0 (Reused places (definition_scheme N places (defined d) lo scope) lo) scope) ((d.bind.0, w) ∷ tops) (behind_local N places (defined d) lo scope all) typed.1 (left_evaluated d ds lo scope all tops w once.0 left)
           (behind_evaluated d ds lo scope all (Reached entry lo (d ∷ ds)) (Reached entry (lo + (1 + numbers (term_of d.value.now))) ds) tops w (λ k q. or_right _ _ q) left each h))
       known false e rec = rec (with_uses d.bind.0 (Reused places (definition_scheme N places (defined d) lo scope) lo) scope) tops (behind_local N places (defined d) lo scope all) typed.1 (λ k v x. (left k v x).1)
           (behind_left d ds lo scope all (Reached entry lo (d ∷ ds)) (Reached entry (lo + (1 + numbers (term_of d.value.now))) ds) tops (λ k q. or_right _ _ q) (λ q. let z : true ≡ false = sym q ∙ e in cc) h)
 
-  applied_fit : (ts : Tys) (u : Ty) (vs : List FlatValue) (tops : FlatTops) (f : FlatValue) → Fits N integer_at M budget total (arrows ts u) tops f → Arguments_fit N integer_at M budget total ts vs → Correct total (Result_fits N integer_at M budget total u) (applied_to (flat_names integer_at) (Ever (lang integer_at tops) M budget) vs f)
-  applied_fit none u [] tops f h k = correct_exact (Result_fits N integer_at M budget total u) 0 (Val f) (tops, h)
+  applied_fit : (ts : Tys) (u : Ty) (vs : List FlatValue) (tops : FlatTops) (f : FlatValue) → Fits N T M budget total (arrows ts u) tops f → Arguments_fit N T M budget total ts vs → Correct total (Result_fits N T M budget total u) (applied_to (flat_names T) (Ever (lang T tops) M budget) vs f)
+  applied_fit none u [] tops f h k = correct_exact (Result_fits N T M budget total u) 0 (Val f) (tops, h)
   applied_fit none u (v ∷ vs) tops f h k = absurd k
   applied_fit (more t ts) u [] tops f h k = absurd k
   applied_fit (more t ts) u (v ∷ vs) tops f h k =
-      correct_then (Fits N integer_at M budget total (arrows ts u) tops) (Result_fits N integer_at M budget total u) _ _ (function_fits N integer_at M budget total K tops t (arrows ts u) f h tops (grows_self tops) v (k.0 tops)) (λ g r. applied_fit ts u vs tops g r k.1)
+      correct_then (Fits N T M budget total (arrows ts u) tops) (Result_fits N T M budget total u) _ _ (function_fits N T M budget total K tops t (arrows ts u) f h tops (grows_self tops) v (k.0 tops)) (λ g r. applied_fit ts u vs tops g r k.1)
 
 plain_free : (tight : Bool) (budget : ℕ) (total : Bool) → Is_free (plain tight) budget total
 unfolding plain
 plain_free tight budget total = record { reports = refl; operators = λ t L k f any ne xs. tt; writes = λ t ws. tt }
 
-module _ (N : Names) (are : AreNames N) (places : Kind) (K : Kinds) (a : Sub) (integer_at : ℕ → IntType) (tight : Bool) (budget : ℕ) (total : Bool) (flat : Flat) (is : Is_typed N places K a integer_at flat) (entry : BindId) (ts : Tys) (u : Ty) (vs : List FlatValue) where
-  correct : (scope_behind N places (program_of flat) 0 nothing).uses entry.0 K a (arrows ts u) → Arguments_fit N integer_at (plain tight) budget total ts vs → Correct total (Result_fits N integer_at (plain tight) budget total u) (Flat_means integer_at (plain tight) budget (named_terms flat) entry vs)
+module _ (N : Names) (are : AreNames N) (places : Kind) (K : Kinds) (a : Sub) (T : Told) (tight : Bool) (budget : ℕ) (total : Bool) (flat : Flat) (is : Is_typed N places K a T.integer_at flat) (entry : BindId) (ts : Tys) (u : Ty) (vs : List FlatValue) where
+  correct : (scope_behind N places (program_of flat) 0 nothing).uses entry.0 K a (arrows ts u) → Arguments_fit N T (plain tight) budget total ts vs → Correct total (Result_fits N T (plain tight) budget total u) (Flat_means T (plain tight) budget (named_terms flat) entry vs)
   unfolding flat_look
   correct used fit =
-      correct_then (Ends N are places K a integer_at (plain tight) budget total (plain_free tight budget total) is.holds_data entry flat.definitions.now 0 nothing) (Result_fits N integer_at (plain tight) budget total u) (evaluated (flat_names integer_at) (plain tight) budget entry.0 (tops_of 0 flat.definitions.now) []) _
-      (evaluated_fit N are places K a integer_at (plain tight) budget total (plain_free tight budget total) is.holds_data entry flat.definitions.now 0 nothing [] (λ b K x y t same h. absurd h) is.typed is.meant is.told is.once (let s = is.small in omega (arith, s)) (λ k v e. absurd (let z : Wrong ≡ Val v = e in cc)) (λ b p t h. absurd h))
+      correct_then (Ends N are places K a T (plain tight) budget total (plain_free tight budget total) is.holds_data entry flat.definitions.now 0 nothing) (Result_fits N T (plain tight) budget total u) (evaluated (flat_names T) (plain tight) budget entry.0 (tops_of 0 flat.definitions.now) []) _
+      (evaluated_fit N are places K a T (plain tight) budget total (plain_free tight budget total) is.holds_data entry flat.definitions.now 0 nothing [] (λ b K x y t same h. absurd h) is.typed is.meant is.told is.once (let s = is.small in omega (arith, s)) (λ k v e. absurd (let z : Wrong ≡ Val v = e in cc)) (λ b p t h. absurd h))
       (λ tops h. let r = h entry.0 (eq-eqb entry.0 entry.0 refl) (arrows ts u) used in
-      correct_then (Fits N integer_at (plain tight) budget total (arrows ts u) tops) (Result_fits N integer_at (plain tight) budget total u) (the (top tops entry.0)) _
-      (correct_exact (Fits N integer_at (plain tight) budget total (arrows ts u) tops) 0 (top tops entry.0) (subst (λ o. HasOut (Fits N integer_at (plain tight) budget total (arrows ts u) tops) o) (sym r.1) r.2))
-      (λ f k. applied_fit N are places K a integer_at (plain tight) budget total (plain_free tight budget total) is.holds_data entry ts u vs tops f k fit))
+      correct_then (Fits N T (plain tight) budget total (arrows ts u) tops) (Result_fits N T (plain tight) budget total u) (the (top tops entry.0)) _
+      (correct_exact (Fits N T (plain tight) budget total (arrows ts u) tops) 0 (top tops entry.0) (subst (λ o. HasOut (Fits N T (plain tight) budget total (arrows ts u) tops) o) (sym r.1) r.2))
+      (λ f k. applied_fit N are places K a T (plain tight) budget total (plain_free tight budget total) is.holds_data entry ts u vs tops f k fit))
 
 pub never_wrong : Never_wrong
-never_wrong N are places K a integer_at tight budget flat is entry ts u vs used fit = (correct N are places K a integer_at tight budget false flat is entry ts u vs used fit).safe
+never_wrong N are places K a T tight budget flat is entry ts u vs used fit = (correct N are places K a T tight budget false flat is entry ts u vs used fit).safe
 
 pub has_outcome : Has_outcome
-has_outcome N are places K a integer_at tight budget flat is entry ts u vs used fit = (correct N are places K a integer_at tight budget true flat is entry ts u vs used fit).some refl
+has_outcome N are places K a T tight budget flat is entry ts u vs used fit = (correct N are places K a T tight budget true flat is entry ts u vs used fit).some refl

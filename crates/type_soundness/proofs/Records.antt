@@ -1,7 +1,6 @@
 -- Records that are made of values of their types, and records of which a field is replaced.
 use Rattle.std.proofs.Common.{◌≡◌, ◌≢◌, ℕ, suc, ◌+◌, ◌≤◌, ◌<◌, refl, sym, ap, ◌∙◌, subst, arith, List, [], ◌∷◌, length, map, Option, Some, None, slice_index_or, if◌then◌else◌, ne_eqb, eq-eqb, Bool}
 use mathlib.Core.Logic.{◌⊎◌, inl, inr}
-use Rattle.fut_scalar.specs.declared.scalar.IntType.{IntType}
 use Rattle.fut_ast.specs.Sorts.{Text}
 use Rattle.fut_types.specs.declared.Head.TheVariants as head
 use Rattle.fut_types.specs.Types.{Ty, Made, Tys, none, more}
@@ -9,6 +8,7 @@ use Rattle.fut_types.specs.Shapes.{place, place_from, part_at, part_named, HasPa
 use Rattle.fut_types.proofs.ShapeLaws.{one_part}
 use Rattle.fut_typing.specs.Names.{Names, AreNames, Once, IsRecord, Parts_named, count}
 use Rattle.fut_typing.proofs.Members.{In, in_list, list_in, placed_in}
+use Rattle.fut_meaning.specs.Found.{Told}
 use Rattle.fut_meaning.specs.Outcomes.{Val, and_then}
 use Rattle.fut_meaning.specs.Values.{Record_value, with_field, field, fields}
 use Rattle.fut_meaning.specs.Accessors.{or_wrong}
@@ -96,8 +96,8 @@ placed_label l ls ts u e = known (place_from 0 l ls) refl e
     known None is e = absurd (let z : None ≡ Some u = e in cc)
     known (Some i) is e = placed_in 0 l ls i is
 
-module _ (N : Names) (integer_at : ℕ → IntType) (M : FlatMode) (budget : ℕ) (total : Bool) (tops : FlatTops) where
-  pub fit_all : (ls : List ℕ) (ts : Tys) (fs : FlatFields) → Apart ls → count ts ≡ length ls → ((l : ℕ) (t : Ty) → part_at (place_from 0 l ls) ts ≡ Some t → Field_of N integer_at M budget total l t tops fs) → Fields_fit N integer_at M budget total ls ts tops fs
+module _ (N : Names) (T : Told) (M : FlatMode) (budget : ℕ) (total : Bool) (tops : FlatTops) where
+  pub fit_all : (ls : List ℕ) (ts : Tys) (fs : FlatFields) → Apart ls → count ts ≡ length ls → ((l : ℕ) (t : Ty) → part_at (place_from 0 l ls) ts ≡ Some t → Field_of N T M budget total l t tops fs) → Fields_fit N T M budget total ls ts tops fs
   unfolding Fields_fit
   fit_all [] none fs a e h = tt
   fit_all [] (more t ts) fs a e h = absurd (let z : 1 + count ts ≡ 0 = e in omega arith)
@@ -114,9 +114,9 @@ module _ (N : Names) (integer_at : ℕ → IntType) (M : FlatMode) (budget : ℕ
     ordered : In_order (fields pairs)
     keys_to : (s : Text) → Is_key s (fields pairs) → Named s fs
     keys_from : (s : Text) → Named s fs → Is_key s (fields pairs)
-    parts : (s : Text) → Named s fs → (u : Ty) × (v : FlatValue) × HasPart N.shapes (N.label s) t u × (field s (fields pairs) ≡ Some v) × Fits N integer_at M budget total u tops v
+    parts : (s : Text) → Named s fs → (u : Ty) × (v : FlatValue) × HasPart N.shapes (N.label s) t u × (field s (fields pairs) ≡ Some v) × Fits N T M budget total u tops v
 
-  built : (t : Ty) (fs : List Text) (us : Tys) (vs : List FlatValue) → Once fs → Parts_named N fs t us → Each_fits N integer_at M budget total us tops vs → Built t fs vs
+  built : (t : Ty) (fs : List Text) (us : Tys) (vs : List FlatValue) → Once fs → Parts_named N fs t us → Each_fits N T M budget total us tops vs → Built t fs vs
   built t [] none [] o h k = record { pairs = []; named = refl; ordered = tt; keys_to = λ s i. i; keys_from = λ s i. i; parts = λ s i. absurd i }
   built t [] none (v ∷ vs) o h k = absurd k
   built t [] (more u us) vs o h k = absurd h
@@ -128,7 +128,7 @@ module _ (N : Names) (integer_at : ℕ → IntType) (M : FlatMode) (budget : ℕ
     ordered = order_put f v (fields r.pairs) lacks r.ordered;
     keys_to = λ s i. elim (key_put s f v (fields r.pairs) i) as (λ d. Named s (f ∷ fs)) [ inl e ↦ inl e | inr j ↦ inr (r.keys_to s j) ];
     keys_from = λ s i. key_stays s f v (fields r.pairs) (elim i as (λ d. (s ≡ f) ⊎ Is_key s (fields r.pairs)) [ inl e ↦ inl e | inr j ↦ inr (r.keys_from s j) ]);
-    parts = λ s i. elim (same_text f s) as (λ d. (x : Ty) × (w : FlatValue) × HasPart N.shapes (N.label s) t x × (field s (with_field f v (fields r.pairs)) ≡ Some w) × Fits N integer_at M budget total x tops w) [
+    parts = λ s i. elim (same_text f s) as (λ d. (x : Ty) × (w : FlatValue) × HasPart N.shapes (N.label s) t x × (field s (with_field f v (fields r.pairs)) ≡ Some w) × Fits N T M budget total x tops w) [
       | inl e ↦ (u, v, subst (λ x. HasPart N.shapes (N.label x) t u) e h.0, subst (λ x. field x (with_field f v (fields r.pairs)) ≡ Some v) e (field_put f v (fields r.pairs) lacks), k.0)
       | inr ne ↦ let p = r.parts s (elim i as (λ d. Named s fs) [ inl e ↦ absurd (ne (sym e)) | inr j ↦ j ]) in (p.0, p.1, p.2, field_stays s f v (fields r.pairs) ne ∙ p.3, p.4)
     ];
@@ -136,7 +136,7 @@ module _ (N : Names) (integer_at : ℕ → IntType) (M : FlatMode) (budget : ℕ
 
   module _ (are : AreNames N) where
     -- a record of values under the names of its type
-    pub record_made : (fs : List Text) (t : Ty) (us : Tys) (vs : List FlatValue) → IsRecord N fs t us → Each_fits N integer_at M budget total us tops vs → HasOut (Fits N integer_at M budget total t tops) (and_then (or_wrong (named_values fs vs)) (λ l. Val (Record_value (fields l))))
+    pub record_made : (fs : List Text) (t : Ty) (us : Tys) (vs : List FlatValue) → IsRecord N fs t us → Each_fits N T M budget total us tops vs → HasOut (Fits N T M budget total t tops) (and_then (or_wrong (named_values fs vs)) (λ l. Val (Record_value (fields l))))
     unfolding Fits part_named place
     record_made fs t us vs r k =
         let b : Built t fs vs = built t fs us vs r.once r.named k in
@@ -144,7 +144,7 @@ module _ (N : Names) (integer_at : ℕ → IntType) (M : FlatMode) (budget : ℕ
         let inside : (s : Text) → Named s fs → In (N.label s) (N.shapes.fields r.number) = λ s i. let p = b.parts s i in placed_label (N.label s) (N.shapes.fields r.number) r.parts p.0 (subst (λ x. HasPart N.shapes (N.label s) x p.0) r.made p.2) in
         let filled : (l : ℕ) → In l (N.shapes.fields r.number) → In l (map N.label fs) = covers (map N.label fs) (N.shapes.fields r.number) (labels_apart N are fs r.once)
         (λ l i. let q = label_named N.label fs l i in subst (λ x. In x (N.shapes.fields r.number)) (sym q.2) (inside q.0 q.1)) (let x = r.fields in let y = long_map N.label fs in omega (arith, x, y)) in
-        let fit : Fits N integer_at M budget total (Made (head.Record r.number) r.parts) tops (Record_value (fields b.pairs)) = (
+        let fit : Fits N T M budget total (Made (head.Record r.number) r.parts) tops (Record_value (fields b.pairs)) = (
           record {
             ordered = b.ordered;
             same = λ s. (
@@ -156,6 +156,6 @@ module _ (N : Names) (integer_at : ℕ → IntType) (M : FlatMode) (budget : ℕ
               let q = label_named N.label fs l (filled l (placed_label l (N.shapes.fields r.number) r.parts u p)) in
               let c = b.parts q.0 q.1 in
               let same : c.0 ≡ u = one_part N.shapes l (Made (head.Record r.number) r.parts) c.0 u (subst (λ x. HasPart N.shapes x (Made (head.Record r.number) r.parts) c.0) (sym q.2) (subst (λ x. HasPart N.shapes (N.label q.0) x c.0) r.made c.2)) p in
-              (q.0, c.1, sym q.2, c.3, subst (λ x. Fits N integer_at M budget total x tops c.1) same c.4)),
+              (q.0, c.1, sym q.2, c.3, subst (λ x. Fits N T M budget total x tops c.1) same c.4)),
         ) in
-        subst (λ o. HasOut (Fits N integer_at M budget total t tops) (and_then (or_wrong o) (λ l. Val (Record_value (fields l))))) (sym b.named) (subst (λ x. Fits N integer_at M budget total x tops (Record_value (fields b.pairs))) (sym r.made) fit)
+        subst (λ o. HasOut (Fits N T M budget total t tops) (and_then (or_wrong o) (λ l. Val (Record_value (fields l))))) (sym b.named) (subst (λ x. Fits N T M budget total x tops (Record_value (fields b.pairs))) (sym r.made) fit)

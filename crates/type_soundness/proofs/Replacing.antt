@@ -3,13 +3,13 @@ use Rattle.std.proofs.Common.{◌≡◌, ◌≢◌, Bool, true, false, cond, ℕ
 use Rattle.std.specs.Str.{bytes_eq}
 use Rattle.std.proofs.lemmas.Slice.Eq.{bytes_eq-Decides}
 use mathlib.Core.Logic.{inl, inr}
-use Rattle.fut_scalar.specs.declared.scalar.IntType.{IntType}
 use Rattle.fut_ast.specs.Sorts.{Text}
 use Rattle.fut_types.specs.declared.Head.TheVariants as head
 use Rattle.fut_types.specs.Types.{Ty, Var, Made, Tys, none, more}
 use Rattle.fut_types.specs.Shapes.{place, part_at, part_named, HasPart}
 use Rattle.fut_types.proofs.ShapeLaws.{one_part}
 use Rattle.fut_typing.specs.Names.{Names, AreNames, Spells, count}
+use Rattle.fut_meaning.specs.Found.{Told}
 use Rattle.fut_meaning.specs.Outcomes.{Val, and_then}
 use Rattle.fut_meaning.specs.Values.{Array_value, Scalar_value, Tuple_value, Record_value, Closure, Primitive_value, no_field, field_and, field, replaced}
 use Rattle.fut_meaning.specs.Accessors.{or_wrong, part, fields_of}
@@ -73,46 +73,46 @@ field_old s f w (field_and g x fs) ne = known (bytes_eq g f) refl (field_old s f
     known true is rec = let other : bytes_eq g s ≡ false = eq_other g s (λ e. ne (sym e ∙ (bytes_eq-Decides g f).0 is)) in ap (λ b. cond b (Some w) (field s fs)) other ∙ sym (ap (λ b. cond b (Some x) (field s fs)) other)
     known false is rec = ap (λ y. cond (bytes_eq g s) (Some x) y) rec
 
-module _ (N : Names) (are : AreNames N) (integer_at : ℕ → IntType) (M : FlatMode) (budget : ℕ) (total : Bool) (tops : FlatTops) where
-  fit_long : (ls : List ℕ) (ts : Tys) (fs : FlatFields) → Fields_fit N integer_at M budget total ls ts tops fs → count ts ≡ length ls
+module _ (N : Names) (are : AreNames N) (T : Told) (M : FlatMode) (budget : ℕ) (total : Bool) (tops : FlatTops) where
+  fit_long : (ls : List ℕ) (ts : Tys) (fs : FlatFields) → Fields_fit N T M budget total ls ts tops fs → count ts ≡ length ls
   unfolding Fields_fit
   fit_long [] none fs h = refl
   fit_long [] (more t ts) fs h = absurd h
   fit_long (l ∷ ls) none fs h = absurd h
   fit_long (l ∷ ls) (more t ts) fs h = let r = fit_long ls ts fs h.1 in omega (arith, r)
 
-  record_replaced : (f : Text) (n : ℕ) (ts : Tys) (x : Ty) (fs : FlatFields) (w : FlatValue) → HasPart N.shapes (N.label f) (Made (head.Record n) ts) x → Fits N integer_at M budget total (Made (head.Record n) ts) tops (Record_value fs) → Fits N integer_at M budget total x tops w
-      → Fits N integer_at M budget total (Made (head.Record n) ts) tops (Record_value (replaced f w fs))
+  record_replaced : (f : Text) (n : ℕ) (ts : Tys) (x : Ty) (fs : FlatFields) (w : FlatValue) → HasPart N.shapes (N.label f) (Made (head.Record n) ts) x → Fits N T M budget total (Made (head.Record n) ts) tops (Record_value fs) → Fits N T M budget total x tops w
+      → Fits N T M budget total (Made (head.Record n) ts) tops (Record_value (replaced f w fs))
   unfolding Fits part_named place
   record_replaced f n ts x fs w h k g = (
     record {
       ordered = order_kept f w fs k.0.ordered;
       same = λ s. ((λ i. (k.0.same s).0 (key_kept s f w fs i)), (λ c. key_left s f w fs ((k.0.same s).1 c)));
     },
-    fit_all N integer_at M budget total tops (N.shapes.fields n) ts (replaced f w fs) (numbers_apart (N.shapes.fields n) (are.once n)) (fit_long (N.shapes.fields n) ts fs k.1) (λ l t p.
-        let r = field_found N integer_at M budget total l t tops fs (N.shapes.fields n) ts p k.1 in
-        elim (same_text r.0 f) as (λ d. Field_of N integer_at M budget total l t tops (replaced f w fs)) [
+    fit_all N T M budget total tops (N.shapes.fields n) ts (replaced f w fs) (numbers_apart (N.shapes.fields n) (are.once n)) (fit_long (N.shapes.fields n) ts fs k.1) (λ l t p.
+        let r = field_found N T M budget total l t tops fs (N.shapes.fields n) ts p k.1 in
+        elim (same_text r.0 f) as (λ d. Field_of N T M budget total l t tops (replaced f w fs)) [
           | inl e ↦
               let same : x ≡ t = one_part N.shapes l (Made (head.Record n) ts) x t (subst (λ m. HasPart N.shapes m (Made (head.Record n) ts) x) (ap N.label (sym e) ∙ r.2) h) p in
-              (f, w, ap N.label (sym e) ∙ r.2, field_new f w r.1 fs (subst (λ s. field s fs ≡ Some r.1) e r.3), subst (λ y. Fits N integer_at M budget total y tops w) same g)
+              (f, w, ap N.label (sym e) ∙ r.2, field_new f w r.1 fs (subst (λ s. field s fs ≡ Some r.1) e r.3), subst (λ y. Fits N T M budget total y tops w) same g)
           | inr ne ↦ (r.0, r.1, r.2, field_old r.0 f w fs ne ∙ r.3, r.4)
         ]),
   )
 
   -- the part that a label names
-  pub project_fits : (f : Text) (t u : Ty) (v : FlatValue) → HasPart N.shapes (N.label f) u t → Fits N integer_at M budget total u tops v → HasOut (Fits N integer_at M budget total t tops) (part f v)
+  pub project_fits : (f : Text) (t u : Ty) (v : FlatValue) → HasPart N.shapes (N.label f) u t → Fits N T M budget total u tops v → HasOut (Fits N T M budget total t tops) (part f v)
   unfolding Fits part_named place part_at
   project_fits f t (Var n) v h k = absurd k
   project_fits f t (Made (head.Scalar s) ts) v h k = absurd (let z : None ≡ Some t = h in cc)
   project_fits f t (Made head.Array ts) v h k = absurd (let z : None ≡ Some t = h in cc)
-  project_fits f t (Made head.Tuple ts) (Tuple_value vs) h k = part_fits N integer_at M budget total tops are f ts t vs h k.0 k.1
+  project_fits f t (Made head.Tuple ts) (Tuple_value vs) h k = part_fits N T M budget total tops are f ts t vs h k.0 k.1
   project_fits f t (Made head.Tuple ts) (Scalar_value s) h k = absurd k.1
   project_fits f t (Made head.Tuple ts) (Record_value fs) h k = absurd k.1
   project_fits f t (Made head.Tuple ts) (Closure ps e lo env) h k = absurd k.1
   project_fits f t (Made head.Tuple ts) (Primitive_value p at vs) h k = absurd k.1
   project_fits f t (Made head.Tuple ts) (Array_value row ds) h k = absurd k.1
   project_fits f t (Made (head.Record n) ts) (Record_value fs) h k =
-      let r = field_fits N integer_at M budget total are f t tops n ts fs h k.1 in subst (λ o. HasOut (Fits N integer_at M budget total t tops) (or_wrong o)) (sym r.1) r.2
+      let r = field_fits N T M budget total are f t tops n ts fs h k.1 in subst (λ o. HasOut (Fits N T M budget total t tops) (or_wrong o)) (sym r.1) r.2
   project_fits f t (Made (head.Record n) ts) (Scalar_value s) h k = absurd k
   project_fits f t (Made (head.Record n) ts) (Tuple_value vs) h k = absurd k
   project_fits f t (Made (head.Record n) ts) (Closure ps e lo env) h k = absurd k
@@ -123,8 +123,8 @@ module _ (N : Names) (are : AreNames N) (integer_at : ℕ → IntType) (M : Flat
   project_fits f t (Made (head.Abstract n d) ts) v h k = absurd k
 
   -- a record with another value for a field
-  pub replace_fits : (f : Text) (t x : Ty) (v w : FlatValue) → ((n : ℕ) → Spells f n → ⊥) → HasPart N.shapes (N.label f) t x → Fits N integer_at M budget total t tops v → Fits N integer_at M budget total x tops w
-      → HasOut (Fits N integer_at M budget total t tops) (and_then (fields_of v) (λ fs. Val (Record_value (replaced f w fs))))
+  pub replace_fits : (f : Text) (t x : Ty) (v w : FlatValue) → ((n : ℕ) → Spells f n → ⊥) → HasPart N.shapes (N.label f) t x → Fits N T M budget total t tops v → Fits N T M budget total x tops w
+      → HasOut (Fits N T M budget total t tops) (and_then (fields_of v) (λ fs. Val (Record_value (replaced f w fs))))
   unfolding Fits part_named place part_at
   replace_fits f (Var n) x v w lacks h k g = absurd k
   replace_fits f (Made (head.Scalar s) ts) x v w lacks h k g = absurd (let z : None ≡ Some x = h in cc)

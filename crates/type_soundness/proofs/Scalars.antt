@@ -21,6 +21,7 @@ use Rattle.fut_types.specs.Types.{Ty, Var, Made, Tys, none, Kinds, rank, least, 
 use Rattle.fut_types.proofs.TyLaws.{rank_made}
 use Rattle.fut_typing.specs.Names.{Names}
 use Rattle.fut_typing.specs.Rules.{Operator}
+use Rattle.fut_meaning.specs.Found.{Told}
 use Rattle.fut_meaning.specs.Outcomes.{Val}
 use Rattle.fut_meaning.specs.Values.{Array_value, Scalar_value, Tuple_value, Record_value, Closure, Primitive_value}
 use Rattle.fut_meaning.specs.Operators.{by_kind, is_same_type, type_number, binary_result, unary_result}
@@ -79,7 +80,7 @@ integers_give o at i m n = subst (λ b. HasOut (λ s. Is_scalar (result_type o i
 pub below_kind : (K : Kinds) (k : Kind) (h : Head) (ts : Tys) → HasKind K k (Made h ts) → level k ≤ cap h
 below_kind K k h ts p = let e : rank K (Made h ts) ≡ min (cap h) (least K ts) = rank_made K h ts in let q : level k ≤ rank K (Made h ts) = p in omega (arith, e, q)
 
-module _ (N : Names) (integer_at : ℕ → IntType) (M : FlatMode) (budget : ℕ) (total : Bool) (tops : FlatTops) (K : Kinds) where
+module _ (N : Names) (T : Told) (M : FlatMode) (budget : ℕ) (total : Bool) (tops : FlatTops) (K : Kinds) where
   abbrev pub Integer_value : Ty → FlatValue → Type 0
   Integer_value t v = (i : IntType) × (ts : Tys) × (n : ℕ) × (t ≡ Made (head.Scalar (types.Int i)) ts) × (v ≡ Scalar_value (scalar.Int i n))
 
@@ -92,7 +93,7 @@ module _ (N : Names) (integer_at : ℕ → IntType) (M : FlatMode) (budget : ℕ
   scalar_integer i ts (Primitive_value p at vs) h = absurd h
   scalar_integer i ts (Array_value row ds) h = absurd h
 
-  pub integer_fits : (t : Ty) (v : FlatValue) → HasKind K kind.Integer t → Fits N integer_at M budget total t tops v → Integer_value t v
+  pub integer_fits : (t : Ty) (v : FlatValue) → HasKind K kind.Integer t → Fits N T M budget total t tops v → Integer_value t v
   unfolding Fits
   integer_fits (Var n) v k h = absurd h
   integer_fits (Made (head.Scalar (types.Int i)) ts) v k h = scalar_integer i ts v h
@@ -134,7 +135,7 @@ module _ (N : Names) (integer_at : ℕ → IntType) (M : FlatMode) (budget : ℕ
   made_scalar s ts (Primitive_value p at vs) h = absurd h
   made_scalar s ts (Array_value row ds) h = absurd h
 
-  pub scalar_fits : (t : Ty) (v : FlatValue) → HasKind K kind.Scalar t → Fits N integer_at M budget total t tops v → Scalar_of t v
+  pub scalar_fits : (t : Ty) (v : FlatValue) → HasKind K kind.Scalar t → Fits N T M budget total t tops v → Scalar_of t v
   unfolding Fits
   scalar_fits (Var n) v k h = absurd h
   scalar_fits (Made (head.Scalar s) ts) v k h = made_scalar s ts v h
@@ -146,25 +147,25 @@ module _ (N : Names) (integer_at : ℕ → IntType) (M : FlatMode) (budget : ℕ
   scalar_fits (Made (head.Abstract n d) ts) v k h = absurd h
 
   -- a scalar is of the type that is made for it
-  pub fits_scalar : (s : ScalarType) (ts : Tys) (c : Scalar) → Is_scalar s c → Fits N integer_at M budget total (Made (head.Scalar s) ts) tops (Scalar_value c)
+  pub fits_scalar : (s : ScalarType) (ts : Tys) (c : Scalar) → Is_scalar s c → Fits N T M budget total (Made (head.Scalar s) ts) tops (Scalar_value c)
   unfolding Fits
   fits_scalar s ts c h = h
 
-  pub scalar_inside : (s : ScalarType) (ts : Tys) (v : FlatValue) → Fits N integer_at M budget total (Made (head.Scalar s) ts) tops v → On_scalar (Is_scalar s) v
+  pub scalar_inside : (s : ScalarType) (ts : Tys) (v : FlatValue) → Fits N T M budget total (Made (head.Scalar s) ts) tops v → On_scalar (Is_scalar s) v
   unfolding Fits
   scalar_inside s ts v h = h
 
-  fits_at : (t u : Ty) (v : FlatValue) → t ≡ u → Fits N integer_at M budget total u tops v → Fits N integer_at M budget total t tops v
-  fits_at t u v e h = subst (λ x. Fits N integer_at M budget total x tops v) (sym e) h
+  fits_at : (t u : Ty) (v : FlatValue) → t ≡ u → Fits N T M budget total u tops v → Fits N T M budget total t tops v
+  fits_at t u v e h = subst (λ x. Fits N T M budget total x tops v) (sym e) h
 
   -- of a comparison
-  compares : (t u : Ty) (i : IntType) (ts : Tys) (c : Scalar) → t ≡ Made (head.Scalar types.Bool) none → Is_scalar types.Bool c → Fits N integer_at M budget total t tops (Scalar_value c)
+  compares : (t u : Ty) (i : IntType) (ts : Tys) (c : Scalar) → t ≡ Made (head.Scalar types.Bool) none → Is_scalar types.Bool c → Fits N T M budget total t tops (Scalar_value c)
   compares t u i ts c e h = fits_at t _ (Scalar_value c) e (fits_scalar types.Bool none c h)
 
-  reckons : (t u : Ty) (i : IntType) (ts : Tys) (c : Scalar) → t ≡ u → u ≡ Made (head.Scalar (types.Int i)) ts → Is_scalar (types.Int i) c → Fits N integer_at M budget total t tops (Scalar_value c)
+  reckons : (t u : Ty) (i : IntType) (ts : Tys) (c : Scalar) → t ≡ u → u ≡ Made (head.Scalar (types.Int i)) ts → Is_scalar (types.Int i) c → Fits N T M budget total t tops (Scalar_value c)
   reckons t u i ts c e d h = fits_at t _ (Scalar_value c) (e ∙ d) (fits_scalar (types.Int i) ts c h)
 
-  result_fits : (o : BinOp) (t u : Ty) (i : IntType) (ts : Tys) (c : Scalar) → Operator o K t u → u ≡ Made (head.Scalar (types.Int i)) ts → Is_scalar (result_type o i) c → Fits N integer_at M budget total t tops (Scalar_value c)
+  result_fits : (o : BinOp) (t u : Ty) (i : IntType) (ts : Tys) (c : Scalar) → Operator o K t u → u ≡ Made (head.Scalar (types.Int i)) ts → Is_scalar (result_type o i) c → Fits N T M budget total t tops (Scalar_value c)
   result_fits op.Add t u i ts c h e s = reckons t u i ts c h.0 e s
   result_fits op.Sub t u i ts c h e s = reckons t u i ts c h.0 e s
   result_fits op.Mul t u i ts c h e s = reckons t u i ts c h.0 e s
@@ -188,13 +189,13 @@ module _ (N : Names) (integer_at : ℕ → IntType) (M : FlatMode) (budget : ℕ
   result_fits op.Ge t u i ts c h e s = compares t u i ts c h.0 s
 
   -- an operation on two integers of one type
-  pub integers_fit : (o : BinOp) (at : Place) (t u : Ty) (v w : FlatValue) → Operator o K t u → HasKind K kind.Integer u → Fits N integer_at M budget total u tops v → Fits N integer_at M budget total u tops w → HasOut (Fits N integer_at M budget total t tops) (on_scalars o at v w)
+  pub integers_fit : (o : BinOp) (at : Place) (t u : Ty) (v w : FlatValue) → Operator o K t u → HasKind K kind.Integer u → Fits N T M budget total u tops v → Fits N T M budget total u tops w → HasOut (Fits N T M budget total t tops) (on_scalars o at v w)
   integers_fit o at t u v w rule k h g =
       let a = integer_fits u v k h in
-      let b = int_value a.0 w (scalar_inside (types.Int a.0) a.1 w (subst (λ x. Fits N integer_at M budget total x tops w) a.3 g)) in
-      subst (λ x. HasOut (Fits N integer_at M budget total t tops) (on_scalars o at x w)) (sym a.4)
-      (subst (λ x. HasOut (Fits N integer_at M budget total t tops) (on_scalars o at (Scalar_value (scalar.Int a.0 a.2)) x)) (sym b.1)
-      (has_then (Is_scalar (result_type o a.0)) (Fits N integer_at M budget total t tops) (reported at (binary_result o (scalar.Int a.0 a.2) (scalar.Int a.0 b.0))) (λ s. Val (Scalar_value s)) (integers_give o at a.0 a.2 b.0)
+      let b = int_value a.0 w (scalar_inside (types.Int a.0) a.1 w (subst (λ x. Fits N T M budget total x tops w) a.3 g)) in
+      subst (λ x. HasOut (Fits N T M budget total t tops) (on_scalars o at x w)) (sym a.4)
+      (subst (λ x. HasOut (Fits N T M budget total t tops) (on_scalars o at (Scalar_value (scalar.Int a.0 a.2)) x)) (sym b.1)
+      (has_then (Is_scalar (result_type o a.0)) (Fits N T M budget total t tops) (reported at (binary_result o (scalar.Int a.0 a.2) (scalar.Int a.0 b.0))) (λ s. Val (Scalar_value s)) (integers_give o at a.0 a.2 b.0)
       (λ s r. result_fits o t u a.0 a.1 s rule a.3 r)))
 
   abbrev pub one_type : UnOp → IntType → ScalarType
@@ -209,26 +210,26 @@ module _ (N : Names) (integer_at : ℕ → IntType) (M : FlatMode) (budget : ℕ
   one_is one.Popc i n = refl
 
   -- an operation on an integer
-  pub integer_fit : (o : UnOp) (i : IntType) (t : Ty) (ts : Tys) (v : FlatValue) → On_scalar (Is_scalar (types.Int i)) v → t ≡ Made (head.Scalar (one_type o i)) ts → HasOut (Fits N integer_at M budget total t tops) (on_scalar o v)
+  pub integer_fit : (o : UnOp) (i : IntType) (t : Ty) (ts : Tys) (v : FlatValue) → On_scalar (Is_scalar (types.Int i)) v → t ≡ Made (head.Scalar (one_type o i)) ts → HasOut (Fits N T M budget total t tops) (on_scalar o v)
   unfolding unary_result
   integer_fit o i t ts v h e =
       let a = int_value i v h in
-      subst (λ x. HasOut (Fits N integer_at M budget total t tops) (on_scalar o x)) (sym a.1) (fits_at t _ _ e (fits_scalar (one_type o i) ts (result_of_one o (scalar.Int i a.0)) (one_is o i a.0)))
+      subst (λ x. HasOut (Fits N T M budget total t tops) (on_scalar o x)) (sym a.1) (fits_at t _ _ e (fits_scalar (one_type o i) ts (result_of_one o (scalar.Int i a.0)) (one_is o i a.0)))
 
-  pub negates : (at : Place) (t x : Ty) (v : FlatValue) → t ≡ x → HasKind K kind.Integer t → Fits N integer_at M budget total x tops v → HasOut (Fits N integer_at M budget total t tops) (on_scalar one.Neg v)
+  pub negates : (at : Place) (t x : Ty) (v : FlatValue) → t ≡ x → HasKind K kind.Integer t → Fits N T M budget total x tops v → HasOut (Fits N T M budget total t tops) (on_scalar one.Neg v)
   negates at t x v e k h =
-      let g : Fits N integer_at M budget total t tops v = fits_at t x v e h in
+      let g : Fits N T M budget total t tops v = fits_at t x v e h in
       let a = integer_fits t v k g in
-      integer_fit one.Neg a.0 t a.1 v (scalar_inside (types.Int a.0) a.1 v (subst (λ y. Fits N integer_at M budget total y tops v) a.3 g)) a.3
+      integer_fit one.Neg a.0 t a.1 v (scalar_inside (types.Int a.0) a.1 v (subst (λ y. Fits N T M budget total y tops v) a.3 g)) a.3
 
-  complemented : (t : Ty) (s : ScalarType) (ts : Tys) (c : Scalar) → Is_scalar s c → t ≡ Made (head.Scalar s) ts → HasOut (Fits N integer_at M budget total t tops) (on_scalar one.Not (Scalar_value c))
+  complemented : (t : Ty) (s : ScalarType) (ts : Tys) (c : Scalar) → Is_scalar s c → t ≡ Made (head.Scalar s) ts → HasOut (Fits N T M budget total t tops) (on_scalar one.Not (Scalar_value c))
   unfolding unary_result result_of_one
   complemented t (types.Int i) ts (scalar.Int u n) h e = fits_at t _ _ e (fits_scalar (types.Int i) ts _ h)
   complemented t (types.Int i) ts (scalar.Bool b) h e = absurd h
   complemented t types.Bool ts (scalar.Int u n) h e = absurd h
   complemented t types.Bool ts (scalar.Bool b) h e = fits_at t _ _ e (fits_scalar types.Bool ts _ tt)
 
-  pub complements : (t x : Ty) (v : FlatValue) → t ≡ x → HasKind K kind.Scalar t → Fits N integer_at M budget total x tops v → HasOut (Fits N integer_at M budget total t tops) (on_scalar one.Not v)
+  pub complements : (t x : Ty) (v : FlatValue) → t ≡ x → HasKind K kind.Scalar t → Fits N T M budget total x tops v → HasOut (Fits N T M budget total t tops) (on_scalar one.Not v)
   complements t x v e k h =
       let a = scalar_fits t v k (fits_at t x v e h) in
-      subst (λ y. HasOut (Fits N integer_at M budget total t tops) (on_scalar one.Not y)) (sym a.4) (complemented t a.0 a.1 a.2 a.5 a.3)
+      subst (λ y. HasOut (Fits N T M budget total t tops) (on_scalar one.Not y)) (sym a.4) (complemented t a.0 a.1 a.2 a.5 a.3)

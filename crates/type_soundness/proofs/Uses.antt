@@ -1,7 +1,6 @@
 -- Uses of names and of primitives.
 use Rattle.std.proofs.Common.{◌≡◌, Bool, false, ℕ, ◌≤◌, refl, sym, subst, arith}
 use Rattle.fut_scalar.specs.declared.place.Place.{Place}
-use Rattle.fut_scalar.specs.declared.scalar.IntType.{IntType}
 use Rattle.fut_scalar.specs.declared.scalar.IntType.TheVariants as int
 use Rattle.fut_flat.specs.declared.prim.Primitive.{Primitive}
 use Rattle.fut_flat.specs.declared.prim.Folding.TheVariants as folding
@@ -14,6 +13,7 @@ use Rattle.fut_types.specs.Types.{Ty, Sub, Kinds, HasKind, level, rank, applied,
 use Rattle.fut_typing.specs.Names.{Names, AreNames}
 use Rattle.fut_typing.specs.Primitives.{prim_type}
 use Rattle.fut_typing.specs.Scopes.{Scope, Used}
+use Rattle.fut_meaning.specs.Found.{Told}
 use Rattle.fut_meaning.specs.Values.{Primitive_value, no_value}
 use Rattle.fut_meaning.specs.Operators.{lowest, highest}
 use Rattle.fut_meaning.specs.Operations.{arity, is_of_scalars, primitive_use}
@@ -26,9 +26,9 @@ use Rattle.type_soundness.proofs.Applying.{Is_free, primitive_used}
 use Rattle.type_soundness.proofs.ArrayPrimitives.{array_primitive}
 use Rattle.type_soundness.proofs.Using.{convert_used, min_used, max_used, abs_used, popc_used, number_used}
 
-module _ (N : Names) (are : AreNames N) (integer_at : ℕ → IntType) (M : FlatMode) (budget : ℕ) (total : Bool) (free : Is_free M budget total) (places : Kind) (wide : level kind.Data ≤ level places) (K : Kinds) where
+module _ (N : Names) (are : AreNames N) (T : Told) (M : FlatMode) (budget : ℕ) (total : Bool) (free : Is_free M budget total) (places : Kind) (wide : level kind.Data ≤ level places) (K : Kinds) where
   abbrev At : FlatTops → Ty → FlatValue → Type 0
-  At tops t v = Fits N integer_at M budget total t tops v
+  At tops t v = Fits N T M budget total t tops v
 
   module _ (given : Sub) (kinds : (n : ℕ) → HasKind K places (given n)) where
     data_at : (n : ℕ) → HasKind K kind.Data (given n)
@@ -36,19 +36,19 @@ module _ (N : Names) (are : AreNames N) (integer_at : ℕ → IntType) (M : Flat
 
     array_used : (tops : FlatTops) (p : Primitive) (at : Place) → is_of_scalars p ≡ false → 1 ≤ arity p → At tops (applied given (prim_type p)) (Primitive_value p at no_value)
     array_used tops p at s l =
-        let r = array_primitive N are integer_at M budget total K given data_at p at s l in
-        subst (λ y. At tops y (Primitive_value p at no_value)) (sym r.is) (primitive_used N are integer_at M budget total K free tops p at r.first r.rest r.result s r.all r.taken r.jobs)
+        let r = array_primitive N are T M budget total K given data_at p at s l in
+        subst (λ y. At tops y (Primitive_value p at no_value)) (sym r.is) (primitive_used N are T M budget total K free tops p at r.first r.rest r.result s r.all r.taken r.jobs)
 
     primitive_fits : (tops : FlatTops) (p : Primitive) (at : Place) → At tops (applied given (prim_type p)) (primitive_use p at)
     unfolding applied all_applied
-    primitive_fits tops (prim.Convert to from) at = convert_used N integer_at M budget total K tops to from at
-    primitive_fits tops (prim.Min i) at = min_used N integer_at M budget total K tops i at
-    primitive_fits tops (prim.Max i) at = max_used N integer_at M budget total K tops i at
-    primitive_fits tops (prim.Abs i) at = abs_used N integer_at M budget total K tops i at
-    primitive_fits tops (prim.Popc i) at = popc_used N integer_at M budget total K tops i at
-    primitive_fits tops (prim.Lowest i) at = number_used N integer_at M budget total K tops i (lowest i)
-    primitive_fits tops (prim.Highest i) at = number_used N integer_at M budget total K tops i (highest i)
-    primitive_fits tops (prim.NumBits i) at = number_used N integer_at M budget total K tops int.I32 _
+    primitive_fits tops (prim.Convert to from) at = convert_used N T M budget total K tops to from at
+    primitive_fits tops (prim.Min i) at = min_used N T M budget total K tops i at
+    primitive_fits tops (prim.Max i) at = max_used N T M budget total K tops i at
+    primitive_fits tops (prim.Abs i) at = abs_used N T M budget total K tops i at
+    primitive_fits tops (prim.Popc i) at = popc_used N T M budget total K tops i at
+    primitive_fits tops (prim.Lowest i) at = number_used N T M budget total K tops i (lowest i)
+    primitive_fits tops (prim.Highest i) at = number_used N T M budget total K tops i (highest i)
+    primitive_fits tops (prim.NumBits i) at = number_used N T M budget total K tops int.I32 _
     primitive_fits tops (prim.Fold folding.Sum i) at = array_used tops (prim.Fold folding.Sum i) at refl (omega arith)
     primitive_fits tops (prim.Fold folding.Product i) at = array_used tops (prim.Fold folding.Product i) at refl (omega arith)
     primitive_fits tops (prim.Fold folding.Minimum i) at = array_used tops (prim.Fold folding.Minimum i) at refl (omega arith)
@@ -56,7 +56,7 @@ module _ (N : Names) (are : AreNames N) (integer_at : ℕ → IntType) (M : Flat
     primitive_fits tops p at = array_used tops p at refl (omega arith)
 
   -- a use of a name
-  pub use_fits : (tops : FlatTops) (P : ℕ → Type 0) (scope : Scope) (x : Sub) (r : Ref) (t : Ty) (at : Place) (env : FlatEnv) → Use_meant P r → Used places scope K x r t → Env_fits N integer_at M budget total tops P scope K x env → HasOut (At tops t) (flat_named tops env r at)
+  pub use_fits : (tops : FlatTops) (P : ℕ → Type 0) (scope : Scope) (x : Sub) (r : Ref) (t : Ty) (at : Place) (env : FlatEnv) → Use_meant P r → Used places scope K x r t → Env_fits N T M budget total tops P scope K x env → HasOut (At tops t) (flat_named tops env r at)
   use_fits tops P scope x (ref.Bound b) t at env m u h = let r = h b.0 m t u in subst (λ o. HasOut (At tops t) o) (sym r.1) r.2
   use_fits tops P scope x (ref.Prim p) t at env m u h = subst (λ y. At tops y (primitive_use p at)) (sym u.2) (primitive_fits u.0 u.1 tops p at)
   use_fits tops P scope x (ref.Scalar s) t at env m u h = absurd u

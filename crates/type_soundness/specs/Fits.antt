@@ -5,7 +5,6 @@ use Rattle.std.specs.Prelude.{◌≡◌, ◌↔◌, ℕ, ◌<◌, List, [], ◌�
 use Rattle.std.specs.List.{Contains}
 use mathlib.Core.Logic.{◌⊎◌}
 use Rattle.fut_scalar.specs.declared.place.BindId.{BindId}
-use Rattle.fut_scalar.specs.declared.scalar.IntType.{IntType}
 use Rattle.fut_scalar.specs.declared.scalar.ScalarType.{ScalarType}
 use Rattle.fut_scalar.specs.declared.scalar.ScalarType.TheVariants as types
 use Rattle.fut_scalar.specs.declared.scalar.Scalar.{Scalar}
@@ -15,6 +14,7 @@ use Rattle.fut_flat.specs.declared.prim.Ref.{Ref}
 use Rattle.fut_types.specs.declared.Head.TheVariants as head
 use Rattle.fut_types.specs.Types.{Ty, Var, Made, Tys, none, more}
 use Rattle.fut_typing.specs.Names.{Names, count}
+use Rattle.fut_meaning.specs.Found.{Told}
 use Rattle.fut_meaning.specs.Outcomes.{Val}
 use Rattle.fut_meaning.specs.Values.{Array_value, Scalar_value, Tuple_value, Record_value, Values, no_value, value_and, Fields, no_field, field_and, field, is_before, Call}
 use Rattle.fut_value.specs.Data.{Datums, Shape}
@@ -87,10 +87,10 @@ pub record Are_keys (N : Names) (labels : List ℕ) (fs : FlatFields) : Type 0 w
   pub ordered : In_order fs
   pub same : (s : Text) → Is_key s fs ↔ Contains labels (N.label s)
 
-abbrev pub lang : (ℕ → IntType) → FlatTops → Lang Ref BindId (Unit {0})
-lang integer_at tops = (flat_names integer_at).lang tops
+abbrev pub lang : Told → FlatTops → Lang Ref BindId (Unit {0})
+lang T tops = (flat_names T).lang tops
 
-module _ (N : Names) (integer_at : ℕ → IntType) (M : FlatMode) (budget : ℕ) (total : Bool) where
+module _ (N : Names) (T : Told) (M : FlatMode) (budget : ℕ) (total : Bool) where
   -- the values of a type, where these definitions have been evaluated
   unfoldable mutual
     pub Fits : Ty → FlatTops → FlatValue → Type 0
@@ -103,7 +103,7 @@ module _ (N : Names) (integer_at : ℕ → IntType) (M : FlatMode) (budget : ℕ
     Fits (Made (head.Record n) ts) tops v = On_record (λ fs. Are_keys N (N.shapes.fields n) fs × Fields_fit (N.shapes.fields n) ts tops fs) v
     Fits (Made head.Fun none) tops v = ⊥
     Fits (Made head.Fun (more t none)) tops v = ⊥
-    Fits (Made head.Fun (more t (more u none))) tops f = (tops' : FlatTops) → Grows tops tops' → (v : FlatValue) → Fits t tops' v → Correct total (Fits u tops') (Ever (lang integer_at tops') M budget (Call f v))
+    Fits (Made head.Fun (more t (more u none))) tops f = (tops' : FlatTops) → Grows tops tops' → (v : FlatValue) → Fits t tops' v → Correct total (Fits u tops') (Ever (lang T tops') M budget (Call f v))
     Fits (Made head.Fun (more t (more u (more w ts)))) tops v = ⊥
     Fits (Made (head.Rigid n k) ts) tops v = ⊥
     Fits (Made (head.Abstract n d) ts) tops v = ⊥

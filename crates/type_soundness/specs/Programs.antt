@@ -14,6 +14,7 @@ use Rattle.fut_typing.specs.Scopes.{nothing}
 use Rattle.fut_typing.specs.Patterns.{arrows}
 use Rattle.fut_typing.specs.Program.{Defined, program_of, program_numbers, Program_typed}
 use Rattle.fut_typing.specs.Exact.{scope_behind}
+use Rattle.fut_meaning.specs.Found.{Told}
 use Rattle.fut_meaning.specs.Flats.{FlatValue, FlatTops, FlatMode, named_terms, Flat_means}
 use Rattle.fut_meaning.specs.Meaning.{plain}
 use Rattle.fut_meaning.specs.Claims.{Safe, Some_outcome}
@@ -49,27 +50,27 @@ pub record Is_typed (N : Names) (places : Kind) (K : Kinds) (a : Sub) (integer_a
   pub once : One_each flat.definitions.now
   pub small : program_numbers (program_of flat) < widest
 
-module _ (N : Names) (integer_at : ℕ → IntType) (M : FlatMode) (budget : ℕ) (total : Bool) where
+module _ (N : Names) (T : Told) (M : FlatMode) (budget : ℕ) (total : Bool) where
   -- values of these types, whatever has been evaluated
   abbrev pub Arguments_fit : Tys → List FlatValue → Type 0
   Arguments_fit none [] = Unit {0}
   Arguments_fit none (v ∷ vs) = ⊥
   Arguments_fit (more t ts) [] = ⊥
-  Arguments_fit (more t ts) (v ∷ vs) = ((tops : FlatTops) → Fits N integer_at M budget total t tops v) × Arguments_fit ts vs
+  Arguments_fit (more t ts) (v ∷ vs) = ((tops : FlatTops) → Fits N T M budget total t tops v) × Arguments_fit ts vs
 
   abbrev pub Result_fits : Ty → FlatValue → Type 0
-  Result_fits u v = (tops : FlatTops) × Fits N integer_at M budget total u tops v
+  Result_fits u v = (tops : FlatTops) × Fits N T M budget total u tops v
 
 -- from each entry, at each type at which it may be used, and for all arguments of that type
 abbrev pub Never_wrong : Type 0
 Never_wrong =
-    (N : Names) → AreNames N → (places : Kind) (K : Kinds) (a : Sub) (integer_at : ℕ → IntType) (tight : Bool) (budget : ℕ) (flat : Flat) → Is_typed N places K a integer_at flat
-    → (entry : BindId) (ts : Tys) (u : Ty) (vs : List FlatValue) → (scope_behind N places (program_of flat) 0 nothing).uses entry.0 K a (arrows ts u) → Arguments_fit N integer_at (plain tight) budget false ts vs
-    → Safe (Result_fits N integer_at (plain tight) budget false u) (Flat_means integer_at (plain tight) budget (named_terms flat) entry vs)
+    (N : Names) → AreNames N → (places : Kind) (K : Kinds) (a : Sub) (T : Told) (tight : Bool) (budget : ℕ) (flat : Flat) → Is_typed N places K a T.integer_at flat
+    → (entry : BindId) (ts : Tys) (u : Ty) (vs : List FlatValue) → (scope_behind N places (program_of flat) 0 nothing).uses entry.0 K a (arrows ts u) → Arguments_fit N T (plain tight) budget false ts vs
+    → Safe (Result_fits N T (plain tight) budget false u) (Flat_means T (plain tight) budget (named_terms flat) entry vs)
 
 -- and there is some outcome, for arguments that are total where they are functions
 abbrev pub Has_outcome : Type 0
 Has_outcome =
-    (N : Names) → AreNames N → (places : Kind) (K : Kinds) (a : Sub) (integer_at : ℕ → IntType) (tight : Bool) (budget : ℕ) (flat : Flat) → Is_typed N places K a integer_at flat
-    → (entry : BindId) (ts : Tys) (u : Ty) (vs : List FlatValue) → (scope_behind N places (program_of flat) 0 nothing).uses entry.0 K a (arrows ts u) → Arguments_fit N integer_at (plain tight) budget true ts vs
-    → Some_outcome (Flat_means integer_at (plain tight) budget (named_terms flat) entry vs)
+    (N : Names) → AreNames N → (places : Kind) (K : Kinds) (a : Sub) (T : Told) (tight : Bool) (budget : ℕ) (flat : Flat) → Is_typed N places K a T.integer_at flat
+    → (entry : BindId) (ts : Tys) (u : Ty) (vs : List FlatValue) → (scope_behind N places (program_of flat) 0 nothing).uses entry.0 K a (arrows ts u) → Arguments_fit N T (plain tight) budget true ts vs
+    → Some_outcome (Flat_means T (plain tight) budget (named_terms flat) entry vs)

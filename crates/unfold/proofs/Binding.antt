@@ -1,5 +1,5 @@
 -- Names of patterns: the steps that take a tuple apart give what the pattern binds, or are wrong where it binds nothing.
-use Rattle.std.proofs.Common.{◌≡◌, ℕ, suc, ◌≤◌, ◌++◌, List, [], ◌∷◌, length, map, Bool, true, false, cond, nat_eq, Option, Some, None, refl, sym, ap, ◌∙◌, subst, arith}
+use Rattle.std.proofs.Common.{◌≡◌, ℕ, suc, ◌+◌, ◌≤◌, ◌++◌, List, [], ◌∷◌, length, map, Bool, true, false, cond, nat_eq, Option, Some, None, refl, sym, ap, ◌∙◌, subst, arith}
 use Rattle.std.proofs.lemmas.Bool.{eqb-true, eqb-false}
 use Rattle.std.proofs.lemmas.List.{length-map}
 use Rattle.fut_scalar.specs.declared.place.BindId.{BindId}
@@ -7,6 +7,7 @@ use Rattle.fut_scalar.specs.declared.report.Report.{Report}
 use Rattle.fut_ast.specs.Sorts.{Text}
 use Rattle.fut_flat.specs.declared.prim.Ref.{Ref}
 use Rattle.fut_flat.specs.Erased.{FlatPattern}
+use Rattle.fut_flat.specs.Numbers.{pattern_numbers}
 use Rattle.fut_flat.specs.Terms.{Bound_pattern, Wild_pattern, Tuple_pattern, Record_pattern, Typed_pattern, Patterns, no_pattern, pattern_and}
 use Rattle.fut_meaning.specs.Accessors as accessors
 use Rattle.fut_meaning.specs.Accessors.{or_wrong, bound, all_bound, tuple_parts, fields_of}
@@ -16,7 +17,7 @@ use Rattle.fut_meaning.specs.Flats.{FlatValue, FlatEnv}
 use Rattle.fut_meaning.specs.Outcomes.{Out, Val, Fail, Wrong, and_then, the}
 use Rattle.fut_meaning.specs.Sames.{All_same, all_none, all_more, Same_out, same_value, same_report, same_wrong, Sim}
 use Rattle.fut_meaning.specs.Values as values
-use Rattle.fut_meaning.specs.Values.{Tuple_value, Record_value}
+use Rattle.fut_meaning.specs.Values.{Tuple_value, Record_value, entered}
 use Rattle.fut_meaning.proofs.Sims.{the_sim}
 use Rattle.fut_blocks.specs.declared.block.Atom.{Atom}
 use Rattle.fut_blocks.specs.declared.block.Atom.TheVariants as atom
@@ -35,7 +36,7 @@ use Rattle.unfold.proofs.Components.{binds_names, values_are, upward_grows}
 use Rattle.unfold.proofs.Records.{and_then_twice, record_parts_as, parts_number}
 use Rattle.unfold.proofs.Patterns.{listed_stand, record_parts_stand}
 use Rattle.unfold.proofs.Runs.{Gives, run, none_sim, seq_sim}
-use Rattle.unfold.proofs.Stands.{FlatFields, Has, Stands, s_scalar, s_tuple, s_record, Holds, h_bind, holds_on, list_on}
+use Rattle.unfold.proofs.Stands.{FlatFields, Has, Stands, s_scalar, s_tuple, s_record, Holds, h_bind, h_entered, holds_on, list_on}
 
 mutual
   pub binds_grow : {p : FlatPattern} {s : Known} {sc inner : Scope} {n m : ℕ} {bs : Bindings} → Binds p s sc n bs inner m → n ≤ m
@@ -86,18 +87,18 @@ record_never (f ∷ names) fs = then_never (or_wrong (values.field f fs)) _ (fou
 mutual
   unfolding bound all_bound
 
-  bound_never : (p : FlatPattern) (v : FlatValue) (env : FlatEnv) → Never_fails (bound p v env)
-  bound_never (Bound_pattern b) v env = value_never _
-  bound_never Wild_pattern v env = value_never env
-  bound_never (Tuple_pattern ps) v env = then_never (tuple_parts v) _ (tuple_never v) (λ vs. all_bound_never ps vs env)
-  bound_never (Record_pattern names ps) v env = then_never (fields_of v) _ (fields_never v) (λ fs. then_never (accessors.record_parts names fs) _ (record_never names fs) (λ vs. all_bound_never ps vs env))
-  bound_never (Typed_pattern p t) v env = bound_never p v env
+  bound_never : (q : ℕ) (p : FlatPattern) (v : FlatValue) (env : FlatEnv) → Never_fails (bound q p v env)
+  bound_never q (Bound_pattern b) v env = value_never _
+  bound_never q Wild_pattern v env = value_never _
+  bound_never q (Tuple_pattern ps) v env = then_never (tuple_parts v) _ (tuple_never v) (λ vs. all_bound_never (1 + q) ps vs (entered q v env))
+  bound_never q (Record_pattern names ps) v env = then_never (fields_of v) _ (fields_never v) (λ fs. then_never (accessors.record_parts names fs) _ (record_never names fs) (λ vs. all_bound_never (1 + q) ps vs (entered q v env)))
+  bound_never q (Typed_pattern p t) v env = bound_never q p v env
 
-  all_bound_never : (ps : Patterns Ref BindId) (vs : List FlatValue) (env : FlatEnv) → Never_fails (all_bound ps vs env)
-  all_bound_never no_pattern [] env = value_never env
-  all_bound_never no_pattern (v ∷ vs) env = wrong_never
-  all_bound_never (pattern_and p ps) [] env = wrong_never
-  all_bound_never (pattern_and p ps) (v ∷ vs) env = then_never (bound p v env) _ (bound_never p v env) (λ e. all_bound_never ps vs e)
+  all_bound_never : (q : ℕ) (ps : Patterns Ref BindId) (vs : List FlatValue) (env : FlatEnv) → Never_fails (all_bound q ps vs env)
+  all_bound_never q no_pattern [] env = value_never env
+  all_bound_never q no_pattern (v ∷ vs) env = wrong_never
+  all_bound_never q (pattern_and p ps) [] env = wrong_never
+  all_bound_never q (pattern_and p ps) (v ∷ vs) env = then_never (bound q p v env) _ (bound_never q p v env) (λ e. all_bound_never (q + pattern_numbers p) ps vs e)
 
 abbrev count : Patterns Ref BindId → ℕ
 count no_pattern = 0
@@ -108,26 +109,29 @@ then_wrong (Val a) k h l = l a
 then_wrong (Fail r) k h l = absurd (h r refl)
 then_wrong Wrong k h l = refl
 
-other_count : (ps : Patterns Ref BindId) (vs : List FlatValue) (env : FlatEnv) → (count ps ≡ length vs → ⊥) → all_bound ps vs env ≡ Wrong
+other_count : (q : ℕ) (ps : Patterns Ref BindId) (vs : List FlatValue) (env : FlatEnv) → (count ps ≡ length vs → ⊥) → all_bound q ps vs env ≡ Wrong
 unfolding all_bound
-other_count no_pattern [] env h = absurd (h refl)
-other_count no_pattern (v ∷ vs) env h = refl
-other_count (pattern_and p ps) [] env h = refl
-other_count (pattern_and p ps) (v ∷ vs) env h = then_wrong (bound p v env) _ (bound_never p v env) (λ e. other_count ps vs e (λ q. h (ap suc q)))
+other_count q no_pattern [] env h = absurd (h refl)
+other_count q no_pattern (v ∷ vs) env h = refl
+other_count q (pattern_and p ps) [] env h = refl
+other_count q (pattern_and p ps) (v ∷ vs) env h = then_wrong (bound q p v env) _ (bound_never q p v env) (λ e. other_count (q + pattern_numbers p) ps vs e (λ z. h (ap suc z)))
 
 -- the parts of a tuple that has so many
 abbrev parts_at : ℕ → FlatValue → Out (List FlatValue)
 parts_at k v = and_then (tuple_parts v) (λ vs. cond (nat_eq k (length vs)) (Val vs) Wrong)
 
-bound_parts : (ps : Patterns Ref BindId) (v : FlatValue) (env : FlatEnv) → bound (Tuple_pattern ps) v env ≡ and_then (parts_at (count ps) v) (λ vs. all_bound ps vs env)
+bound_parts : (q : ℕ) (ps : Patterns Ref BindId) (v : FlatValue) (env : FlatEnv) → bound q (Tuple_pattern ps) v env ≡ and_then (parts_at (count ps) v) (λ vs. all_bound (1 + q) ps vs (entered q v env))
 unfolding bound
-bound_parts ps v env = by_parts (tuple_parts v)
+bound_parts q ps v env = by_parts (tuple_parts v)
   where
-    by_count : (vs : List FlatValue) (b : Bool) → nat_eq (count ps) (length vs) ≡ b → all_bound ps vs env ≡ and_then (cond b (Val vs) Wrong) (λ vs. all_bound ps vs env)
-    by_count vs true q = refl
-    by_count vs false q = other_count ps vs env (eqb-false (count ps) (length vs) q)
+    inside : List FlatValue → Out FlatEnv
+    inside vs = all_bound (1 + q) ps vs (entered q v env)
 
-    by_parts : (o : Out (List FlatValue)) → and_then o (λ vs. all_bound ps vs env) ≡ and_then (and_then o (λ vs. cond (nat_eq (count ps) (length vs)) (Val vs) Wrong)) (λ vs. all_bound ps vs env)
+    by_count : (vs : List FlatValue) (b : Bool) → nat_eq (count ps) (length vs) ≡ b → inside vs ≡ and_then (cond b (Val vs) Wrong) inside
+    by_count vs true e = refl
+    by_count vs false e = other_count (1 + q) ps vs (entered q v env) (eqb-false (count ps) (length vs) e)
+
+    by_parts : (o : Out (List FlatValue)) → and_then o inside ≡ and_then (and_then o (λ vs. cond (nat_eq (count ps) (length vs)) (Val vs) Wrong)) inside
     by_parts (Val vs) = by_count vs (nat_eq (count ps) (length vs)) refl
     by_parts (Fail r) = refl
     by_parts Wrong = refl
@@ -202,30 +206,30 @@ module _ (tight : Bool) (budget : ℕ) (dir : Bool) where
   mutual
     unfolding bound all_bound
 
-    pub binds_sim : {p : FlatPattern} {s : Known} {v : FlatValue} {sc inner : Scope} {env : FlatEnv} {n m : ℕ} {bs : Bindings} {d : Names Component} → Binds p s sc n bs inner m → Stands d n s v → Holds d n sc env → Sim (Gives d n (Scope_held inner m)) (run tight budget bs d) (the (bound p v env)) dir
-    binds_sim b_bound h k = none_sim tight budget dir _ refl (h_bind h k)
-    binds_sim b_wild h k = none_sim tight budget dir _ refl k
-    binds_sim (b_tuple r) (s_tuple h) k = all_binds_sim r (listed_stand h) k
-    binds_sim {v = v} {inner = inner} {env = env} {n = n} {m = m} {d = d} (b_parts {ps = ps} {u = u} {k = k'} {bs = bs} xs up r) (s_scalar {c = c} e h) k =
+    pub binds_sim : (q : ℕ) {p : FlatPattern} {s : Known} {v : FlatValue} {sc inner : Scope} {env : FlatEnv} {n m : ℕ} {bs : Bindings} {d : Names Component} → Binds p s sc n bs inner m → Stands d n s v → Holds d n sc env → Sim (Gives d n (Scope_held inner m)) (run tight budget bs d) (the (bound q p v env)) dir
+    binds_sim q b_bound h k = none_sim tight budget dir _ refl (h_bind h (h_entered k))
+    binds_sim q b_wild h k = none_sim tight budget dir _ refl (h_entered k)
+    binds_sim q (b_tuple r) (s_tuple h) k = all_binds_sim (1 + q) r (listed_stand h) (h_entered k)
+    binds_sim q {v = v} {inner = inner} {env = env} {n = n} {m = m} {d = d} (b_parts {ps = ps} {u = u} {k = k'} {bs = bs} xs up r) (s_scalar {c = c} e h) k =
         let eq : count ps ≡ length xs = all_bind_count r ∙ length-map xs named in
-        subst (λ z. Sim (Gives d n (Scope_held inner m)) (run tight budget (step xs (Operate (operation.Parts u)) ++ bs) d) (the z) dir) (sym (bound_parts ps v env))
-        (sim_right dir (alike_joined (parts_at (count ps) v) (λ vs. all_bound ps vs env))
+        subst (λ z. Sim (Gives d n (Scope_held inner m)) (run tight budget (step xs (Operate (operation.Parts u)) ++ bs) d) (the z) dir) (sym (bound_parts q ps v env))
+        (sim_right dir (alike_joined (parts_at (count ps) v) (λ vs. all_bound (1 + q) ps vs (entered q v env)))
         (seq_sim tight budget dir (step xs (Operate (operation.Parts u))) bs (upward_grows n xs k' up)
         (subst (λ z. Sim (Gives d n (All_new xs k')) (run tight budget (step xs (Operate (operation.Parts u))) d) (the z) dir) (ap (λ z. parts_at z (as_value c)) (sym eq) ∙ ap (parts_at (count ps)) (sym e)) (parts_sim xs up tight budget dir h))
-        (λ e' vs x hs. all_binds_sim r hs (holds_on x (upward_grows n xs k' up) k))))
-    binds_sim {inner = inner} {env = env} {n = n} {m = m} {d = d} (b_record {fs = names} {ps = ps} {ss = ss} {bs = bs} q r) (s_record h) k =
-        let l = record_parts_stand names ss h q in
-        subst (λ z. Sim (Gives d n (Scope_held inner m)) (run tight budget bs d) (the (and_then z (λ vs. all_bound ps vs env))) dir) (sym l.is) (all_binds_sim r l.stand k)
-    binds_sim {v = v} {inner = inner} {env = env} {n = n} {m = m} {d = d} (b_fields {fs = names} {ps = ps} {u = u} {k = k'} {bs = bs} xs up l r) (s_scalar {c = c} e h) k =
-        subst (λ z. Sim (Gives d n (Scope_held inner m)) (run tight budget (step xs (act.Read (act.Fields_at names) (u ∷ [])) ++ bs) d) (the z) dir) (and_then_twice (fields_of v) (accessors.record_parts names) (λ vs. all_bound ps vs env))
-        (sim_right dir (alike_joined (and_then (fields_of v) (accessors.record_parts names)) (λ vs. all_bound ps vs env))
+        (λ e' vs x hs. all_binds_sim (1 + q) r hs (h_entered (holds_on x (upward_grows n xs k' up) k)))))
+    binds_sim q {v = v} {inner = inner} {env = env} {n = n} {m = m} {d = d} (b_record {fs = names} {ps = ps} {ss = ss} {bs = bs} found r) (s_record h) k =
+        let l = record_parts_stand names ss h found in
+        subst (λ z. Sim (Gives d n (Scope_held inner m)) (run tight budget bs d) (the (and_then z (λ vs. all_bound (1 + q) ps vs (entered q v env)))) dir) (sym l.is) (all_binds_sim (1 + q) r l.stand (h_entered k))
+    binds_sim q {v = v} {inner = inner} {env = env} {n = n} {m = m} {d = d} (b_fields {fs = names} {ps = ps} {u = u} {k = k'} {bs = bs} xs up l r) (s_scalar {c = c} e h) k =
+        subst (λ z. Sim (Gives d n (Scope_held inner m)) (run tight budget (step xs (act.Read (act.Fields_at names) (u ∷ [])) ++ bs) d) (the z) dir) (and_then_twice (fields_of v) (accessors.record_parts names) (λ vs. all_bound (1 + q) ps vs (entered q v env)))
+        (sim_right dir (alike_joined (and_then (fields_of v) (accessors.record_parts names)) (λ vs. all_bound (1 + q) ps vs (entered q v env)))
         (seq_sim tight budget dir (step xs (act.Read (act.Fields_at names) (u ∷ []))) bs (upward_grows n xs k' up)
         (subst (λ z. Sim (Gives d n (All_new xs k')) (run tight budget (step xs (act.Read (act.Fields_at names) (u ∷ []))) d) (the (and_then (fields_of z) (accessors.record_parts names))) dir) (sym e) (fields_sim xs up tight budget dir names l h))
-        (λ e' vs x hs. all_binds_sim r hs (holds_on x (upward_grows n xs k' up) k))))
-    binds_sim (b_typed r) h k = binds_sim r h k
+        (λ e' vs x hs. all_binds_sim (1 + q) r hs (h_entered (holds_on x (upward_grows n xs k' up) k)))))
+    binds_sim q (b_typed r) h k = binds_sim q r h k
 
-    all_binds_sim : {ps : Patterns Ref BindId} {ss : List Known} {vs : List FlatValue} {sc inner : Scope} {env : FlatEnv} {n m : ℕ} {bs : Bindings} {d : Names Component} → All_bind ps ss sc n bs inner m → All_same (Stands d n) ss vs → Holds d n sc env → Sim (Gives d n (Scope_held inner m)) (run tight budget bs d) (the (all_bound ps vs env)) dir
-    all_binds_sim b_none all_none k = none_sim tight budget dir _ refl k
-    all_binds_sim {env = env} (b_more {p = p} {ps = ps} {bs = bs} {cs = cs} r rs) (all_more {x' = v} {xs' = vs} h hs) k =
-        sim_right dir (alike_joined (bound p v env) (λ e. all_bound ps vs e))
-        (seq_sim tight budget dir bs cs (binds_grow r) (binds_sim r h k) (λ e env' x k'. all_binds_sim rs (list_on x (binds_grow r) hs) k'))
+    all_binds_sim : (q : ℕ) {ps : Patterns Ref BindId} {ss : List Known} {vs : List FlatValue} {sc inner : Scope} {env : FlatEnv} {n m : ℕ} {bs : Bindings} {d : Names Component} → All_bind ps ss sc n bs inner m → All_same (Stands d n) ss vs → Holds d n sc env → Sim (Gives d n (Scope_held inner m)) (run tight budget bs d) (the (all_bound q ps vs env)) dir
+    all_binds_sim q b_none all_none k = none_sim tight budget dir _ refl k
+    all_binds_sim q {env = env} (b_more {p = p} {ps = ps} {bs = bs} {cs = cs} r rs) (all_more {x' = v} {xs' = vs} h hs) k =
+        sim_right dir (alike_joined (bound q p v env) (λ e. all_bound (q + pattern_numbers p) ps vs e))
+        (seq_sim tight budget dir bs cs (binds_grow r) (binds_sim q r h k) (λ e env' x k'. all_binds_sim (q + pattern_numbers p) rs (list_on x (binds_grow r) hs) k'))

@@ -23,7 +23,7 @@ use Rattle.fut_meaning.specs.Datums.{all_values}
 use Rattle.fut_meaning.specs.Accessors.{or_wrong, scalar_of, truth_of, turns_of, part, fields_of}
 use Rattle.fut_meaning.specs.Flats.{FlatValue}
 use Rattle.fut_meaning.specs.Operations as operations
-use Rattle.fut_meaning.specs.Operations.{report, reported, equal, all_equal, fields_equal, equal_scalars, truth, binary_value, on_scalars, on_scalar, operate, operated_by, making, primitive}
+use Rattle.fut_meaning.specs.Operations.{report, reported, equal, all_equal, fields_equal, equal_scalars, truth, binary_value, on_scalars, on_scalar, operate, coerced, operated_by, making, primitive}
 use Rattle.fut_meaning.specs.Operators.{binary_result, unary_result}
 use Rattle.fut_meaning.specs.Outcomes.{Out, Val, Fail, Wrong, and_then, Rel, the, choose}
 use Rattle.fut_meaning.specs.Sames.{All_same, all_none, all_more, Same_out, same_value, same_report, same_wrong, Sim}
@@ -281,40 +281,40 @@ module _ (tight : Bool) (budget : ℕ) (dir : Bool) where
       (subst (λ y. Same_out (Is_value Scalar_shape) (reads (act.Replace_at f) (c ∷ b ∷ [])) (and_then (fields_of y) (λ fs. Val (Record_value (values.replaced f z fs))))) (sym e)
       (subst (λ y. Same_out (Is_value Scalar_shape) (reads (act.Replace_at f) (c ∷ b ∷ [])) (and_then (fields_of (as_flat c)) (λ fs. Val (Record_value (values.replaced f y fs))))) (sym q) (replace_read f c b)))
 
-  pub operates_sim : {t : IntType} {o : Operation Ref BindId} {at : Place} {ss : List Known} {n m : ℕ} {bs : Bindings} {s : Known} {d : Names Component} {vs : List FlatValue} → Operates t o at ss n bs s m → All_same (Stands d n) ss vs → Sim (Gives d n (Standing s m)) (run tight budget bs d) (operated_by false Unmet_shape (making o) (operate t o at vs) at vs) dir
-  unfolding operate unary_result result_of_one
-  operates_sim (o_integer {suffix = None} q) all_none = none_sim tight budget dir _ refl (s_scalar refl (record { value = ap (λ z. Val (Scalar_datum z)) q; below = tt }))
-  operates_sim (o_integer {suffix = Some u} q) all_none = none_sim tight budget dir _ refl (s_scalar refl (record { value = ap (λ z. Val (Scalar_datum z)) q; below = tt }))
-  operates_sim o_truth all_none = none_sim tight budget dir _ refl (s_scalar refl (record { value = refl; below = tt }))
-  operates_sim o_tuple hs = none_sim tight budget dir _ refl (s_tuple (knowns_stand hs))
-  operates_sim (o_record {fs = names} {known} q) hs =
+  pub operates_sim : {t : IntType} {o : Operation Ref BindId} {at : Place} {ss : List Known} {n m : ℕ} {bs : Bindings} {s : Known} {d : Names Component} {vs : List FlatValue} {test : FlatValue → Bool} → ((v : FlatValue) → test v ≡ true) → Operates t o at ss n bs s m → All_same (Stands d n) ss vs → Sim (Gives d n (Standing s m)) (run tight budget bs d) (operated_by false Unmet_shape (making o) (coerced test o at vs (operate t o at vs)) at vs) dir
+  unfolding operate coerced unary_result result_of_one
+  operates_sim passes (o_integer {suffix = None} q) all_none = none_sim tight budget dir _ refl (s_scalar refl (record { value = ap (λ z. Val (Scalar_datum z)) q; below = tt }))
+  operates_sim passes (o_integer {suffix = Some u} q) all_none = none_sim tight budget dir _ refl (s_scalar refl (record { value = ap (λ z. Val (Scalar_datum z)) q; below = tt }))
+  operates_sim passes o_truth all_none = none_sim tight budget dir _ refl (s_scalar refl (record { value = refl; below = tt }))
+  operates_sim passes o_tuple hs = none_sim tight budget dir _ refl (s_tuple (knowns_stand hs))
+  operates_sim passes (o_record {fs = names} {known} q) hs =
       let r = named_stand names known hs q in
       none_sim tight budget dir _ (ap (λ z. and_then (or_wrong z) (λ fs. Val (Record_value (values.fields fs)))) r.is) (s_record (fields_stand r.stand))
-  operates_sim (o_binary {op} {at = at} {u} {w} le) (all_more (s_scalar {c = a} e h) (all_more (s_scalar {c = b} {v = v'} f k) all_none)) =
+  operates_sim passes (o_binary {op} {at = at} {u} {w} le) (all_more (s_scalar {c = a} e h) (all_more (s_scalar {c = b} {v = v'} f k) all_none)) =
       one_sim tight budget dir (operation.Binary op at u w) (binary_scalar op at a b) le (operated_binary tight budget dir op at h k) (ap (λ z. binary_value op at z v') e ∙ ap (binary_value op at (as_flat a)) f ∙ given_value op at a b)
-  operates_sim (o_equal {bs = bs} r) (all_more {x' = v} h (all_more {x' = w} k all_none)) =
+  operates_sim passes (o_equal {bs = bs} r) (all_more {x' = v} h (all_more {x' = w} k all_none)) =
       sim_right dir (alike_joined (equal v w) (λ b. Val (truth b))) (made_sim tight budget dir truth bs (equals_sim tight budget dir r h k) (λ e b x k. s_scalar refl k))
-  operates_sim (o_unequal {bs = bs} {u} r le) (all_more {x' = v} h (all_more {x' = w} k all_none)) =
+  operates_sim passes (o_unequal {bs = bs} {u} r le) (all_more {x' = v} h (all_more {x' = w} k all_none)) =
       sim_right dir (alike_joined (equal v w) (λ b. Val (truth (not b))))
       (seq_sim tight budget dir bs _ (equals_grow r) (equals_sim tight budget dir r h k)
       (λ e b x t. one_sim tight budget dir (operation.Unary unary.Not u) (Val (scalar.Bool (not b))) le (operated_unary tight budget dir unary.Not t) refl))
-  operates_sim (o_negate {u = u} le) (all_more (s_scalar {c = a} e h) all_none) = one_sim tight budget dir (operation.Unary unary.Neg u) (unary_scalar unary.Neg a) le (operated_unary tight budget dir unary.Neg h) (ap (on_scalar unary.Neg) e ∙ given_one unary.Neg a)
-  operates_sim (o_complement {u = u} le) (all_more (s_scalar {c = a} e h) all_none) = one_sim tight budget dir (operation.Unary unary.Not u) (unary_scalar unary.Not a) le (operated_unary tight budget dir unary.Not h) (ap (on_scalar unary.Not) e ∙ given_one unary.Not a)
-  operates_sim (o_project {f = f} {s' = s'} q) (all_more h all_none) = let r = part_stands f s' h q in none_sim tight budget dir r.value r.is r.stands
-  operates_sim (o_part {f = f} {u = u} le) (all_more {x' = v} (s_scalar {c = c} e h) all_none) =
+  operates_sim passes (o_negate {u = u} le) (all_more (s_scalar {c = a} e h) all_none) = one_sim tight budget dir (operation.Unary unary.Neg u) (unary_scalar unary.Neg a) le (operated_unary tight budget dir unary.Neg h) (ap (on_scalar unary.Neg) e ∙ given_one unary.Neg a)
+  operates_sim passes (o_complement {u = u} le) (all_more (s_scalar {c = a} e h) all_none) = one_sim tight budget dir (operation.Unary unary.Not u) (unary_scalar unary.Not a) le (operated_unary tight budget dir unary.Not h) (ap (on_scalar unary.Not) e ∙ given_one unary.Not a)
+  operates_sim passes (o_project {f = f} {s' = s'} q) (all_more h all_none) = let r = part_stands f s' h q in none_sim tight budget dir r.value r.is r.stands
+  operates_sim passes (o_part {f = f} {u = u} le) (all_more {x' = v} (s_scalar {c = c} e h) all_none) =
       read_sim (act.Part_at f) le (all_more h all_none) (subst (λ z. Same_out (Is_value Scalar_shape) (reads (act.Part_at f) (c ∷ [])) (part f z)) (sym e) (part_read f c))
-  operates_sim {n = n} {d = d} (o_changed {m = m} {x = x} {f = f} {u = u} {w = w} {bs = bs} r le) (all_more {x' = v} (s_scalar {c = c} e h) (all_more {x' = v'} k all_none)) =
+  operates_sim {n = n} {d = d} passes (o_changed {m = m} {x = x} {f = f} {u = u} {w = w} {bs = bs} r le) (all_more {x' = v} (s_scalar {c = c} e h) (all_more {x' = v'} k all_none)) =
       sim_right dir (alike_value v' (λ z. the (and_then (fields_of v) (λ fs. Val (Record_value (values.replaced f z fs))))))
       (seq_sim tight budget dir bs _ (packs_grow r) (pack_stands tight budget dir r k)
       (λ e' z y kz. changed f e (has_on y (packs_grow r) u h) kz le))
-  operates_sim (o_replace {f = f}) (all_more (s_record h) (all_more k all_none)) = none_sim tight budget dir _ refl (s_record (replaced_stands f k h))
-  operates_sim o_ascribe (all_more h all_none) = none_sim tight budget dir _ refl h
-  operates_sim o_coerce (all_more h all_none) = none_sim tight budget dir _ refl h
-  operates_sim o_declared (all_more h all_none) = none_sim tight budget dir _ refl h
-  operates_sim {d = d} (o_assert {n = n} {at = at} {u = u}) (all_more {x' = v} (s_scalar {c = c} e h) all_none) =
+  operates_sim passes (o_replace {f = f}) (all_more (s_record h) (all_more k all_none)) = none_sim tight budget dir _ refl (s_record (replaced_stands f k h))
+  operates_sim passes o_ascribe (all_more h all_none) = none_sim tight budget dir _ refl h
+  operates_sim {at = at} passes o_coerce (all_more {x' = v} h all_none) = none_sim tight budget dir _ (ap (λ z. cond z (Val v) (Fail (report kind.Size at))) (passes v)) h
+  operates_sim passes o_declared (all_more h all_none) = none_sim tight budget dir _ refl h
+  operates_sim {d = d} passes (o_assert {n = n} {at = at} {u = u}) (all_more {x' = v} (s_scalar {c = c} e h) all_none) =
       subst (λ z. Sim (Gives d n (Standing (Scalar_known u) n)) (run tight budget (step [] (Operate (operation.Assert at u))) d) (the (and_then z (λ b. cond b (Val v) (Fail (report kind.Assert at))))) dir) (sym (ap truth_of e ∙ truth_of-as c)) (assert_sim at h (s_scalar e h))
-  operates_sim {t} {o} {at} {n = n} {d = d} {vs = vs} (o_made {m = m} {x = x} {k = k} {bs = bs} {us} q r le) hs =
-      subst (λ z. Sim (Gives d n (Standing (Rattle.unfold.specs.Unfolding.named x) (suc x))) (run tight budget (bs ++ step (x ∷ []) (Rattle.fut_blocks.specs.Plain.Make k at us)) d) (operated_by false Unmet_shape z (operate t o at vs) at vs) dir) (sym q)
+  operates_sim {t} {o} {at} {n = n} {d = d} {vs = vs} {test = test} passes (o_made {m = m} {x = x} {k = k} {bs = bs} {us} q r le) hs =
+      subst (λ z. Sim (Gives d n (Standing (Rattle.unfold.specs.Unfolding.named x) (suc x))) (run tight budget (bs ++ step (x ∷ []) (Rattle.fut_blocks.specs.Plain.Make k at us)) d) (operated_by false Unmet_shape z (coerced test o at vs (operate t o at vs)) at vs) dir) (sym q)
       (seq_sim tight budget dir bs _ (packs_all_grow r) (packs_all_sim tight budget dir r hs) (λ e ds x h. make_sim tight budget dir k at le h))
 
   pub primitive_sim : {p : Primitive} {at : Place} {ss : List Known} {n m : ℕ} {bs : Bindings} {s : Known} {d : Names Component} {vs : List FlatValue} → Primitive_operates p at ss n bs s m → All_same (Stands d n) ss vs → Sim (Gives d n (Standing s m)) (run tight budget bs d) (the (primitive p at vs)) dir

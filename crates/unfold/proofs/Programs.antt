@@ -5,6 +5,7 @@ use Rattle.fut_scalar.specs.declared.scalar.IntType.{IntType}
 use Rattle.fut_flat.specs.declared.prim.Ref.{Ref}
 use Rattle.fut_meaning.specs.Accessors.{or_wrong}
 use Rattle.fut_meaning.specs.Flats.{FlatTop, FlatTops, flat_names}
+use Rattle.fut_meaning.specs.Found.{unsized}
 use Rattle.fut_meaning.specs.Meaning.{plain}
 use Rattle.fut_meaning.specs.Outcomes.{Rel, choose}
 use Rattle.fut_meaning.specs.Programs.{top, evaluated, applied_to}
@@ -41,7 +42,7 @@ module _ (integer_at : ℕ → IntType) (tight : Bool) (budget entry : ℕ) (dir
   chosen : {d : Names Component} {n m : ℕ} {end : Tops} (bs : Bindings) (z y : Bool) (P Q : Rel FlatTops) → z ≡ y → Sim (Gives d n (All_tops end m)) (run tight budget bs d) (choose y P Q) dir → Sim (Gives d n (All_tops end m)) (run tight budget bs d) (choose z P Q) dir
   chosen {d} {n} {m} {end} bs z y P Q e s = subst (λ x. Sim (Gives d n (All_tops end m)) (run tight budget bs d) (choose x P Q) dir) (sym e) s
 
-  definitions_sim : {d : Names Component} {n m : ℕ} {tops end : Tops} {tops' : FlatTops} {ds : List FlatTop} {bs : Bindings} → Definitions_unfold integer_at entry tops ds n bs end m → Tops_stand d n tops tops' → Sim (Gives d n (All_tops end m)) (run tight budget bs d) (evaluated (flat_names integer_at) (plain tight) budget entry ds tops') dir
+  definitions_sim : {d : Names Component} {n m : ℕ} {tops end : Tops} {tops' : FlatTops} {ds : List FlatTop} {bs : Bindings} → Definitions_unfold integer_at entry tops ds n bs end m → Tops_stand d n tops tops' → Sim (Gives d n (All_tops end m)) (run tight budget bs d) (evaluated (flat_names (unsized integer_at)) (plain tight) budget entry ds tops') dir
   unfolding flat_names
   definitions_sim {tops' = tops'} d_none ts = none_sim tight budget dir tops' refl ts
   definitions_sim {tops = tops} {tops' = tops'} (d_reached {bs = bs} {cs} q p r) ts =
@@ -50,13 +51,13 @@ module _ (integer_at : ℕ → IntType) (tight : Bool) (budget entry : ℕ) (dir
       (λ e v x k. definitions_sim r (all_more (record { number = refl; stands = k }) (tops_on x (unfolds_grow p) ts))))
   definitions_sim (d_other q r) ts = chosen _ _ false _ _ q (definitions_sim r ts)
 
-  pub program_sim : {ds : List FlatTop} {hs : Shapes} {h : Shape} {p : Program} {vs : Values Ref BindId (Unit {0})} {cs : List Component} → Program_unfolds integer_at ds entry hs h p → All_split hs vs cs [] → Sim (Is_value h) (Program_means tight budget p cs) (programs.Program_means (flat_names integer_at) (plain tight) budget ds entry (values.listed vs)) dir
+  pub program_sim : {ds : List FlatTop} {hs : Shapes} {h : Shape} {p : Program} {vs : Values Ref BindId (Unit {0})} {cs : List Component} → Program_unfolds integer_at ds entry hs h p → All_split hs vs cs [] → Sim (Is_value h) (Program_means tight budget p cs) (programs.Program_means (flat_names (unsized integer_at)) (plain tight) budget ds entry (values.listed vs)) dir
   unfolding Program_means
   program_sim {ds} {h = h} {p} {vs} {cs} u split =
       let b = binds_names 0 p.params.now u.first cs [] u.rising (all_length u.parameters split refl) in
       let a = scatter_all u.parameters split b.have in
       known_left dir (or_wrong (bound p.params.now cs [])) b.env _ _ (ap or_wrong b.is)
-      (subst (λ z. Sim (Is_value h) (body_means tight budget z b.env) (programs.Program_means (flat_names integer_at) (plain tight) budget ds entry (values.listed vs)) dir) (sym u.body)
+      (subst (λ z. Sim (Is_value h) (body_means tight budget z b.env) (programs.Program_means (flat_names (unsized integer_at)) (plain tight) budget ds entry (values.listed vs)) dir) (sym u.body)
       (body_sim tight budget dir (u.defined ++ u.applied)
       (seq_sim tight budget dir u.defined u.applied (definitions_grow u.definitions) (definitions_sim u.definitions all_none)
       (λ e tops' x ts.

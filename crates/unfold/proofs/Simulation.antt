@@ -23,13 +23,14 @@ use Rattle.fut_meaning.specs.Programs.{applied_to}
 use Rattle.fut_meaning.proofs.Data.{datum_of-as}
 use Rattle.fut_meaning.specs.Accessors.{or_wrong, truth_of, turns_of, bound}
 use Rattle.fut_meaning.specs.Flats.{FlatValue, FlatEnv, FlatTops, flat_names}
-use Rattle.fut_meaning.specs.Meaning.{Lang, plain, row_told, counts, placed, called, called_on, no_function, job_of, runs, given, call, looped, step, Ever}
+use Rattle.fut_meaning.specs.Found.{unsized}
+use Rattle.fut_meaning.specs.Meaning.{Lang, plain, row_told, fits_type, counts, placed, called, called_on, no_function, job_of, runs, given, call, looped, step, Ever}
 use Rattle.fut_meaning.specs.Meaning as meaning
 use Rattle.fut_meaning.specs.Operations.{report, parameters_of, arity, is_of_scalars, primitive, primitive_use}
 use Rattle.fut_meaning.specs.Outcomes.{Out, Val, Wrong, and_then, Rel, the, Then, choose, each_of, turns}
 use Rattle.fut_meaning.specs.Sames.{All_same, all_none, all_more, Same_out, same_value, Sim}
 use Rattle.fut_meaning.specs.Values as values
-use Rattle.fut_meaning.specs.Values.{Scalar_value, bind, Task, Evaluate, Call, Meanings}
+use Rattle.fut_meaning.specs.Values.{Scalar_value, bind, entered, Task, Evaluate, Call, Meanings}
 use Rattle.fut_meaning.proofs.Ever.{close, open_up}
 use Rattle.fut_meaning.proofs.Sims.{the_sim, then_sim, chosen_sim, turns_sim, while_sim, out_same, all_refl, append_same, length_same}
 use Rattle.fut_blocks.specs.declared.block.Atom.{Atom}
@@ -115,20 +116,20 @@ module _ (tight : Bool) (budget : ℕ) (R : Meanings Ref BindId (Unit {0})) (dir
       (subst (λ z. Sim (Is_value h) (Then (the (truth_of_datum c)) (λ t. choose t (body_means tight budget a e) (body_means tight budget b e))) (Then (the z) (λ t. choose t P Q)) dir) (sym (truth_of-as c))
       (then_sim dir (the_sim dir (out_same (truth_of_datum c))) (λ x x' q. chosen_sim dir x x' q s t)))
 
-  counted_sim : {e : Names Component} {n m y : ℕ} {u : Atom} {c : Component} {h : Shape} {s r : Known} {us : List Atom} (ps : List ℕ) (b : Body) (p : FlatPattern) (env : FlatEnv) {v : FlatValue} (i : BindId) (body : FlatTerm) (mid : ℕ)
+  counted_sim : {e : Names Component} {n m y : ℕ} {u : Atom} {c : Component} {h : Shape} {s r : Known} {us : List Atom} (ps : List ℕ) (b : Body) (p : FlatPattern) (env : FlatEnv) {v : FlatValue} (i : BindId) (body : FlatTerm) (node at mid : ℕ)
       → Has e n u c → Laid h s us [] → Stands e n s v → Upward n ps m → Laid h r (names ps) [] → m ≤ y
-      → ((e1 : Names Component) (w : FlatValue) (k : Scalar) → Extends n e ((y, Scalar_datum k) ∷ e1) → Stands ((y, Scalar_datum k) ∷ e1) (suc y) r w → Sim (Is_value h) (body_means tight budget b ((y, Scalar_datum k) ∷ e1)) (meaning.under R p w env (λ e. Evaluate (bind i (Scalar_value k) e) mid body)) dir)
-      → Sim (Is_value h) (act_means tight budget (act.For ps us y u b) e) (Then (the (turns_of (as_flat c))) (λ c. turns (λ j w. meaning.under R p w env (λ e. Evaluate (bind i (Scalar_value (scalar.Int c.0 j)) e) mid body)) (counts c.1 0) v)) dir
+      → ((e1 : Names Component) (w : FlatValue) (k : Scalar) → Extends n e ((y, Scalar_datum k) ∷ e1) → Stands ((y, Scalar_datum k) ∷ e1) (suc y) r w → Sim (Is_value h) (body_means tight budget b ((y, Scalar_datum k) ∷ e1)) (meaning.under R node p w env (λ e. Evaluate (bind i (Scalar_value k) (entered at (Scalar_value k) e)) mid body)) dir)
+      → Sim (Is_value h) (act_means tight budget (act.For ps us y u b) e) (Then (the (turns_of (as_flat c))) (λ c. turns (λ j w. meaning.under R node p w env (λ e. Evaluate (bind i (Scalar_value (scalar.Int c.0 j)) (entered at (Scalar_value (scalar.Int c.0 j)) e)) mid body)) (counts c.1 0) v)) dir
   unfolding act_means
-  counted_sim {e} {n} {m} {y} {u} {c} {h} {us = us} ps b p env {v} i body mid hu l st up lr le hb =
+  counted_sim {e} {n} {m} {y} {u} {c} {h} {us = us} ps b p env {v} i body node at mid hu l st up lr le hb =
       let g = gather l st all_none in
       known_left dir (values_of e us) g.components _ _ (values_are g.have)
-      (subst (λ z. Sim (Is_value h) (Then (the (and_then z turns_of_datum)) (λ c. turns (λ j ws. under ps ws e (λ e'. body_means tight budget b ((y, Scalar_datum (scalar.Int c.0 j)) ∷ e'))) (counts c.1 0) g.components)) (Then (the (turns_of (as_flat c))) (λ c. turns (λ j w. meaning.under R p w env (λ e. Evaluate (bind i (Scalar_value (scalar.Int c.0 j)) e) mid body)) (counts c.1 0) v)) dir) (sym hu.value)
-      (subst (λ z. Sim (Is_value h) (Then (the (turns_of_datum c)) (λ c. turns (λ j ws. under ps ws e (λ e'. body_means tight budget b ((y, Scalar_datum (scalar.Int c.0 j)) ∷ e'))) (counts c.1 0) g.components)) (Then (the z) (λ c. turns (λ j w. meaning.under R p w env (λ e. Evaluate (bind i (Scalar_value (scalar.Int c.0 j)) e) mid body)) (counts c.1 0) v)) dir) (sym (turns_of-as c))
+      (subst (λ z. Sim (Is_value h) (Then (the (and_then z turns_of_datum)) (λ c. turns (λ j ws. under ps ws e (λ e'. body_means tight budget b ((y, Scalar_datum (scalar.Int c.0 j)) ∷ e'))) (counts c.1 0) g.components)) (Then (the (turns_of (as_flat c))) (λ c. turns (λ j w. meaning.under R node p w env (λ e. Evaluate (bind i (Scalar_value (scalar.Int c.0 j)) (entered at (Scalar_value (scalar.Int c.0 j)) e)) mid body)) (counts c.1 0) v)) dir) (sym hu.value)
+      (subst (λ z. Sim (Is_value h) (Then (the (turns_of_datum c)) (λ c. turns (λ j ws. under ps ws e (λ e'. body_means tight budget b ((y, Scalar_datum (scalar.Int c.0 j)) ∷ e'))) (counts c.1 0) g.components)) (Then (the z) (λ c. turns (λ j w. meaning.under R node p w env (λ e. Evaluate (bind i (Scalar_value (scalar.Int c.0 j)) (entered at (Scalar_value (scalar.Int c.0 j)) e)) mid body)) (counts c.1 0) v)) dir) (sym (turns_of-as c))
       (then_sim dir (the_sim dir (out_same (turns_of_datum c)))
-      (λ x x' q. subst (λ z. Sim (Is_value h) (turns (λ j ws. under ps ws e (λ e'. body_means tight budget b ((y, Scalar_datum (scalar.Int x.0 j)) ∷ e'))) (counts x.1 0) g.components) (turns (λ j w. meaning.under R p w env (λ e. Evaluate (bind i (Scalar_value (scalar.Int z.0 j)) e) mid body)) (counts z.1 0) v) dir) q
+      (λ x x' q. subst (λ z. Sim (Is_value h) (turns (λ j ws. under ps ws e (λ e'. body_means tight budget b ((y, Scalar_datum (scalar.Int x.0 j)) ∷ e'))) (counts x.1 0) g.components) (turns (λ j w. meaning.under R node p w env (λ e. Evaluate (bind i (Scalar_value (scalar.Int z.0 j)) (entered at (Scalar_value (scalar.Int z.0 j)) e)) mid body)) (counts z.1 0) v) dir) q
       (turns_sim dir
-      (λ j j' ws w qj sp. subst (λ z. Sim (Is_value h) (under ps ws e (λ e'. body_means tight budget b ((y, Scalar_datum (scalar.Int x.0 j)) ∷ e'))) (meaning.under R p w env (λ e. Evaluate (bind i (Scalar_value (scalar.Int x.0 z)) e) mid body)) dir) qj
+      (λ j j' ws w qj sp. subst (λ z. Sim (Is_value h) (under ps ws e (λ e'. body_means tight budget b ((y, Scalar_datum (scalar.Int x.0 j)) ∷ e'))) (meaning.under R node p w env (λ e. Evaluate (bind i (Scalar_value (scalar.Int x.0 z)) (entered at (Scalar_value (scalar.Int x.0 z)) e)) mid body)) dir) qj
       (under_sim tight budget dir ps up lr sp
       (λ e1 x1 k1.
       let one = extends_one m y (Scalar_datum (scalar.Int x.0 j)) e1 le in
@@ -136,33 +137,33 @@ module _ (tight : Bool) (budget : ℕ) (R : Meanings Ref BindId (Unit {0})) (dir
       (all_refl (counts x.1 0)) g.components v g.split)))))
 
   -- a turn for each row
-  rows_sim : {e : Names Component} {n m y : ℕ} {u : Atom} {c : Component} {h : Shape} {s r : Known} {us : List Atom} (ps : List ℕ) (b : Body) (p q : FlatPattern) (env : FlatEnv) {v : FlatValue} (body : FlatTerm) (mid : ℕ)
+  rows_sim : {e : Names Component} {n m y : ℕ} {u : Atom} {c : Component} {h : Shape} {s r : Known} {us : List Atom} (ps : List ℕ) (b : Body) (p q : FlatPattern) (env : FlatEnv) {v : FlatValue} (body : FlatTerm) (node at mid : ℕ)
       → Has e n u c → Laid h s us [] → Stands e n s v → Upward n ps m → Laid h r (names ps) [] → m ≤ y
-      → ((e1 : Names Component) (w : FlatValue) (k : Datum) → Extends n e ((y, k) ∷ e1) → Stands ((y, k) ∷ e1) (suc y) r w → Sim (Is_value h) (body_means tight budget b ((y, k) ∷ e1)) (Then (the (bound p w env)) (λ e. meaning.under R q (as_value k) e (λ e. Evaluate e mid body))) dir)
-      → Sim (Is_value h) (act_means tight budget (act.Over ps us y u b) e) (Then (the (and_then (datum_of (as_flat c)) rows_of)) (λ rs. turns (λ d w. Then (the (bound p w env)) (λ e. meaning.under R q (as_value d) e (λ e. Evaluate e mid body))) rs.1 v)) dir
+      → ((e1 : Names Component) (w : FlatValue) (k : Datum) → Extends n e ((y, k) ∷ e1) → Stands ((y, k) ∷ e1) (suc y) r w → Sim (Is_value h) (body_means tight budget b ((y, k) ∷ e1)) (Then (the (bound node p w env)) (λ e. meaning.under R at q (as_value k) e (λ e. Evaluate e mid body))) dir)
+      → Sim (Is_value h) (act_means tight budget (act.Over ps us y u b) e) (Then (the (and_then (datum_of (as_flat c)) rows_of)) (λ rs. turns (λ d w. Then (the (bound node p w env)) (λ e. meaning.under R at q (as_value d) e (λ e. Evaluate e mid body))) rs.1 v)) dir
   unfolding act_means
-  rows_sim {e} {n} {m} {y} {u} {c} {h} {us = us} ps b p q env {v} body mid hu l st up lr le hb =
+  rows_sim {e} {n} {m} {y} {u} {c} {h} {us = us} ps b p q env {v} body node at mid hu l st up lr le hb =
       let g = gather l st all_none in
       known_left dir (values_of e us) g.components _ _ (values_are g.have)
-      (subst (λ z. Sim (Is_value h) (Then (the (and_then z rows_of)) (λ rs. turns (λ d ws. under ps ws e (λ e'. body_means tight budget b ((y, d) ∷ e'))) rs.1 g.components)) (Then (the (and_then (datum_of (as_flat c)) rows_of)) (λ rs. turns (λ d w. Then (the (bound p w env)) (λ e. meaning.under R q (as_value d) e (λ e. Evaluate e mid body))) rs.1 v)) dir) (sym hu.value)
-      (subst (λ z. Sim (Is_value h) (Then (the (rows_of c)) (λ rs. turns (λ d ws. under ps ws e (λ e'. body_means tight budget b ((y, d) ∷ e'))) rs.1 g.components)) (Then (the (and_then z rows_of)) (λ rs. turns (λ d w. Then (the (bound p w env)) (λ e. meaning.under R q (as_value d) e (λ e. Evaluate e mid body))) rs.1 v)) dir) (sym (datum_of-as c))
+      (subst (λ z. Sim (Is_value h) (Then (the (and_then z rows_of)) (λ rs. turns (λ d ws. under ps ws e (λ e'. body_means tight budget b ((y, d) ∷ e'))) rs.1 g.components)) (Then (the (and_then (datum_of (as_flat c)) rows_of)) (λ rs. turns (λ d w. Then (the (bound node p w env)) (λ e. meaning.under R at q (as_value d) e (λ e. Evaluate e mid body))) rs.1 v)) dir) (sym hu.value)
+      (subst (λ z. Sim (Is_value h) (Then (the (rows_of c)) (λ rs. turns (λ d ws. under ps ws e (λ e'. body_means tight budget b ((y, d) ∷ e'))) rs.1 g.components)) (Then (the (and_then z rows_of)) (λ rs. turns (λ d w. Then (the (bound node p w env)) (λ e. meaning.under R at q (as_value d) e (λ e. Evaluate e mid body))) rs.1 v)) dir) (sym (datum_of-as c))
       (then_sim dir (the_sim dir (out_same (rows_of c)))
-      (λ x x' eq. subst (λ z. Sim (Is_value h) (turns (λ d ws. under ps ws e (λ e'. body_means tight budget b ((y, d) ∷ e'))) x.1 g.components) (turns (λ d w. Then (the (bound p w env)) (λ e. meaning.under R q (as_value d) e (λ e. Evaluate e mid body))) z.1 v) dir) eq
+      (λ x x' eq. subst (λ z. Sim (Is_value h) (turns (λ d ws. under ps ws e (λ e'. body_means tight budget b ((y, d) ∷ e'))) x.1 g.components) (turns (λ d w. Then (the (bound node p w env)) (λ e. meaning.under R at q (as_value d) e (λ e. Evaluate e mid body))) z.1 v) dir) eq
       (turns_sim dir
-      (λ j j' ws w qj sp. subst (λ z. Sim (Is_value h) (under ps ws e (λ e'. body_means tight budget b ((y, j) ∷ e'))) (Then (the (bound p w env)) (λ e. meaning.under R q (as_value z) e (λ e. Evaluate e mid body))) dir) qj
+      (λ j j' ws w qj sp. subst (λ z. Sim (Is_value h) (under ps ws e (λ e'. body_means tight budget b ((y, j) ∷ e'))) (Then (the (bound node p w env)) (λ e. meaning.under R at q (as_value z) e (λ e. Evaluate e mid body))) dir) qj
       (under_sim tight budget dir ps up lr sp
       (λ e1 x1 k1.
       let one = extends_one m y j e1 le in
       hb e1 w j (extends_on (upward_grows n ps m up) x1 one) (stands_on one (omega (arith, le)) k1))))
       (all_refl x.1) g.components v g.split)))))
 
-  loop_sim : {e : Names Component} {n m : ℕ} {h : Shape} {s r : Known} {us : List Atom} (ps : List ℕ) (t b : Body) (p : FlatPattern) (env : FlatEnv) {v : FlatValue} (mark : Place) (test body : FlatTerm) (lo mid : ℕ)
+  loop_sim : {e : Names Component} {n m : ℕ} {h : Shape} {s r : Known} {us : List Atom} (ps : List ℕ) (t b : Body) (p : FlatPattern) (env : FlatEnv) {v : FlatValue} (mark : Place) (test body : FlatTerm) (node lo mid : ℕ)
       → Laid h s us [] → Stands e n s v → Upward n ps m → Laid h r (names ps) []
-      → ((e1 : Names Component) (w : FlatValue) → Extends n e e1 → Stands e1 m r w → Sim (Is_value Scalar_shape) (body_means tight budget t e1) (meaning.under R p w env (λ x. Evaluate x lo test)) dir)
-      → ((e1 : Names Component) (w : FlatValue) → Extends n e e1 → Stands e1 m r w → Sim (Is_value h) (body_means tight budget b e1) (meaning.under R p w env (λ x. Evaluate x mid body)) dir)
-      → Sim (Is_value h) (act_means tight budget (act.While mark ps us t b) e) (looped budget R env p mark (While test) body lo mid v) dir
+      → ((e1 : Names Component) (w : FlatValue) → Extends n e e1 → Stands e1 m r w → Sim (Is_value Scalar_shape) (body_means tight budget t e1) (meaning.under R node p w env (λ x. Evaluate x lo test)) dir)
+      → ((e1 : Names Component) (w : FlatValue) → Extends n e e1 → Stands e1 m r w → Sim (Is_value h) (body_means tight budget b e1) (meaning.under R node p w env (λ x. Evaluate x mid body)) dir)
+      → Sim (Is_value h) (act_means tight budget (act.While mark ps us t b) e) (looped budget R env node p mark (While test) body lo mid v) dir
   unfolding act_means
-  loop_sim {e} {n} {m} {h} {us = us} ps t b p env {v} mark test body lo mid l st up lr ht hb =
+  loop_sim {e} {n} {m} {h} {us = us} ps t b p env {v} mark test body node lo mid l st up lr ht hb =
       let g = gather l st all_none in
       known_left dir (values_of e us) g.components _ _ (values_are g.have)
       (while_sim budget (report kind.Turns mark) dir
@@ -173,7 +174,7 @@ module _ (tight : Bool) (budget : ℕ) (R : Meanings Ref BindId (Unit {0})) (dir
 
 module _ (integer_at : ℕ → IntType) (tight : Bool) (budget : ℕ) (tops : Tops) (tops' : FlatTops) (dir : Bool) where
   abbrev pub L : Lang Ref BindId (Unit {0})
-  L = (flat_names integer_at).lang tops'
+  L = (flat_names (unsized integer_at)).lang tops'
 
   abbrev pub R : Meanings Ref BindId (Unit {0})
   R = Ever L (plain tight) budget
@@ -199,7 +200,7 @@ module _ (integer_at : ℕ → IntType) (tight : Bool) (budget : ℕ) (tops : To
       (subst (λ z. Sim (Gives d n (Standing s m)) (run tight budget bs d) (choose z (the (primitive p at vs)) (runs L (plain tight) budget R p at vs)) dir) (sym i) o)
 
   -- a function applied to data gives what it gives for its values
-  alike_called : (f : FlatValue) (ds : List Datum) → Alike (Then (applied_to (flat_names integer_at) R (all_values ds) f) (λ v. the (datum_of v))) (called R f ds)
+  alike_called : (f : FlatValue) (ds : List Datum) → Alike (Then (applied_to (flat_names (unsized integer_at)) R (all_values ds) f) (λ v. the (datum_of v))) (called R f ds)
   alike_called f [] = alike_value f (λ v. the (datum_of v))
   alike_called f (d ∷ ds) = alike_on (alike_back (alike_grouped _ _ _)) (alike_then (alike_same _) (λ g. alike_called g ds))
 
@@ -208,7 +209,7 @@ module _ (integer_at : ℕ → IntType) (tight : Bool) (budget : ℕ) (tops : To
 
   -- the function of a primitive, as a block
   applied_block : {e : Names Component} {m k l : ℕ} (f : FlatValue) {r : Known} {w : Atom} (cs es : Bindings) (ds : List Datum) → m ≤ k → Packs r k es w l
-      → Sim (Gives e m (Standing r k)) (run tight budget cs e) (applied_to (flat_names integer_at) R (all_values ds) f) dir
+      → Sim (Gives e m (Standing r k)) (run tight budget cs e) (applied_to (flat_names (unsized integer_at)) R (all_values ds) f) dir
       → Sim ◌≡◌ (Then (body_means tight budget (lets (cs ++ es) (w ∷ [])) e) (λ ws. the (the_one ws))) (called R f ds) dir
   applied_block {e} f {w = w} cs es ds grow pk h =
       sim_right dir (alike_called f ds)
@@ -229,13 +230,13 @@ module _ (integer_at : ℕ → IntType) (tight : Bool) (budget : ℕ) (tops : To
       subst (λ z. Sim ◌≡◌ (Then (Then (the (or_wrong z)) (body_means tight budget b)) (λ ws. the (the_one ws))) (the Wrong) dir) (sym (none_bound xs ds e (λ z. eqb-false (length ds) arguments q (sym z ∙ len)))) (stuck_sim dir)
 
   mutual
-    unfolding flat_names plain row_told
+    unfolding flat_names plain row_told fits_type
 
     pub unfold_sim : {sc : Scope} {lo n m : ℕ} {t : FlatTerm} {bs : Bindings} {s : Known} {d : Names Component} {env : FlatEnv} → Unfolds integer_at tops sc lo t n bs s m → Tops_stand d n tops tops' → Holds d n sc env → Sim (Gives d n (Standing s m)) (run tight budget bs d) (R (Evaluate env lo t)) dir
     unfold_sim {n = n} {d = d} (u_name {b = b} {s = s} q) ts h = opened _ (let r = name_found d n b.0 s ts h q in none_sim tight budget dir r.value r.is r.stands)
     unfold_sim (u_primitive {p = p} {at} q) ts h = opened _ (none_sim tight budget dir (primitive_use p at) refl (primitive_stands p at q))
     unfold_sim (u_constant {p = p} {at} {c} q) ts h = opened _ (none_sim tight budget dir _ (constant_use p at _ q) (s_scalar refl (record { value = refl; below = tt })))
-    unfold_sim (u_strict {bs = bs} {cs} p o) ts h = opened _ (seq_sim tight budget dir bs cs (all_grow p) (all_sim p ts h) (λ e vs x k. operates_sim tight budget dir o k))
+    unfold_sim (u_strict {bs = bs} {cs} p o) ts h = opened _ (seq_sim tight budget dir bs cs (all_grow p) (all_sim p ts h) (λ e vs x k. operates_sim tight budget dir (λ v. refl) o k))
     unfold_sim u_lambda ts h = opened _ (none_sim tight budget dir _ refl (s_function h))
     unfold_sim (u_apply {bs = bs} {cs} {ds} p q r) ts h =
         opened _ (seq_sim tight budget dir bs (cs ++ ds) (unfolds_grow p) (unfold_sim p ts h)
@@ -243,7 +244,7 @@ module _ (integer_at : ℕ → IntType) (tight : Bool) (budget : ℕ) (tops : To
         (λ e' v x' l. applies_sim r (tops_on x' (unfolds_grow q) (tops_on x (unfolds_grow p) ts)) (stands_on x' (unfolds_grow q) k) l)))
     unfold_sim (u_let {bs = bs} {cs = cs} {ds = ds} p bd q) ts h =
         opened _ (seq_sim tight budget dir bs _ (unfolds_grow p) (unfold_sim p ts h)
-        (λ e w x k. seq_sim tight budget dir cs ds (binds_grow bd) (binds_sim tight budget dir bd k (holds_on x (unfolds_grow p) h))
+        (λ e w x k. seq_sim tight budget dir cs ds (binds_grow bd) (binds_sim tight budget dir _ bd k (holds_on x (unfolds_grow p) h))
         (λ e' env' x' h'. unfold_sim q (tops_on x' (binds_grow bd) (tops_on x (unfolds_grow p) ts)) h')))
     unfold_sim (u_packed {bs = bs} {cs = cs} p pk) ts h =
         sim_right dir (alike_given _) (seq_sim tight budget dir bs cs (unfolds_grow p) (unfold_sim p ts h) (λ e v x k. pack_stands tight budget dir pk k))
@@ -256,37 +257,37 @@ module _ (integer_at : ℕ → IntType) (tight : Bool) (budget : ℕ) (tops : To
     unfold_sim {env = env} (u_counted {sc = sc} {lo = lo} {n2 = n2} {n3 = n3} {n4 = n4} {n5 = n5} {n6 = n6} {y = y} {p = p} {i = i} {first = first} {count = count} {body = body} {bs = bs} {cs = cs} {es = es} {ds = ds} {u = u} {t = t} {us = us} {ws = ws} ps xs p1 l p2 up lr le bd p3 lw up' lt) ts h =
         opened _ (seq_sim tight budget dir bs _ (unfolds_grow p1) (unfold_sim p1 ts h)
         (λ e v x k. seq_sim tight budget dir cs _ (unfolds_grow p2) (unfold_sim p2 (tops_on x (unfolds_grow p1) ts) (holds_on x (unfolds_grow p1) h))
-        (λ e' w x' kw. on_scalar (λ z. Sim (Gives e' n2 (Standing t n6)) (run tight budget (unfolding_of.step xs (act.For ps us y u (lets (es ++ ds) ws))) e') (Then (the (turns_of z)) (λ c. turns (λ j w. meaning.under R p w env (λ e. Evaluate (bind i (Scalar_value (scalar.Int c.0 j)) e) (1 + lo + pattern_numbers p + numbers first + (1 + numbers count)) body)) (counts c.1 0) v)) dir) kw
+        (λ e' w x' kw. on_scalar (λ z. Sim (Gives e' n2 (Standing t n6)) (run tight budget (unfolding_of.step xs (act.For ps us y u (lets (es ++ ds) ws))) e') (Then (the (turns_of z)) (λ c. turns (λ j w. meaning.under R (1 + lo) p w env (λ e. Evaluate (bind i (Scalar_value (scalar.Int c.0 j)) (entered (1 + lo + pattern_numbers p + numbers first) (Scalar_value (scalar.Int c.0 j)) e)) (1 + lo + pattern_numbers p + numbers first + (1 + numbers count)) body)) (counts c.1 0) v)) dir) kw
         (λ c hc. step_sim tight budget dir xs (act.For ps us y u (lets (es ++ ds) ws))
-        (counted_sim tight budget R dir ps (lets (es ++ ds) ws) p env i body _ hc l (stands_on x' (unfolds_grow p2) k) up lr le
+        (counted_sim tight budget R dir ps (lets (es ++ ds) ws) p env i body _ _ _ hc l (stands_on x' (unfolds_grow p2) k) up lr le
         (λ e1 w z x1 st. body_sim tight budget dir (es ++ ds)
-        (seq_sim tight budget dir es ds (binds_grow bd) (binds_sim tight budget dir bd st (holds_on x1 (omega (arith, le, upward_grows n2 ps n3 up)) (holds_on x' (unfolds_grow p2) (holds_on x (unfolds_grow p1) h))))
+        (seq_sim tight budget dir es ds (binds_grow bd) (binds_sim tight budget dir _ bd st (holds_on x1 (omega (arith, le, upward_grows n2 ps n3 up)) (holds_on x' (unfolds_grow p2) (holds_on x (unfolds_grow p1) h))))
         (λ e2 env2 x2 h2. unfold_sim p3 (tops_on x2 (binds_grow bd) (tops_on x1 (omega (arith, le, upward_grows n2 ps n3 up)) (tops_on x' (unfolds_grow p2) (tops_on x (unfolds_grow p1) ts))))
-        (h_bind (stands_on x2 (binds_grow bd) (s_scalar refl (has_new y (Scalar_datum z) e1))) h2))) lw))
+        (h_bind (stands_on x2 (binds_grow bd) (s_scalar refl (has_new y (Scalar_datum z) e1))) (h_entered h2)))) lw))
         (upward_from n2 n5 xs n6 (omega (arith, upward_grows n2 ps n3 up, le, binds_grow bd, unfolds_grow p3)) up') lt))))
     unfold_sim {env = env} (u_over {sc = sc} {lo = lo} {n2 = n2} {n3 = n3} {n4 = n4} {n5 = n5} {n6 = n6} {n7 = n7} {y = y} {p = p} {q = q} {first = first} {rows = rows} {body = body} {bs = bs} {cs = cs} {es = es} {es' = es'} {ds = ds} {u = u} {t = t} {us = us} {ws = ws} ps xs p1 l p2 up lr le bd bq p3 lw up' lt) ts h =
         opened _ (seq_sim tight budget dir bs _ (unfolds_grow p1) (unfold_sim p1 ts h)
         (λ e v x k. seq_sim tight budget dir cs _ (unfolds_grow p2) (unfold_sim p2 (tops_on x (unfolds_grow p1) ts) (holds_on x (unfolds_grow p1) h))
-        (λ e' w x' kw. on_scalar (λ z. Sim (Gives e' n2 (Standing t n7)) (run tight budget (unfolding_of.step xs (act.Over ps us y u (lets (es ++ (es' ++ ds)) ws))) e') (Then (the (and_then (datum_of z) rows_of)) (λ rs. turns (λ d w. Then (the (bound p w env)) (λ e. meaning.under R q (as_value d) e (λ e. Evaluate e (1 + lo + pattern_numbers p + numbers first + (pattern_numbers q + numbers rows)) body))) rs.1 v)) dir) kw
+        (λ e' w x' kw. on_scalar (λ z. Sim (Gives e' n2 (Standing t n7)) (run tight budget (unfolding_of.step xs (act.Over ps us y u (lets (es ++ (es' ++ ds)) ws))) e') (Then (the (and_then (datum_of z) rows_of)) (λ rs. turns (λ d w. Then (the (bound (1 + lo) p w env)) (λ e. meaning.under R (1 + lo + pattern_numbers p + numbers first) q (as_value d) e (λ e. Evaluate e (1 + lo + pattern_numbers p + numbers first + (pattern_numbers q + numbers rows)) body))) rs.1 v)) dir) kw
         (λ c hc. step_sim tight budget dir xs (act.Over ps us y u (lets (es ++ (es' ++ ds)) ws))
-        (rows_sim tight budget R dir ps (lets (es ++ (es' ++ ds)) ws) p q env body _ hc l (stands_on x' (unfolds_grow p2) k) up lr le
+        (rows_sim tight budget R dir ps (lets (es ++ (es' ++ ds)) ws) p q env body _ _ _ hc l (stands_on x' (unfolds_grow p2) k) up lr le
         (λ e1 w z x1 st. body_sim tight budget dir (es ++ (es' ++ ds))
-        (seq_sim tight budget dir es (es' ++ ds) (binds_grow bd) (binds_sim tight budget dir bd st (holds_on x1 (omega (arith, le, upward_grows n2 ps n3 up)) (holds_on x' (unfolds_grow p2) (holds_on x (unfolds_grow p1) h))))
-        (λ e2 env2 x2 h2. seq_sim tight budget dir es' ds (binds_grow bq) (binds_sim tight budget dir bq (stands_on x2 (binds_grow bd) (s_scalar refl (has_new y z e1))) h2)
+        (seq_sim tight budget dir es (es' ++ ds) (binds_grow bd) (binds_sim tight budget dir _ bd st (holds_on x1 (omega (arith, le, upward_grows n2 ps n3 up)) (holds_on x' (unfolds_grow p2) (holds_on x (unfolds_grow p1) h))))
+        (λ e2 env2 x2 h2. seq_sim tight budget dir es' ds (binds_grow bq) (binds_sim tight budget dir _ bq (stands_on x2 (binds_grow bd) (s_scalar refl (has_new y z e1))) h2)
         (λ e3 env3 x3 h3. unfold_sim p3 (tops_on x3 (binds_grow bq) (tops_on x2 (binds_grow bd) (tops_on x1 (omega (arith, le, upward_grows n2 ps n3 up)) (tops_on x' (unfolds_grow p2) (tops_on x (unfolds_grow p1) ts))))) h3))) lw))
         (upward_from n2 n6 xs n7 (omega (arith, upward_grows n2 ps n3 up, le, binds_grow bd, binds_grow bq, unfolds_grow p3)) up') lt))))
     unfold_sim {env = env} (u_while {n1 = n1} {n2 = n2} {n6 = n6} {n7 = n7} {mark = mark} {p = p} {test = test} {body = body} {bs = bs} {es = es} {cs = cs} {es' = es'} {ds = ds} {u = u} {ws = ws} ps xs p1 l up lr bd p2 bd' p3 lw up' lt) ts h =
         opened _ (seq_sim tight budget dir bs _ (unfolds_grow p1) (unfold_sim p1 ts h)
         (λ e v x k. step_sim tight budget dir xs _
-        (loop_sim tight budget R dir ps (lets (es ++ cs) (u ∷ [])) (lets (es' ++ ds) ws) p env mark test body _ _ l k up lr
+        (loop_sim tight budget R dir ps (lets (es ++ cs) (u ∷ [])) (lets (es' ++ ds) ws) p env mark test body _ _ _ l k up lr
         (λ e1 w x1 st. body_sim tight budget dir (es ++ cs)
-        (seq_sim tight budget dir es cs (binds_grow bd) (binds_sim tight budget dir bd st (holds_on x1 (upward_grows n1 ps n2 up) (holds_on x (unfolds_grow p1) h)))
+        (seq_sim tight budget dir es cs (binds_grow bd) (binds_sim tight budget dir _ bd st (holds_on x1 (upward_grows n1 ps n2 up) (holds_on x (unfolds_grow p1) h)))
         (λ e2 env2 x2 h2. unfold_sim p2 (tops_on x2 (binds_grow bd) (tops_on x1 (upward_grows n1 ps n2 up) (tops_on x (unfolds_grow p1) ts))) h2)) laid_scalar)
         (λ e1 w x1 st.
         let grow = unfolds_grow p2 in
         let g = binds_grow bd in
         body_sim tight budget dir (es' ++ ds)
-        (seq_sim tight budget dir es' ds (binds_grow bd') (binds_sim tight budget dir bd' (stands_on (extends_same _ e1) (omega (arith, grow, g)) st) (holds_on x1 (omega (arith, upward_grows n1 ps n2 up, grow, g)) (holds_on x (unfolds_grow p1) h)))
+        (seq_sim tight budget dir es' ds (binds_grow bd') (binds_sim tight budget dir _ bd' (stands_on (extends_same _ e1) (omega (arith, grow, g)) st) (holds_on x1 (omega (arith, upward_grows n1 ps n2 up, grow, g)) (holds_on x (unfolds_grow p1) h)))
         (λ e2 env2 x2 h2. unfold_sim p3 (tops_on x2 (binds_grow bd') (tops_on x1 (omega (arith, upward_grows n1 ps n2 up, grow, g)) (tops_on x (unfolds_grow p1) ts))) h2)) lw))
         (upward_from n1 n6 xs n7 (omega (arith, upward_grows n1 ps n2 up, binds_grow bd, unfolds_grow p2, binds_grow bd', unfolds_grow p3)) up') lt))
 
@@ -298,8 +299,8 @@ module _ (integer_at : ℕ → IntType) (tight : Bool) (budget : ℕ) (tops : To
 
     pub applies_sim : {g s s' : Known} {n m : ℕ} {bs : Bindings} {d : Names Component} {f v : FlatValue} → Applies integer_at tops g s n bs s' m → Tops_stand d n tops tops' → Stands d n g f → Stands d n s v → Sim (Gives d n (Standing s' m)) (run tight budget bs d) (R (Call f v)) dir
     applies_sim (a_body {bs = bs} {cs = cs} b r) ts (s_function h) k =
-        opened _ (seq_sim tight budget dir bs cs (binds_grow b) (binds_sim tight budget dir b k (h_entered h)) (λ e env' x h'. unfold_sim r (tops_on x (binds_grow b) ts) h'))
-    applies_sim (a_waits {bs = bs} b) ts (s_function h) k = opened _ (made_sim tight budget dir _ bs (binds_sim tight budget dir b k (h_entered h)) (λ e env' x h'. s_function h'))
+        opened _ (seq_sim tight budget dir bs cs (binds_grow b) (binds_sim tight budget dir _ b k h) (λ e env' x h'. unfold_sim r (tops_on x (binds_grow b) ts) h'))
+    applies_sim (a_waits {bs = bs} b) ts (s_function h) k = opened _ (made_sim tight budget dir _ bs (binds_sim tight budget dir _ b k h) (λ e env' x h'. s_function h'))
     applies_sim (a_primitive_waits {p = p} {at} q) ts (s_primitive h) k = opened _ (waits_sim p at q (append_same (listed_stand h) (all_more k all_none)))
     applies_sim (a_primitive {p = p} {at} q i o) ts (s_primitive h) k = opened _ (scalars_sim p at q i o (append_same (listed_stand h) (all_more k all_none)))
     applies_sim {d = d} {v = v} (a_job {p = p} {at} {n = n} {n1} {n2} {n3} {n4} {x} {bs} {cs} {ds} {ws} {w} xs q i e r up len a pk le) ts (s_primitive {vs = vs} h) k =
@@ -315,7 +316,7 @@ module _ (integer_at : ℕ → IntType) (tight : Bool) (budget : ℕ) (tops : To
         (λ e2 x2 hn. applied_block fv cs ds es (applied_grows a) pk (applied_sim a (tops_on x2 g (tops_on x1 (packs_all_grow r) ts)) (stands_on x2 g (stands_on x1 (packs_all_grow r) (function_stands (parameters_of p) hs (s_tuple s_none)))) (all_new xs es hn)))
         (nat_eq (length es) (takes (parameters_of p))) refl)))))
 
-    pub applied_sim : {d : Names Component} {n m : ℕ} {ss : List Known} {vs : List FlatValue} {s t : Known} {f : FlatValue} {bs : Bindings} → Applies_all integer_at tops ss s n bs t m → Tops_stand d n tops tops' → Stands d n s f → All_same (Stands d n) ss vs → Sim (Gives d n (Standing t m)) (run tight budget bs d) (applied_to (flat_names integer_at) R vs f) dir
+    pub applied_sim : {d : Names Component} {n m : ℕ} {ss : List Known} {vs : List FlatValue} {s t : Known} {f : FlatValue} {bs : Bindings} → Applies_all integer_at tops ss s n bs t m → Tops_stand d n tops tops' → Stands d n s f → All_same (Stands d n) ss vs → Sim (Gives d n (Standing t m)) (run tight budget bs d) (applied_to (flat_names (unsized integer_at)) R vs f) dir
     applied_sim {f = f} a_none ts h all_none = none_sim tight budget dir f refl h
     applied_sim (a_more {bs = bs} {cs} p r) ts h (all_more k ks) =
         seq_sim tight budget dir bs cs (applies_grow p) (applies_sim p ts h k)

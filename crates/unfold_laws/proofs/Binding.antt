@@ -1,13 +1,13 @@
 -- What names stand for, where each has data of each of its types, and names that are bound.
 use Rattle.std.proofs.Common.{◌≡◌, cond, ℕ, suc, ◌≤◌, ◌<◌, refl, sym, ap, ◌∙◌, subst, arith, List, [], ◌∷◌, Bool, Some, eq-eqb, ne_eqb, length}
 use mathlib.Core.Logic.{inl, inr}
-use Rattle.fut_scalar.specs.declared.scalar.IntType.{IntType}
 use Rattle.fut_scalar.specs.declared.scalar.Scalar.{Scalar}
 use Rattle.fut_scalar.specs.declared.scalar.Scalar.TheVariants as scalar
 use Rattle.fut_arithmetic.specs.Types.{type_of}
 use Rattle.fut_types.specs.Types.{Ty, Tys, none, more, scalar_ty}
 use Rattle.fut_typing.specs.Names.{Names, count}
 use Rattle.fut_value.specs.Data.{Scalar_datum}
+use Rattle.fut_meaning.specs.Found.{Told}
 use Rattle.fut_meaning.specs.Accessors.{or_wrong}
 use Rattle.fut_meaning.specs.Claims.{HasOut, Safe}
 use Rattle.fut_meaning.specs.Outcomes.{Out, Val, and_then, Rel}
@@ -42,12 +42,12 @@ bound_keeps (x ∷ xs) n m (d ∷ ds) env inner u e k lt =
     let z : n ≤ x = u.0 in
     bound_keeps xs (suc x) m ds ((x, d) ∷ env) inner u.1 e k (omega (arith, lt, z)) ∙ ap (λ b. cond b (Some d) (look env k)) (ne_eqb x k (λ same. let y : x ≡ k = same in omega (arith, lt, z, y)))
 
-module _ (N : Names) (integer_at : ℕ → IntType) (tight : Bool) (budget : ℕ) where
+module _ (N : Names) (T : Told) (tight : Bool) (budget : ℕ) where
   abbrev Of : Ty → Component → Type 0
-  Of t d = Is_of N integer_at tight budget t d
+  Of t d = Is_of N T tight budget t d
 
   abbrev All_of : Tys → List Component → Type 0
-  All_of ts ds = Are_of N integer_at tight budget ts ds
+  All_of ts ds = Are_of N T tight budget ts ds
 
   abbrev pub Stands_for : Environment Component → ℕ → Ty → Type 0
   Stands_for env x t = (d : Component) × (look env x ≡ Some d) × Of t d

@@ -2,12 +2,12 @@
 -- of its own result's type. It is the law of primitives in programs, which holds however a function is applied.
 use Rattle.std.proofs.Common.{◌≡◌, ℕ, zero, suc, refl, sym, ap, ◌∙◌, subst, List, [], ◌∷◌, Bool, true, false}
 use Rattle.fut_scalar.specs.declared.place.Place.{Place}
-use Rattle.fut_scalar.specs.declared.scalar.IntType.{IntType}
 use Rattle.fut_flat.specs.declared.prim.Primitive.{Primitive}
 use Rattle.fut_types.specs.Types.{Ty, Tys, none, more, Kinds}
 use Rattle.fut_typing.specs.Names.{Names, AreNames, count}
 use Rattle.fut_typing.specs.Patterns.{arrows}
 use Rattle.fut_value.specs.Data.{Unmet_shape}
+use Rattle.fut_meaning.specs.Found.{Told}
 use Rattle.fut_meaning.specs.Claims.{HasOut, Safe}
 use Rattle.fut_meaning.specs.Datums.{takes}
 use Rattle.fut_meaning.specs.Jobs.{Job, Applied, job_means, job}
@@ -21,21 +21,21 @@ use Rattle.unfold_laws.specs.Safety.{Is_of, Are_of}
 use Rattle.unfold_laws.specs.Typed.{data_types, function_type, Primitive_typed}
 use Rattle.unfold_laws.proofs.Safety.{as_each}
 
-module _ (N : Names) (are : AreNames N) (integer_at : ℕ → IntType) (K : Kinds) (tight : Bool) (budget : ℕ) where
+module _ (N : Names) (are : AreNames N) (T : Told) (K : Kinds) (tight : Bool) (budget : ℕ) where
   abbrev Of : Ty → Component → Type 0
-  Of t d = Is_of N integer_at tight budget t d
+  Of t d = Is_of N T tight budget t d
 
   abbrev All_of : Tys → List Component → Type 0
-  All_of ts ds = Are_of N integer_at tight budget ts ds
+  All_of ts ds = Are_of N T tight budget ts ds
 
   abbrev Each : Tys → List Component → Type 0
-  Each ts ds = Each_data N are integer_at (plain tight) budget false K [] ts ds
+  Each ts ds = Each_data N are T (plain tight) budget false K [] ts ds
 
   abbrev Takes_to : Tys → Ty → Application false → Type 0
-  Takes_to ts u f = Applies N are integer_at (plain tight) budget false K [] ts u f
+  Takes_to ts u f = Applies N are T (plain tight) budget false K [] ts u f
 
   abbrev Args : List ℕ → Tys → Type 0
-  Args ks ts = Data_args N are integer_at (plain tight) budget false K [] ks ts
+  Args ks ts = Data_args N are T (plain tight) budget false K [] ks ts
 
   -- ---- arguments
   of_each : (ts : Tys) (ds : List Component) → Each ts ds → All_of ts ds
@@ -45,7 +45,7 @@ module _ (N : Names) (are : AreNames N) (integer_at : ℕ → IntType) (K : Kind
   of_each (more t ts) (d ∷ ds) h = (h.0, of_each ts ds h.1)
 
   -- the data stands at the parameters that take it
-  args_of : (ks : List ℕ) (ts : Tys) (ds : List Component) → Each (data_types ks ts) ds → (h : Args ks ts) × (data_list N are integer_at (plain tight) budget false K [] ks ts h ≡ ds)
+  args_of : (ks : List ℕ) (ts : Tys) (ds : List Component) → Each (data_types ks ts) ds → (h : Args ks ts) × (data_list N are T (plain tight) budget false K [] ks ts h ≡ ds)
   args_of [] ts [] e = (tt, refl)
   args_of [] ts (d ∷ ds) e = absurd e
   args_of (k ∷ ks) none [] e = (tt, refl)
@@ -55,7 +55,7 @@ module _ (N : Names) (are : AreNames N) (integer_at : ℕ → IntType) (K : Kind
   args_of (suc k ∷ ks) (more t ts) ds e = args_of ks ts ds e
 
   -- and the function at its own
-  function_at : (ks : List ℕ) (ts fs : Tys) (r : Ty) (f : Application false) → function_type ks ts ≡ arrows fs r → count fs ≡ takes ks → Takes_to fs r f → Function_fits N are integer_at (plain tight) budget false K [] ks ts f
+  function_at : (ks : List ℕ) (ts fs : Tys) (r : Ty) (f : Application false) → function_type ks ts ≡ arrows fs r → count fs ≡ takes ks → Takes_to fs r f → Function_fits N are T (plain tight) budget false K [] ks ts f
   function_at [] ts fs r f e c h = tt
   function_at (k ∷ ks) none fs r f e c h = tt
   function_at (zero ∷ ks) (more t ts) fs r f e c h = function_at ks ts fs r f e c h
@@ -75,8 +75,8 @@ module _ (N : Names) (are : AreNames N) (integer_at : ℕ → IntType) (K : Kind
   pub job_is : (p : Primitive) (at : Place) (taken fs : Tys) (r t : Ty) (g : Applied) (ds : List Component) → Primitive_typed K p taken fs r t → ((es : List Component) → All_of fs es → Safe (Of r) (g es)) → All_of taken ds → HasOut (Job_is g t) (job false Unmet_shape p at ds)
   job_is p at taken fs r t g ds typed gives h =
       let f : Application false = block_applied g in
-      let a = args_of (parameters_of p) typed.parameters ds (subst (λ z. Each z ds) typed.taken (as_each N are integer_at K tight budget taken ds h)) in
+      let a = args_of (parameters_of p) typed.parameters ds (subst (λ z. Each z ds) typed.taken (as_each N are T K tight budget taken ds h)) in
       let applies : Takes_to fs r f = λ es x. record { safe = gives es (of_each fs es x); some = λ z. absurd (let y : false ≡ true = z in cc) } in
       subst (λ z. HasOut (Job_is g t) (job false Unmet_shape p at z)) a.1
-      (has_as (Job_fits N are integer_at (plain tight) budget false K [] f (Of t)) (Job_is g t) _ (λ j w. w.safe)
-      (array_jobs N are integer_at (plain tight) budget false K typed.given typed.kinds p at typed.on_arrays typed.some typed.parameters t typed.is typed.all [] Unmet_shape f (function_at (parameters_of p) typed.parameters fs r f typed.function typed.of_function applies) a.0))
+      (has_as (Job_fits N are T (plain tight) budget false K [] f (Of t)) (Job_is g t) _ (λ j w. w.safe)
+      (array_jobs N are T (plain tight) budget false K typed.given typed.kinds p at typed.on_arrays typed.some typed.parameters t typed.is typed.all [] Unmet_shape f (function_at (parameters_of p) typed.parameters fs r f typed.function typed.of_function applies) a.0))

@@ -44,7 +44,7 @@ use Rattle.fut_blocks.specs.Plain as act
 use Rattle.fut_blocks.specs.Meaning.{fitted}
 use Rattle.type_soundness.specs.Fits.{widest}
 use Rattle.type_soundness.specs.Meant.{Operation_meant}
-use Rattle.type_soundness.proofs.Operating.{Told}
+use Rattle.type_soundness.proofs.Operating.{Literal_told}
 use Rattle.unfold.specs.Knowns.{Known, Scalar_known, Tuple_known, Record_known, knowns, fields, part}
 use Rattle.unfold.specs.Stuck.{No_operation}
 use Rattle.unfold.specs.Unfolding.{Bindings, step, named, constant, Packs_all, p_none, p_more, literal_type, Operates, o_integer, o_truth, o_tuple, o_record, o_binary, o_equal, o_unequal, o_negate, o_complement, o_project, o_part, o_changed, o_replace, o_made, o_ascribe, o_coerce, o_declared, o_assert}
@@ -422,9 +422,9 @@ module _ (N : Names) (integer_at : ℕ → IntType) (K : Kinds) where
 
     -- ---- by forms
     abbrev pub Of : Operation Ref BindId → Type 0
-    Of o = (t u : Ty) (ts : Tys) (ss : List Known) → Operation_meant o (count ts) → Rule N kind.Data K o t u ts → Told i o t → count ts < widest → Each_fits N integer_at K world ts ss → Gives o ss t
+    Of o = (t u : Ty) (ts : Tys) (ss : List Known) → Operation_meant o (count ts) → Rule N kind.Data K o t u ts → Literal_told i o t → count ts < widest → Each_fits N integer_at K world ts ss → Gives o ss t
 
-    no_parts : (o : Operation Ref BindId) → ((t u : Ty) → Operation_meant o 0 → Rule N kind.Data K o t u none → Told i o t → Gives o [] t) → ((t u x : Ty) (ts : Tys) → Rule N kind.Data K o t u (more x ts) → ⊥) → Of o
+    no_parts : (o : Operation Ref BindId) → ((t u : Ty) → Operation_meant o 0 → Rule N kind.Data K o t u none → Literal_told i o t → Gives o [] t) → ((t u x : Ty) (ts : Tys) → Rule N kind.Data K o t u (more x ts) → ⊥) → Of o
     no_parts o here further t u none [] m r l lt h = here t u m r l
     no_parts o here further t u none (s ∷ ss) m r l lt h = absurd h
     no_parts o here further t u (more x ts) ss m r l lt h = absurd (further t u x ts r)

@@ -1,11 +1,11 @@
 -- What is made of records and tuples, or read from them, is of the types that typing gives.
 use Rattle.std.proofs.Common.{◌≡◌, Bool, true, false, cond, ℕ, refl, sym, ap, ◌∙◌, subst, List, [], ◌∷◌, Some}
 use Rattle.std.specs.List.{AllByRecursion}
-use Rattle.fut_scalar.specs.declared.scalar.IntType.{IntType}
 use Rattle.fut_ast.specs.Sorts.{Text}
 use Rattle.fut_types.specs.Types.{Ty, Var, Tys, none, more, Kinds}
 use Rattle.fut_typing.specs.Names.{Names, AreNames, IsRecord, Parts_named}
 use Rattle.fut_value.specs.Data.{Datum, Scalar_datum, Tuple_datum, Record_datum, Array_datum}
+use Rattle.fut_meaning.specs.Found.{Told}
 use Rattle.fut_meaning.specs.Accessors as accessors
 use Rattle.fut_meaning.specs.Accessors.{or_wrong}
 use Rattle.fut_meaning.specs.Claims.{HasOut}
@@ -45,18 +45,18 @@ in_order [] ds h = refl
 in_order (f ∷ fs) [] h = refl
 in_order (f ∷ fs) (d ∷ ds) h = ap (λ z. with_field f (as_flat d) z) (in_order fs ds h.1) ∙ put_first f (as_flat d) fs ds h.0
 
-module _ (N : Names) (are : AreNames N) (integer_at : ℕ → IntType) (K : Kinds) (tight : Bool) (budget : ℕ) where
+module _ (N : Names) (are : AreNames N) (T : Told) (K : Kinds) (tight : Bool) (budget : ℕ) where
   abbrev Of : Ty → Component → Type 0
-  Of t d = Is_of N integer_at tight budget t d
+  Of t d = Is_of N T tight budget t d
 
   abbrev All_of : Tys → List Component → Type 0
-  All_of ts ds = Are_of N integer_at tight budget ts ds
+  All_of ts ds = Are_of N T tight budget ts ds
 
   abbrev Value_of : Ty → FlatValue → Type 0
-  Value_of t v = Fits N integer_at (plain tight) budget false t [] v
+  Value_of t v = Fits N T (plain tight) budget false t [] v
 
   abbrev Values_of : Tys → List FlatValue → Type 0
-  Values_of ts vs = Each_fits N integer_at (plain tight) budget false ts [] vs
+  Values_of ts vs = Each_fits N T (plain tight) budget false ts [] vs
 
   component_out : (t : Ty) {o : Out (List Component)} {o' : Out FlatValue} → Same_out (Is_value Scalar_shape) o o' → HasOut (Value_of t) o' → HasOut (All_of (more t none)) o
   component_out t (same_value (split_scalar e)) h = (subst (Value_of t) e h, tt)
@@ -82,7 +82,7 @@ module _ (N : Names) (are : AreNames N) (integer_at : ℕ → IntType) (K : Kind
 
   fields_out : (fs : List Text) (u : Ty) (ts : Tys) (d : Component) → IsRecord N fs u ts → Of u d → HasOut (All_of ts) (reads (Fields_at fs) (d ∷ []))
   unfolding reads
-  fields_out fs u ts d r h = by d (record_fits N integer_at (plain tight) budget false [] (λ k. Unit {0}) K (λ n. Var n) are fs u ts (as_flat d) r h)
+  fields_out fs u ts d r h = by d (record_fits N T (plain tight) budget false [] (λ k. Unit {0}) K (λ n. Var n) are fs u ts (as_flat d) r h)
     where
       by : (d : Component) → (ws : FlatFields) × (as_flat d ≡ Record_value ws) × HasOut (Values_of ts) (accessors.record_parts fs ws) → HasOut (All_of ts) (reads (Fields_at fs) (d ∷ []))
       by (Record_datum ds) (ws, e, k) =
@@ -102,7 +102,7 @@ module _ (N : Names) (are : AreNames N) (integer_at : ℕ → IntType) (K : Kind
 
   record_out : (fs : List Text) (t : Ty) (us : Tys) (ds : List Component) → IsRecord N fs t us → In_name_order fs → All_of us ds → Of t (Record_datum (named_data fs ds))
   record_out fs t us ds r o h =
-      let fit : HasOut (Value_of t) (and_then (or_wrong (named_values fs (all_values ds))) (λ l. Val (Record_value (fields l)))) = record_made N integer_at (plain tight) budget false [] are fs t us (all_values ds) r (values_to us ds h) in
+      let fit : HasOut (Value_of t) (and_then (or_wrong (named_values fs (all_values ds))) (λ l. Val (Record_value (fields l)))) = record_made N T (plain tight) budget false [] are fs t us (all_values ds) r (values_to us ds h) in
       let made : Value_of t (Record_value (fields (pairs fs ds))) = subst (λ z. HasOut (Value_of t) (and_then (or_wrong z) (λ l. Val (Record_value (fields l))))) (all_named fs t us ds r.named h) fit in
       subst (λ z. Value_of t (Record_value z)) (in_order fs ds o) made
 
@@ -114,7 +114,7 @@ module _ (N : Names) (are : AreNames N) (integer_at : ℕ → IntType) (K : Kind
   reads_are (Part_at f) (more u none) ts [] r h = absurd h
   reads_are (Part_at f) (more u none) ts (d ∷ e ∷ ds) r h = absurd h.1
   reads_are (Part_at f) (more u none) ts (d ∷ []) (t, has, e) h =
-      subst (λ y. HasOut (All_of y) (reads (Part_at f) (d ∷ []))) (sym e) (component_out t (part_read f d) (project_fits N are integer_at (plain tight) budget false [] f t u (as_flat d) has h.0))
+      subst (λ y. HasOut (All_of y) (reads (Part_at f) (d ∷ []))) (sym e) (component_out t (part_read f d) (project_fits N are T (plain tight) budget false [] f t u (as_flat d) has h.0))
   reads_are (Replace_at f) none ts ds r h = absurd r
   reads_are (Replace_at f) (more u none) ts ds r h = absurd r
   reads_are (Replace_at f) (more u (more v (more w us))) ts ds r h = absurd r
@@ -122,7 +122,7 @@ module _ (N : Names) (are : AreNames N) (integer_at : ℕ → IntType) (K : Kind
   reads_are (Replace_at f) (more u (more v none)) ts (d ∷ []) r h = absurd h.1
   reads_are (Replace_at f) (more u (more v none)) ts (d ∷ e ∷ x ∷ ds) r h = absurd h.1.1
   reads_are (Replace_at f) (more u (more v none)) ts (d ∷ e ∷ []) (lacks, has, q) h =
-      subst (λ y. HasOut (All_of y) (reads (Replace_at f) (d ∷ e ∷ []))) (sym q) (component_out u (replace_read f d e) (replace_fits N are integer_at (plain tight) budget false [] f u v (as_flat d) (as_flat e) lacks has h.0 h.1.0))
+      subst (λ y. HasOut (All_of y) (reads (Replace_at f) (d ∷ e ∷ []))) (sym q) (component_out u (replace_read f d e) (replace_fits N are T (plain tight) budget false [] f u v (as_flat d) (as_flat e) lacks has h.0 h.1.0))
   reads_are (Fields_at fs) none ts ds r h = absurd r
   reads_are (Fields_at fs) (more u (more v us)) ts ds r h = absurd r
   reads_are (Fields_at fs) (more u none) ts [] r h = absurd h

@@ -2,7 +2,6 @@
 use Rattle.std.proofs.Common.{◌≡◌, ℕ, zero, suc, ◌++◌, List, [], ◌∷◌, false, refl, sym, ap, ◌∙◌, subst}
 use Rattle.std.proofs.lemmas.List.{append_assoc}
 use Rattle.fut_scalar.specs.declared.place.BindId.{BindId}
-use Rattle.fut_scalar.specs.declared.scalar.IntType.{IntType}
 use Rattle.fut_scalar.specs.declared.scalar.Scalar.{Scalar}
 use Rattle.fut_scalar.specs.declared.scalar.Scalar.TheVariants as scalar
 use Rattle.fut_scalar.specs.declared.scalar.ScalarType.{ScalarType}
@@ -14,6 +13,7 @@ use Rattle.fut_types.specs.declared.Head.TheVariants as head
 use Rattle.fut_types.specs.Types.{Ty, Made, Tys, none, more}
 use Rattle.fut_typing.specs.Names.{Names}
 use Rattle.fut_value.specs.Data.{Shape as Look, Datum, Scalar_datum, Tuple_datum, Record_datum, Array_datum, Datums, no_datum, datum_and}
+use Rattle.fut_meaning.specs.Found.{Told}
 use Rattle.fut_meaning.specs.Datums.{as_value, as_values}
 use Rattle.fut_meaning.specs.Flats.{FlatValue, FlatMode, FlatTops}
 use Rattle.fut_meaning.specs.Meaning.{plain}
@@ -32,9 +32,9 @@ scalar_is (types.Int t) (scalar.Bool b) e = absurd e
 scalar_is types.Bool (scalar.Int u n) e = absurd e
 scalar_is types.Bool (scalar.Bool b) e = refl
 
-module _ (N : Names) (integer_at : ℕ → IntType) (M : FlatMode) (budget : ℕ) (tops : FlatTops) where
+module _ (N : Names) (T : Told) (M : FlatMode) (budget : ℕ) (tops : FlatTops) where
   abbrev Of : Ty → FlatValue → Type 0
-  Of t v = Fits N integer_at M budget false t tops v
+  Of t v = Fits N T M budget false t tops v
 
   abbrev Row : Ty → Look → Datum → Type 0
   Row t row d = Of t (as_value d) × Like row d
@@ -82,7 +82,7 @@ module _ (N : Names) (integer_at : ℕ → IntType) (M : FlatMode) (budget : ℕ
     datum_are (Record_datum ds) rest (sorts_tuple s) h e = absurd h.1
     datum_are (Array_datum row ds) rest (sorts_tuple s) h e = absurd h.1
 
-    all_datum_are : {ts : Tys} {ss us : List DataType} (ds : Datums) (rest : List Datum) → All_sorts ts ss us → All_fit N integer_at M budget false ts tops (as_values ds) → AreOf us rest → AreOf ss (all_spread ds ++ rest)
+    all_datum_are : {ts : Tys} {ss us : List DataType} (ds : Datums) (rest : List Datum) → All_sorts ts ss us → All_fit N T M budget false ts tops (as_values ds) → AreOf us rest → AreOf ss (all_spread ds ++ rest)
     all_datum_are no_datum rest sorts_none h e = e
     all_datum_are (datum_and d ds) rest sorts_none h e = absurd h
     all_datum_are no_datum rest (sorts_more s t) h e = absurd h
@@ -98,11 +98,11 @@ module _ (N : Names) (integer_at : ℕ → IntType) (M : FlatMode) (budget : ℕ
     sorts_are (sorts_tuple s) (split_tuple p) f e = all_are s p f.1 e
     sorts_are (sorts_tuple s) (split_record p) f e = absurd f.1
 
-    all_are : {ts : Tys} {ss us : List DataType} {hs : Shapes} {vs : Values Ref BindId (Unit {0})} {cs ds : List Component} → All_sorts ts ss us → All_split hs vs cs ds → All_fit N integer_at M budget false ts tops vs → AreOf us (parts ds) → AreOf ss (parts cs)
+    all_are : {ts : Tys} {ss us : List DataType} {hs : Shapes} {vs : Values Ref BindId (Unit {0})} {cs ds : List Component} → All_sorts ts ss us → All_split hs vs cs ds → All_fit N T M budget false ts tops vs → AreOf us (parts ds) → AreOf ss (parts cs)
     all_are sorts_none split_none f e = e
     all_are sorts_none (split_more p ps) f e = absurd f
     all_are (sorts_more s t) split_none f e = absurd f
     all_are (sorts_more s t) (split_more p ps) f e = sorts_are s p f.0 (all_are t ps f.1 e)
 
 pub results_are_of : ResultsAreOf
-results_are_of N integer_at tight budget h u ss components s k = sorts_are N integer_at (plain tight) budget k.fits.0 s k.split k.fits.1 tt
+results_are_of N T tight budget h u ss components s k = sorts_are N T (plain tight) budget k.fits.0 s k.split k.fits.1 tt

@@ -23,7 +23,7 @@ use Rattle.fut_typing.proofs.Locals.{body_local}
 use Rattle.type_soundness.specs.Fits.{widest}
 use Rattle.type_soundness.specs.Meant.{Operation_meant, Has_parameter, No_sizes, Meant, All_meant, Literal_here, Literal, A_literal, Literals_told}
 use Rattle.type_soundness.proofs.Literals.{literal_kept}
-use Rattle.type_soundness.proofs.Operating.{Told}
+use Rattle.type_soundness.proofs.Operating.{Literal_told}
 use Rattle.type_soundness.proofs.Running.{count_terms}
 use Rattle.type_soundness.proofs.Walking.{as_many}
 use Rattle.fut_blocks.specs.declared.block.Atom.TheVariants as atom
@@ -38,7 +38,7 @@ use Rattle.unfold_laws.proofs.Operating.{operation_gives}
 use Rattle.unfold_laws.proofs.Seeing.{Bindable, names_learn, names_move, names_sizes, names_types, name_fits, bindable, binds_fit}
 use Rattle.unfold_laws.proofs.TypedSteps.{learns_more, learns_steps, comes_none, comes_then, comes_map}
 
-pub told : (o : Operation Ref BindId) (a : Sub) (lo : ℕ) (integer_at : ℕ → IntType) → ((m : ℕ) → Literal_here o lo m → a m ≡ scalar_ty (types.Int (integer_at m))) → Told (integer_at lo) o (a lo)
+pub told : (o : Operation Ref BindId) (a : Sub) (lo : ℕ) (integer_at : ℕ → IntType) → ((m : ℕ) → Literal_here o lo m → a m ≡ scalar_ty (types.Int (integer_at m))) → Literal_told (integer_at lo) o (a lo)
 told (Integer n None) a lo integer_at h = h lo refl
 told o a lo integer_at h = tt
 

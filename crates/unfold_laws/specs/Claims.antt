@@ -16,6 +16,7 @@ use Rattle.fut_typing.specs.Program.{program_of}
 use Rattle.fut_typing.specs.Scopes.{nothing}
 use Rattle.fut_meaning.specs.Claims.{Safe}
 use Rattle.fut_meaning.specs.Flats.{FlatValue, FlatMode, named_terms, flat_tops}
+use Rattle.fut_meaning.specs.Found.{Told, unsized}
 use Rattle.fut_meaning.specs.Meaning.{plain}
 use Rattle.fut_meaning.specs.Values.{Values, listed}
 use Rattle.fut_blocks.specs.declared.block.Program.{Program}
@@ -33,22 +34,22 @@ use Rattle.unfold.specs.Shapes.{Shape, Shapes, All_split, Is_value}
 use Rattle.unfold.specs.Stuck.{Program_stuck}
 
 -- the components of a value of this type
-pub record Components_fit (N : Names) (integer_at : ℕ → IntType) (M : FlatMode) (budget : ℕ) (h : Shape) (u : Ty) (components : List Component) : Type 0 where
+pub record Components_fit (N : Names) (T : Told) (M : FlatMode) (budget : ℕ) (h : Shape) (u : Ty) (components : List Component) : Type 0 where
   pub value : FlatValue
   pub split : Is_value h components value
-  pub fits : Result_fits N integer_at M budget false u value
+  pub fits : Result_fits N T M budget false u value
 
 abbrev pub BlocksNeverWrong : Type 0
 BlocksNeverWrong =
     (N : Names) → AreNames N → (places : Kind) (K : Kinds) (a : Sub) (integer_at : ℕ → IntType) (tight : Bool) (budget : ℕ) (flat : Flat) → Is_typed N places K a integer_at flat
     → (entry : BindId) (ts : Tys) (u : Ty) → (scope_behind N places (program_of flat) 0 nothing).uses entry.0 K a (arrows ts u)
     → (hs : Shapes) (h : Shape) (p : Program) → Program_unfolds integer_at (flat_tops 0 (named_terms flat)) entry.0 hs h p
-    → (arguments : Values Ref BindId (Unit {0})) (components : List Component) → All_split hs arguments components [] → Arguments_fit N integer_at (plain tight) budget false ts (listed arguments)
-    → Safe (Components_fit N integer_at (plain tight) budget h u) (Program_means tight budget p components)
+    → (arguments : Values Ref BindId (Unit {0})) (components : List Component) → All_split hs arguments components [] → Arguments_fit N (unsized integer_at) (plain tight) budget false ts (listed arguments)
+    → Safe (Components_fit N (unsized integer_at) (plain tight) budget h u) (Program_means tight budget p components)
 
 -- and so the results, with tuples that are one component taken apart, are of the types of the components of the result's type
 abbrev pub ResultsAreOf : Type 0
-ResultsAreOf = (N : Names) (integer_at : ℕ → IntType) (tight : Bool) (budget : ℕ) (h : Shape) (u : Ty) (ss : List DataType) (components : List Component) → Sorts u ss [] → Components_fit N integer_at (plain tight) budget h u components → AreOf ss (parts components)
+ResultsAreOf = (N : Names) (T : Told) (tight : Bool) (budget : ℕ) (h : Shape) (u : Ty) (ss : List DataType) (components : List Component) → Sorts u ss [] → Components_fit N T (plain tight) budget h u components → AreOf ss (parts components)
 
 -- Unfolding a typed program is never stuck, from each entry that takes data of these shapes and gives data. Its places, as the
 -- branches of an `if` and what a loop carries, hold data alone.

@@ -2,7 +2,6 @@
 use Rattle.std.proofs.Common.{◌≡◌, ℕ, zero, suc, List, [], ◌∷◌, ◌++◌, Bool, true, false, length, map, refl, sym, ap, ◌∙◌, subst}
 use Rattle.std.proofs.lemmas.List.{append-nil}
 use Rattle.fut_scalar.specs.declared.place.BindId.{BindId}
-use Rattle.fut_scalar.specs.declared.scalar.IntType.{IntType}
 use Rattle.fut_scalar.specs.declared.scalar.Scalar.{Scalar}
 use Rattle.fut_scalar.specs.declared.scalar.Scalar.TheVariants as scalar
 use Rattle.fut_scalar.specs.declared.scalar.ScalarType.{ScalarType}
@@ -16,6 +15,7 @@ use Rattle.fut_flat.specs.declared.prim.Ref.{Ref}
 use Rattle.fut_types.specs.declared.Head.TheVariants as head
 use Rattle.fut_types.specs.Types.{Ty, Made, scalar_ty}
 use Rattle.fut_typing.specs.Names.{Names}
+use Rattle.fut_meaning.specs.Found.{Told}
 use Rattle.fut_meaning.specs.Outcomes.{Out, Val}
 use Rattle.fut_meaning.specs.Datums.{as_value, as_values, all_values, datum_of}
 use Rattle.fut_meaning.specs.Flats.{FlatValue, FlatTops, FlatMode}
@@ -76,21 +76,21 @@ scalar_with : (t : ScalarType) (w : ℕ) → Is_scalar t (scalar_of_word t w)
 scalar_with (types.Int t) w = refl
 scalar_with types.Bool w = tt
 
-module _ (N : Names) (integer_at : ℕ → IntType) (M : FlatMode) (budget : ℕ) (total : Bool) where
+module _ (N : Names) (T : Told) (M : FlatMode) (budget : ℕ) (total : Bool) where
   -- ---- arguments
 
-  fits_with : (tops : FlatTops) (t : ScalarType) (ns ws : List ℕ) → Fits N integer_at M budget total (array_ty (length ns) (scalar_ty t)) tops (as_value (datum_with t ns ws))
+  fits_with : (tops : FlatTops) (t : ScalarType) (ns ws : List ℕ) → Fits N T M budget total (array_ty (length ns) (scalar_ty t)) tops (as_value (datum_with t ns ws))
   unfolding Fits
   fits_with tops t [] ws = scalar_with t (first_word ws)
   fits_with tops t (n ∷ ns) ws =
-      all_are (λ d. Fits N integer_at M budget total (array_ty (length ns) (scalar_ty t)) tops (as_value d) × Like (shape_with t ns) d) t ns (λ row. (fits_with tops t ns row, like_with t ns row)) (cut n (product ns) ws)
+      all_are (λ d. Fits N T M budget total (array_ty (length ns) (scalar_ty t)) tops (as_value d) × Like (shape_with t ns) d) t ns (λ row. (fits_with tops t ns row, like_with t ns row)) (cut n (product ns) ws)
 
-  argument_fits : (tops : FlatTops) (t : DataType) (d : Datum) → Is_argument t d → Fits N integer_at M budget total (data_ty t) tops (as_value d)
+  argument_fits : (tops : FlatTops) (t : DataType) (d : Datum) → Is_argument t d → Fits N T M budget total (data_ty t) tops (as_value d)
   argument_fits tops t d a =
-      subst (λ z. Fits N integer_at M budget total (data_ty t) tops (as_value z)) (sym a.is)
-      (subst (λ r. Fits N integer_at M budget total (array_ty r (scalar_ty t.elem)) tops (as_value (datum_with t.elem a.sizes a.words))) a.rank (fits_with tops t.elem a.sizes a.words))
+      subst (λ z. Fits N T M budget total (data_ty t) tops (as_value z)) (sym a.is)
+      (subst (λ r. Fits N T M budget total (array_ty r (scalar_ty t.elem)) tops (as_value (datum_with t.elem a.sizes a.words))) a.rank (fits_with tops t.elem a.sizes a.words))
 
-  pub arguments_fit : (ts : List DataType) (ds : List Datum) → Are_arguments ts ds → Arguments_fit N integer_at M budget total (data_tys ts) (value_list (as_values (datums ds)))
+  pub arguments_fit : (ts : List DataType) (ds : List Datum) → Are_arguments ts ds → Arguments_fit N T M budget total (data_tys ts) (value_list (as_values (datums ds)))
   unfolding data_tys
   arguments_fit [] [] a = tt
   arguments_fit [] (d ∷ ds) a = absurd a
@@ -106,14 +106,14 @@ module _ (N : Names) (integer_at : ℕ → IntType) (M : FlatMode) (budget : ℕ
   scalar_is types.Bool (scalar.Bool b) e = refl
 
   -- a value of data's type is data of that type
-  rows_are : (tops : FlatTops) (s : ScalarType) (r : ℕ) (row : Plain_shape) → ((v : FlatValue) → Fits N integer_at M budget total (array_ty r (scalar_ty s)) tops v → (d : Datum) × (v ≡ as_value d) × Is_of s r d)
-      → (ds : Datums) → All_datums (λ d. Fits N integer_at M budget total (array_ty r (scalar_ty s)) tops (as_value d) × Like row d) ds → All_of s r ds
+  rows_are : (tops : FlatTops) (s : ScalarType) (r : ℕ) (row : Plain_shape) → ((v : FlatValue) → Fits N T M budget total (array_ty r (scalar_ty s)) tops v → (d : Datum) × (v ≡ as_value d) × Is_of s r d)
+      → (ds : Datums) → All_datums (λ d. Fits N T M budget total (array_ty r (scalar_ty s)) tops (as_value d) × Like row d) ds → All_of s r ds
   rows_are tops s r row each no_datum f = tt
   rows_are tops s r row each (datum_and d ds) f =
       let x = each (as_value d) f.0.0 in
       (subst (Is_of s r) (sym (same_datum d x.0 x.1)) x.2, rows_are tops s r row each ds f.1)
 
-  datum_is : (tops : FlatTops) (s : ScalarType) (r : ℕ) (v : FlatValue) → Fits N integer_at M budget total (array_ty r (scalar_ty s)) tops v → (d : Datum) × (v ≡ as_value d) × Is_of s r d
+  datum_is : (tops : FlatTops) (s : ScalarType) (r : ℕ) (v : FlatValue) → Fits N T M budget total (array_ty r (scalar_ty s)) tops v → (d : Datum) × (v ≡ as_value d) × Is_of s r d
   unfolding Fits
   datum_is tops s zero (Scalar_value c) f = (Scalar_datum c, refl, scalar_is s c f)
   datum_is tops s zero (Tuple_value vs) f = absurd f
@@ -128,7 +128,7 @@ module _ (N : Names) (integer_at : ℕ → IntType) (M : FlatMode) (budget : ℕ
   datum_is tops s (suc r) (Closure ps e lo env) f = absurd f
   datum_is tops s (suc r) (Primitive_value p at vs) f = absurd f
 
-  all_data : (tops : FlatTops) (ts : List DataType) (vs : FlatValues) → All_fit N integer_at M budget total (data_tys ts) tops vs → (ds : List Datum) × (vs ≡ as_values (datums ds)) × AreOf ts ds
+  all_data : (tops : FlatTops) (ts : List DataType) (vs : FlatValues) → All_fit N T M budget total (data_tys ts) tops vs → (ds : List Datum) × (vs ≡ as_values (datums ds)) × AreOf ts ds
   unfolding data_tys Fits
   all_data tops [] no_value f = ([], refl, tt)
   all_data tops [] (value_and v vs) f = absurd f
@@ -144,7 +144,7 @@ module _ (N : Names) (integer_at : ℕ → IntType) (M : FlatMode) (budget : ℕ
     pub value : v ≡ as_value result
     pub are_of : AreOf results (components_of tuple result)
 
-  tuple_data : (tops : FlatTops) (ts : List DataType) (v : FlatValue) → Fits N integer_at M budget total (Made head.Tuple (data_tys ts)) tops v → Is_data true ts v
+  tuple_data : (tops : FlatTops) (ts : List DataType) (v : FlatValue) → Fits N T M budget total (Made head.Tuple (data_tys ts)) tops v → Is_data true ts v
   unfolding data_tys Fits
   tuple_data tops ts (Scalar_value c) f = absurd f.1
   tuple_data tops ts (Tuple_value vs) f =
@@ -155,13 +155,13 @@ module _ (N : Names) (integer_at : ℕ → IntType) (M : FlatMode) (budget : ℕ
   tuple_data tops ts (Closure ps e lo env) f = absurd f.1
   tuple_data tops ts (Primitive_value p at vs) f = absurd f.1
 
-  pub data_of : (tops : FlatTops) (v : FlatValue) (tuple : Bool) (ts : List DataType) (u : Ty) → Results_are tuple ts u → Fits N integer_at M budget total u tops v → Is_data tuple ts v
+  pub data_of : (tops : FlatTops) (v : FlatValue) (tuple : Bool) (ts : List DataType) (u : Ty) → Results_are tuple ts u → Fits N T M budget total u tops v → Is_data tuple ts v
   data_of tops v false [] u r f = absurd r
   data_of tops v false (t ∷ []) u r f =
-      let x = datum_is tops t.elem t.rank v (subst (λ z. Fits N integer_at M budget total z tops v) r f) in
+      let x = datum_is tops t.elem t.rank v (subst (λ z. Fits N T M budget total z tops v) r f) in
       record { result = x.0; value = x.1; are_of = (x.2, tt) }
   data_of tops v false (s ∷ t ∷ ts) u r f = absurd r
-  data_of tops v true ts u r f = tuple_data tops ts v (subst (λ z. Fits N integer_at M budget total z tops v) r.1 f)
+  data_of tops v true ts u r f = tuple_data tops ts v (subst (λ z. Fits N T M budget total z tops v) r.1 f)
 
 -- ---- components in which data is laid
 

@@ -16,6 +16,7 @@ use Rattle.fut_meaning.specs.Claims.{HasOut, Safe, Some_outcome}
 use Rattle.fut_value.specs.Data.{Datum, datums}
 use Rattle.fut_meaning.specs.Datums.{as_value, as_values, all_values}
 use Rattle.fut_meaning.specs.Flats.{FlatValue, named_terms, flat_tops, Flat_means, flat_names}
+use Rattle.fut_meaning.specs.Found.{unsized}
 use Rattle.fut_meaning.specs.Meaning.{plain}
 use Rattle.fut_meaning.specs.Answers.{Answer, Gives, Fails}
 use Rattle.fut_meaning.specs.Outcomes.{Out, Val, Fail, Wrong}
@@ -106,47 +107,47 @@ module _ {flat : Flat} {inference : Inference} {integers : List IntType} {entry 
   values = listed (as_values (datums arguments))
 
   abbrev Flat_allows : Out FlatValue → ℕ → Type 0
-  Flat_allows = Flat_means (integer_at integers) (plain tight) budget (named_terms flat) entry values
+  Flat_allows = Flat_means (unsized (integer_at integers)) (plain tight) budget (named_terms flat) entry values
 
-  safe : Safe (Result_fits N (integer_at integers) (plain tight) budget false used.result) Flat_allows
-  safe = never_wrong N typed.some.1.names _ known.kinds known.types (integer_at integers) tight budget flat known.typed entry _ used.result values entry_used (arguments_fit N (integer_at integers) (plain tight) budget false params arguments of)
+  safe : Safe (Result_fits N (unsized (integer_at integers)) (plain tight) budget false used.result) Flat_allows
+  safe = never_wrong N typed.some.1.names _ known.kinds known.types (unsized (integer_at integers)) tight budget flat known.typed entry _ used.result values entry_used (arguments_fit N (unsized (integer_at integers)) (plain tight) budget false params arguments of)
 
   some : Some_outcome Flat_allows
-  some = has_outcome N typed.some.1.names _ known.kinds known.types (integer_at integers) tight budget flat known.typed entry _ used.result values entry_used (arguments_fit N (integer_at integers) (plain tight) budget true params arguments of)
+  some = has_outcome N typed.some.1.names _ known.kinds known.types (unsized (integer_at integers)) tight budget flat known.typed entry _ used.result values entry_used (arguments_fit N (unsized (integer_at integers)) (plain tight) budget true params arguments of)
 
   no_size : Definitions_sizeless (program_of flat).definitions
   no_size = definitions_sizeless flat.definitions.now known.typed.meant
 
   abbrev Named_means : Out FlatValue → ℕ → Type 0
-  Named_means = Rattle.fut_meaning.specs.Programs.Program_means (flat_names (integer_at integers)) (plain tight) budget (flat_tops 0 (named_values (program_of flat).definitions)) entry.0 (all_values arguments)
+  Named_means = Rattle.fut_meaning.specs.Programs.Program_means (flat_names (unsized (integer_at integers))) (plain tight) budget (flat_tops 0 (named_values (program_of flat).definitions)) entry.0 (all_values arguments)
 
   -- the same program, as its files are resolved to it
   to_named : (o : Out FlatValue) (f : ℕ) → Flat_allows o f → Named_means o f
   to_named o f x =
-      subst (λ z. Rattle.fut_meaning.specs.Programs.Program_means (flat_names (integer_at integers)) (plain tight) budget (flat_tops 0 z) entry.0 (all_values arguments) o f) (sym (named_are flat.definitions.now))
-      (subst (λ z. Flat_means (integer_at integers) (plain tight) budget (named_terms flat) entry z o f) (listed_values arguments) x)
+      subst (λ z. Rattle.fut_meaning.specs.Programs.Program_means (flat_names (unsized (integer_at integers))) (plain tight) budget (flat_tops 0 z) entry.0 (all_values arguments) o f) (sym (named_are flat.definitions.now))
+      (subst (λ z. Flat_means (unsized (integer_at integers)) (plain tight) budget (named_terms flat) entry z o f) (listed_values arguments) x)
 
   from_named : (o : Out FlatValue) (f : ℕ) → Named_means o f → Flat_allows o f
   from_named o f m =
-      subst (λ z. Flat_means (integer_at integers) (plain tight) budget (named_terms flat) entry z o f) (sym (listed_values arguments))
-      (subst (λ z. Rattle.fut_meaning.specs.Programs.Program_means (flat_names (integer_at integers)) (plain tight) budget (flat_tops 0 z) entry.0 (all_values arguments) o f) (named_are flat.definitions.now) m)
+      subst (λ z. Flat_means (unsized (integer_at integers)) (plain tight) budget (named_terms flat) entry z o f) (sym (listed_values arguments))
+      (subst (λ z. Rattle.fut_meaning.specs.Programs.Program_means (flat_names (unsized (integer_at integers))) (plain tight) budget (flat_tops 0 z) entry.0 (all_values arguments) o f) (named_are flat.definitions.now) m)
 
   module _ (ps : List SourceProgram) (resolved : resolve_program ps ≡ Ok (program_of flat)) where
-    result_of : (d : Datum) (f : ℕ) → Flat_allows (Val (as_value d)) f → Files_allow ps (program_of flat) (integer_at integers) budget entry.0 arguments tight (Gives d) f
-    result_of d f x = (same_results ps (program_of flat) resolved no_size (integer_at integers) tight budget entry.0 arguments d f).0 (to_named (Val (as_value d)) f x)
+    result_of : (d : Datum) (f : ℕ) → Flat_allows (Val (as_value d)) f → Files_allow ps (program_of flat) (unsized (integer_at integers)) budget entry.0 arguments tight (Gives d) f
+    result_of d f x = (same_results ps (program_of flat) resolved no_size (unsized (integer_at integers)) tight budget entry.0 arguments d f).0 (to_named (Val (as_value d)) f x)
 
-    report_of : (k : Report) (f : ℕ) → Flat_allows (Fail k) f → Files_allow ps (program_of flat) (integer_at integers) budget entry.0 arguments tight (Fails k) f
-    report_of k f x = (same_reports ps (program_of flat) resolved no_size (integer_at integers) tight budget entry.0 arguments k f).0 (to_named (Fail k) f x)
+    report_of : (k : Report) (f : ℕ) → Flat_allows (Fail k) f → Files_allow ps (program_of flat) (unsized (integer_at integers)) budget entry.0 arguments tight (Fails k) f
+    report_of k f x = (same_reports ps (program_of flat) resolved no_size (unsized (integer_at integers)) tight budget entry.0 arguments k f).0 (to_named (Fail k) f x)
 
-    answer_of : (o : Out FlatValue) (f : ℕ) → Flat_allows o f → (answer : Answer) × (words : ℕ) × Answer_is_of tuple results answer × Files_allow ps (program_of flat) (integer_at integers) budget entry.0 arguments tight answer words
+    answer_of : (o : Out FlatValue) (f : ℕ) → Flat_allows o f → (answer : Answer) × (words : ℕ) × Answer_is_of tuple results answer × Files_allow ps (program_of flat) (unsized (integer_at integers)) budget entry.0 arguments tight answer words
     answer_of (Val v) f x =
         let fit = safe (Val v) f x in
-        let d = data_of N (integer_at integers) (plain tight) budget false fit.0 v tuple results used.result used.results_are fit.1 in
+        let d = data_of N (unsized (integer_at integers)) (plain tight) budget false fit.0 v tuple results used.result used.results_are fit.1 in
         (Gives d.result, f, d.are_of, result_of d.result f (subst (λ z. Flat_allows (Val z) f) d.value x))
     answer_of (Fail k) f x = (Fails k, f, tt, report_of k f x)
     answer_of Wrong f x = absurd (safe Wrong f x)
 
-    pub some_allowed : (answer : Answer) × (words : ℕ) × Answer_is_of tuple results answer × Files_allow ps (program_of flat) (integer_at integers) budget entry.0 arguments tight answer words
+    pub some_allowed : (answer : Answer) × (words : ℕ) × Answer_is_of tuple results answer × Files_allow ps (program_of flat) (unsized (integer_at integers)) budget entry.0 arguments tight answer words
     some_allowed = answer_of some.0 some.1 some.2
 
 -- ---- runs
@@ -161,29 +162,29 @@ module _ {flat : Flat} {inference : Inference} {integers : List IntType} {entry 
   wrong_never : (f : ℕ) → Right (Is_value h) Allows Wrong f → ⊥
   wrong_never f (right o x s) = same s (safe r.typed r.usable tight budget arguments of o f x)
     where
-      same : {o : Out FlatValue} → Same_out (Is_value h) Wrong o → HasOut (Result_fits (N r.typed r.usable tight budget arguments of) (integer_at integers) (plain tight) budget false (used r.typed r.usable tight budget arguments of).result) o → ⊥
+      same : {o : Out FlatValue} → Same_out (Is_value h) Wrong o → HasOut (Result_fits (N r.typed r.usable tight budget arguments of) (unsized (integer_at integers)) (plain tight) budget false (used r.typed r.usable tight budget arguments of).result) o → ⊥
       same same_wrong k = k
 
   module _ (ps : List SourceProgram) (resolved : resolve_program ps ≡ Ok (program_of flat)) where
     -- a value is data, whose components are those that it is laid in, opened
-    laid_data : (v : FlatValue) (f : ℕ) → Allows (Val v) f → Is_data (N r.typed r.usable tight budget arguments of) (integer_at integers) (plain tight) budget false tuple results v
+    laid_data : (v : FlatValue) (f : ℕ) → Allows (Val v) f → Is_data (N r.typed r.usable tight budget arguments of) (unsized (integer_at integers)) (plain tight) budget false tuple results v
     laid_data v f x =
         let fit = safe r.typed r.usable tight budget arguments of (Val v) f x in
         let u = used r.typed r.usable tight budget arguments of in
-        data_of (N r.typed r.usable tight budget arguments of) (integer_at integers) (plain tight) budget false fit.0 v tuple results u.result u.results_are fit.1
+        data_of (N r.typed r.usable tight budget arguments of) (unsized (integer_at integers)) (plain tight) budget false fit.0 v tuple results u.result u.results_are fit.1
 
-    gives_so : (vs : List Component) (f : ℕ) → Right (Is_value h) Allows (Val vs) f → (result : Datum) × (opened tuple vs ≡ components_of tuple result) × AreOf results (components_of tuple result) × Files_allow ps (program_of flat) (integer_at integers) budget entry.0 arguments tight (Gives result) f
+    gives_so : (vs : List Component) (f : ℕ) → Right (Is_value h) Allows (Val vs) f → (result : Datum) × (opened tuple vs ≡ components_of tuple result) × AreOf results (components_of tuple result) × Files_allow ps (program_of flat) (unsized (integer_at integers)) budget entry.0 arguments tight (Gives result) f
     gives_so vs f (right o x s) = same s x
       where
-        same : {o : Out FlatValue} → Same_out (Is_value h) (Val vs) o → Allows o f → (result : Datum) × (opened tuple vs ≡ components_of tuple result) × AreOf results (components_of tuple result) × Files_allow ps (program_of flat) (integer_at integers) budget entry.0 arguments tight (Gives result) f
+        same : {o : Out FlatValue} → Same_out (Is_value h) (Val vs) o → Allows o f → (result : Datum) × (opened tuple vs ≡ components_of tuple result) × AreOf results (components_of tuple result) × Files_allow ps (program_of flat) (unsized (integer_at integers)) budget entry.0 arguments tight (Gives result) f
         same (same_value {a' = v} s) x =
             let d = laid_data v f x in
             (d.result, result_opened tuple results d.result d.are_of d.value s, d.are_of, result_of r.typed r.usable tight budget arguments of ps resolved d.result f (subst (λ z. Allows (Val z) f) d.value x))
 
-    fails_so : (k : Report) (f : ℕ) → Right (Is_value h) Allows (Fail k) f → Files_allow ps (program_of flat) (integer_at integers) budget entry.0 arguments tight (Fails k) f
+    fails_so : (k : Report) (f : ℕ) → Right (Is_value h) Allows (Fail k) f → Files_allow ps (program_of flat) (unsized (integer_at integers)) budget entry.0 arguments tight (Fails k) f
     fails_so k f (right o x s) = same s x
       where
-        same : {o : Out FlatValue} → Same_out (Is_value h) (Fail k) o → Allows o f → Files_allow ps (program_of flat) (integer_at integers) budget entry.0 arguments tight (Fails k) f
+        same : {o : Out FlatValue} → Same_out (Is_value h) (Fail k) o → Allows o f → Files_allow ps (program_of flat) (unsized (integer_at integers)) budget entry.0 arguments tight (Fails k) f
         same same_report x = report_of r.typed r.usable tight budget arguments of ps resolved k f x
 
     -- ---- what the files allow, the blocks allow
@@ -205,13 +206,13 @@ module _ {flat : Flat} {inference : Inference} {integers : List IntType} {entry 
     allowed : (o : Out FlatValue) (f : ℕ) → Named_means r.typed r.usable tight budget arguments of o f → Left (Is_value h) (Program_means tight budget p arguments) o f
     allowed o f m = loses_no_outcome tight (integer_at integers) budget (named_terms flat) entry hs h p r.unfolds (as_values (datums arguments)) arguments split o f (from_named r.typed r.usable tight budget arguments of o f m)
 
-    result_comes : (d : Datum) (f : ℕ) → Files_allow ps (program_of flat) (integer_at integers) budget entry.0 arguments tight (Gives d) f → (vs : List Datum) × (opened tuple vs ≡ components_of tuple d) × Program_means tight budget p arguments (Val vs) f
+    result_comes : (d : Datum) (f : ℕ) → Files_allow ps (program_of flat) (unsized (integer_at integers)) budget entry.0 arguments tight (Gives d) f → (vs : List Datum) × (opened tuple vs ≡ components_of tuple d) × Program_means tight budget p arguments (Val vs) f
     result_comes d f a =
-        let m = (same_results ps (program_of flat) resolved (no_size r.typed r.usable tight budget arguments of) (integer_at integers) tight budget entry.0 arguments d f).1 a in
+        let m = (same_results ps (program_of flat) resolved (no_size r.typed r.usable tight budget arguments of) (unsized (integer_at integers)) tight budget entry.0 arguments d f).1 a in
         came d f (from_named r.typed r.usable tight budget arguments of (Val (as_value d)) f m) (allowed (Val (as_value d)) f m)
 
-    report_comes : (k : Report) (f : ℕ) → Files_allow ps (program_of flat) (integer_at integers) budget entry.0 arguments tight (Fails k) f → Program_means tight budget p arguments (Fail k) f
-    report_comes k f a = failed k f (allowed (Fail k) f ((same_reports ps (program_of flat) resolved (no_size r.typed r.usable tight budget arguments of) (integer_at integers) tight budget entry.0 arguments k f).1 a))
+    report_comes : (k : Report) (f : ℕ) → Files_allow ps (program_of flat) (unsized (integer_at integers)) budget entry.0 arguments tight (Fails k) f → Program_means tight budget p arguments (Fail k) f
+    report_comes k f a = failed k f (allowed (Fail k) f ((same_reports ps (program_of flat) resolved (no_size r.typed r.usable tight budget arguments of) (unsized (integer_at integers)) tight budget entry.0 arguments k f).1 a))
 
   pub run_is : Runs_as flat integers entry tuple results p tight budget arguments
   run_is = record {

@@ -8,6 +8,7 @@ use Rattle.fut_scalar.specs.declared.sizes.DataType.{DataType}
 use Rattle.fut_ast.specs.declared.module.Program.{Program as SourceProgram}
 use Rattle.fut_flat.specs.declared.program.Definition.{Definition}
 use Rattle.fut_flat.specs.declared.program.Flat.{Flat}
+use Rattle.fut_meaning.specs.Found.{unsized}
 use Rattle.fut_meaning.specs.Flats.{named_terms, flat_tops}
 use Rattle.fut_meaning.specs.Answers.{Answer, Gives, Fails}
 use Rattle.fut_meaning.specs.Outcomes.{Val, Fail}
@@ -43,10 +44,10 @@ pub record Is_run (flat : Flat) (inference : Inference) (integers : List IntType
 -- for arguments of the types of the parameters, tight or not, and the files that resolve to the flat program
 pub record Runs_as (flat : Flat) (integers : List IntType) (entry : BindId) (tuple : Bool) (results : List DataType) (p : Program) (tight : Bool) (budget : ℕ) (arguments : List Datum) : Type 0 where
   pub never_wrong : NeverWrong tight budget p arguments
-  pub gives : (ps : List SourceProgram) → resolve_program ps ≡ Ok (program_of flat) → (vs : List Datum) (f : ℕ) → Program_means tight budget p arguments (Val vs) f → (result : Datum) × (opened tuple vs ≡ components_of tuple result) × AreOf results (components_of tuple result) × Files_allow ps (program_of flat) (integer_at integers) budget entry.0 arguments tight (Gives result) f
-  pub fails : (ps : List SourceProgram) → resolve_program ps ≡ Ok (program_of flat) → (r : Report) (f : ℕ) → Program_means tight budget p arguments (Fail r) f → Files_allow ps (program_of flat) (integer_at integers) budget entry.0 arguments tight (Fails r) f
-  pub results_come : (ps : List SourceProgram) → resolve_program ps ≡ Ok (program_of flat) → (result : Datum) (f : ℕ) → Files_allow ps (program_of flat) (integer_at integers) budget entry.0 arguments tight (Gives result) f → (vs : List Datum) × (opened tuple vs ≡ components_of tuple result) × Program_means tight budget p arguments (Val vs) f
-  pub reports_come : (ps : List SourceProgram) → resolve_program ps ≡ Ok (program_of flat) → (r : Report) (f : ℕ) → Files_allow ps (program_of flat) (integer_at integers) budget entry.0 arguments tight (Fails r) f → Program_means tight budget p arguments (Fail r) f
+  pub gives : (ps : List SourceProgram) → resolve_program ps ≡ Ok (program_of flat) → (vs : List Datum) (f : ℕ) → Program_means tight budget p arguments (Val vs) f → (result : Datum) × (opened tuple vs ≡ components_of tuple result) × AreOf results (components_of tuple result) × Files_allow ps (program_of flat) (unsized (integer_at integers)) budget entry.0 arguments tight (Gives result) f
+  pub fails : (ps : List SourceProgram) → resolve_program ps ≡ Ok (program_of flat) → (r : Report) (f : ℕ) → Program_means tight budget p arguments (Fail r) f → Files_allow ps (program_of flat) (unsized (integer_at integers)) budget entry.0 arguments tight (Fails r) f
+  pub results_come : (ps : List SourceProgram) → resolve_program ps ≡ Ok (program_of flat) → (result : Datum) (f : ℕ) → Files_allow ps (program_of flat) (unsized (integer_at integers)) budget entry.0 arguments tight (Gives result) f → (vs : List Datum) × (opened tuple vs ≡ components_of tuple result) × Program_means tight budget p arguments (Val vs) f
+  pub reports_come : (ps : List SourceProgram) → resolve_program ps ≡ Ok (program_of flat) → (r : Report) (f : ℕ) → Files_allow ps (program_of flat) (unsized (integer_at integers)) budget entry.0 arguments tight (Fails r) f → Program_means tight budget p arguments (Fail r) f
 
 -- an answer of an entry whose result has these types
 abbrev pub Answer_is_of : (tuple : Bool) → List DataType → Answer → Type 0
@@ -63,4 +64,4 @@ BlocksMeanTheSource =
 abbrev pub FilesAllowSome : Type 0
 FilesAllowSome =
     (flat : Flat) (inference : Inference) (integers : List IntType) (entry : BindId) (params : List DataType) (tuple : Bool) (results : List DataType) → Told_by (Typed_by flat inference integers) inference → Is_usable flat inference entry params tuple results
-    → (ps : List SourceProgram) → resolve_program ps ≡ Ok (program_of flat) → (tight : Bool) (budget : ℕ) (arguments : List Datum) → Are_arguments params arguments → (answer : Answer) × (words : ℕ) × Answer_is_of tuple results answer × Files_allow ps (program_of flat) (integer_at integers) budget entry.0 arguments tight answer words
+    → (ps : List SourceProgram) → resolve_program ps ≡ Ok (program_of flat) → (tight : Bool) (budget : ℕ) (arguments : List Datum) → Are_arguments params arguments → (answer : Answer) × (words : ℕ) × Answer_is_of tuple results answer × Files_allow ps (program_of flat) (unsized (integer_at integers)) budget entry.0 arguments tight answer words

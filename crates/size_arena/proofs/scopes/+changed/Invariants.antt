@@ -1,5 +1,5 @@
 use Rattle.std.proofs.Common.{◌≡◌, drop}
-use Rattle.fut_sizes.specs.Sizes.{all_replaced}
+use Rattle.sized_types.specs.Sizes.{all_replaced}
 use Rattle.size_arena.specs.Changes.{change_of}
 use Rattle.size_arena.specs.Trees.{sizes_of}
 use Rattle.size_arena.proofs.Parts.{before}

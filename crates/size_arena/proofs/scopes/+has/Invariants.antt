@@ -1,5 +1,5 @@
 use Rattle.std.proofs.Common.{◌≡◌, drop}
-use Rattle.fut_sizes.specs.Sizes.{some_has}
+use Rattle.sized_types.specs.Sizes.{some_has}
 use Rattle.size_arena.specs.Changes.{property_of}
 use Rattle.size_arena.specs.Trees.{sizes_of}
 use Rattle.size_arena.proofs.scopes.+has.Given as goal
