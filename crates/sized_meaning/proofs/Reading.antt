@@ -37,7 +37,7 @@ module _ (N : Names) (τ : Variable → Shape) (m m' : Worth) (g : ℕ → Dim �
     named_replaced : (ts : Sizes) (j : ℕ) (φ φ' : Frames) → Each_all ok j ts → S j φ φ' → (n i : ℕ) (hs : Named_shapes) → Ways (Have_named N τ m φ n i (all_replaced g j ts) hs) (Have_named N τ m' φ' n i ts hs)
     named_replaced no_size j φ φ' e q n i hs = same_ways
     named_replaced (size_and t ts) j φ φ' e q n i hs = let b = named_replaced ts j φ φ' e.1 q n (suc i) hs in
-        ((λ x. ((λ f h p c. (shape_replaced t j φ φ' e.0 q h).0 (x.0 f h p c)), b.0 x.1)), (λ x. ((λ f h p c. (shape_replaced t j φ φ' e.0 q h).1 (x.0 f h p c)), b.1 x.1)))
+        ((λ x. ((λ f p. let c = x.0 f p in (c.0, c.1, (shape_replaced t j φ φ' e.0 q c.0).0 c.2)), b.0 x.1)), (λ x. ((λ f p. let c = x.0 f p in (c.0, c.1, (shape_replaced t j φ φ' e.0 q c.0).1 c.2)), b.1 x.1)))
 
   module _ (calls : FlatValue → FlatValue → Rel FlatValue) (pushed : Goes_in S) where
     mutual
@@ -60,7 +60,7 @@ module _ (N : Names) (τ : Variable → Shape) (m m' : Worth) (g : ℕ → Dim �
       named_fit_replaced : (ts : Sizes) (j : ℕ) (φ φ' : Frames) → Each_all ok j ts → S j φ φ' → (n i : ℕ) (fs : FlatFields) → Ways (Named_fit N τ calls m φ n i (all_replaced g j ts) fs) (Named_fit N τ calls m' φ' n i ts fs)
       named_fit_replaced no_size j φ φ' e q n i fs = same_ways
       named_fit_replaced (size_and t ts) j φ φ' e q n i fs = let b = named_fit_replaced ts j φ φ' e.1 q n (suc i) fs in
-          ((λ x. ((λ f v p c. (fits_replaced t j φ φ' e.0 q v).0 (x.0 f v p c)), b.0 x.1)), (λ x. ((λ f v p c. (fits_replaced t j φ φ' e.0 q v).1 (x.0 f v p c)), b.1 x.1)))
+          ((λ x. ((λ f p. let c = x.0 f p in (c.0, c.1, (fits_replaced t j φ φ' e.0 q c.0).0 c.2)), b.0 x.1)), (λ x. ((λ f p. let c = x.0 f p in (c.0, c.1, (fits_replaced t j φ φ' e.0 q c.0).1 c.2)), b.1 x.1)))
 
 -- ---- nothing replaced
 abbrev pub same : ℕ → Dim → Dim

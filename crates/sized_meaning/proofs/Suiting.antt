@@ -171,7 +171,7 @@ module _ (N : Names) (τ : Variable → Shape) (calls : FlatValue → FlatValue 
 
     named_suit_fit : {ts us : Sizes} → All_suit ts us → (m : Worth) (n i : ℕ) (fs : FlatFields) → Named_fit N τ calls m no_frames n i ts fs → Named_fit N τ calls m no_frames n i us fs
     named_suit_fit suit_none m n i fs h = h
-    named_suit_fit (suit_more q qs) m n i fs h = ((λ f v p c. suits_fits q m v (h.0 f v p c)), named_suit_fit qs m n (suc i) fs h.1)
+    named_suit_fit (suit_more q qs) m n i fs h = ((λ f p. let c = h.0 f p in (c.0, c.1, suits_fits q m c.0 c.2)), named_suit_fit qs m n (suc i) fs h.1)
 
 pub suiting_values_fit : SuitingValuesFit
 suiting_values_fit N τ L tight budget t u m v q h = suits_fits N τ (calls_of L tight budget) q m v h

@@ -113,7 +113,7 @@ module _ (N : Names) (τ : Variable → Shape) (calls : FlatValue → FlatValue 
     All_fit m φ no_size vs = No_value vs
     All_fit m φ (size_and t ts) vs = First_value (Fits m φ t) (All_fit m φ ts) vs
 
-    -- the fields of the record with this number, from a part on
+    -- the record with this number has its fields, from a part on
     pub Named_fit : Worth → Frames → ℕ → ℕ → Sizes → FlatFields → Type 0
     Named_fit m φ n i no_size fs = Unit {0}
-    Named_fit m φ n i (size_and t ts) fs = ((f : Text) (v : FlatValue) → place N.shapes (N.label f) (head.Record n) ≡ Some i → field f fs ≡ Some v → Fits m φ t v) × Named_fit m φ n (suc i) ts fs
+    Named_fit m φ n i (size_and t ts) fs = ((f : Text) → place N.shapes (N.label f) (head.Record n) ≡ Some i → (v : FlatValue) × (field f fs ≡ Some v) × Fits m φ t v) × Named_fit m φ n (suc i) ts fs

@@ -3,3 +3,5 @@ pub mod Shapes
 pub mod Fits
 pub mod Claims
 pub mod Law
+pub mod Finding
+pub mod Entered

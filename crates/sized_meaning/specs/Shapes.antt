@@ -1,11 +1,12 @@
 -- Which shapes data of a sized type has.
-use Rattle.std.specs.Prelude.{◌≡◌, ◌⊎◌, ℕ, suc, Some}
+use Rattle.std.specs.Prelude.{◌≡◌, ℕ, suc, Some}
 use Rattle.fut_ast.specs.Sorts.{Text}
 use Rattle.fut_types.specs.declared.Head.{Head}
 use Rattle.fut_types.specs.declared.Head.TheVariants as head
 use Rattle.fut_types.specs.Shapes.{place}
 use Rattle.fut_typing.specs.Names.{Names}
-use Rattle.fut_value.specs.Data.{Shape, Scalar_shape, Tuple_shape, Record_shape, Array_shape, Shapes, no_shape, shape_and, Named_shapes, no_named_shape, named_shape_and}
+use Rattle.fut_value.specs.Data.{Shape, Scalar_shape, Tuple_shape, Record_shape, Array_shape, Shapes, no_shape, shape_and, Named_shapes}
+use Rattle.fut_meaning.specs.Found.{field_shape}
 use Rattle.sized_types.specs.Sizes.{Variable, Size, Hole, Open, Level, Built, Fun, Sizes, no_size, size_and}
 use Rattle.sized_meaning.specs.Worth.{Worth, Frames, number}
 
@@ -28,11 +29,6 @@ No_shape (shape_and h hs) = ⊥
 abbrev pub First_shape : (Shape → Type 0) → (Shapes → Type 0) → Shapes → Type 0
 First_shape P Q no_shape = ⊥
 First_shape P Q (shape_and h hs) = P h × Q hs
-
--- the shape of a field
-abbrev pub Has_field : Text → Shape → Named_shapes → Type 0
-Has_field f h no_named_shape = ⊥
-Has_field f h (named_shape_and g k hs) = ((f ≡ g) × (h ≡ k)) ⊎ Has_field f h hs
 
 -- by what a type is made of; nothing is said of a type of its own
 abbrev pub Shape_of_head : Head → (Shapes → Type 0) → (ℕ → Named_shapes → Type 0) → Shape → Type 0
@@ -58,7 +54,7 @@ module _ (N : Names) (τ : Variable → Shape) where
     Have_shapes m φ no_size hs = No_shape hs
     Have_shapes m φ (size_and t ts) hs = First_shape (Has_shape m φ t) (Have_shapes m φ ts) hs
 
-    -- the fields of the record with this number, from a part on
+    -- the record with this number has its fields, from a part on
     pub Have_named : Worth → Frames → ℕ → ℕ → Sizes → Named_shapes → Type 0
     Have_named m φ n i no_size hs = Unit {0}
-    Have_named m φ n i (size_and t ts) hs = ((f : Text) (h : Shape) → place N.shapes (N.label f) (head.Record n) ≡ Some i → Has_field f h hs → Has_shape m φ t h) × Have_named m φ n (suc i) ts hs
+    Have_named m φ n i (size_and t ts) hs = ((f : Text) → place N.shapes (N.label f) (head.Record n) ≡ Some i → (h : Shape) × (field_shape f hs ≡ Some h) × Has_shape m φ t h) × Have_named m φ n (suc i) ts hs

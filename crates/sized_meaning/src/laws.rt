@@ -1,5 +1,7 @@
 // The laws of values and their sized types.
 ghost use Rattle.sized_meaning.specs.Claims.{SuitingValuesFit};
+ghost use Rattle.sized_meaning.specs.Entered.{CoercedHasItsSizes, FoundUnderNamesIsRight, LiteralRowsAreRight, ValuesRead};
+ghost use Rattle.sized_meaning.specs.Finding.{FoundIsRight, StandingIsFound, ToldIsRight};
 ghost use Rattle.sized_meaning.specs.Law.{ValuesHaveTheirSizes};
 
 /// Where a sized type suits another, each value of the one is of the other.
@@ -12,4 +14,49 @@ pub fn suiting_values_fit()
 #[tactic(auto, using(crate::proofs::Law::values_have_their_sizes))]
 pub fn values_have_their_sizes()
     ensures { ValuesHaveTheirSizes }
+{}
+
+/// A size that the meaning finds in the shape of data of a sized type is what the size is worth there, and the shape that it
+/// finds for a type variable is what that stands for.
+#[tactic(auto, using(crate::proofs::Finding::found_is_right))]
+pub fn found_is_right()
+    ensures { FoundIsRight }
+{}
+
+/// Each size and each type variable that stands in the sized type of data is found in its shape.
+#[tactic(auto, using(crate::proofs::Finding::standing_is_found))]
+pub fn standing_is_found()
+    ensures { StandingIsFound }
+{}
+
+/// Where the numbers of sizes and the shapes of type variables are right, data of a sized type has the shape that the meaning
+/// tells of it.
+#[tactic(auto, using(crate::proofs::Finding::told_is_right))]
+pub fn told_is_right()
+    ensures { ToldIsRight }
+{}
+
+/// A value of a sized type has the shape that the type says, where it is no function.
+#[tactic(auto, using(crate::proofs::Entered::values_read))]
+pub fn values_read()
+    ensures { ValuesRead }
+{}
+
+/// Where each value that was entered has the shape of its node's sized type, and functions tell right, each size that the
+/// meaning finds under names is what it is worth, and each type variable's shape what that stands for.
+#[tactic(auto, using(crate::proofs::Entered::found_under_names_is_right))]
+pub fn found_under_names_is_right()
+    ensures { FoundUnderNamesIsRight }
+{}
+
+/// An array literal without elements has rows of its element's sized type there, where what stands in that is found.
+#[tactic(auto, using(crate::proofs::Entered::literal_rows_are_right))]
+pub fn literal_rows_are_right()
+    ensures { LiteralRowsAreRight }
+{}
+
+/// Data for which `:>` does not report has the sizes of the type, where they are found.
+#[tactic(auto, using(crate::proofs::Entered::coerced_has_its_sizes))]
+pub fn coerced_has_its_sizes()
+    ensures { CoercedHasItsSizes }
 {}

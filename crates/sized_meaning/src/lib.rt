@@ -1,12 +1,19 @@
-//! Which values are of a sized type.
+//! Which values are of a sized type, and that the sizes which the meaning finds are right.
 //!
 //! The definitions (`specs/`) speak of values of flat programs and of sized types. `specs/Fits.antt` says which values are of
-//! a sized type: data of that shape, and functions that take values of what they take to values of what they give. Two laws:
-//! where one sized type suits another, a value of the one is of the other; and each value that a sized term may give is of its
-//! sized type, for terms of names, tuples, functions, applications and lets of names (`specs/Law.antt`). Of other terms
-//! nothing is claimed: primitives, literals, indices, branches, loops, general names, patterns with parts.
+//! a sized type: data of that shape, and functions that take values of what they take to values of what they give. Two laws
+//! on them: where one sized type suits another, a value of the one is of the other; and each value that a sized term may give
+//! is of its sized type, for terms of names, tuples, functions, applications and lets of names (`specs/Law.antt`). Of other
+//! terms nothing is claimed there: primitives, literals, indices, branches, loops, general names, patterns with parts.
+//!
+//! The other laws are on what the meaning finds of sizes that no value shows. `specs/Finding.antt`: in the shape of data of a
+//! sized type. `specs/Entered.antt`: under names, where what was entered is right; so an array literal without elements has
+//! rows of its type, and what `:>` lets pass has the sizes of its type.
 #![tactic(auto)]
 
 mod laws;
 
-pub use laws::{suiting_values_fit, values_have_their_sizes};
+pub use laws::{
+    coerced_has_its_sizes, found_is_right, found_under_names_is_right, literal_rows_are_right,
+    standing_is_found, suiting_values_fit, told_is_right, values_have_their_sizes, values_read,
+};

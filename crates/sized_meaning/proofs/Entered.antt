@@ -1,0 +1,254 @@
+-- What is found under names is right where what was entered is.
+use Rattle.std.proofs.Common.{◌≡◌, ℕ, suc, Bool, true, false, ◌&&◌, cond, nat_eq, List, [], ◌∷◌, Option, Some, None, refl, sym, ap, ◌∙◌, subst, eqb-true}
+use Rattle.std.specs.Prelude.{ℤ, pos, negsuc}
+use Rattle.std.specs.Str.{bytes_eq}
+use Rattle.fut_ast.specs.Sorts.{Text}
+use Rattle.fut_types.specs.declared.Head.TheVariants as head
+use Rattle.fut_typing.specs.Names.{Names, AreNames}
+use Rattle.fut_value.specs.Data.{Shape, Tuple_shape, Record_shape, Array_shape, Shapes, no_shape, shape_and, Named_shapes, named_shape_and, Datum, Tuple_datum, Record_datum, Datums, datum_and, Named_datums, named_and, shape_of, shapes_of, named_shapes_of}
+use Rattle.fut_meaning.specs.Accessors.{count_of}
+use Rattle.fut_meaning.specs.Datums.{datum_of, datums_of, named_datums_of}
+use Rattle.fut_meaning.specs.Found.{field_shape, or_unmet, is_integer, agrees, if_field, has_sizes, have_sizes, named_sizes, worth, Sizing, Found, as_integer, size_in, type_in, named_worth, with_worth, with_data, with_results, if_told, chosen_shape, number, shape_found, count, told_shape}
+use Rattle.fut_meaning.specs.Telling.{worth_of, value_shape, value_shapes, field_shapes, found, tells, row_of}
+use Rattle.fut_meaning.specs.Flats.{FlatValue, FlatEnv}
+use Rattle.fut_meaning.specs.Meaning.{row_found, sizes_agree, row_told, fits_type, Of_literal}
+use Rattle.fut_meaning.specs.Outcomes.{Out, Val, Fail, Wrong, and_then, Rel}
+use Rattle.fut_meaning.specs.Values.{Scalar_value, Tuple_value, Record_value, Array_value, Closure, Primitive_value, no_value, value_and, no_field, field_and, field, base, bind, entered}
+use Rattle.sized_types.specs.Sizes.{Free, Const, Name, Own, Unknown, Slot, Dim, At, Bound, Variable, Size, Hole, Open, Level, Built, Fun, Sizes, no_size, size_and}
+use Rattle.sized_types.specs.Standing.{is_known, gives_chosen}
+use Rattle.fut_sizes.specs.Rules.{Each_hole, Each_holes}
+use Rattle.fut_sizes.specs.Suiting.{Each, Each_all}
+use Rattle.sized_meaning.specs.Worth.{Worth, free, Frames, no_frames, push, number as size_number}
+use Rattle.sized_meaning.specs.Shapes.{Has_shape, Have_shapes, Have_named}
+use Rattle.sized_meaning.specs.Fits.{FlatValues, FlatFields, Is_data, Fits, All_fit, Named_fit}
+use Rattle.sized_meaning.specs.Claims.{calls_of}
+use Rattle.sized_meaning.specs.Finding.{Fields_from, Fields_are, One_shape_each, As_many, Formed, All_formed, Reads, All_read, Named_read}
+use Rattle.sized_meaning.specs.Entered.{none_chosen, All_entered, Right_found, FoundUnderNamesIsRight, Is_found, Type_is_found, LiteralRowsAreRight, CoercedHasItsSizes, ValuesRead}
+use Rattle.sized_meaning.proofs.Reading.{each_as}
+use Rattle.sized_meaning.proofs.Finding.{some_same, none_no, first_or, same_text, data_reads, size_right, type_right, told_is_right}
+
+-- ---- a value that is data has the shape of that data
+
+value_same : {A B : Type 0} (o : Out A) (k : A → Out B) (b : B) → and_then o k ≡ Val b → (a : A) × (o ≡ Val a) × (k a ≡ Val b)
+value_same (Val a) k b e = (a, refl, e)
+value_same {B = B} (Fail r) k b e = absurd (let z : ◌≡◌ {A = Out B} (Fail r) (Val b) = e in cc)
+value_same {B = B} Wrong k b e = absurd (let z : ◌≡◌ {A = Out B} Wrong (Val b) = e in cc)
+
+the_value : {A : Type 0} (a b : A) → ◌≡◌ {A = Out A} (Val a) (Val b) → a ≡ b
+the_value a b e = cc
+
+mutual
+  unfolding datum_of datums_of named_datums_of value_shape value_shapes field_shapes shape_of shapes_of named_shapes_of
+
+  shape_as : (v : FlatValue) (d : Datum) → datum_of v ≡ Val d → value_shape v ≡ shape_of d
+  shape_as (Scalar_value s) d e = ap shape_of (the_value _ d e)
+  shape_as (Tuple_value vs) d e = let r = value_same (datums_of vs) (λ ds. Val (Tuple_datum ds)) d e in ap Tuple_shape (shapes_as vs r.0 r.1) ∙ ap shape_of (the_value (Tuple_datum r.0) d r.2)
+  shape_as (Record_value fs) d e = let r = value_same (named_datums_of fs) (λ ds. Val (Record_datum ds)) d e in ap Record_shape (fields_as fs r.0 r.1) ∙ ap shape_of (the_value (Record_datum r.0) d r.2)
+  shape_as (Array_value row ds) d e = ap shape_of (the_value _ d e)
+  shape_as (Closure ps b lo env) d e = absurd (let z : ◌≡◌ {A = Out Datum} Wrong (Val d) = e in cc)
+  shape_as (Primitive_value p at vs) d e = absurd (let z : ◌≡◌ {A = Out Datum} Wrong (Val d) = e in cc)
+
+  shapes_as : (vs : FlatValues) (ds : Datums) → datums_of vs ≡ Val ds → value_shapes vs ≡ shapes_of ds
+  shapes_as no_value ds e = ap shapes_of (the_value _ ds e)
+  shapes_as (value_and v vs) ds e =
+      let r = value_same (datum_of v) (λ d. and_then (datums_of vs) (λ ds. Val (datum_and d ds))) ds e in
+      let q = value_same (datums_of vs) (λ ds. Val (datum_and r.0 ds)) ds r.2 in
+      ap (λ h. shape_and h (value_shapes vs)) (shape_as v r.0 r.1) ∙ ap (shape_and (shape_of r.0)) (shapes_as vs q.0 q.1) ∙ ap shapes_of (the_value (datum_and r.0 q.0) ds q.2)
+
+  fields_as : (fs : FlatFields) (ds : Named_datums) → named_datums_of fs ≡ Val ds → field_shapes fs ≡ named_shapes_of ds
+  fields_as no_field ds e = ap named_shapes_of (the_value _ ds e)
+  fields_as (field_and f v fs) ds e =
+      let r = value_same (datum_of v) (λ d. and_then (named_datums_of fs) (λ ds. Val (named_and f d ds))) ds e in
+      let q = value_same (named_datums_of fs) (λ ds. Val (named_and f r.0 ds)) ds r.2 in
+      ap (λ h. named_shape_and f h (field_shapes fs)) (shape_as v r.0 r.1) ∙ ap (named_shape_and f (shape_of r.0)) (fields_as fs q.0 q.1) ∙ ap named_shapes_of (the_value (named_and f r.0 q.0) ds q.2)
+
+-- ---- a value of a sized type reads as that says
+
+field_here : (f : Text) (fs : FlatFields) (v : FlatValue) → field f fs ≡ Some v → field_shape f (field_shapes fs) ≡ Some (value_shape v)
+unfolding field_shapes
+field_here f no_field v e = none_no e
+field_here f (field_and g w fs) v e = tested (bytes_eq g f) e (λ q. field_here f fs v q)
+  where
+    tested : (b : Bool) → cond b (Some w) (field f fs) ≡ Some v → (field f fs ≡ Some v → field_shape f (field_shapes fs) ≡ Some (value_shape v)) → cond b (Some (value_shape w)) (field_shape f (field_shapes fs)) ≡ Some (value_shape v)
+    tested true e rest = ap (λ z. Some (value_shape z)) (some_same e)
+    tested false e rest = rest e
+
+module _ (N : Names) (τ : Variable → Shape) (calls : FlatValue → FlatValue → Rel FlatValue) (m : Worth) (φ : Frames) where
+  data_as_read : (t : Size) (v : FlatValue) → Is_data (Has_shape N τ m φ t) v → Reads N τ m φ t (value_shape v)
+  data_as_read t v h = subst (Reads N τ m φ t) (sym (shape_as v h.datum h.is_datum)) (data_reads N τ m φ t (shape_of h.datum) h.shape)
+
+  mutual
+    unfolding Fits All_fit Named_fit Reads All_read Named_read value_shape value_shapes
+
+    fits_read : (t : Size) (v : FlatValue) → Fits N τ calls m φ t v → Reads N τ m φ t (value_shape v)
+    fits_read (Hole a) v h = data_as_read (Hole a) v h
+    fits_read (Open n a u) v h = tt
+    fits_read (Level d t) v h = data_as_read (Level d t) v h
+    fits_read (Built head.Tuple ts) (Tuple_value vs) h = all_read ts vs h
+    fits_read (Built head.Tuple ts) v h = absurd h
+    fits_read (Built (head.Record n) ts) (Record_value fs) h = named_read n 0 ts fs h
+    fits_read (Built (head.Record n) ts) v h = absurd h
+    fits_read (Built k ts) v h = tt
+    fits_read (Fun k p r) v h = tt
+
+    all_read : (ts : Sizes) (vs : FlatValues) → All_fit N τ calls m φ ts vs → All_read N τ m φ ts (value_shapes vs)
+    all_read no_size vs h = tt
+    all_read (size_and t ts) no_value h = absurd h
+    all_read (size_and t ts) (value_and v vs) h = (fits_read t v h.0, all_read ts vs h.1)
+
+    named_read : (n i : ℕ) (ts : Sizes) (fs : FlatFields) → Named_fit N τ calls m φ n i ts fs → Named_read N τ m φ n i ts (field_shapes fs)
+    named_read n i no_size fs h = tt
+    named_read n i (size_and t ts) fs h = ((λ f p. let c = h.0 f p in (value_shape c.0, field_here f fs c.0 c.1, fits_read t c.0 c.2)), named_read n (suc i) ts fs h.1)
+
+both_true : (a b : Bool) → a && b ≡ true → (a ≡ true) × (b ≡ true)
+both_true true b e = (refl, e)
+both_true false b e = absurd (let z : false ≡ true = e in cc)
+
+-- ---- what is found
+
+module _ (N : Names) (τ : Variable → Shape) (Z : Sizing) (m : Worth) (are : Fields_are N Z.fields) (one : One_shape_each τ) where
+  abbrev Right : Found → Type 0
+  Right W = Right_found N τ Z m W
+
+  integer_is : (o : Option ℕ) (n : ℤ) → as_integer o ≡ Some n → (k : ℕ) × (o ≡ Some k) × (n ≡ pos k)
+  integer_is (Some k) n e = (k, refl, sym (some_same e))
+  integer_is None n e = none_no e
+
+  -- data of a sized type has a shape
+  data_right : (φ : Frames) (t : Size) (h : Shape) (W : Found) → Reads N τ m φ t h → Right W → Right (with_data Z.fields t h W)
+  data_right φ t h W k r = (
+    λ d n e. first_or (as_integer (size_in Z.fields (At d) t h)) (W.size d) n e
+        (λ q. let c = integer_is (size_in Z.fields (At d) t h) n q in ap count_of c.2 ∙ size_right N Z.fields τ m φ are (At d) t h k c.0 c.1)
+        (λ q. r.0 d n q),
+    λ v g e. first_or (type_in Z.fields v t h) (W.type v) g e (λ q. type_right N Z.fields τ m φ are one v t h k g q) (λ q. r.1 v g q),
+  )
+
+  told_or_not : (b : Bool) (k : ℕ) (p r : Size) (tell : List Shape → Shape) (W : Found) → (b ≡ true → Reads N τ m (push none_chosen no_frames) r (tell (chosen_shape Z.fields p ∷ []))) → Right W → Right (if_told b (with_data Z.fields r (tell (chosen_shape Z.fields p ∷ [])) W) W)
+  told_or_not true k p r tell W h w = data_right (push none_chosen no_frames) r (tell (chosen_shape Z.fields p ∷ [])) W (h refl) w
+  told_or_not false k p r tell W h w = w
+
+  results_right : (t : Size) (tell : List Shape → Shape) (W : Found) → ((k : ℕ) (p r : Size) → t ≡ Fun k p r → is_known p && gives_chosen k r ≡ true → Reads N τ m (push none_chosen no_frames) r (tell (chosen_shape Z.fields p ∷ []))) → Right W → Right (with_results Z.fields t tell W)
+  unfolding with_results
+  results_right (Hole v) tell W h w = w
+  results_right (Open n v u) tell W h w = w
+  results_right (Level d t) tell W h w = w
+  results_right (Built k ts) tell W h w = w
+  results_right (Fun k p r) tell W h w = told_or_not (is_known p && gives_chosen k r) k p r tell W (h k p r refl) w
+
+  worth_right : (q : ℕ) (n : Option ℤ) (W : Found) → ((b : ℕ) (z : ℤ) → Z.home b ≡ q → n ≡ Some z → count_of z ≡ m (Name b)) → Right W → Right (with_worth Z.home q n W)
+  worth_right q n W h w = ((λ d z e. first_or (named_worth Z.home q n d) (W.size d) z e (λ e. here d z e) (λ e. w.0 d z e)), w.1)
+    where
+      name_here : (b : ℕ) (z : ℤ) (c : Bool) → nat_eq (Z.home b) q ≡ c → cond c n None ≡ Some z → count_of z ≡ m (Name b)
+      name_here b z true i e = h b z (eqb-true (Z.home b) q i) e
+      name_here b z false i e = none_no e
+
+      here : (d : Free) (z : ℤ) → named_worth Z.home q n d ≡ Some z → count_of z ≡ free m d
+      here (Name b) z e = name_here b z (nat_eq (Z.home b) q) refl e
+      here d z e = none_no e
+
+  under : (env : FlatEnv) → All_entered N τ Z m env → Right (found Z env)
+  unfolding found
+  under (base u) a = ((λ d n e. none_no e), (λ v h e. none_no e))
+  under (bind b v env) a = under env a
+  under (entered q v env) a = worth_right q (worth_of v) _ (a.0).named (data_right no_frames (Z.size_at q) (value_shape v) _ (a.0).shape (results_right (Z.size_at q) (tells Z v) (found Z env) (a.0).told (under env a.1)))
+
+  -- ---- the rows of a literal
+  module _ (W : Found) (right : Right W) where
+    number_right : (j : ℕ) (d : Dim) → Is_found W d → number W d ≡ size_number m no_frames d
+    number_right j (At (Const c)) f = refl
+    number_right j (At (Name b)) f = ap count f.1 ∙ right.0 (Name b) f.0 f.1
+    number_right j (At (Own n i)) f = ap count f.1 ∙ right.0 (Own n i) f.0 f.1
+    number_right j (At (Unknown n i)) f = ap count f.1 ∙ right.0 (Unknown n i) f.0 f.1
+    number_right j (At (Slot i)) f = ap count f.1 ∙ right.0 (Slot i) f.0 f.1
+    number_right j (Bound k i) f = absurd f
+
+    worth_is : (d : Dim) → Is_found W d → (z : ℤ) × (worth W d ≡ Some z)
+    worth_is (At (Const c)) f = (pos c, refl)
+    worth_is (At (Name b)) f = f
+    worth_is (At (Own n i)) f = f
+    worth_is (At (Unknown n i)) f = f
+    worth_is (At (Slot i)) f = f
+    worth_is (Bound k i) f = absurd f
+
+    -- a size that agrees is the one that is found
+    agreed : (z : ℤ) (n : ℕ) → is_integer z n ≡ true → n ≡ count_of z
+    agreed (pos k) n e = sym (eqb-true k n e)
+    agreed (negsuc k) n e = absurd (let z : false ≡ true = e in cc)
+
+    level_agrees : (d : Dim) (n : ℕ) → Is_found W d → agrees (worth W d) n ≡ true → n ≡ size_number m no_frames d
+    level_agrees d n f e = let w = worth_is d f in agreed w.0 n (subst (λ o. agrees o n ≡ true) w.1 e) ∙ sym (ap count w.1) ∙ number_right 0 d f
+
+    module _ (named : AreNames N) (other : Worth) where
+      mutual
+        unfolding has_sizes have_sizes named_sizes Has_shape Have_shapes Have_named Formed All_formed Each Each_all
+
+        sizes_have : (t : Size) (h : Shape) → Formed Z.fields t → Each (λ j x. Is_found W x) 0 t → Has_shape N τ other no_frames t h → has_sizes Z.fields W t h ≡ true → Has_shape N τ m no_frames t h
+        sizes_have (Hole v) h f d k e = k
+        sizes_have (Open n v u) h f d k e = absurd f
+        sizes_have (Level x t) (Array_shape n row) f d k e = let b = both_true (agrees (worth W x) n) (has_sizes Z.fields W t row) e in (level_agrees x n d.0 b.0, sizes_have t row f d.1 k.1 b.1)
+        sizes_have (Level x t) h f d k e = absurd k
+        sizes_have (Built (head.Scalar s) ts) h f d k e = k
+        sizes_have (Built head.Tuple ts) (Tuple_shape hs) f d k e = all_have ts hs f.1 d k e
+        sizes_have (Built head.Tuple ts) h f d k e = absurd k
+        sizes_have (Built (head.Record n) ts) (Record_shape hs) f d k e = named_have n 0 ts (Z.fields n) hs (are n) f.0 f.1 d k e
+        sizes_have (Built (head.Record n) ts) h f d k e = absurd k
+        sizes_have (Built (head.Abstract n a) ts) h f d k e = tt
+        sizes_have (Built head.Array ts) h f d k e = absurd f.0
+        sizes_have (Built head.Fun ts) h f d k e = absurd f.0
+        sizes_have (Built (head.Rigid n a) ts) h f d k e = absurd f.0
+        sizes_have (Fun c p r) h f d k e = absurd f
+
+        all_have : (ts : Sizes) (hs : Shapes) → All_formed Z.fields ts → Each_all (λ j x. Is_found W x) 0 ts → Have_shapes N τ other no_frames ts hs → have_sizes Z.fields W ts hs ≡ true → Have_shapes N τ m no_frames ts hs
+        all_have no_size hs f d k e = k
+        all_have (size_and t ts) no_shape f d k e = absurd k
+        all_have (size_and t ts) (shape_and h hs) f d k e = let b = both_true (has_sizes Z.fields W t h) (have_sizes Z.fields W ts hs) e in (sizes_have t h f.0 d.0 k.0 b.0, all_have ts hs f.1 d.1 k.1 b.1)
+
+        named_have : (n i : ℕ) (ts : Sizes) (fs : List Text) (hs : Named_shapes) → Fields_from N n i fs → As_many fs ts → All_formed Z.fields ts → Each_all (λ j x. Is_found W x) 0 ts → Have_named N τ other no_frames n i ts hs → named_sizes Z.fields W fs ts hs ≡ true → Have_named N τ m no_frames n i ts hs
+        named_have n i no_size fs hs b l f d k e = tt
+        named_have n i (size_and t ts) [] hs b l f d k e = absurd l
+        named_have n i (size_and t ts) (x ∷ fs) hs b l f d k e =
+            let a = both_true (if_field (field_shape x hs) (has_sizes Z.fields W t)) (named_sizes Z.fields W fs ts hs) e in (
+              (λ g p. let c = k.0 g p in (c.0, c.1, sizes_have t c.0 f.0 d.0 c.2 (tested g c.0 (same_text N named n i g x p b.0) c.1 a.0))),
+              named_have n (suc i) ts fs hs b.1 l f.1 d.1 k.1 a.1,
+            )
+          where
+            tested : (g : Text) (h : Shape) → g ≡ x → field_shape g hs ≡ Some h → if_field (field_shape x hs) (has_sizes Z.fields W t) ≡ true → has_sizes Z.fields W t h ≡ true
+            tested g h q found test = subst (λ o. if_field o (has_sizes Z.fields W t) ≡ true) (subst (λ y. field_shape y hs ≡ Some h) q found) test
+
+    type_as : (v : Variable) → Type_is_found W v → shape_found W v ≡ τ v
+    type_as v f = ap or_unmet f.1 ∙ right.1 v f.0 f.1
+
+    mutual
+      unfolding Each_hole Each_holes
+
+      holes_as : (t : Size) → Each_hole (Type_is_found W) t → Each_hole (λ v. shape_found W v ≡ τ v) t
+      holes_as (Hole v) h = type_as v h
+      holes_as (Open n v u) h = h
+      holes_as (Level d t) h = holes_as t h
+      holes_as (Built k ts) h = all_holes_as ts h
+      holes_as (Fun k p r) h = (holes_as p h.0, holes_as r h.1)
+
+      all_holes_as : (ts : Sizes) → Each_holes (Type_is_found W) ts → Each_holes (λ v. shape_found W v ≡ τ v) ts
+      all_holes_as no_size h = tt
+      all_holes_as (size_and t ts) h = (holes_as t h.0, all_holes_as ts h.1)
+
+pub found_under_names_is_right : FoundUnderNamesIsRight
+found_under_names_is_right N τ Z m env are one a = under N τ Z m are one env a
+
+pub literal_rows_are_right : LiteralRowsAreRight
+unfolding row_told told_shape
+literal_rows_are_right N named τ Z m L env lo d t sizes type formed are one a dims holes =
+    let w = under N τ Z m are one env a in
+    subst (λ o. Has_shape N τ m no_frames t (row_found o (Of_literal env lo))) (sym sizes)
+    (subst (λ u. Has_shape N τ m no_frames t (row_of (told_shape Z.fields (number (found Z env)) (shape_found (found Z env)) u))) (sym type)
+    (told_is_right N named Z.fields τ m no_frames (number (found Z env)) (shape_found (found Z env)) t are formed
+    (each_as (λ j x. Is_found (found Z env) x) (λ j x. number (found Z env) x ≡ size_number m no_frames x) (number_right N τ Z m are one (found Z env) w) t 0 dims)
+    (holes_as N τ Z m are one (found Z env) w t holes)))
+
+pub coerced_has_its_sizes : CoercedHasItsSizes
+unfolding fits_type
+coerced_has_its_sizes N named τ Z m other L env lo v sizes formed are one a dims has test =
+    sizes_have N τ Z m are one (found Z env) (under N τ Z m are one env a) named other (Z.size_at lo) (value_shape v) formed dims has (subst (λ o. sizes_agree o env lo v ≡ true) sizes test)
+
+pub values_read : ValuesRead
+values_read N τ L tight budget m t v h = fits_read N τ (calls_of L tight budget) m no_frames t v h
