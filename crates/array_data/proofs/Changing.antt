@@ -1,7 +1,7 @@
 -- Rows of which single ones are found and replaced.
 use Rattle.std.proofs.Common.{◌≡◌, ℕ, zero, suc, ◌+◌, ◌-◌, ◌<◌, ◌≤◌, List, [], ◌∷◌, ◌++◌, map, length, get_or, slice_get, Option, Some, None, Ok, Err, Result, refl, sym, ap, ◌∙◌, arith}
 use Rattle.std.specs.Prelude.{slice_set}
-use Rattle.std.proofs.lemmas.List.{append-nil, map-set, set-append_left, set-append_right}
+use Rattle.std.proofs.lemmas.List.{append-nil, map-set, set-set, set-append_left, set-append_right}
 use Rattle.std.proofs.lemmas.Option.{slice_get_past}
 use Rattle.fut_scalar.specs.declared.scalar.Scalar.{Scalar}
 use Rattle.fut_scalar.specs.declared.scalar.ScalarType.{ScalarType}
@@ -15,8 +15,8 @@ use Rattle.array_data.specs.declared.form.Form.{Form}
 use Rattle.array_data.specs.declared.stop.Stop.{Stop}
 use Rattle.array_data.specs.declared.stop.Stop.TheVariants.{Memory}
 use Rattle.array_data.specs.Answers.{Copied, copied, not_copied, All_added, all_added}
-use Rattle.array_data.specs.Changes.{Found, found, not_found, as_found, Replaced, replaced, not_replaced}
-use Rattle.array_data.specs.Held.{fitted, scalars, held, held_all, built_rows, rows_in}
+use Rattle.array_data.specs.Changes.{Found, found, not_found, as_found, Replaced, replaced, not_replaced, Taken_out, taken_out, not_taken_out}
+use Rattle.array_data.specs.Held.{fitted, scalars, held, held_all, as_held, built_rows, rows_in}
 use Rattle.array_data.proofs.Building.{word_back}
 use Rattle.array_data.proofs.Forms.{length_scalars, held_length}
 use Rattle.array_data.proofs.Holding.{held_scalar}
@@ -28,12 +28,22 @@ pub apart_words : (b : Built) (d : Data) (t : ScalarType) (ws : List ℕ) → d 
 unfolding built_rows held_all
 apart_words b d t ws e q p r = rw (r, q, p) (append-nil (scalars t ws) ∙ sym (ap (λ z. rows_in (held z)) e ∙ rows_of_words t ws))
 
-pub apart_rows : (b : Built) (d : Data) (m : ℕ) (h : Form) (ds s s' : List Data) → d ≡ hold.Rows m h ds → b.words ≡ [] → s ≡ [] → b.rows ≡ s' → All_added (held_all ds) (held_all s) (held_all s') (Ok tt) → built_rows b ≡ rows_in (held d)
-unfolding built_rows held_all scalars
-apart_rows b d m h ds s s' e q p r (all_added x) =
-    rw (r, q) (x ∙ ap (λ z. map held z ++ map held ds) p ∙ sym (ap (λ z. rows_in (held z)) e ∙ rows_of_rows m h ds))
+pub apart_rows : (b : Built) (d : Data) (m : ℕ) (h : Form) (ds own : List Data) → d ≡ hold.Rows m h ds → b.words ≡ [] → b.rows ≡ own → held_all own ≡ held_all ds → built_rows b ≡ rows_in (held d)
+unfolding built_rows scalars
+apart_rows b d m h ds own e q r x = rw (r, q) (x ∙ sym (ap (λ z. rows_in (held z)) e ∙ rows_of_rows m h ds))
 
 pub ruleset taking_apart = (apart_words, apart_rows)
+
+-- ---- the rows of a handle
+
+pub rows_taken : (ds own : List Data) → own ≡ ds → held_all own ≡ held_all ds
+rows_taken ds own e = ap held_all e
+
+pub rows_shared : (ds shared s s' own : List Data) → shared ≡ ds → s ≡ [] → own ≡ s' → All_added (held_all shared) (held_all s) (held_all s') (Ok tt) → held_all own ≡ held_all ds
+unfolding held_all
+rows_shared ds shared s s' own e p q (all_added x) = ap (map held) q ∙ x ∙ ap (λ z. map held z ++ map held shared) p ∙ ap (map held) e
+
+pub ruleset owning = (rows_taken, rows_shared)
 
 -- ---- a row that is found
 
@@ -76,6 +86,23 @@ row_replaced b c i j d l e q p r = replaced (rw (q, p, r) (ap (λ z. scalars b.t
     ∙ sym (set-append_right (scalars b.ty b.words) (map held b.rows) (length b.words) i (held d) (length_scalars b.ty b.words) l)))
 
 pub ruleset replacing = (row_replaced, not_replaced)
+
+-- ---- a row that is taken out
+
+found_there : (ds : List Datum) (i : ℕ) (d : Data) → Found ds i (as_found (Ok (Some d))) → slice_get ds i ≡ Some (held d)
+found_there ds i d (found q) = q
+
+is_replaced : (i : ℕ) (d : Datum) (ds ds' : List Datum) → Replaced i d ds ds' (Ok tt) → ds' ≡ slice_set ds i d
+is_replaced i d ds ds' (replaced q) = q
+
+pub word_out : (b : Built) (i k : ℕ) (s : Scalar) → i < length b.words → s ≡ scalar_of_word b.ty (get_or b.words i k) → Taken_out i (built_rows b) (built_rows b) (as_held (Ok (hold.Scalar s)))
+word_out b i k s l e = taken_out (found_there (built_rows b) i (hold.Scalar s) (found_word b i s k l e)) (λ d. refl)
+
+pub row_out : (b c : Built) (i j : ℕ) (d e p : Data) → length b.words ≤ i → j ≡ i - length b.words → j < length b.rows → e ≡ get_or b.rows j d → c.ty ≡ b.ty → c.words ≡ b.words → c.rows ≡ slice_set b.rows j p → Taken_out i (built_rows b) (built_rows c) (as_held (Ok e))
+row_out b c i j d e p l q m r t w x = taken_out (behind_words b i j l q ∙ get_held b.rows j d m ∙ ap (λ z. Some (held z)) (sym r))
+    (λ v. ap (λ z. slice_set z i v) (is_replaced i (held p) (built_rows b) (built_rows c) (row_replaced b c i j p l q t w x)) ∙ set-set (built_rows b) i (held p) v)
+
+pub ruleset taking_out = (word_out, row_out, not_taken_out)
 
 pub word_replaced : (b c : Built) (i w : ℕ) (s : Scalar) (d : Data) → d ≡ hold.Scalar s → type_of s ≡ b.ty → w ≡ word_of s → i < length b.words → c.ty ≡ b.ty → c.words ≡ slice_set b.words i w → c.rows ≡ b.rows → Replaced i (held d) (built_rows b) (built_rows c) (Ok tt)
 unfolding built_rows scalars

@@ -1,5 +1,6 @@
 -- What code holds, one level at a time.
-use Rattle.std.proofs.Common.{◌≡◌, ℕ, List, [], ◌∷◌, ◌++◌, map, refl, sym, ap, ◌∙◌, Ok, Err}
+use Rattle.std.proofs.Common.{◌≡◌, ℕ, List, [], ◌∷◌, ◌++◌, length, map, refl, sym, ap, ◌∙◌, Ok, Err}
+use Rattle.std.specs.Prelude.{remove, slice_index_or}
 use Rattle.fut_scalar.specs.declared.scalar.Scalar.{Scalar}
 use Rattle.fut_scalar.specs.declared.scalar.ScalarType.{ScalarType}
 use Rattle.fut_ast.specs.Sorts.{Text}
@@ -58,3 +59,9 @@ pub copied_is : (d c : Data) → c ≡ d → Copied d (Ok c)
 copied_is d c e = copied (ap held e)
 
 pub ruleset copies = (copied_is, not_copied)
+
+pub first_of : (ds rest : List Data) (d e : Data) → (length ds ≡ 0 → ⊥) → d ≡ slice_index_or ds 0 e → rest ≡ remove ds 0 → ds ≡ d ∷ rest
+first_of [] rest d e l q r = absurd (l refl)
+first_of (x ∷ ds) rest d e l q r = ap (λ z. z ∷ ds) (sym q) ∙ ap (λ z. d ∷ z) (sym r)
+
+pub ruleset parting = (first_of)

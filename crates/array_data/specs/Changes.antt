@@ -25,6 +25,11 @@ pub data Replaced (at : ℕ) (d : Datum) (ds ds' : List Datum) : Result (Unit {0
   replaced : ds' ≡ slice_set ds at d → Replaced at d ds ds' (Ok tt)
   not_replaced : Replaced at d ds ds' (Err Memory)
 
+-- the row at an index, which is taken out: another one is to be put there
+pub data Taken_out (at : ℕ) (ds ds' : List Datum) : Result Datum Stop → Type 0 where
+  taken_out : {e : Datum} → slice_get ds at ≡ Some e → ((d : Datum) → slice_set ds' at d ≡ slice_set ds at d) → Taken_out at ds ds' (Ok e)
+  not_taken_out : Taken_out at ds ds' (Err Memory)
+
 -- an array of other rows, which have to be like its own; it counts nothing
 pub data Stands_in (at : Place) (row : Shape) (ds : List Datum) : Result Datum Stop → Type 0 where
   stands_in : {d : Datum} → in_place_of false at row ds ≡ Val (0, d) → Stands_in at row ds (Ok d)

@@ -1,11 +1,6 @@
 pub mod Held
 pub mod Answers
 pub mod Records
-pub mod Plans
-pub mod Ranges
-pub mod Slices
-pub mod Updates
-pub mod Nested
 pub mod Depths
 pub mod Changes
-pub mod Writes
+pub mod formers

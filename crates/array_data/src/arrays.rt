@@ -5,12 +5,13 @@ ghost use Rattle.fut_meaning.specs.Arrays.{all_like, array as array_made, array_
 ghost use Rattle.array_data.specs.Answers.{Tells};
 ghost use Rattle.array_data.specs.Changes.{Stands_in};
 ghost use Rattle.array_data.specs.Depths.{deepest};
-ghost use Rattle.array_data.specs.Held.{as_held, built_rows, held, held_all, row_shape_in, scalars, shape_held};
+ghost use Rattle.array_data.specs.Held.{as_held, built_rows, held, held_all, scalars, shape_held};
 
 use crate::built::Built;
 use crate::data::Data;
 use crate::form::{Form, agrees, form_of, is_light};
-use crate::rows::{depth, row_depth, row_form};
+use crate::handle::Handle;
+use crate::rows::depth;
 use crate::sizes::failed;
 use crate::stop::Stop;
 use fut_scalar::{FailKind, List, NoMemory, Place, ScalarType, Shared};
@@ -82,16 +83,21 @@ fn all_are_like(alloc: Global, form: &Form, built: &Built) -> Result<bool, NoMem
     }
 }
 
-/// The array with other rows in the place of its own, which have to be like them.
+/// An array with rows in the place of others of a form, which have to be like them.
 #[tactic(auto, using(crate::proofs::Making::standing_in))]
-pub fn in_place(alloc: Global, at: Place, whole: &Data, built: Built) -> Result<Data, Stop>
-    ensures { Stands_in at (row_shape_in (held whole.now)) (built_rows built) (as_held result) }
+pub fn in_place(
+    alloc: Global,
+    at: Place,
+    form: Shared<Form>,
+    deep: u32,
+    built: Built,
+) -> Result<Data, Stop>
+    ensures { Stands_in at (shape_held form) (built_rows built) (as_held result) }
 {
-    let form = row_form(alloc, whole)?;
     if !all_are_like(alloc, form.get(), &built)? {
         return Err(failed(FailKind::Size, at));
     }
-    Ok(untested(alloc, form, row_depth(whole), built)?)
+    Ok(untested(alloc, form, deep, built)?)
 }
 
 /// The array of words.
@@ -103,7 +109,7 @@ fn array_of_words(alloc: Global, at: Place, ty: ScalarType, words: List<u64>) ->
     if words.len() > 33_554_432 {
         return Err(failed(FailKind::TooLarge, at));
     }
-    Ok(Data::Words(ty, Shared::new(alloc, words)?))
+    Ok(Data::Words(ty, Handle::new(alloc, words)?))
 }
 
 /// The array of rows. Sizes are tested first, then the weight.
@@ -126,7 +132,7 @@ fn array_of_rows(
         return Err(failed(FailKind::TooLarge, at));
     }
     let deep = deeper(deep, rows.as_slice())?;
-    Ok(Data::Rows(deep, form, Shared::new(alloc, rows)?))
+    Ok(Data::Rows(deep, form, Handle::new(alloc, rows)?))
 }
 
 /// The array of rows that were put together, which are of a form where there are none.
@@ -181,10 +187,26 @@ pub fn untested(
 ) -> Result<Data, NoMemory>
     ensures { IfOk result (λ array. held array ≡ Array_datum (shape_held form) (datums (built_rows built))) }
 {
+    let depth = deeper(deep, built.rows.as_slice())?;
+    so_deep(alloc, form, depth, built)
+}
+
+/// The same of rows that an array so deep may have. It takes no look at them.
+#[tactic(auto, using(crate::proofs::Making::untested_making))]
+pub fn so_deep(
+    alloc: Global,
+    form: Shared<Form>,
+    depth: u32,
+    built: Built,
+) -> Result<Data, NoMemory>
+    ensures { IfOk result (λ array. held array ≡ Array_datum (shape_held form) (datums (built_rows built))) }
+{
+    if depth > MOST_DEEP {
+        return Err(NoMemory);
+    }
     let Built { ty, words, rows } = built;
     if words.len() == 0 {
-        let deep = deeper(deep, rows.as_slice())?;
-        return Ok(Data::Rows(deep, form, Shared::new(alloc, rows)?));
+        return Ok(Data::Rows(depth, form, Handle::new(alloc, rows)?));
     }
     if rows.len() > 0 {
         return Err(NoMemory);
@@ -192,7 +214,7 @@ pub fn untested(
     match form.get() {
         Form::Scalar(sort) => {
             if *sort == ty {
-                Ok(Data::Words(ty, Shared::new(alloc, words)?))
+                Ok(Data::Words(ty, Handle::new(alloc, words)?))
             } else {
                 Err(NoMemory)
             }

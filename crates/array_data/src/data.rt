@@ -1,7 +1,9 @@
 // Data, whose arrays, tuples and records are shared.
+ghost use Rattle.std.specs.Prelude.{◌≡◌, ◌∷◌, IfSome};
 ghost use Rattle.array_data.specs.Answers.{Copied};
 
 use crate::form::Form;
+use crate::handle::Handle;
 use crate::stop::Stop;
 use fut_scalar::{List, Name, NoMemory, Scalar, ScalarType, Shared};
 use std::alloc::Global;
@@ -11,9 +13,9 @@ use std::alloc::Global;
 pub enum Data {
     Scalar(Scalar),
     /// An array of scalars of one type, by their words.
-    Words(ScalarType, Shared<List<u64>>),
+    Words(ScalarType, Handle<List<u64>>),
     /// An array: what its rows look like, and the rows.
-    Rows(u32, Shared<Form>, Shared<List<Data>>),
+    Rows(u32, Shared<Form>, Handle<List<Data>>),
     Tuple(u32, Shared<List<Data>>),
     /// A record: the names of its fields, and its parts in their order.
     Record(u32, Shared<List<Name>>, Shared<List<Data>>),
@@ -47,4 +49,17 @@ pub fn copy(whole: &Data) -> Result<Data, Stop>
             Ok(Data::Record(*depth, names, parts))
         }
     }
+}
+
+/// The first of some data, apart from the others.
+#[tactic(auto, using(crate::proofs::Holding::parting))]
+pub fn first_apart(all: List<Data>) -> Option<(Data, List<Data>)>
+    ensures { IfSome result (λ parts. all ≡ parts.0 ∷ parts.1) }
+{
+    let mut rest = all.into_vec();
+    if rest.len() == 0 {
+        return None;
+    }
+    let first = rest.remove(0);
+    Some((first, List::from_vec(rest)))
 }

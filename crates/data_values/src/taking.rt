@@ -3,7 +3,7 @@ ghost use Rattle.std.specs.Prelude.{◌≡◌, ◌∷◌, ◌*◌, All, IfOk, If
 ghost use Rattle.fut_value.specs.Values.{IsWellFormed, datum_of, datum_with, product, shape_with};
 ghost use Rattle.array_data.specs.Held.{held, held_all, shape_held};
 
-use array_data::{Built, Data, Form, untested};
+use array_data::{Built, Data, Form, Handle, untested};
 use fut_arithmetic::decode_word;
 use fut_scalar::{List, NoMemory, ScalarType, Shared};
 use fut_value::{Shape, Value};
@@ -54,7 +54,7 @@ fn data_with(
         },
         [count] if words.len() as u64 == *count => {
             let words = List::from_slice(alloc, words)?;
-            Ok(Data::Words(elem, Shared::new(alloc, words)?))
+            Ok(Data::Words(elem, Handle::new(alloc, words)?))
         }
         [count, rest @ ..] => rows_with(alloc, elem, *count, rest, words),
     }
@@ -96,7 +96,7 @@ pub fn data_of(alloc: Global, value: Value) -> Result<Data, NoMemory>
     let Value { shape, words } = value;
     let Shape { elem, sizes } = shape;
     if sizes.len() == 1 {
-        return Ok(Data::Words(elem, Shared::new(alloc, words)?));
+        return Ok(Data::Words(elem, Handle::new(alloc, words)?));
     }
     data_with(alloc, elem, sizes.as_slice(), words.as_slice())
 }

@@ -1,5 +1,5 @@
 -- What acts answer, by what their parts do.
-use Rattle.std.proofs.Common.{◌≡◌, ℕ, ◌<◌, ◌^◌, List, length, true, false, Ok, Err, sym, arith}
+use Rattle.std.proofs.Common.{◌≡◌, ℕ, ◌<◌, ◌^◌, List, length, true, false, Ok, Err, sym, subst, arith}
 use Rattle.fut_scalar.specs.Integers.{width_of}
 use Rattle.fut_scalar.specs.declared.place.Place.{Place}
 use Rattle.fut_scalar.specs.declared.report.FailKind.TheVariants as kind
@@ -139,18 +139,21 @@ module _ (budget : ℕ) (t s s1 : List Component) (us : List Atom) where
             (x env n mid mid' last s vs st u nc nb l q (sym p) v)
         by_first (gone f y) = gone f (sticks y)
 
-pub held_for_done : (budget : ℕ) (t : List Component) (s : List Data) (s1 : List Component) (us : List Atom) (xs : List ℕ) (i : ℕ) (c : Atom) (b : Body) → Reads_all t us (held_all s) s1 (Ok tt) → (ty : IntType) (count mark : ℕ) (t' s' : List Component) (r : Answer) → Turns_at t c (Ok (ty, count)) → count < 2 ^ width_of ty → mark ≡ length s → For_runs budget b xs i ty count mark t t' s1 s' r → Act_runs budget (For xs us i c b) t t' (held_all s) s' r
-held_for_done budget t s s1 us xs i c b h ty count mark t' s' r k m p x = for_done budget t (held_all s) s1 us xs i c b h ty count mark t' s' r k m (p ∙ sym (held_length s)) x
+pub held_for_done : (budget : ℕ) (t given : List Data) (s : List Data) (s1 : List Component) (us : List Atom) (xs : List ℕ) (i : ℕ) (c : Atom) (b : Body) → Reads_all (held_all t) us (held_all s) s1 (Ok tt) → (ty : IntType) (count mark : ℕ) (t' s' : List Component) (r : Answer) → Turns_at (held_all t) c (Ok (ty, count)) → count < 2 ^ width_of ty → mark ≡ length s → given ≡ t → For_runs budget b xs i ty count mark (held_all given) t' s1 s' r → Act_runs budget (For xs us i c b) (held_all t) t' (held_all s) s' r
+held_for_done budget t given s s1 us xs i c b h ty count mark t' s' r k m p e x =
+    for_done budget (held_all t) (held_all s) s1 us xs i c b h ty count mark t' s' r k m (p ∙ sym (held_length s)) (subst (λ z. For_runs budget b xs i ty count mark (held_all z) t' s1 s' r) e x)
 
-pub held_while_act_done : (budget : ℕ) (t : List Component) (s : List Data) (s1 : List Component) (us : List Atom) (at : Place) (xs : List ℕ) (c b : Body) (mark : ℕ) (t' s' : List Component) (r : Answer) → Reads_all t us (held_all s) s1 (Ok tt) → mark ≡ length s → While_runs budget c b xs at mark t t' s1 s' r → Act_runs budget (While at xs us c b) t t' (held_all s) s' r
-held_while_act_done budget t s s1 us at xs c b mark t' s' r h p x = while_act_done budget t (held_all s) s1 us at xs c b mark t' s' r h (p ∙ sym (held_length s)) x
+pub held_while_act_done : (budget : ℕ) (t given : List Data) (s : List Data) (s1 : List Component) (us : List Atom) (at : Place) (xs : List ℕ) (c b : Body) (mark : ℕ) (t' s' : List Component) (r : Answer) → Reads_all (held_all t) us (held_all s) s1 (Ok tt) → mark ≡ length s → given ≡ t → While_runs budget c b xs at mark (held_all given) t' s1 s' r → Act_runs budget (While at xs us c b) (held_all t) t' (held_all s) s' r
+held_while_act_done budget t given s s1 us at xs c b mark t' s' r h p e x =
+    while_act_done budget (held_all t) (held_all s) s1 us at xs c b mark t' s' r h (p ∙ sym (held_length s)) (subst (λ z. While_runs budget c b xs at mark (held_all z) t' s1 s' r) e x)
 
-pub held_over_done : (budget : ℕ) (t : List Component) (s : List Data) (s1 : List Component) (us : List Atom) (xs : List ℕ) (i : ℕ) (c : Atom) (b : Body) → Reads_all t us (held_all s) s1 (Ok tt) → (d : Component) (m mark : ℕ) (t' s' : List Component) (r : Answer) → Reads t c (Ok d) → Counts d (Ok m) → mark ≡ length s → Over_runs budget b xs i d mark t t' s1 s' r → Act_runs budget (Over xs us i c b) t t' (held_all s) s' r
-held_over_done budget t s s1 us xs i c b h d m mark t' s' r k g p x = over_done budget t (held_all s) s1 us xs i c b h d m mark t' s' r k g (p ∙ sym (held_length s)) x
+pub held_over_done : (budget : ℕ) (t given : List Data) (s : List Data) (s1 : List Component) (us : List Atom) (xs : List ℕ) (i : ℕ) (c : Atom) (b : Body) → Reads_all (held_all t) us (held_all s) s1 (Ok tt) → (d : Component) (m mark : ℕ) (t' s' : List Component) (r : Answer) → Reads (held_all t) c (Ok d) → Counts d (Ok m) → mark ≡ length s → given ≡ t → Over_runs budget b xs i d mark (held_all given) t' s1 s' r → Act_runs budget (Over xs us i c b) (held_all t) t' (held_all s) s' r
+held_over_done budget t given s s1 us xs i c b h d m mark t' s' r k g p e x =
+    over_done budget (held_all t) (held_all s) s1 us xs i c b h d m mark t' s' r k g (p ∙ sym (held_length s)) (subst (λ z. Over_runs budget b xs i d mark (held_all z) t' s1 s' r) e x)
 
-pub act_made : (budget : ℕ) (a : Action) (t s s' : List Component) (r : Answer) → Made_runs a t s s' r → Act_runs budget a t t s s' r
+pub act_made : (budget : ℕ) (a : Action) (t given : List Data) (s s' : List Component) (r : Answer) → Made_runs a (held_all t) s s' r → given ≡ t → Act_runs budget a (held_all t) (held_all given) s s' r
 unfolding Made_runs Act_runs
-act_made budget a t s s' r h env n last st na l = h budget env n st
+act_made budget a t given s s' r h e env n last st na l = subst (λ z. Runs (act_means true budget a env) n (held_all t) (held_all z) s s' r) (sym e) (h budget env n st)
 
 pub act_memory : (budget : ℕ) (a : Action) (t s : List Component) → Act_runs budget a t t s s (Err Memory)
 unfolding Act_runs

@@ -20,10 +20,10 @@ use Rattle.array_data.specs.declared.stop.Stop.TheVariants.{Memory}
 use Rattle.array_data.specs.Answers.{exact_held, Row_is, row_is, no_memory_row}
 use Rattle.array_data.specs.Changes.{Found, found, not_found, as_found, Replaced, replaced, not_replaced}
 use Rattle.array_data.specs.Held.{held, rows_in}
-use Rattle.array_data.specs.Plans.{and_old}
-use Rattle.array_data.specs.Writes.{Index_at}
-use Rattle.array_data.proofs.Scattering.{read_long, same_or_not}
-use Rattle.array_data.proofs.Writing.{get_set, get_other, set_long, none_past, some_there, written_there, written_elsewhere, written_join, no_write, one_write, writes_more, writes_cut}
+use Rattle.array_primitives.specs.Plans.{and_old}
+use Rattle.array_primitives.specs.Writes.{Index_at}
+use Rattle.array_primitives.proofs.Scattering.{read_long, same_or_not}
+use Rattle.array_primitives.proofs.Writing.{get_set, get_other, set_long, none_past, some_there, written_there, written_elsewhere, written_join, no_write, one_write, writes_more, writes_cut}
 use Rattle.fut_eval.specs.Answers.{Answer, Stands, Kept}
 use Rattle.fut_eval.specs.Primitives.{Gives, gave, gave_failure, gave_memory, gave_wrong, applies, Two_runs, reduction, combined_with, write_of, leaving, Write_runs, Combine_runs}
 use Rattle.fut_eval.proofs.Folding.{Folded, folded_first, folded_more, fold_value, next_fails, next_wrong}
@@ -199,28 +199,28 @@ pub data Combining (f : Applied) (ne : Datum) (old : List Datum) (ws all : List 
   combining : s ≡ s0 → Kept n t0 t → Cells f ne old ws cells → Combining f ne old ws all cells n t0 t s0 s
   combine_gone : (m : ℕ) → combine_all f ne old all Wrong m → Combining f ne old ws all cells n t0 t s0 s
 
-unfoldable pub Combine_goes : ℕ → Body → List ℕ → (d is vs : Datum) → ℕ → ℕ → List Datum → (t0 t s0 s : List Component) → Type 0
-Combine_goes budget b xs d is vs n i cells t0 t s0 s =
+unfoldable pub Combine_goes : ℕ → Body → List ℕ → List Datum → (is vs : Datum) → ℕ → ℕ → List Datum → (t0 t s0 s : List Component) → Type 0
+Combine_goes budget b xs old is vs n i cells t0 t s0 s =
     (ne : Datum) (zs : List ℤ) → each_out exact_of (rows_in is) ≡ Val zs → n ≡ length (rows_in is) → n ≡ length (rows_in vs)
     → (env : Names Component) (next mid last : ℕ) → Stands env next t0 → Upward next xs mid → Body_numbered mid b last → last ≤ length t0
-    → Combining (applies budget b xs env) ne (rows_in d) (writes (length (rows_in d)) (take i zs) (take i (rows_in vs))) (writes (length (rows_in d)) zs (rows_in vs)) cells next t0 t s0 s
+    → Combining (applies budget b xs env) ne old (writes (length old) (take i zs) (take i (rows_in vs))) (writes (length old) zs (rows_in vs)) cells next t0 t s0 s
 
-module _ (budget : ℕ) (b : Body) (xs : List ℕ) (d is vs : Datum) (n : ℕ) where
-  pub combine_memory : (t t' s s' : List Component) → Combine_runs budget b xs d is vs n t t' s s' (Err Memory)
+module _ (budget : ℕ) (b : Body) (xs : List ℕ) (old : List Datum) (is vs : Datum) (n : ℕ) where
+  pub combine_memory : (t t' s s' : List Component) → Combine_runs budget b xs old is vs n t t' s s' (Err Memory)
   unfolding Combine_runs
   combine_memory t t' s s' ne zs q p p' env next mid last st u nb l = gave_memory
 
-  pub combine_start : (cells : List Datum) (t s : List Component) → cells ≡ rows_in d → Combine_goes budget b xs d is vs n 0 cells t t s s
+  pub combine_start : (cells : List Datum) (t s : List Component) → cells ≡ old → Combine_goes budget b xs old is vs n 0 cells t t s s
   unfolding Combine_goes
   combine_start cells t s e ne zs q p p' env next mid last st u nb l =
-      combining refl (kept_same next t) (subst (λ z. Cells (applies budget b xs env) ne (rows_in d) [] z) (sym e) (cells_start (applies budget b xs env) ne (rows_in d)))
+      combining refl (kept_same next t) (subst (λ z. Cells (applies budget b xs env) ne old [] z) (sym e) (cells_start (applies budget b xs env) ne old))
 
-  pub combine_no_row : (i : ℕ) (t0 t s0 s : List Component) (e : Stop) → Row_is vs i (Err e) → Combine_runs budget b xs d is vs n t0 t s0 s (Err e)
+  pub combine_no_row : (i : ℕ) (t0 t s0 s : List Component) (e : Stop) → Row_is vs i (Err e) → Combine_runs budget b xs old is vs n t0 t s0 s (Err e)
   combine_no_row i t0 t s0 s _ no_memory_row = combine_memory t0 t s0 s
 
-  module _ (i : ℕ) (cells : List Datum) (t0 t s0 s : List Component) (h : Combine_goes budget b xs d is vs n i cells t0 t s0 s) where
+  module _ (i : ℕ) (cells : List Datum) (t0 t s0 s : List Component) (h : Combine_goes budget b xs old is vs n i cells t0 t s0 s) where
     module _ (x : Exact) (v : Datum) (cells' : List Datum) (t1 s1 : List Component) (j : Index_at (rows_in is) i x) (g : Row_is vs i (Ok v)) where
-      pub combine_stop : (e : Stop) → Write_runs budget b xs (exact_held x) v cells cells' t t1 s s1 (Err e) → Combine_runs budget b xs d is vs n t0 t1 s0 s1 (Err e)
+      pub combine_stop : (e : Stop) → Write_runs budget b xs (exact_held x) v cells cells' t t1 s s1 (Err e) → Combine_runs budget b xs old is vs n t0 t1 s0 s1 (Err e)
       unfolding Combine_goes Write_runs Combine_runs Index_at
       combine_stop e a ne zs q p p' env next mid last st u nb l = by_get g
         where
@@ -228,54 +228,54 @@ module _ (budget : ℕ) (b : Body) (xs : List ℕ) (d is vs : Datum) (n : ℕ) w
           F = applies budget b xs env
 
           n' : ℕ
-          n' = length (rows_in d)
+          n' = length old
 
-          by_write : {e : Stop} → slice_get (rows_in vs) i ≡ Some v → Cells F ne (rows_in d) (writes n' (take i zs) (take i (rows_in vs))) cells → Gives (write_of F cells (exact_held x) v) next t t1 s s1 (Err e)
-              → Gives (combine_all F ne (rows_in d) (writes n' zs (rows_in vs))) next t0 t1 s0 s1 (Err e)
+          by_write : {e : Stop} → slice_get (rows_in vs) i ≡ Some v → Cells F ne old (writes n' (take i zs) (take i (rows_in vs))) cells → Gives (write_of F cells (exact_held x) v) next t t1 s s1 (Err e)
+              → Gives (combine_all F ne old (writes n' zs (rows_in vs))) next t0 t1 s0 s1 (Err e)
           by_write k c (gave_failure {r} m y) =
-              let z = write_fails F ne (rows_in d) (writes n' (take i zs) (take i (rows_in vs))) cells c v (writes n' (drop (suc i) zs) (drop (suc i) (rows_in vs))) (exact_held x) r m y in
-              gave_failure z.0 (subst (λ w. combine_all F ne (rows_in d) w (Fail r) z.0) (sym (writes_cut n' zs (rows_in vs) i (exact_held x) v (j zs q) k)) z.1)
+              let z = write_fails F ne old (writes n' (take i zs) (take i (rows_in vs))) cells c v (writes n' (drop (suc i) zs) (drop (suc i) (rows_in vs))) (exact_held x) r m y in
+              gave_failure z.0 (subst (λ w. combine_all F ne old w (Fail r) z.0) (sym (writes_cut n' zs (rows_in vs) i (exact_held x) v (j zs q) k)) z.1)
           by_write k c gave_memory = gave_memory
           by_write k c (gave_wrong m y) =
-              let z = write_wrong F ne (rows_in d) (writes n' (take i zs) (take i (rows_in vs))) cells c v (writes n' (drop (suc i) zs) (drop (suc i) (rows_in vs))) (exact_held x) m y in
-              gave_wrong z.0 (subst (λ w. combine_all F ne (rows_in d) w Wrong z.0) (sym (writes_cut n' zs (rows_in vs) i (exact_held x) v (j zs q) k)) z.1)
+              let z = write_wrong F ne old (writes n' (take i zs) (take i (rows_in vs))) cells c v (writes n' (drop (suc i) zs) (drop (suc i) (rows_in vs))) (exact_held x) m y in
+              gave_wrong z.0 (subst (λ w. combine_all F ne old w Wrong z.0) (sym (writes_cut n' zs (rows_in vs) i (exact_held x) v (j zs q) k)) z.1)
 
-          by_combining : slice_get (rows_in vs) i ≡ Some v → Combining F ne (rows_in d) (writes n' (take i zs) (take i (rows_in vs))) (writes n' zs (rows_in vs)) cells next t0 t s0 s → Gives (combine_all F ne (rows_in d) (writes n' zs (rows_in vs))) next t0 t1 s0 s1 (Err e)
+          by_combining : slice_get (rows_in vs) i ≡ Some v → Combining F ne old (writes n' (take i zs) (take i (rows_in vs))) (writes n' zs (rows_in vs)) cells next t0 t s0 s → Gives (combine_all F ne old (writes n' zs (rows_in vs))) next t0 t1 s0 s1 (Err e)
           by_combining k (combining w f c) = by_write k c (a env next mid last (stands_kept env next t0 t st f) u nb (let z = f.long in omega arith))
           by_combining k (combine_gone m y) = gave_wrong m y
 
-          by_get : Row_is vs i (Ok v) → Gives (combine_all F ne (rows_in d) (writes n' zs (rows_in vs))) next t0 t1 s0 s1 (Err e)
+          by_get : Row_is vs i (Ok v) → Gives (combine_all F ne old (writes n' zs (rows_in vs))) next t0 t1 s0 s1 (Err e)
           by_get (row_is k) = by_combining k (h ne zs q p p' env next mid last st u nb l)
 
-      pub combine_more : Write_runs budget b xs (exact_held x) v cells cells' t t1 s s1 (Ok tt) → Combine_goes budget b xs d is vs n (i + 1) cells' t0 t1 s0 s1
+      pub combine_more : Write_runs budget b xs (exact_held x) v cells cells' t t1 s s1 (Ok tt) → Combine_goes budget b xs old is vs n (i + 1) cells' t0 t1 s0 s1
       unfolding Combine_goes Write_runs Index_at
       combine_more a ne zs q p p' env next mid last st u nb l =
-          subst (λ z. Combining (applies budget b xs env) ne (rows_in d) (writes (length (rows_in d)) (take z zs) (take z (rows_in vs))) (writes (length (rows_in d)) zs (rows_in vs)) cells' next t0 t1 s0 s1) (sym (add-one i)) (by_get g)
+          subst (λ z. Combining (applies budget b xs env) ne old (writes (length old) (take z zs) (take z (rows_in vs))) (writes (length old) zs (rows_in vs)) cells' next t0 t1 s0 s1) (sym (add-one i)) (by_get g)
         where
           F : Applied
           F = applies budget b xs env
 
           n' : ℕ
-          n' = length (rows_in d)
+          n' = length old
 
-          by_write : slice_get (rows_in vs) i ≡ Some v → s ≡ s0 → Kept next t0 t → Cells F ne (rows_in d) (writes n' (take i zs) (take i (rows_in vs))) cells → Gives (write_of F cells (exact_held x) v) next t t1 s s1 (Ok cells')
-              → Combining F ne (rows_in d) (writes n' (take (suc i) zs) (take (suc i) (rows_in vs))) (writes n' zs (rows_in vs)) cells' next t0 t1 s0 s1
+          by_write : slice_get (rows_in vs) i ≡ Some v → s ≡ s0 → Kept next t0 t → Cells F ne old (writes n' (take i zs) (take i (rows_in vs))) cells → Gives (write_of F cells (exact_held x) v) next t t1 s s1 (Ok cells')
+              → Combining F ne old (writes n' (take (suc i) zs) (take (suc i) (rows_in vs))) (writes n' zs (rows_in vs)) cells' next t0 t1 s0 s1
           by_write k w f c (gave m y kr qr) =
-              combining (qr ∙ w) (kept_trans next t0 t t1 f kr) (subst (λ z. Cells F ne (rows_in d) z cells') (sym (writes_more n' zs (rows_in vs) i (exact_held x) v (j zs q) k))
-              (write_done F ne (rows_in d) (writes n' (take i zs) (take i (rows_in vs))) cells c v (exact_held x) cells' m y))
+              combining (qr ∙ w) (kept_trans next t0 t t1 f kr) (subst (λ z. Cells F ne old z cells') (sym (writes_more n' zs (rows_in vs) i (exact_held x) v (j zs q) k))
+              (write_done F ne old (writes n' (take i zs) (take i (rows_in vs))) cells c v (exact_held x) cells' m y))
           by_write k w f c (gave_wrong m y) =
-              let z = write_wrong F ne (rows_in d) (writes n' (take i zs) (take i (rows_in vs))) cells c v (writes n' (drop (suc i) zs) (drop (suc i) (rows_in vs))) (exact_held x) m y in
-              combine_gone z.0 (subst (λ w. combine_all F ne (rows_in d) w Wrong z.0) (sym (writes_cut n' zs (rows_in vs) i (exact_held x) v (j zs q) k)) z.1)
+              let z = write_wrong F ne old (writes n' (take i zs) (take i (rows_in vs))) cells c v (writes n' (drop (suc i) zs) (drop (suc i) (rows_in vs))) (exact_held x) m y in
+              combine_gone z.0 (subst (λ w. combine_all F ne old w Wrong z.0) (sym (writes_cut n' zs (rows_in vs) i (exact_held x) v (j zs q) k)) z.1)
 
-          by_combining : slice_get (rows_in vs) i ≡ Some v → Combining F ne (rows_in d) (writes n' (take i zs) (take i (rows_in vs))) (writes n' zs (rows_in vs)) cells next t0 t s0 s
-              → Combining F ne (rows_in d) (writes n' (take (suc i) zs) (take (suc i) (rows_in vs))) (writes n' zs (rows_in vs)) cells' next t0 t1 s0 s1
+          by_combining : slice_get (rows_in vs) i ≡ Some v → Combining F ne old (writes n' (take i zs) (take i (rows_in vs))) (writes n' zs (rows_in vs)) cells next t0 t s0 s
+              → Combining F ne old (writes n' (take (suc i) zs) (take (suc i) (rows_in vs))) (writes n' zs (rows_in vs)) cells' next t0 t1 s0 s1
           by_combining k (combining w f c) = by_write k w f c (a env next mid last (stands_kept env next t0 t st f) u nb (let z = f.long in omega arith))
           by_combining k (combine_gone m y) = combine_gone m y
 
-          by_get : Row_is vs i (Ok v) → Combining F ne (rows_in d) (writes n' (take (suc i) zs) (take (suc i) (rows_in vs))) (writes n' zs (rows_in vs)) cells' next t0 t1 s0 s1
+          by_get : Row_is vs i (Ok v) → Combining F ne old (writes n' (take (suc i) zs) (take (suc i) (rows_in vs))) (writes n' zs (rows_in vs)) cells' next t0 t1 s0 s1
           by_get (row_is k) = by_combining k (h ne zs q p p' env next mid last st u nb l)
 
-    pub combine_end : n ≤ i → Combine_runs budget b xs d is vs n t0 t s0 s (Ok cells)
+    pub combine_end : n ≤ i → Combine_runs budget b xs old is vs n t0 t s0 s (Ok cells)
     unfolding Combine_goes Combine_runs
     combine_end m ne zs q p p' env next mid last st u nb l = by_combining (h ne zs q p p' env next mid last st u nb l)
       where
@@ -283,15 +283,15 @@ module _ (budget : ℕ) (b : Body) (xs : List ℕ) (d is vs : Datum) (n : ℕ) w
         F = applies budget b xs env
 
         n' : ℕ
-        n' = length (rows_in d)
+        n' = length old
 
         all_taken : writes n' (take i zs) (take i (rows_in vs)) ≡ writes n' zs (rows_in vs)
         all_taken = ap (λ z. writes n' z (take i (rows_in vs))) (take_all i zs (omega (arith, read_long (rows_in is) zs q))) ∙ ap (writes n' zs) (take_all i (rows_in vs) (omega arith))
 
-        by_combining : Combining F ne (rows_in d) (writes n' (take i zs) (take i (rows_in vs))) (writes n' zs (rows_in vs)) cells next t0 t s0 s → Gives (combine_all F ne (rows_in d) (writes n' zs (rows_in vs))) next t0 t s0 s (Ok cells)
+        by_combining : Combining F ne old (writes n' (take i zs) (take i (rows_in vs))) (writes n' zs (rows_in vs)) cells next t0 t s0 s → Gives (combine_all F ne old (writes n' zs (rows_in vs))) next t0 t s0 s (Ok cells)
         by_combining (combining w f c) =
-            let e = subst (λ z. Cells F ne (rows_in d) z cells) all_taken c in
-            let z = all_folded F ne (writes n' zs (rows_in vs)) (rows_in d) cells 0 e.long (λ k o a x y. let j : k ≡ 0 + k = omega arith in subst (λ z. Folded F ne (o ∷ written_at z (writes n' zs (rows_in vs))) a) j (e.each k o a x y)) in
+            let e = subst (λ z. Cells F ne old z cells) all_taken c in
+            let z = all_folded F ne (writes n' zs (rows_in vs)) old cells 0 e.long (λ k o a x y. let j : k ≡ 0 + k = omega arith in subst (λ z. Folded F ne (o ∷ written_at z (writes n' zs (rows_in vs))) a) j (e.each k o a x y)) in
             gave z.0 z.1 f w
         by_combining (combine_gone o y) = gave_wrong o y
 

@@ -15,7 +15,7 @@ use Rattle.array_data.specs.Held.{held, rows_in}
 use Rattle.array_data.specs.Answers.{Added, added, not_added, Copied, copied, not_copied, Counts, counts, Row_is, row_is, no_memory_row}
 use Rattle.array_data.proofs.RowsRead.{take_row, drop_row}
 use Rattle.array_data.proofs.Forms.{drop_past}
-use Rattle.array_data.proofs.Writing.{cut_at, taken_long}
+use Rattle.array_primitives.proofs.Writing.{cut_at, taken_long}
 use Rattle.fut_eval.specs.Answers.{Stands, Kept}
 use Rattle.fut_eval.specs.Primitives.{Gives, gave, gave_failure, gave_memory, gave_wrong, applies, next_of, Next_runs, reduction, Fold_runs, Scan_runs}
 use Rattle.fut_eval.proofs.Tells.{Leads, leads_trans, kept_same, kept_trans, stands_kept}

@@ -6,7 +6,7 @@ use Rattle.fut_flat.specs.declared.prim.Primitive.{Primitive}
 use Rattle.fut_value.specs.Data.{Shape, Datum, Array_datum, Unmet_shape, datums, shape_of, array_words}
 use Rattle.std.specs.Prelude.{ℤ}
 use Rattle.fut_meaning.specs.Arrays.{array, all_fresh, fresh, each_out, exact_of}
-use Rattle.fut_meaning.specs.Jobs.{Applied, in_place_of, writes, Job, Done, Apply_each, Reduce_each, Choose_each, Some_of, some_of, shown, places, or_old, all_of, prefixes_on, job}
+use Rattle.fut_meaning.specs.Jobs.{Applied, in_place_of, writes, Job, Done, Apply_each, Reduce_each, Choose_each, Some_of, some_of, shown, scattered, places, or_old, all_of, prefixes_on, job}
 use Rattle.fut_meaning.specs.Outcomes.{Rel, Out, Val, Fail, Wrong, exact, gives, the, Then, goes_on, stops, sticks, both, stops_left, sticks_left, each_of}
 use Rattle.fut_blocks.specs.declared.block.Atom.{Atom}
 use Rattle.fut_blocks.specs.Meaning.{Component, Names, values_of, function_of, job_given, act_means, body_means}
@@ -14,16 +14,17 @@ use Rattle.fut_blocks.specs.Numbered.{Upward, Act_numbered, Body_numbered}
 use Rattle.fut_blocks.specs.Plain.{Body}
 use Rattle.fut_blocks.specs.Plain as act
 use Rattle.array_data.specs.declared.data.Data.{Data}
-use Rattle.array_data.specs.declared.jobs.Finish.{Finish}
-use Rattle.array_data.specs.declared.jobs.Plan.TheVariants as plan
+use Rattle.array_primitives.specs.declared.jobs.Finish.{Finish}
+use Rattle.array_primitives.specs.declared.jobs.Plan.TheVariants as plan
 use Rattle.array_data.specs.declared.stop.Stop.{Stop}
 use Rattle.array_data.specs.declared.stop.Stop.TheVariants.{Failed, Memory}
 use Rattle.array_data.specs.Answers.{Does, does, does_lost}
-use Rattle.array_data.specs.Held.{held, held_all, rows_in, row_shape_in}
+use Rattle.array_data.specs.Held.{held, held_all, rows_in, row_shape_in, shape_held}
+use Rattle.array_data.specs.declared.form.Form.{Form}
 use Rattle.array_data.specs.Changes.{Stands_in, stands_in, misfits, no_memory_for}
-use Rattle.array_data.specs.Plans.{and_old, combines, plan_combine, made_of, first_fresh, Planned, plan_done, plan_chosen, plan_each, plan_reduce, plan_scan, plan_fails, plan_memory, plan_lost, Counted_is, counted_is, counted_fails, counted_memory, counted_lost}
-use Rattle.array_data.specs.Writes.{All_chosen, none_chosen, one_chosen, in_array, Scatters, scatters, scatter_lost}
-use Rattle.array_data.proofs.Planning.{two_held, four_held}
+use Rattle.array_primitives.specs.Plans.{and_old, combines, plan_combine, made_of, first_fresh, Planned, plan_done, plan_scatter, plan_each, plan_reduce, plan_scan, plan_fails, plan_memory, plan_lost, Counted_is, counted_is, counted_fails, counted_memory, counted_lost}
+use Rattle.array_primitives.specs.Writes.{All_chosen, none_chosen, one_chosen, in_array, Scatters, scatters, scatter_fails, scatter_memory, scatter_lost}
+use Rattle.array_primitives.proofs.Planning.{two_held, three_held}
 use Rattle.fut_eval.specs.Answers.{Answer, Tells, told, report_told, no_memory_told, lost, Stands, Kept, Runs, ran, failed, no_memory, gone, Pushed, pushed, not_pushed, Reads_data}
 use Rattle.fut_eval.specs.Primitives.{Gives, gave, gave_failure, gave_memory, gave_wrong, applies, Each_runs, reduction, Fold_runs, Scan_runs, Combine_runs, Job_runs}
 use Rattle.fut_eval.specs.Runs.{Act_runs}
@@ -36,10 +37,13 @@ module _ (budget : ℕ) (p : Primitive) (at : Place) (us : List Atom) (xs : List
   unfolding Reads_data Act_runs act_means
   data_stop e h env n last st na l = then_stop n t t s s (values_of env us) (λ vs. Then (the (job false Unmet_shape p at vs)) (job_given true (function_of (body_means true budget b) xs env))) e (h env n st)
 
-  pub data_read : (ds : List Component) (t' s' : List Component) (r : Answer) → Reads_data t us (Ok ds) → Job_runs budget b xs (job false Unmet_shape p at ds) t t' s s' r → Act_runs budget (act.Job p at us xs b) t t' s s' r
+  data_used : (ds : List Component) (t' s' : List Component) (r : Answer) → Reads_data t us (Ok ds) → Job_runs budget b xs (job false Unmet_shape p at ds) t t' s s' r → Act_runs budget (act.Job p at us xs b) t t' s s' r
   unfolding Reads_data Act_runs Job_runs act_means Act_numbered
-  data_read ds t' s' r h k env n last st (mid, u, nb) l =
+  data_used ds t' s' r h k env n last st (mid, u, nb) l =
       then_next n t t' s s' (values_of env us) (λ vs. Then (the (job false Unmet_shape p at vs)) (job_given true (function_of (body_means true budget b) xs env))) ds r (h env n st) (k env n mid last st u nb l)
+
+pub data_read : (budget : ℕ) (p : Primitive) (at : Place) (us : List Atom) (xs : List ℕ) (b : Body) (t given : List Data) (s : List Component) (ds : List Component) (t' s' : List Component) (r : Answer) → Reads_data (held_all t) us (Ok ds) → given ≡ t → Job_runs budget b xs (job false Unmet_shape p at ds) (held_all given) t' s s' r → Act_runs budget (act.Job p at us xs b) (held_all t) t' s s' r
+data_read budget p at us xs b t given s ds t' s' r h e k = data_used budget p at us xs b (held_all t) s ds t' s' r h (subst (λ z. Job_runs budget b xs (job false Unmet_shape p at ds) (held_all z) t' s s' r) e k)
 
 pub ruleset acts = (data_stop, data_read)
 
@@ -72,17 +76,24 @@ module _ (budget : ℕ) (b : Body) (xs : List ℕ) (o : Out Job) where
   all_chosen _ _ none_chosen = (0, exact)
   all_chosen _ _ (one_chosen {xss = xss} {ys = ys} h a) = let c = all_chosen xss ys a in (0 + c.0 + 0, both (some_of h) c.1 exact)
 
+  -- rows that are written
+  chosen_done : (t s s1 : List Component) (v : Datum) (r : Answer) → Scatters o (Ok v) → Pushed v s s1 r → Job_runs budget b xs o t t s s1 r
+  unfolding Job_runs
+  chosen_done t s s1 v r (scatter_lost q) h env n mid last st u nb l = gone 0 (sticks (the_is o Wrong q))
+  chosen_done t s s1 v r (scatters ws old row es q a e) h env n mid last st u nb l = let c = all_chosen (places or_old 0 old ws) es a in
+      result_runs env n t t s s s1 v (0 + (c.0 + (0 + 0) + 0)) r (kept_same n t) refl
+      (goes_on (the_is o (Val (Choose_each ws old (in_array row))) q)
+      (goes_on (goes_on (shown tt c.1) (goes_on exact (subst (λ d. gives 0 (Array_datum row (datums es)) (Val d) 0) (sym e) exact))) exact)) h
+
+  chosen_stop : (t s : List Component) (e : Stop) → Scatters o (Err e) → Job_runs budget b xs o t t s s (Err e)
+  unfolding Job_runs
+  chosen_stop t s _ (scatter_fails {r} q) env n mid last st u nb l = failed 0 (stops (the_is o (Fail r) q))
+  chosen_stop t s _ scatter_memory env n mid last st u nb l = no_memory
+  chosen_stop t s e (scatter_lost q) env n mid last st u nb l = gone 0 (sticks (the_is o Wrong q))
+
   pub job_done : (at : Place) (ds : List Datum) (t s s1 : List Component) (v : Data) (r : Answer) → Planned o at ds (Ok (plan.Done v)) → Pushed (held v) s s1 r → Job_runs budget b xs o t t s s1 r
   unfolding Job_runs
   job_done at ds t s s1 v r (plan_lost q) h env n mid last st u nb l = gone 0 (sticks (the_is o Wrong q))
-  job_done at ds t s s1 v r (plan_chosen c) h env n mid last st u nb l = by_chosen c
-    where
-      by_chosen : Scatters o (Ok (held v)) → Runs (Then (the o) (job_given true (applies budget b xs env))) n t t s s1 r
-      by_chosen (scatter_lost q) = gone 0 (sticks (the_is o Wrong q))
-      by_chosen (scatters ws old row es q a e) = let c = all_chosen (places or_old 0 old ws) es a in
-          result_runs env n t t s s s1 (held v) (0 + (c.0 + (0 + 0) + 0)) r (kept_same n t) refl
-          (goes_on (the_is o (Val (Choose_each ws old (in_array row))) q)
-          (goes_on (goes_on (shown tt c.1) (goes_on exact (subst (λ d. gives 0 (Array_datum row (datums es)) (Val d) 0) (sym e) exact))) exact)) h
   job_done at ds t s s1 v r (plan_done d) h env n mid last st u nb l = by_does d
     where
       by_does : Does o (Ok (held v)) → Runs (Then (the o) (job_given true (applies budget b xs env))) n t t s s1 r
@@ -236,63 +247,95 @@ module _ (budget : ℕ) (b : Body) (xs : List ℕ) (o : Out Job) (at : Place) (d
       unfolding Job_runs
       scan_result v s2 a y x env n mid last st u nb l = scan_told (Ok v) y env n mid last st u nb l s2 a (λ w f q kr qr z. let j : v ≡ w = cc in result_runs budget b xs o env n t t1 s s1 s2 w f a kr qr z (subst (λ w. Pushed w s1 s2 a) j x)) (λ r f q z. cc) (λ q. cc)
 
+-- ---- rows that are written at places
+
+-- the array is apart from the other arguments
+module _ (whole x y : Data) (rest : List Data) where
+  same_scattered : (d is vs : Datum) → length rest ≡ 2 → held_all (whole ∷ rest) ≡ d ∷ is ∷ vs ∷ [] → (held whole ≡ d) × (held (get_or rest 0 x) ≡ is) × (held (get_or rest 1 y) ≡ vs)
+  unfolding held_all
+  same_scattered d is vs l e =
+      let q : held whole ∷ held (get_or rest 0 x) ∷ held (get_or rest 1 y) ∷ [] ≡ d ∷ is ∷ vs ∷ [] = ap (λ z. held whole ∷ z) (sym (two_held rest x y l)) ∙ e in
+      (let i : held whole ≡ d = cc in i, let i : held (get_or rest 0 x) ≡ is = cc in i, let i : held (get_or rest 1 y) ≡ vs = cc in i)
+
+module _ (budget : ℕ) (b : Body) (xs : List ℕ) (o : Out Job) (at : Place) (ds : List Data) (whole x y : Data) (rest : List Data) (p : Planned o at (held_all ds) (Ok plan.Scatter)) (apart : ds ≡ whole ∷ rest) (two : length rest ≡ 2) (t s : List Component) where
+  scattered_or_lost : (r : Result Datum Stop) → Scatters (scattered false at (held whole) (held (get_or rest 0 x)) (held (get_or rest 1 y))) r → Scatters o r
+  scattered_or_lost r h = by_plan p
+    where
+      by_plan : Planned o at (held_all ds) (Ok plan.Scatter) → Scatters o r
+      by_plan (plan_lost q) = scatter_lost q
+      by_plan (plan_scatter d is vs e q) =
+          let c = same_scattered whole x y rest d is vs two (ap held_all (sym apart) ∙ e) in
+          let i : scattered false at (held whole) (held (get_or rest 0 x)) (held (get_or rest 1 y)) ≡ o
+          = ap (λ z. scattered false at z (held (get_or rest 0 x)) (held (get_or rest 1 y))) c.0 ∙ ap (λ z. scattered false at d z (held (get_or rest 1 y))) c.1 ∙ ap (scattered false at d is) c.2 ∙ sym q in
+          subst (λ z. Scatters z r) i h
+
+  pub scatter_stops : (e : Stop) → Scatters (scattered false at (held whole) (held (get_or rest 0 x)) (held (get_or rest 1 y))) (Err e) → Job_runs budget b xs o t t s s (Err e)
+  scatter_stops e h = chosen_stop budget b xs o t s e (scattered_or_lost (Err e) h)
+
+  pub scatter_result : (v : Datum) (s1 : List Component) (r : Answer) → Scatters (scattered false at (held whole) (held (get_or rest 0 x)) (held (get_or rest 1 y))) (Ok v) → Pushed v s s1 r → Job_runs budget b xs o t t s s1 r
+  scatter_result v s1 r h put = chosen_done budget b xs o t s s1 v r (scattered_or_lost (Ok v) h) put
+
 -- ---- reductions at places
 
-module _ (budget : ℕ) (b : Body) (xs : List ℕ) (o : Out Job) (at : Place) (n : ℕ) (ds : List Data) (w x y z : Data) (four : length ds ≡ 4) (t t1 s s1 : List Component) (p : Planned o at (held_all ds) (Ok (plan.Combine n))) where
+module _ (budget : ℕ) (b : Body) (xs : List ℕ) (o : Out Job) (at : Place) (n : ℕ) (ds : List Data) (whole x y z : Data) (rest : List Data) (h : Form) (old : List Datum) (p : Planned o at (held_all ds) (Ok (plan.Combine n))) (apart : ds ≡ whole ∷ rest) (three : length rest ≡ 3) (g : shape_held h ≡ row_shape_in (held whole)) (k : old ≡ rows_in (held whole)) (t t1 s s1 : List Component) where
   abbrev all_combined : Applied → (d ne vs : Datum) → List ℤ → Rel (List Datum)
   all_combined f d ne vs zs = all_of (reduction true f ne) (places and_old 0 (rows_in d) (writes (length (rows_in d)) zs (rows_in vs)))
 
   -- the arguments are what the plan says
-  same_four : (d ne is vs : Datum) → held_all ds ≡ d ∷ ne ∷ is ∷ vs ∷ [] → (held (get_or ds 0 w) ≡ d) × (held (get_or ds 2 y) ≡ is) × (held (get_or ds 3 z) ≡ vs)
-  same_four d ne is vs e =
-      let q : held (get_or ds 0 w) ∷ held (get_or ds 1 x) ∷ held (get_or ds 2 y) ∷ held (get_or ds 3 z) ∷ [] ≡ d ∷ ne ∷ is ∷ vs ∷ [] = sym (four_held ds w x y z four) ∙ e in
-      (let i : held (get_or ds 0 w) ≡ d = cc in i, let i : held (get_or ds 2 y) ≡ is = cc in i, let i : held (get_or ds 3 z) ≡ vs = cc in i)
+  same_combined : (d ne is vs : Datum) → held_all (whole ∷ rest) ≡ d ∷ ne ∷ is ∷ vs ∷ [] → (held whole ≡ d) × (held (get_or rest 1 y) ≡ is) × (held (get_or rest 2 z) ≡ vs)
+  unfolding held_all
+  same_combined d ne is vs e =
+      let q : held whole ∷ held (get_or rest 0 x) ∷ held (get_or rest 1 y) ∷ held (get_or rest 2 z) ∷ [] ≡ d ∷ ne ∷ is ∷ vs ∷ [] = ap (λ l. held whole ∷ l) (sym (three_held rest x y z three)) ∙ e in
+      (let i : held whole ≡ d = cc in i, let i : held (get_or rest 1 y) ≡ is = cc in i, let i : held (get_or rest 2 z) ≡ vs = cc in i)
 
   -- what the plan says of a run
-  by_places : (r : Result (List Datum) Stop) → Combine_runs budget b xs (held (get_or ds 0 w)) (held (get_or ds 2 y)) (held (get_or ds 3 z)) n t t1 s s1 r
-      → (env : Names Component) (k mid last : ℕ) → Stands env k t → Upward k xs mid → Body_numbered mid b last → last ≤ length t
+  by_places : (r : Result (List Datum) Stop) → Combine_runs budget b xs old (held (get_or rest 1 y)) (held (get_or rest 2 z)) n t t1 s s1 r
+      → (env : Names Component) (m mid last : ℕ) → Stands env m t → Upward m xs mid → Body_numbered mid b last → last ≤ length t
       → (s2 : List Component) (a : Answer)
-      → ((d ne vs : Datum) (zs : List ℤ) → o ≡ Val (combines at d ne vs zs) → held (get_or ds 0 w) ≡ d → Gives (all_combined (applies budget b xs env) d ne vs zs) k t t1 s s1 r → Runs (Then (the o) (job_given true (applies budget b xs env))) k t t1 s s2 a)
-      → Runs (Then (the o) (job_given true (applies budget b xs env))) k t t1 s s2 a
+      → ((d ne vs : Datum) (zs : List ℤ) → o ≡ Val (combines at d ne vs zs) → shape_held h ≡ row_shape_in d → Gives (all_combined (applies budget b xs env) d ne vs zs) m t t1 s s1 r → Runs (Then (the o) (job_given true (applies budget b xs env))) m t t1 s s2 a)
+      → Runs (Then (the o) (job_given true (applies budget b xs env))) m t t1 s s2 a
   unfolding Combine_runs
-  by_places r h env k mid last st u nb l s2 a with_plan = by_plan p
+  by_places r w env m mid last st u nb l s2 a with_plan = by_plan p
     where
-      at_arguments : (d ne is vs : Datum) (zs : List ℤ) → (held (get_or ds 0 w) ≡ d) × (held (get_or ds 2 y) ≡ is) × (held (get_or ds 3 z) ≡ vs) → each_out exact_of (rows_in is) ≡ Val zs → n ≡ length (rows_in is) → n ≡ length (rows_in vs) → Gives (all_combined (applies budget b xs env) d ne vs zs) k t t1 s s1 r
+      at_arguments : (d ne is vs : Datum) (zs : List ℤ) → (held whole ≡ d) × (held (get_or rest 1 y) ≡ is) × (held (get_or rest 2 z) ≡ vs) → each_out exact_of (rows_in is) ≡ Val zs → n ≡ length (rows_in is) → n ≡ length (rows_in vs) → Gives (all_combined (applies budget b xs env) d ne vs zs) m t t1 s s1 r
       at_arguments d ne is vs zs (i, i', i'') q e e' =
-          subst (λ v. Gives (all_combined (applies budget b xs env) d ne v zs) k t t1 s s1 r) i'' (subst (λ d. Gives (all_combined (applies budget b xs env) d ne (held (get_or ds 3 z)) zs) k t t1 s s1 r) i
-          (h ne zs (ap (λ v. each_out exact_of (rows_in v)) i' ∙ q) (e ∙ sym (ap (λ v. length (rows_in v)) i')) (e' ∙ sym (ap (λ v. length (rows_in v)) i'')) env k mid last st u nb l))
+          subst (λ v. Gives (all_combined (applies budget b xs env) d ne v zs) m t t1 s s1 r) i''
+          (subst (λ old. Gives (all_of (reduction true (applies budget b xs env) ne) (places and_old 0 old (writes (length old) zs (rows_in (held (get_or rest 2 z)))))) m t t1 s s1 r) (k ∙ ap rows_in i)
+          (w ne zs (ap (λ v. each_out exact_of (rows_in v)) i' ∙ q) (e ∙ sym (ap (λ v. length (rows_in v)) i')) (e' ∙ sym (ap (λ v. length (rows_in v)) i'')) env m mid last st u nb l))
 
-      by_plan : Planned o at (held_all ds) (Ok (plan.Combine n)) → Runs (Then (the o) (job_given true (applies budget b xs env))) k t t1 s s2 a
-      by_plan (plan_combine d ne is vs zs i q e e' j) = let c = same_four d ne is vs i in with_plan d ne vs zs j c.0 (at_arguments d ne is vs zs c q e e')
+      by_plan : Planned o at (held_all ds) (Ok (plan.Combine n)) → Runs (Then (the o) (job_given true (applies budget b xs env))) m t t1 s s2 a
+      by_plan (plan_combine d ne is vs zs i q e e' j) = let c = same_combined d ne is vs (ap held_all (sym apart) ∙ i) in with_plan d ne vs zs j (g ∙ ap row_shape_in c.0) (at_arguments d ne is vs zs c q e e')
       by_plan (plan_lost q) = gone 0 (sticks (the_is o Wrong q))
 
-  pub combine_no_result : (e : Stop) → Combine_runs budget b xs (held (get_or ds 0 w)) (held (get_or ds 2 y)) (held (get_or ds 3 z)) n t t1 s s1 (Err e) → Job_runs budget b xs o t t1 s s1 (Err e)
+  pub combine_no_result : (e : Stop) → Combine_runs budget b xs old (held (get_or rest 1 y)) (held (get_or rest 2 z)) n t t1 s s1 (Err e) → Job_runs budget b xs o t t1 s s1 (Err e)
   unfolding Job_runs
-  combine_no_result e h env k mid last st u nb l = by_places (Err e) h env k mid last st u nb l s1 (Err e) (λ d ne vs zs q i g. by_gives d ne vs zs q g)
+  combine_no_result e w env m mid last st u nb l = by_places (Err e) w env m mid last st u nb l s1 (Err e) (λ d ne vs zs q i g. by_gives d ne vs zs q g)
     where
-      by_gives : {e : Stop} (d ne vs : Datum) (zs : List ℤ) → o ≡ Val (combines at d ne vs zs) → Gives (all_combined (applies budget b xs env) d ne vs zs) k t t1 s s1 (Err e) → Runs (Then (the o) (job_given true (applies budget b xs env))) k t t1 s s1 (Err e)
+      by_gives : {e : Stop} (d ne vs : Datum) (zs : List ℤ) → o ≡ Val (combines at d ne vs zs) → Gives (all_combined (applies budget b xs env) d ne vs zs) m t t1 s s1 (Err e) → Runs (Then (the o) (job_given true (applies budget b xs env))) m t t1 s s1 (Err e)
       by_gives d ne vs zs q (gave_failure c g) = failed (0 + c) (goes_on (the_is o (Val (combines at d ne vs zs)) q) (stops (stops g)))
       by_gives d ne vs zs q gave_memory = no_memory
       by_gives d ne vs zs q (gave_wrong c g) = gone (0 + c) (goes_on (the_is o (Val (combines at d ne vs zs)) q) (sticks (sticks g)))
 
-  module _ (es : List Datum) (h : Combine_runs budget b xs (held (get_or ds 0 w)) (held (get_or ds 2 y)) (held (get_or ds 3 z)) n t t1 s s1 (Ok es)) where
-    pub combine_misfits : (e : Stop) → Stands_in at (row_shape_in (held (get_or ds 0 w))) es (Err e) → Job_runs budget b xs o t t1 s s1 (Err e)
+  module _ (es : List Datum) (w : Combine_runs budget b xs old (held (get_or rest 1 y)) (held (get_or rest 2 z)) n t t1 s s1 (Ok es)) where
+    pub combine_misfits : (e : Stop) → Stands_in at (shape_held h) es (Err e) → Job_runs budget b xs o t t1 s s1 (Err e)
     unfolding Job_runs
-    combine_misfits e m env k mid last st u nb l = by_places (Ok es) h env k mid last st u nb l s1 (Err e) (λ d ne vs zs q i g. by_gives d ne vs zs q g (subst (λ d. Stands_in at (row_shape_in d) es (Err e)) i m))
+    combine_misfits e fits env m mid last st u nb l = by_places (Ok es) w env m mid last st u nb l s1 (Err e) (λ d ne vs zs q i g. by_gives d ne vs zs q g (subst (λ row. Stands_in at row es (Err e)) i fits))
       where
-        by_gives : {e : Stop} (d ne vs : Datum) (zs : List ℤ) → o ≡ Val (combines at d ne vs zs) → Gives (all_combined (applies budget b xs env) d ne vs zs) k t t1 s s1 (Ok es) → Stands_in at (row_shape_in d) es (Err e) → Runs (Then (the o) (job_given true (applies budget b xs env))) k t t1 s s1 (Err e)
+        by_gives : {e : Stop} (d ne vs : Datum) (zs : List ℤ) → o ≡ Val (combines at d ne vs zs) → Gives (all_combined (applies budget b xs env) d ne vs zs) m t t1 s s1 (Ok es) → Stands_in at (row_shape_in d) es (Err e) → Runs (Then (the o) (job_given true (applies budget b xs env))) m t t1 s s1 (Err e)
         by_gives d ne vs zs q (gave c g kr qr) (misfits {r} j) = failed (0 + (c + 0)) (goes_on (the_is o (Val (combines at d ne vs zs)) q) (stops (goes_on g (stops (the_is (in_place_of false at (row_shape_in d) es) (Fail r) j)))))
         by_gives d ne vs zs q (gave c g kr qr) no_memory_for = no_memory
-        by_gives d ne vs zs q (gave_wrong c g) m = gone (0 + c) (goes_on (the_is o (Val (combines at d ne vs zs)) q) (sticks (sticks g)))
+        by_gives d ne vs zs q (gave_wrong c g) f = gone (0 + c) (goes_on (the_is o (Val (combines at d ne vs zs)) q) (sticks (sticks g)))
 
-    pub combine_result : (v : Datum) (s2 : List Component) (a : Answer) → Stands_in at (row_shape_in (held (get_or ds 0 w))) es (Ok v) → Pushed v s1 s2 a → Job_runs budget b xs o t t1 s s2 a
+    pub combine_result : (v : Datum) (s2 : List Component) (a : Answer) → Stands_in at (shape_held h) es (Ok v) → Pushed v s1 s2 a → Job_runs budget b xs o t t1 s s2 a
     unfolding Job_runs
-    combine_result v s2 a m put env k mid last st u nb l = by_places (Ok es) h env k mid last st u nb l s2 a (λ d ne vs zs q i g. by_gives d ne vs zs q g (subst (λ d. Stands_in at (row_shape_in d) es (Ok v)) i m))
+    combine_result v s2 a fits put env m mid last st u nb l = by_places (Ok es) w env m mid last st u nb l s2 a (λ d ne vs zs q i g. by_gives d ne vs zs q g (subst (λ row. Stands_in at row es (Ok v)) i fits))
       where
-        by_gives : (d ne vs : Datum) (zs : List ℤ) → o ≡ Val (combines at d ne vs zs) → Gives (all_combined (applies budget b xs env) d ne vs zs) k t t1 s s1 (Ok es) → Stands_in at (row_shape_in d) es (Ok v) → Runs (Then (the o) (job_given true (applies budget b xs env))) k t t1 s s2 a
+        by_gives : (d ne vs : Datum) (zs : List ℤ) → o ≡ Val (combines at d ne vs zs) → Gives (all_combined (applies budget b xs env) d ne vs zs) m t t1 s s1 (Ok es) → Stands_in at (row_shape_in d) es (Ok v) → Runs (Then (the o) (job_given true (applies budget b xs env))) m t t1 s s2 a
         by_gives d ne vs zs q (gave c g kr qr) (stands_in j) =
-            result_runs budget b xs o env k t t1 s s1 s2 v (0 + (c + (0 + 0) + 0)) a kr qr
+            result_runs budget b xs o env m t t1 s s1 s2 v (0 + (c + (0 + 0) + 0)) a kr qr
             (goes_on (the_is o (Val (combines at d ne vs zs)) q) (goes_on (goes_on g (goes_on (the_is (in_place_of false at (row_shape_in d) es) (Val (0, v)) j) exact)) exact)) put
-        by_gives d ne vs zs q (gave_wrong c g) m = gone (0 + c) (goes_on (the_is o (Val (combines at d ne vs zs)) q) (sticks (sticks g)))
+        by_gives d ne vs zs q (gave_wrong c g) f = gone (0 + c) (goes_on (the_is o (Val (combines at d ne vs zs)) q) (sticks (sticks g)))
 
-pub ruleset jobs = (no_job_memory, plan_stop, job_done, each_rows_stop, each_no_result, each_result, fold_no_result, fold_result, scan_no_result, scan_misfits, scan_result, combine_no_result, combine_misfits, combine_result)
+pub ruleset writing_jobs = (no_job_memory, plan_stop, scatter_stops, scatter_result, combine_no_result, combine_misfits, combine_result)
+
+pub ruleset jobs = (no_job_memory, plan_stop, job_done, each_rows_stop, each_no_result, each_result, fold_no_result, fold_result, scan_no_result, scan_misfits, scan_result)

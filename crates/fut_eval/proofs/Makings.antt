@@ -14,8 +14,8 @@ use Rattle.fut_blocks.specs.declared.block.Making.TheVariants as make
 use Rattle.fut_blocks.specs.Meaning.{Component, Names, value_of, values_of, counted, act_means}
 use Rattle.fut_blocks.specs.Plain.{Action, making_form}
 use Rattle.fut_blocks.specs.Plain as act
-use Rattle.array_data.specs.Slices.{part_of}
-use Rattle.array_data.specs.Updates.{updated_at, updated_of}
+use Rattle.array_primitives.specs.Slices.{part_of}
+use Rattle.array_primitives.specs.Updates.{updated_at, updated_of}
 use Rattle.array_data.specs.declared.stop.Stop.{Stop}
 use Rattle.array_data.specs.declared.stop.Stop.TheVariants.{Memory}
 use Rattle.fut_eval.specs.Answers.{Answer, Tells, told, report_told, no_memory_told, lost, Stands, Runs, ran, no_memory, Pushed, pushed, not_pushed, Reads, Reads_data}

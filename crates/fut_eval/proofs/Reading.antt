@@ -50,9 +50,14 @@ copy_told : (d : Data) (r : Result Data Stop) → Copied d r → Tells (Val (hel
 copy_told d _ (copied e) = told (ap Val (sym e))
 copy_told d _ not_copied = no_memory_told
 
-pub read_name : (table : List Data) (x : ℕ) (d : Data) (r : Result Data Stop) → x < length table → Copied (get_or table x d) r → Reads (held_all table) (atom.Name x) (as_held r)
+pub read_name : (table : List Data) (x : ℕ) (d c : Data) (r : Result Data Stop) → x < length table → c ≡ get_or table x d → Copied c r → Reads (held_all table) (atom.Name x) (as_held r)
 unfolding Reads
-read_name table x d r l h env n st = tells_found (look env x) (held (get_or table x d)) (as_held r) (stands_at table x d l env n st) (copy_told (get_or table x d) r h)
+read_name table x d c r l e h env n st = tells_found (look env x) (held c) (as_held r) (subst (λ z. (look env x ≡ None) ⊎ (look env x ≡ Some (held z))) (sym e) (stands_at table x d l env n st)) (copy_told c r h)
+
+-- an array that was given up
+pub read_given_up : (table : List Data) (u : Atom) → Reads (held_all table) u (as_held (Err Memory))
+unfolding Reads
+read_given_up table u env n st = no_memory_told
 
 pub read_beyond : (table : List Data) (x : ℕ) → length table ≤ x → Reads (held_all table) (atom.Name x) (Err Stuck)
 unfolding Reads
@@ -62,12 +67,12 @@ pub read_constant : (table : List Data) (s : Scalar) → Reads (held_all table) 
 unfolding Reads
 read_constant table s env n st = told (ap Val (sym (held_scalar s)))
 
-pub ruleset readings = (read_name, read_beyond, read_constant)
+pub ruleset readings = (read_name, read_given_up, read_beyond, read_constant)
 
-pub scalar_name : (table : List Data) (x : ℕ) (d : Data) (s r : Scalar) → x < length table → get_or table x d ≡ hold.Scalar s → r ≡ fitted s → Reads (held_all table) (atom.Name x) (as_scalar (Ok r))
+pub scalar_name : (table : List Data) (x : ℕ) (d c : Data) (s r : Scalar) → x < length table → c ≡ get_or table x d → c ≡ hold.Scalar s → r ≡ fitted s → Reads (held_all table) (atom.Name x) (as_scalar (Ok r))
 unfolding Reads
-scalar_name table x d s r l e f env n st =
-    tells_found (look env x) (Scalar_datum (fitted s)) (Ok (Scalar_datum r)) (subst (λ z. (look env x ≡ None) ⊎ (look env x ≡ Some z)) (ap held e ∙ held_scalar s) (stands_at table x d l env n st)) (told (ap (λ z. Val (Scalar_datum z)) (sym f)))
+scalar_name table x d c s r l q e f env n st =
+    tells_found (look env x) (Scalar_datum (fitted s)) (Ok (Scalar_datum r)) (subst (λ z. (look env x ≡ None) ⊎ (look env x ≡ Some z)) (ap held (sym q ∙ e) ∙ held_scalar s) (stands_at table x d l env n st)) (told (ap (λ z. Val (Scalar_datum z)) (sym f)))
 
 pub no_scalar : (table : List Data) (u : Atom) → Reads (held_all table) u (as_scalar (Err Memory))
 unfolding Reads

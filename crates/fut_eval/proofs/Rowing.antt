@@ -12,9 +12,9 @@ use Rattle.array_data.specs.declared.stop.Stop.{Stop}
 use Rattle.array_data.specs.declared.stop.Stop.TheVariants.{Memory}
 use Rattle.array_data.specs.Held.{held_all}
 use Rattle.fut_eval.specs.Answers.{Stands, Kept}
-use Rattle.array_data.specs.declared.jobs.Finish.{Finish}
+use Rattle.array_primitives.specs.declared.jobs.Finish.{Finish}
 use Rattle.array_data.specs.Answers.{Added, added, not_added}
-use Rattle.array_data.specs.Plans.{Source_is, Put_row, put_row, no_row_put}
+use Rattle.array_primitives.specs.Plans.{Source_is, Put_row, put_row, no_row_put}
 use Rattle.array_data.proofs.RowsRead.{drop_row}
 use Rattle.array_data.proofs.Forms.{drop_past}
 use Rattle.fut_eval.specs.Primitives.{Gives, gave, gave_failure, gave_memory, gave_wrong, applies, Applied_runs, Each_runs}

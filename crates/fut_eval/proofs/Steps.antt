@@ -81,8 +81,8 @@ module _ (budget : ℕ) (d : Step) (t t1 s s1 : List Component) where
   pub step_done : (t2 s2 : List Component) (mark : ℕ) (r : Answer) → mark ≡ length s → Act_runs budget (action_of d.act) t t1 s s1 (Ok tt) → Takes d.names.now mark t1 t2 s1 s2 r → Step_runs budget (binding_of d) t t2 s s2 r
   step_done t2 s2 mark r m h k = subst (λ p. Step_runs budget p t t2 s s2 r) (sym (binding_of-parts d)) (step_take (d.names.now, action_of d.act) t2 s2 mark r m h k)
 
-pub held_step_done : (budget : ℕ) (d : Step) (t t1 : List Component) (s : List Data) (s1 t2 s2 : List Component) (mark : ℕ) (r : Answer) → mark ≡ length s → Act_runs budget (action_of d.act) t t1 (held_all s) s1 (Ok tt) → Takes d.names.now mark t1 t2 s1 s2 r → Step_runs budget (binding_of d) t t2 (held_all s) s2 r
-held_step_done budget d t t1 s s1 t2 s2 mark r m h k = step_done budget d t t1 (held_all s) s1 t2 s2 mark r (m ∙ sym (held_length s)) h k
+pub held_step_done : (budget : ℕ) (d : Step) (t : List Component) (t1 given : List Data) (s : List Data) (s1 t2 s2 : List Component) (mark : ℕ) (r : Answer) → mark ≡ length s → Act_runs budget (action_of d.act) t (held_all t1) (held_all s) s1 (Ok tt) → given ≡ t1 → Takes d.names.now mark (held_all given) t2 s1 s2 r → Step_runs budget (binding_of d) t t2 (held_all s) s2 r
+held_step_done budget d t t1 given s s1 t2 s2 mark r m h e k = step_done budget d t (held_all t1) (held_all s) s1 t2 s2 mark r (m ∙ sym (held_length s)) h (subst (λ z. Takes d.names.now mark (held_all z) t2 s1 s2 r) e k)
 
 pub ruleset one_step = (step_stop, held_step_done)
 
@@ -159,4 +159,8 @@ block_end budget b i t0 t s0 s s1 r l h k env n last st nb m =
         subst (λ y. Runs (body_means true budget (body_of b) env) n t0 t y s1 r) w (runs_in n t0 t s s1 (body_means true budget (body_of b) env) (body_means true budget (Give (out-Block b).results.now) e) r g (runs_after (body_means true budget (Give (out-Block b).results.now) e) n t0 t t s s1 r q z))
     by_going (went_wrong f y) = gone f y
 
-pub ruleset all_steps = (block_start, block_stop, block_more, block_end)
+-- what its steps have bound is given up
+pub block_over : (budget : ℕ) (b : Block) (i : ℕ) (t0 : List Component) (t given : List Data) (s0 s s1 : List Component) → length (out-Block b).steps.now ≤ i → Block_goes budget b i t0 (held_all t) s0 s → Reads_all (held_all t) (out-Block b).results.now s s1 (Ok tt) → given ≡ t → Body_runs budget (body_of b) t0 (held_all given) s0 s1 (Ok tt)
+block_over budget b i t0 t given s0 s s1 l h k e = subst (λ z. Body_runs budget (body_of b) t0 (held_all z) s0 s1 (Ok tt)) (sym e) (block_end budget b i t0 (held_all t) s0 s s1 (Ok tt) l h k)
+
+pub ruleset all_steps = (block_start, block_stop, block_more, block_end, block_over)

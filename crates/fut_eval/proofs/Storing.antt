@@ -138,10 +138,10 @@ module _ (xs : List ℕ) (vs t0 : List Component) (i : ℕ) (t : List Component)
 
 -- and the same of what code holds
 module _ (xs : List ℕ) (vs : List Data) (t0 : List Component) (i : ℕ) (t : List Data) where
-  pub held_more : (c : Data) (d : ℕ) (e : Data) → i < length xs → length xs ≡ length vs → Copied (get_or vs i e) (Ok c) → Stores xs (held_all vs) t0 i (held_all t) → Stores xs (held_all vs) t0 (i + 1) (held_all (slice_set t (get_or xs i d) c))
-  held_more c d e l q (copied r) h =
+  pub held_more : (a c : Data) (d : ℕ) (e : Data) → i < length xs → length xs ≡ length vs → Copied (get_or vs i e) (Ok c) → a ≡ c → Stores xs (held_all vs) t0 i (held_all t) → Stores xs (held_all vs) t0 (i + 1) (held_all (slice_set t (get_or xs i d) a))
+  held_more a c d e l q (copied r) y h =
       let k : length xs ≡ length (held_all vs) = q ∙ sym (held_length vs) in
-      subst (λ z. Stores xs (held_all vs) t0 (i + 1) z) (sym (held_set t (get_or xs i d) c ∙ ap (slice_set (held_all t) (get_or xs i d)) (r ∙ sym (held_get vs i e))))
+      subst (λ z. Stores xs (held_all vs) t0 (i + 1) z) (sym (held_set t (get_or xs i d) a ∙ ap (slice_set (held_all t) (get_or xs i d)) (ap held y ∙ r ∙ sym (held_get vs i e))))
       (store_more xs (held_all vs) t0 i (held_all t) d (held e) l k h)
 
   pub held_past : (d : ℕ) → i < length xs → length t ≤ get_or xs i d → Stores xs (held_all vs) t0 i (held_all t) → Stored xs (held_all vs) t0 (held_all t) (Err Stuck)

@@ -1,4 +1,5 @@
 pub mod Answers
+pub mod Slots
 pub mod Runs
 pub mod Primitives
 pub mod Evaluates

@@ -9,11 +9,11 @@ use Rattle.fut_blocks.specs.Plain.{Body}
 use Rattle.fut_blocks.specs.Meaning.{Component, Names, function_of, job_given, body_means}
 use Rattle.fut_blocks.specs.Numbered.{Upward, Body_numbered}
 use Rattle.array_data.specs.declared.built.Built.{Built}
-use Rattle.array_data.specs.declared.jobs.Finish.{Finish}
+use Rattle.array_primitives.specs.declared.jobs.Finish.{Finish}
 use Rattle.array_data.specs.declared.stop.Stop.{Stop}
 use Rattle.array_data.specs.declared.stop.Stop.TheVariants.{Failed, Memory}
 use Rattle.array_data.specs.Held.{built_rows, rows_in}
-use Rattle.array_data.specs.Plans.{Source_is, and_old}
+use Rattle.array_primitives.specs.Plans.{Source_is, and_old}
 use Rattle.fut_eval.specs.Answers.{Answer, Stands, Kept, Runs}
 
 abbrev pub as_built : Result Built Stop → Result (List Datum) Stop
@@ -94,12 +94,12 @@ Write_runs budget b xs z v cells cells' table table' stack stack' r =
     (env : Names Component) (next mid last : ℕ) → Stands env next table → Upward next xs mid → Body_numbered mid b last → last ≤ length table
     → Gives (write_of (applies budget b xs env) cells z v) next table table' stack stack' (leaving cells' r)
 
--- a reduction at each place of an array, of so many rows that are written
-unfoldable pub Combine_runs : ℕ → Body → List ℕ → (d is vs : Datum) → ℕ → (table table' stack stack' : List Component) → Result (List Datum) Stop → Type 0
-Combine_runs budget b xs d is vs n table table' stack stack' r =
+-- a reduction at each place of an array, from its rows on, of so many rows that are written
+unfoldable pub Combine_runs : ℕ → Body → List ℕ → List Datum → (is vs : Datum) → ℕ → (table table' stack stack' : List Component) → Result (List Datum) Stop → Type 0
+Combine_runs budget b xs old is vs n table table' stack stack' r =
     (ne : Datum) (zs : List ℤ) → each_out exact_of (rows_in is) ≡ Val zs → n ≡ length (rows_in is) → n ≡ length (rows_in vs)
     → (env : Names Component) (next mid last : ℕ) → Stands env next table → Upward next xs mid → Body_numbered mid b last → last ≤ length table
-    → Gives (all_of (reduction true (applies budget b xs env) ne) (places and_old 0 (rows_in d) (writes (length (rows_in d)) zs (rows_in vs)))) next table table' stack stack' r
+    → Gives (all_of (reduction true (applies budget b xs env) ne) (places and_old 0 old (writes (length old) zs (rows_in vs)))) next table table' stack stack' r
 
 -- a job, whose result is put on the stack
 unfoldable pub Job_runs : ℕ → Body → List ℕ → Out Job → (table table' stack stack' : List Component) → Answer → Type 0

@@ -5,19 +5,20 @@ ghost use Rattle.fut_meaning.specs.Jobs.{job};
 ghost use Rattle.fut_blocks.specs.Plain.{Job, action_of, binding_of, body_of};
 ghost use Rattle.array_data.specs.Answers.{exact_held};
 ghost use Rattle.array_data.specs.Held.{as_held, built_rows, held, held_all, rows_in};
-ghost use Rattle.fut_eval.specs.Primitives.{Applied_runs, Combine_runs, Each_runs, Fold_runs, Job_runs, Next_runs, Scan_runs, Two_runs, Write_runs, as_built};
+ghost use Rattle.fut_eval.specs.Primitives.{Applied_runs, Combine_runs, Each_runs, Fold_runs, Job_runs, Next_runs, Scan_runs, Two_runs, Write_runs, as_built, leaving};
 ghost use Rattle.fut_eval.specs.Runs.{Act_runs, Body_runs, For_runs, Over_runs, Step_runs, Test_runs, Turn_runs, While_runs};
 
 use crate::make::make;
 use crate::names::{bind, name, pop_one, pop_truth, push, push_all, read, read_data, take};
 use crate::operate::{operate, truth_at, turns_at};
+use crate::slots::{Branch, Slot, give_up_bound, give_up_moved, give_up_used};
 use array_data::{
-    Built, Data, Exact, Finish, Plan, Stop, array, copy, count, finish_rows, in_place, index_at,
-    plan_of, put_row, row, row_depth, row_form,
+    Built, Data, Exact, Stop, array, copy, count, first_apart, in_place, row, row_depth, row_form,
 };
+use array_primitives::{Finish, Plan, finish_rows, index_at, plan_of, put_row, scatter};
 use fut_blocks::{Act, Atom, Block, Step};
 use fut_flat::Primitive;
-use fut_scalar::{FailKind, IntType, Place, Report, Scalar};
+use fut_scalar::{FailKind, IntType, List, Place, Report, Scalar};
 use std::alloc::Global;
 
 /// Runs a block, and puts its results on the stack.
@@ -27,7 +28,7 @@ pub fn run_block(
     alloc: Global,
     block: &Block,
     turns: u64,
-    table: &mut [Data],
+    table: &mut [Slot],
     stack: &mut Vec<Data>,
 ) -> Result<(), Stop>
     ensures { Body_runs turns (body_of block.now) (held_all table.old) (held_all table.new) (held_all stack.old.items) (held_all stack.new.items) result }
@@ -35,7 +36,9 @@ pub fn run_block(
     for step in block.steps {
         run_step(alloc, step, turns, table, stack)?;
     }
-    push_all(block.results, table, stack)
+    push_all(block.results, table, stack)?;
+    give_up_bound(block.steps, table);
+    Ok(())
 }
 
 /// Runs a step: its names get what its act gives.
@@ -45,13 +48,14 @@ fn run_step(
     alloc: Global,
     step: &Step,
     turns: u64,
-    table: &mut [Data],
+    table: &mut [Slot],
     stack: &mut Vec<Data>,
 ) -> Result<(), Stop>
     ensures { Step_runs turns (binding_of step.now) (held_all table.old) (held_all table.new) (held_all stack.old.items) (held_all stack.new.items) result }
 {
     let mark = stack.len();
     run_act(alloc, &step.act, step.names, turns, table, stack)?;
+    give_up_used(step, table);
     take(step.names, mark, table, stack)
 }
 
@@ -63,7 +67,7 @@ fn run_act(
     act: &Act,
     own: &[u32],
     turns: u64,
-    table: &mut [Data],
+    table: &mut [Slot],
     stack: &mut Vec<Data>,
 ) -> Result<(), Stop>
     ensures { Act_runs turns (action_of act.now) (held_all table.old) (held_all table.new) (held_all stack.old.items) (held_all stack.new.items) result }
@@ -78,7 +82,7 @@ fn run_act(
             params,
             body,
         } => run_primitive(
-            alloc, *primitive, *place, data, params, body, turns, table, stack,
+            alloc, *primitive, *place, data, own, params, body, turns, table, stack,
         ),
         Act::ForEach {
             params,
@@ -91,6 +95,7 @@ fn run_act(
             push_all(first, table, stack)?;
             let rows = read(table, *rows)?;
             let n = count(&rows)?;
+            give_up_moved(params, first, Branch::First, table);
             run_over(
                 alloc, body, params, *element, &rows, n, mark, turns, table, stack,
             )
@@ -112,6 +117,7 @@ fn run_act(
             let mark = stack.len();
             push_all(first, table, stack)?;
             let (ty, count) = turns_at(table, *count)?;
+            give_up_moved(params, first, Branch::First, table);
             run_for(
                 alloc, body, params, *index, ty, count, mark, turns, table, stack,
             )
@@ -125,6 +131,7 @@ fn run_act(
         } => {
             let mark = stack.len();
             push_all(first, table, stack)?;
+            give_up_moved(params, first, Branch::First, table);
             run_while(alloc, test, body, params, *place, mark, turns, table, stack)
         }
     }
@@ -138,26 +145,83 @@ fn run_primitive(
     primitive: Primitive,
     place: Place,
     atoms: &[Atom],
+    own: &[u32],
     params: &[u32],
     body: &Block,
     turns: u64,
-    table: &mut [Data],
+    table: &mut [Slot],
     stack: &mut Vec<Data>,
 ) -> Result<(), Stop>
     ensures { Act_runs turns (Job primitive place atoms.now params.now (body_of body.now)) (held_all table.old) (held_all table.new) (held_all stack.old.items) (held_all stack.new.items) result }
 {
     let args = read_data(alloc, atoms, table)?;
-    run_job(
-        alloc,
-        primitive,
-        place,
-        args.as_slice(),
-        params,
-        body,
-        turns,
-        table,
-        stack,
-    )
+    give_up_moved(own, atoms, Branch::First, table);
+    match primitive {
+        Primitive::Scatter => run_writes(
+            alloc, primitive, place, args, params, body, turns, table, stack,
+        ),
+        Primitive::ReduceByIndex => run_writes(
+            alloc, primitive, place, args, params, body, turns, table, stack,
+        ),
+        _ => run_job(
+            alloc,
+            primitive,
+            place,
+            args.as_slice(),
+            params,
+            body,
+            turns,
+            table,
+            stack,
+        ),
+    }
+}
+
+/// Runs a primitive that writes rows of an array, and puts its result on the stack.
+#[tactic(auto, using(crate::proofs::Jobs::writing_jobs))]
+#[cycle(blocks)]
+fn run_writes(
+    alloc: Global,
+    primitive: Primitive,
+    place: Place,
+    args: List<Data>,
+    params: &[u32],
+    body: &Block,
+    turns: u64,
+    table: &mut [Slot],
+    stack: &mut Vec<Data>,
+) -> Result<(), Stop>
+    ensures { Job_runs turns (body_of body.now) params.now (job false Unmet_shape primitive place (held_all args)) (held_all table.old) (held_all table.new) (held_all stack.old.items) (held_all stack.new.items) result }
+{
+    let plan = plan_of(alloc, primitive, place, args.as_slice())?;
+    let Some((whole, rest)) = first_apart(args) else {
+        return Err(Stop::Memory);
+    };
+    match plan {
+        Plan::Scatter => {
+            if rest.len() != 2 {
+                return Err(Stop::Memory);
+            }
+            let rest = rest.as_slice();
+            let value = scatter(alloc, place, whole, &rest[0], &rest[1])?;
+            push(stack, value)
+        }
+        Plan::Combine(n) => {
+            if rest.len() != 3 {
+                return Err(Stop::Memory);
+            }
+            let rest = rest.as_slice();
+            let form = row_form(alloc, &whole)?;
+            let deep = row_depth(&whole);
+            let mut rows = Built::of(alloc, whole)?;
+            run_combine(
+                alloc, &mut rows, &rest[1], &rest[2], n, params, body, turns, table, stack,
+            )?;
+            let value = in_place(alloc, place, form, deep, rows)?;
+            push(stack, value)
+        }
+        _ => Err(Stop::Memory),
+    }
 }
 
 /// Runs a primitive on its data, and puts its result on the stack.
@@ -171,7 +235,7 @@ fn run_job(
     params: &[u32],
     body: &Block,
     turns: u64,
-    table: &mut [Data],
+    table: &mut [Slot],
     stack: &mut Vec<Data>,
 ) -> Result<(), Stop>
     ensures { Job_runs turns (body_of body.now) params.now (job false Unmet_shape primitive place (held_all args.now)) (held_all table.old) (held_all table.new) (held_all stack.old.items) (held_all stack.new.items) result }
@@ -199,16 +263,8 @@ fn run_job(
             let value = array(alloc, place, &form, row_depth(&args[1]), built)?;
             push(stack, value)
         }
-        Plan::Combine(n) => {
-            if args.len() != 4 {
-                return Err(Stop::Memory);
-            }
-            let built = run_combine(
-                alloc, &args[0], &args[2], &args[3], n, params, body, turns, table, stack,
-            )?;
-            let value = in_place(alloc, place, &args[0], built)?;
-            push(stack, value)
-        }
+        Plan::Scatter => Err(Stop::Memory),
+        Plan::Combine(_) => Err(Stop::Memory),
     }
 }
 
@@ -221,7 +277,7 @@ fn apply(
     body: &Block,
     mark: usize,
     turns: u64,
-    table: &mut [Data],
+    table: &mut [Slot],
     stack: &mut Vec<Data>,
 ) -> Result<Data, Stop>
     ensures { Applied_runs turns (body_of body.now) params.now mark (held_all table.old) (held_all table.new) (held_all stack.old.items) (held_all stack.new.items) (as_held result) }
@@ -242,7 +298,7 @@ fn run_each(
     params: &[u32],
     body: &Block,
     turns: u64,
-    table: &mut [Data],
+    table: &mut [Slot],
     stack: &mut Vec<Data>,
 ) -> Result<Built, Stop>
     ensures { Each_runs turns (body_of body.now) params.now finish (held_all args.now) n (held_all table.old) (held_all table.new) (held_all stack.old.items) (held_all stack.new.items) (as_built result) }
@@ -267,7 +323,7 @@ fn apply_two(
     params: &[u32],
     body: &Block,
     turns: u64,
-    table: &mut [Data],
+    table: &mut [Slot],
     stack: &mut Vec<Data>,
 ) -> Result<Data, Stop>
     ensures { Two_runs turns (body_of body.now) params.now (held first) (held second) (held_all table.old) (held_all table.new) (held_all stack.old.items) (held_all stack.new.items) (as_held result) }
@@ -289,7 +345,7 @@ fn fold_next(
     params: &[u32],
     body: &Block,
     turns: u64,
-    table: &mut [Data],
+    table: &mut [Slot],
     stack: &mut Vec<Data>,
 ) -> Result<Data, Stop>
     ensures { Next_runs turns (body_of body.now) params.now i (held sofar) (held next) (held_all table.old) (held_all table.new) (held_all stack.old.items) (held_all stack.new.items) (as_held result) }
@@ -310,7 +366,7 @@ fn run_fold(
     params: &[u32],
     body: &Block,
     turns: u64,
-    table: &mut [Data],
+    table: &mut [Slot],
     stack: &mut Vec<Data>,
 ) -> Result<Data, Stop>
     ensures { Fold_runs turns (body_of body.now) params.now (held neutral.now) (held rows.now) (held_all table.old) (held_all table.new) (held_all stack.old.items) (held_all stack.new.items) (as_held result) }
@@ -336,7 +392,7 @@ fn run_scan(
     params: &[u32],
     body: &Block,
     turns: u64,
-    table: &mut [Data],
+    table: &mut [Slot],
     stack: &mut Vec<Data>,
 ) -> Result<Built, Stop>
     ensures { Scan_runs turns (body_of body.now) params.now (held neutral.now) (held rows.now) (held_all table.old) (held_all table.new) (held_all stack.old.items) (held_all stack.new.items) (as_built result) }
@@ -365,7 +421,7 @@ fn combine_at(
     params: &[u32],
     body: &Block,
     turns: u64,
-    table: &mut [Data],
+    table: &mut [Slot],
     stack: &mut Vec<Data>,
 ) -> Result<(), Stop>
     ensures { Write_runs turns (body_of body.now) params.now (exact_held index) (held value) (built_rows rows.old) (built_rows rows.new) (held_all table.old) (held_all table.new) (held_all stack.old.items) (held_all stack.new.items) result }
@@ -390,27 +446,24 @@ fn combine_at(
 #[cycle(blocks)]
 fn run_combine(
     alloc: Global,
-    whole: &Data,
+    rows: &mut Built,
     indices: &Data,
     values: &Data,
     n: usize,
     params: &[u32],
     body: &Block,
     turns: u64,
-    table: &mut [Data],
+    table: &mut [Slot],
     stack: &mut Vec<Data>,
-) -> Result<Built, Stop>
-    ensures { Combine_runs turns (body_of body.now) params.now (held whole.now) (held indices.now) (held values.now) n (held_all table.old) (held_all table.new) (held_all stack.old.items) (held_all stack.new.items) (as_built result) }
+) -> Result<(), Stop>
+    ensures { Combine_runs turns (body_of body.now) params.now (built_rows rows.old) (held indices.now) (held values.now) n (held_all table.old) (held_all table.new) (held_all stack.old.items) (held_all stack.new.items) (leaving (built_rows rows.new) result) }
 {
-    let mut rows = Built::of(alloc, whole)?;
     for i in 0..n {
         let index = index_at(indices, i)?;
         let value = row(values, i)?;
-        combine_at(
-            alloc, &mut rows, index, value, params, body, turns, table, stack,
-        )?;
+        combine_at(alloc, rows, index, value, params, body, turns, table, stack)?;
     }
-    Ok(rows)
+    Ok(())
 }
 
 /// Takes the turns of a counted loop, whose values lie on the stack from the mark on.
@@ -425,7 +478,7 @@ fn run_for(
     count: u64,
     mark: usize,
     turns: u64,
-    table: &mut [Data],
+    table: &mut [Slot],
     stack: &mut Vec<Data>,
 ) -> Result<(), Stop>
     ensures { For_runs turns (body_of body.now) params.now index ty count mark (held_all table.old) (held_all table.new) (held_all stack.old.items) (held_all stack.new.items) result }
@@ -459,7 +512,7 @@ fn run_over(
     n: usize,
     mark: usize,
     turns: u64,
-    table: &mut [Data],
+    table: &mut [Slot],
     stack: &mut Vec<Data>,
 ) -> Result<(), Stop>
     requires { n ≡ length (rows_in (held rows.now)) }
@@ -485,7 +538,7 @@ fn run_turn(
     value: Data,
     mark: usize,
     turns: u64,
-    table: &mut [Data],
+    table: &mut [Slot],
     stack: &mut Vec<Data>,
 ) -> Result<(), Stop>
     ensures { Turn_runs turns (body_of body.now) params.now index (held value) mark (held_all table.old) (held_all table.new) (held_all stack.old.items) (held_all stack.new.items) result }
@@ -504,7 +557,7 @@ fn run_test(
     params: &[u32],
     mark: usize,
     turns: u64,
-    table: &mut [Data],
+    table: &mut [Slot],
     stack: &mut Vec<Data>,
 ) -> Result<bool, Stop>
     ensures { Test_runs turns (body_of test.now) params.now mark (held_all table.old) (held_all table.new) (held_all stack.old.items) (held_all stack.new.items) result }
@@ -526,7 +579,7 @@ fn run_while(
     place: Place,
     mark: usize,
     turns: u64,
-    table: &mut [Data],
+    table: &mut [Slot],
     stack: &mut Vec<Data>,
 ) -> Result<(), Stop>
     ensures { While_runs turns (body_of test.now) (body_of body.now) params.now place mark (held_all table.old) (held_all table.new) (held_all stack.old.items) (held_all stack.new.items) result }

@@ -8,6 +8,7 @@ ghost use Rattle.fut_eval.specs.Answers.{Operates, Same_at, Tells, data_equal, p
 
 use crate::names::{push, read};
 use crate::operate::{binary, truth};
+use crate::slots::Slot;
 use array_data::{Data, Stop, fitted};
 use fut_blocks::Atom;
 use fut_scalar::{BinOp, Place, Scalar};
@@ -72,7 +73,7 @@ fn same_parts(at: Place, lefts: &[Data], rights: &[Data]) -> Result<bool, Stop>
 
 /// Whether the values of atoms are equal.
 #[tactic(auto, using(crate::proofs::SameData::atoms))]
-fn same_atoms(at: Place, a: Atom, b: Atom, table: &[Data]) -> Result<bool, Stop>
+fn same_atoms(at: Place, a: Atom, b: Atom, table: &[Slot]) -> Result<bool, Stop>
     ensures { Same_at (held_all table.now) a b result }
 {
     let left = read(table, a)?;
@@ -87,7 +88,7 @@ pub fn compare(
     at: Place,
     a: Atom,
     b: Atom,
-    table: &[Data],
+    table: &[Slot],
     stack: &mut Vec<Data>,
 ) -> Result<(), Stop>
     ensures { Operates (held_all table.now) (operation.Binary op at a b) (held_all stack.old.items) (held_all stack.new.items) result }

@@ -7,7 +7,9 @@ ghost use Rattle.fut_eval.specs.Runs.{Made_runs};
 
 use crate::names::{push, read, read_data};
 use crate::records::{make_fields, make_part, make_record, make_replaced};
-use array_data::{Data, Stop, array_of_parts, part_at, range, row_at, tuple, update};
+use crate::slots::{Branch, Slot, give_up_moved};
+use array_data::{Data, Stop, array_of_parts, tuple};
+use array_primitives::{part_at, range, row_at, update};
 use fut_blocks::{Atom, Making};
 use fut_flat::Part;
 use fut_scalar::Place;
@@ -21,10 +23,11 @@ pub fn make(
     place: Place,
     atoms: &[Atom],
     own: &[u32],
-    table: &[Data],
+    table: &mut [Slot],
     stack: &mut Vec<Data>,
 ) -> Result<(), Stop>
-    ensures { Made_runs (making_form making.entry place atoms.now) (held_all table.now) (held_all stack.old.items) (held_all stack.new.items) result }
+    ensures made { Made_runs (making_form making.entry place atoms.now) (held_all table.old) (held_all stack.old.items) (held_all stack.new.items) result }
+    ensures same { table.new ≡ table.old }
 {
     match making {
         Making::Tuple => {
@@ -50,7 +53,8 @@ pub fn make(
         }
         Making::Update => {
             let values = read_data(alloc, atoms, table)?;
-            let whole = update(alloc, place, values.as_slice())?;
+            give_up_moved(own, atoms, Branch::First, table);
+            let whole = update(alloc, place, values)?;
             push(stack, whole)
         }
         Making::Range { stepped, end } => {

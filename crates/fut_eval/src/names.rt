@@ -6,6 +6,7 @@ ghost use Rattle.array_data.specs.Held.{held, held_all, as_held};
 ghost use Rattle.fut_eval.specs.Answers.{as_scalar};
 
 use crate::operate::truth;
+use crate::slots::Slot;
 use array_data::{Data, Stop, copy, fitted};
 use fut_blocks::Atom;
 use fut_scalar::{List, Scalar};
@@ -13,16 +14,18 @@ use std::alloc::Global;
 
 /// The value of an atom.
 #[tactic(auto, using(crate::proofs::Reading::readings))]
-pub fn read(table: &[Data], atom: Atom) -> Result<Data, Stop>
+pub fn read(table: &[Slot], atom: Atom) -> Result<Data, Stop>
     ensures { Reads (held_all table.now) atom (as_held result) }
 {
     match atom {
         Atom::Name(name) => {
             let at = name as usize;
-            if at < table.len() {
-                copy(&table[at])
-            } else {
-                Err(Stop::Stuck)
+            if at >= table.len() {
+                return Err(Stop::Stuck);
+            }
+            match table[at].get() {
+                Some(value) => copy(value),
+                None => Err(Stop::Memory),
             }
         }
         Atom::Constant(scalar) => Ok(Data::Scalar(scalar)),
@@ -31,23 +34,25 @@ pub fn read(table: &[Data], atom: Atom) -> Result<Data, Stop>
 
 /// The value of an atom that is a scalar.
 #[tactic(auto, using(crate::proofs::Reading::scalar_readings))]
-pub fn scalar_at(table: &[Data], atom: Atom) -> Result<Scalar, Stop>
+pub fn scalar_at(table: &[Slot], atom: Atom) -> Result<Scalar, Stop>
     ensures value { Reads (held_all table.now) atom (as_scalar result) }
     ensures fits { IfOk result FitsType }
 {
     match atom {
         Atom::Name(name) => {
             let at = name as usize;
-            if at < table.len() {
-                match &table[at] {
-                    Data::Scalar(scalar) => Ok(fitted(*scalar)),
-                    Data::Words(_, _) => Err(Stop::Memory),
-                    Data::Rows(_, _, _) => Err(Stop::Memory),
-                    Data::Tuple(_, _) => Err(Stop::Memory),
-                    Data::Record(_, _, _) => Err(Stop::Memory),
-                }
-            } else {
-                Err(Stop::Stuck)
+            if at >= table.len() {
+                return Err(Stop::Stuck);
+            }
+            let Some(value) = table[at].get() else {
+                return Err(Stop::Memory);
+            };
+            match value {
+                Data::Scalar(scalar) => Ok(fitted(*scalar)),
+                Data::Words(_, _) => Err(Stop::Memory),
+                Data::Rows(_, _, _) => Err(Stop::Memory),
+                Data::Tuple(_, _) => Err(Stop::Memory),
+                Data::Record(_, _, _) => Err(Stop::Memory),
             }
         }
         Atom::Constant(scalar) => Ok(fitted(scalar)),
@@ -67,7 +72,7 @@ pub fn push(stack: &mut Vec<Data>, value: Data) -> Result<(), Stop>
 
 /// Puts the values of atoms on the stack.
 #[tactic(auto, using(crate::proofs::Reading::lists))]
-pub fn push_all(atoms: &[Atom], table: &[Data], stack: &mut Vec<Data>) -> Result<(), Stop>
+pub fn push_all(atoms: &[Atom], table: &[Slot], stack: &mut Vec<Data>) -> Result<(), Stop>
     ensures { Reads_all (held_all table.now) atoms.now (held_all stack.old.items) (held_all stack.new.items) result }
 {
     for atom in atoms {
@@ -79,7 +84,7 @@ pub fn push_all(atoms: &[Atom], table: &[Data], stack: &mut Vec<Data>) -> Result
 
 /// The values of atoms.
 #[tactic(auto, using(crate::proofs::Reading::data_lists))]
-pub fn read_data(alloc: Global, atoms: &[Atom], table: &[Data]) -> Result<List<Data>, Stop>
+pub fn read_data(alloc: Global, atoms: &[Atom], table: &[Slot]) -> Result<List<Data>, Stop>
     ensures { Reads_data (held_all table.now) atoms.now (as_all_held result) }
 {
     let mut values = Vec::new(alloc);
@@ -89,7 +94,7 @@ pub fn read_data(alloc: Global, atoms: &[Atom], table: &[Data]) -> Result<List<D
 
 /// Gives each name its value, where there are as many of both.
 #[tactic(auto, using(crate::proofs::Storing::storing))]
-pub fn store(names: &[u32], table: &mut [Data], values: &[Data]) -> Result<(), Stop>
+pub fn store(names: &[u32], table: &mut [Slot], values: &[Data]) -> Result<(), Stop>
     ensures { Stored names.now (held_all values.now) (held_all table.old) (held_all table.new) result }
 {
     if names.len() != values.len() {
@@ -100,14 +105,15 @@ pub fn store(names: &[u32], table: &mut [Data], values: &[Data]) -> Result<(), S
         if at >= table.len() {
             return Err(Stop::Stuck);
         }
-        table[at] = copy(&values[i])?;
+        let value = copy(&values[i])?;
+        table[at].set(value);
     }
     Ok(())
 }
 
 /// Gives names the values that lie on the stack from the mark on, and leaves them there.
 #[tactic(auto, using(crate::proofs::Storing::binding))]
-pub fn bind(names: &[u32], mark: usize, table: &mut [Data], stack: &[Data]) -> Result<(), Stop>
+pub fn bind(names: &[u32], mark: usize, table: &mut [Slot], stack: &[Data]) -> Result<(), Stop>
     ensures { Binds names.now mark (held_all table.old) (held_all table.new) (held_all stack.now) result }
 {
     if mark > stack.len() {
@@ -121,7 +127,7 @@ pub fn bind(names: &[u32], mark: usize, table: &mut [Data], stack: &[Data]) -> R
 pub fn take(
     names: &[u32],
     mark: usize,
-    table: &mut [Data],
+    table: &mut [Slot],
     stack: &mut Vec<Data>,
 ) -> Result<(), Stop>
     ensures { Takes names.now mark (held_all table.old) (held_all table.new) (held_all stack.old.items) (held_all stack.new.items) result }
@@ -133,14 +139,14 @@ pub fn take(
 
 /// Gives a name its value.
 #[tactic(auto, using(crate::proofs::Storing::naming))]
-pub fn name(at: u32, value: Data, table: &mut [Data]) -> Result<(), Stop>
+pub fn name(at: u32, value: Data, table: &mut [Slot]) -> Result<(), Stop>
     ensures { Named at (held value) (held_all table.old) (held_all table.new) result }
 {
     let at = at as usize;
     if at >= table.len() {
         return Err(Stop::Stuck);
     }
-    table[at] = value;
+    table[at].set(value);
     Ok(())
 }
 

@@ -10,7 +10,9 @@ ghost use Rattle.fut_eval.specs.Answers.{Tells, Operates, Truth_at, Turns_at};
 
 use crate::equality::compare;
 use crate::names::{push, read, scalar_at};
-use array_data::{Data, Stop, operation, put_parts};
+use crate::slots::Slot;
+use array_data::{Data, Stop, put_parts};
+use array_primitives::operation;
 use fut_arithmetic::{convert, unop};
 use fut_blocks::{Atom, Operation};
 use fut_scalar::{BinOp, FailKind, IntType, Place, Report, Scalar, UnOp};
@@ -104,7 +106,7 @@ fn turns_of(a: Scalar) -> Result<(IntType, u64), Stop>
 
 /// Whether the truth value of an atom holds.
 #[tactic(auto, using(crate::proofs::Operations::atoms_told))]
-pub fn truth_at(table: &[Data], atom: Atom) -> Result<bool, Stop>
+pub fn truth_at(table: &[Slot], atom: Atom) -> Result<bool, Stop>
     ensures { Truth_at (held_all table.now) atom result }
 {
     let value = scalar_at(table, atom)?;
@@ -113,7 +115,7 @@ pub fn truth_at(table: &[Data], atom: Atom) -> Result<bool, Stop>
 
 /// The type of an atom's integer, and how many turns it says.
 #[tactic(auto, using(crate::proofs::Operations::atoms_told))]
-pub fn turns_at(table: &[Data], atom: Atom) -> Result<(IntType, u64), Stop>
+pub fn turns_at(table: &[Slot], atom: Atom) -> Result<(IntType, u64), Stop>
     ensures value { Turns_at (held_all table.now) atom result }
     ensures fits { IfOk result (λ c. c.1 < 2 ^ width_of c.0) }
 {
@@ -123,7 +125,7 @@ pub fn turns_at(table: &[Data], atom: Atom) -> Result<(IntType, u64), Stop>
 
 /// Puts on the stack what an operation gives.
 #[tactic(auto, using(crate::proofs::Operations::operations))]
-pub fn operate(operation: Operation, table: &[Data], stack: &mut Vec<Data>) -> Result<(), Stop>
+pub fn operate(operation: Operation, table: &[Slot], stack: &mut Vec<Data>) -> Result<(), Stop>
     ensures { Operates (held_all table.now) operation (held_all stack.old.items) (held_all stack.new.items) result }
 {
     match operation {

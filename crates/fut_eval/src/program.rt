@@ -7,7 +7,9 @@ ghost use Rattle.fut_eval.specs.Evaluates.{Evaluates};
 ghost use Rattle.fut_eval.specs.Runs.{Program_runs};
 
 use crate::blocks::run_block;
+use crate::last_uses::moves_of;
 use crate::names::store;
+use crate::slots::{Moves, Slot};
 use array_data::{Data, Stop};
 use fut_blocks::Program;
 use fut_scalar::{List, NoMemory, Report, Scalar};
@@ -21,13 +23,20 @@ pub enum EvalErr {
     Memory,
 }
 
-/// A table for so many names.
-pub fn table_of(alloc: Global, names: u32) -> Result<Vec<Data>, NoMemory>
-    ensures { IfOk result (λ table. vec_len table ≡ names) }
+/// A table for the names of a program.
+pub fn table_of(alloc: Global, program: &Program) -> Result<Vec<Slot>, NoMemory>
+    ensures { IfOk result (λ table. vec_len table ≡ program.now.names) }
 {
+    let all_moves = moves_of(alloc, program)?;
     let mut table = Vec::new(alloc);
-    for _ in 0..names {
-        table.push(Data::Scalar(Scalar::Bool(false)))?;
+    for name in 0..program.names {
+        let name = name as usize;
+        let moves = if name < all_moves.len() {
+            all_moves[name]
+        } else {
+            Moves::none()
+        };
+        table.push(Slot::new(Data::Scalar(Scalar::Bool(false)), moves))?;
     }
     Ok(table)
 }
@@ -39,7 +48,7 @@ pub fn run(
     program: &Program,
     args: &[Data],
     turns: u64,
-    table: &mut [Data],
+    table: &mut [Slot],
     stack: &mut Vec<Data>,
 ) -> Result<(), Stop>
     ensures { Program_runs turns program.now (held_all args.now) (held_all table.old) (held_all table.new) (held_all stack.old.items) (held_all stack.new.items) result }
@@ -63,7 +72,7 @@ pub fn eval(
     requires never_wrong { NeverWrong true turns program.now (held_all args.now) }
     ensures { Evaluates turns program.now (held_all args.now) result }
 {
-    let Ok(mut table) = table_of(alloc, program.names) else {
+    let Ok(mut table) = table_of(alloc, program) else {
         return Err(EvalErr::Memory);
     };
     let mut stack = Vec::new(alloc);

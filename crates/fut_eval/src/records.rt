@@ -6,13 +6,14 @@ ghost use Rattle.fut_eval.specs.Answers.{Reads_data, as_only};
 ghost use Rattle.fut_eval.specs.Runs.{Made_runs};
 
 use crate::names::{push, read, read_data};
+use crate::slots::Slot;
 use array_data::{Data, Stop, named_part, put_fields, record, replaced};
 use fut_blocks::Atom;
 use std::alloc::Global;
 
 /// The value of the only atom.
 #[tactic(auto, using(crate::proofs::Recording::only_reading))]
-fn read_only(atoms: &[Atom], table: &[Data]) -> Result<Data, Stop>
+fn read_only(atoms: &[Atom], table: &[Slot]) -> Result<Data, Stop>
     ensures { Reads_data (held_all table.now) atoms.now (as_only (as_held result)) }
 {
     if atoms.len() != 1 {
@@ -22,13 +23,13 @@ fn read_only(atoms: &[Atom], table: &[Data]) -> Result<Data, Stop>
 }
 
 /// The value that the first of names had last.
-fn last_value<'a>(names: &[u32], table: &'a [Data]) -> Option<&'a Data> {
+fn last_value<'a>(names: &[u32], table: &'a [Slot]) -> Option<&'a Data> {
     if names.len() == 0 {
         return None;
     }
     let at = names[0] as usize;
     if at < table.len() {
-        Some(&table[at])
+        table[at].get()
     } else {
         None
     }
@@ -42,7 +43,7 @@ pub fn make_record(
     names: &[&str],
     atoms: &[Atom],
     own: &[u32],
-    table: &[Data],
+    table: &[Slot],
     stack: &mut Vec<Data>,
 ) -> Result<(), Stop>
     ensures { Made_runs (Read (Record_with (texts names.now)) atoms.now) (held_all table.now) (held_all stack.old.items) (held_all stack.new.items) result }
@@ -57,7 +58,7 @@ pub fn make_record(
 pub fn make_part(
     name: &str,
     atoms: &[Atom],
-    table: &[Data],
+    table: &[Slot],
     stack: &mut Vec<Data>,
 ) -> Result<(), Stop>
     ensures { Made_runs (Read (Part_at name.now) atoms.now) (held_all table.now) (held_all stack.old.items) (held_all stack.new.items) result }
@@ -73,7 +74,7 @@ pub fn make_replaced(
     alloc: Global,
     name: &str,
     atoms: &[Atom],
-    table: &[Data],
+    table: &[Slot],
     stack: &mut Vec<Data>,
 ) -> Result<(), Stop>
     ensures { Made_runs (Read (Replace_at name.now) atoms.now) (held_all table.now) (held_all stack.old.items) (held_all stack.new.items) result }
@@ -92,7 +93,7 @@ pub fn make_replaced(
 pub fn make_fields(
     names: &[&str],
     atoms: &[Atom],
-    table: &[Data],
+    table: &[Slot],
     stack: &mut Vec<Data>,
 ) -> Result<(), Stop>
     ensures { Made_runs (Read (Fields_at (texts names.now)) atoms.now) (held_all table.now) (held_all stack.old.items) (held_all stack.new.items) result }

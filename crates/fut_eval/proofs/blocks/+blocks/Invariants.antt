@@ -23,6 +23,9 @@ decreases-run_act l = 9 * size-Act l.act.now
 abbrev pub decreases-run_primitive : goal.decreases-run_primitive
 decreases-run_primitive l = 9 * size-Block l.body.now + 8
 
+abbrev pub decreases-run_writes : goal.decreases-run_writes
+decreases-run_writes l = 9 * size-Block l.body.now + 7
+
 abbrev pub decreases-run_job : goal.decreases-run_job
 decreases-run_job l = 9 * size-Block l.body.now + 7
 
@@ -87,4 +90,4 @@ abbrev pub invariant-run_over-loop-i : goal.invariant-run_over-loop-i
 invariant-run_over-loop-i l = Over_goes l.turns (body_of l.body) l.params l.element (held l.rows) l.mark l.i (held_all l.initial.table) (held_all l.table) (held_all l.initial.stack.items) (held_all l.stack.items)
 
 abbrev pub invariant-run_combine-loop-i : goal.invariant-run_combine-loop-i
-invariant-run_combine-loop-i l = Combine_goes l.turns (body_of l.body) l.params (held l.whole) (held l.indices) (held l.values) l.n l.i (built_rows l.rows) (held_all l.initial.table) (held_all l.table) (held_all l.initial.stack.items) (held_all l.stack.items)
+invariant-run_combine-loop-i l = Combine_goes l.turns (body_of l.body) l.params (built_rows l.initial.rows) (held l.indices) (held l.values) l.n l.i (built_rows l.rows) (held_all l.initial.table) (held_all l.table) (held_all l.initial.stack.items) (held_all l.stack.items)

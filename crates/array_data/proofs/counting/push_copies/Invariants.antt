@@ -1,6 +1,0 @@
-use Rattle.array_data.specs.Held.{built_rows, held}
-use Rattle.array_data.proofs.Numbering.{Copies_pushed}
-use Rattle.array_data.proofs.counting.push_copies.Given as goal
-
-abbrev pub invariant-loop : goal.invariant-loop
-invariant-loop l = Copies_pushed (held l.row) l.counter (built_rows l.initial.built) (built_rows l.built)

@@ -1,5 +1,0 @@
-use Rattle.std.proofs.Common.{length}
-use Rattle.array_data.proofs.cuts.+take_parts.Given as goal
-
-abbrev pub decreases-take_parts : goal.decreases-take_parts
-decreases-take_parts l = length l.parts.now

@@ -1,6 +1,0 @@
-use Rattle.array_data.specs.Held.{built_rows}
-use Rattle.array_data.proofs.Nesting.{Joined_to}
-use Rattle.array_data.proofs.nested.rows_of_rows.Given as goal
-
-abbrev pub invariant-loop-array : goal.invariant-loop-array
-invariant-loop-array l = Joined_to l.rows l.array-index (built_rows l.built)

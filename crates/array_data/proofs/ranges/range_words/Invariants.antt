@@ -1,6 +1,0 @@
-use Rattle.array_data.specs.Ranges.{over_lowest, step_held}
-use Rattle.array_data.proofs.Ranging.{Stepped}
-use Rattle.array_data.proofs.ranges.range_words.Given as goal
-
-abbrev pub invariant-loop-i : goal.invariant-loop-i
-invariant-loop-i l = Stepped l.from.ty (over_lowest l.from.ty l.from.above) (step_held l.stride) l.i l.words l.next

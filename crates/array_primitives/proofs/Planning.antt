@@ -1,0 +1,277 @@
+-- What is left to do of a primitive.
+use Rattle.std.proofs.Common.{◌≡◌, ℕ, zero, suc, ◌+◌, ◌<◌, ◌≤◌, ◌^◌, List, [], ◌∷◌, ◌++◌, map, length, get_or, slice_get, Option, Some, None, Ok, Err, Result, Bool, true, false, refl, sym, ap, ◌∙◌, subst, arith}
+use Rattle.std.specs.Prelude.{ℤ}
+use Rattle.fut_scalar.specs.declared.place.Place.{Place}
+use Rattle.fut_scalar.specs.declared.report.FailKind.TheVariants as kind
+use Rattle.fut_flat.specs.declared.prim.Primitive.{Primitive}
+use Rattle.fut_flat.specs.declared.prim.Primitive.TheVariants as prim
+use Rattle.fut_value.specs.Data.{Shape, Unmet_shape, Datum, shape_of, array_words}
+use Rattle.fut_meaning.specs.Arrays.{Rows, Counted, rows_of, exact_of, array, i64, all_fresh, fresh}
+use Rattle.fut_meaning.specs.Jobs.{Job, Done, Apply_each, Reduce_each, job, mapped, columns, alone, array_of_results, array_of_indices, numbers_from, sized, prefixes_on}
+use Rattle.fut_meaning.specs.Outcomes.{Out, Val, Fail, Wrong, and_then}
+use Rattle.array_data.specs.declared.form.Form.{Form}
+use Rattle.array_data.specs.declared.form.Form.TheVariants as form
+use Rattle.array_data.specs.declared.data.Data.{Data}
+use Rattle.array_primitives.specs.declared.jobs.Finish.{Finish}
+use Rattle.array_primitives.specs.declared.jobs.Finish.TheVariants as finish
+use Rattle.array_primitives.specs.declared.jobs.Plan.{Plan}
+use Rattle.array_primitives.specs.declared.jobs.Plan.TheVariants as plan
+use Rattle.array_data.specs.declared.sizes.Exact.{Exact}
+use Rattle.array_data.specs.declared.sizes.Exact.TheVariants as exact
+use Rattle.array_data.specs.declared.stop.Stop.{Stop}
+use Rattle.array_data.specs.declared.stop.Stop.TheVariants.{Failed, Stuck, Memory}
+use Rattle.array_data.specs.Answers.{Tells, told, report_told, no_memory_told, lost, Counts, counts, no_array, Columned, columned, columned_is, columned_fails, columned_memory, columned_lost, each_at, Put, put, not_put, Exact_is, exact_is, no_integer, exact_held, Does, does, does_fail, does_memory, does_lost}
+use Rattle.array_data.specs.Held.{shape_held, held, held_all, as_held, rows_in, row_shape_in}
+use Rattle.array_primitives.specs.Plans.{source_row, made_of, Source_is, first_fresh, Planned, plan_done, plan_each, plan_reduce, plan_scan, plan_fails, plan_memory, plan_lost, Two_rows, two_rows, no_second, two_memory, Put_row, put_row, no_row_put, Counted_is, counted_is, counted_fails, counted_memory, counted_lost, Sieved}
+use Rattle.array_primitives.proofs.Columning.{get_alone, alone_long}
+use Rattle.array_data.proofs.Forms.{map_push}
+use Rattle.array_data.proofs.Holding.{form_unmet}
+
+-- ---- which primitive
+
+pub of_this : (p q : Primitive) (at : Place) (ds : List Datum) (r : Result Datum Stop) → p ≡ q → Does (job false Unmet_shape q at ds) r → Does (job false Unmet_shape p at ds) r
+of_this p q at ds r e h = subst (λ z. Does (job false Unmet_shape z at ds) r) (sym e) h
+
+pub ruleset dispatch = (of_this, does_memory)
+
+pub one_held : (ds : List Data) (d : Data) → length ds ≡ 1 → held_all ds ≡ held (get_or ds 0 d) ∷ []
+unfolding held_all
+one_held [] d e = absurd (omega arith)
+one_held (c ∷ []) d e = refl
+one_held (c ∷ b ∷ ds) d e = absurd (omega arith)
+
+pub two_held : (ds : List Data) (d e : Data) → length ds ≡ 2 → held_all ds ≡ held (get_or ds 0 d) ∷ held (get_or ds 1 e) ∷ []
+unfolding held_all
+two_held [] d e l = absurd (omega arith)
+two_held (c ∷ []) d e l = absurd (omega arith)
+two_held (c ∷ b ∷ []) d e l = refl
+two_held (c ∷ b ∷ a ∷ ds) d e l = absurd (omega arith)
+
+pub three_held : (ds : List Data) (d e f : Data) → length ds ≡ 3 → held_all ds ≡ held (get_or ds 0 d) ∷ held (get_or ds 1 e) ∷ held (get_or ds 2 f) ∷ []
+unfolding held_all
+three_held [] d e f l = absurd (omega arith)
+three_held (c ∷ []) d e f l = absurd (omega arith)
+three_held (c ∷ b ∷ []) d e f l = absurd (omega arith)
+three_held (c ∷ b ∷ a ∷ []) d e f l = refl
+three_held (c ∷ b ∷ a ∷ x ∷ ds) d e f l = absurd (omega arith)
+
+pub four_held : (ds : List Data) (d e f g : Data) → length ds ≡ 4 → held_all ds ≡ held (get_or ds 0 d) ∷ held (get_or ds 1 e) ∷ held (get_or ds 2 f) ∷ held (get_or ds 3 g) ∷ []
+unfolding held_all
+four_held [] d e f g l = absurd (omega arith)
+four_held (c ∷ []) d e f g l = absurd (omega arith)
+four_held (c ∷ b ∷ []) d e f g l = absurd (omega arith)
+four_held (c ∷ b ∷ a ∷ []) d e f g l = absurd (omega arith)
+four_held (c ∷ b ∷ a ∷ x ∷ []) d e f g l = refl
+four_held (c ∷ b ∷ a ∷ x ∷ y ∷ ds) d e f g l = absurd (omega arith)
+
+pub of_one : (p : Primitive) (at : Place) (ds : List Data) (d : Data) (r : Result Datum Stop) → length ds ≡ 1 → Does (job false Unmet_shape p at (held (get_or ds 0 d) ∷ [])) r → Does (job false Unmet_shape p at (held_all ds)) r
+of_one p at ds d r e h = subst (λ z. Does (job false Unmet_shape p at z) r) (sym (one_held ds d e)) h
+
+pub of_two : (p : Primitive) (at : Place) (ds : List Data) (d e : Data) (r : Result Datum Stop) → length ds ≡ 2 → Does (job false Unmet_shape p at (held (get_or ds 0 d) ∷ held (get_or ds 1 e) ∷ [])) r → Does (job false Unmet_shape p at (held_all ds)) r
+of_two p at ds d e r l h = subst (λ z. Does (job false Unmet_shape p at z) r) (sym (two_held ds d e l)) h
+
+pub of_three : (p : Primitive) (at : Place) (ds : List Data) (d e f : Data) (r : Result Datum Stop) → length ds ≡ 3 → Does (job false Unmet_shape p at (held (get_or ds 0 d) ∷ held (get_or ds 1 e) ∷ held (get_or ds 2 f) ∷ [])) r → Does (job false Unmet_shape p at (held_all ds)) r
+of_three p at ds d e f r l h = subst (λ z. Does (job false Unmet_shape p at z) r) (sym (three_held ds d e f l)) h
+
+pub ruleset arguments = (of_one, of_two, of_three, does_memory)
+
+-- ---- maps
+
+mapped_is : (at : Place) (ds : List Datum) → mapped false Unmet_shape at ds ≡ and_then (columned at ds) (λ rows. Val (Apply_each rows (array_of_results false Unmet_shape at)))
+mapped_is at [] = refl
+mapped_is at (d ∷ ds) = by_array (rows_of d)
+  where
+    by_array : (o : Out Rows) → and_then o (λ r. and_then (columns false at r ds) (λ rows. Val (Apply_each rows (array_of_results false Unmet_shape at)))) ≡ and_then (and_then o (λ r. columns false at r ds)) (λ rows. Val (Apply_each rows (array_of_results false Unmet_shape at)))
+    by_array (Val r) = refl
+    by_array (Fail r) = refl
+    by_array Wrong = refl
+
+module _ (at : Place) (ds : List Datum) where
+  pub map_stop : (e : Stop) → Columned at ds (Err e) → Planned (mapped false Unmet_shape at ds) at ds (Err e)
+  map_stop _ (columned_fails q) = plan_fails (mapped_is at ds ∙ ap (λ z. and_then z (λ rows. Val (Apply_each rows (array_of_results false Unmet_shape at)))) q)
+  map_stop _ columned_memory = plan_memory
+  map_stop _ (columned_lost q) = plan_lost (mapped_is at ds ∙ ap (λ z. and_then z (λ rows. Val (Apply_each rows (array_of_results false Unmet_shape at)))) q)
+
+  pub map_planned : (n : ℕ) → Columned at ds (Ok n) → Planned (mapped false Unmet_shape at ds) at ds (Ok (plan.Each finish.Mapped n))
+  map_planned n (columned_is rows q p w v) = plan_each rows (mapped_is at ds ∙ ap (λ z. and_then z (λ rows. Val (Apply_each rows (array_of_results false Unmet_shape at)))) q) p (λ i es l h. v i es h)
+  map_planned n (columned_lost q) = plan_lost (mapped_is at ds ∙ ap (λ z. and_then z (λ rows. Val (Apply_each rows (array_of_results false Unmet_shape at)))) q)
+
+pub ruleset maps = (map_stop, map_planned)
+
+-- ---- tables
+
+get_number : (n i k : ℕ) → k < n → slice_get (numbers_from n i) k ≡ Some (i64 (i + k))
+get_number zero i k l = absurd (omega arith)
+get_number (suc n) i zero l = let e : i ≡ i + 0 = omega arith in ap (λ z. Some (i64 z)) e
+get_number (suc n) i (suc k) l = let e : suc i + k ≡ i + suc k = omega arith in get_number n (suc i) k (omega arith) ∙ ap (λ z. Some (i64 z)) e
+
+numbers_long : (n i : ℕ) → length (numbers_from n i) ≡ n
+numbers_long zero i = refl
+numbers_long (suc n) i = ap suc (numbers_long n (suc i))
+
+module _ (at : Place) (n : Datum) where
+  pub table_no_size : (e : Stop) → Exact_is n (Err e) → Planned (job false Unmet_shape prim.Tabulate at (n ∷ [])) at (n ∷ []) (Err e)
+  unfolding job
+  table_no_size _ (no_integer q) = plan_lost (ap (λ z. and_then z (λ z. sized at z (λ k. Val (Apply_each (alone (numbers_from k 0)) (array_of_indices false Unmet_shape at k))))) q)
+
+  table_is : (z : Exact) → Exact_is n (Ok z) → job false Unmet_shape prim.Tabulate at (n ∷ []) ≡ sized at (exact_held z) (λ k. Val (Apply_each (alone (numbers_from k 0)) (array_of_indices false Unmet_shape at k)))
+  unfolding job
+  table_is z (exact_is q) = ap (λ z. and_then z (λ z. sized at z (λ k. Val (Apply_each (alone (numbers_from k 0)) (array_of_indices false Unmet_shape at k))))) q
+
+  pub table_below : (z : Exact) (k : ℕ) → Exact_is n (Ok z) → z ≡ exact.Below k → Planned (job false Unmet_shape prim.Tabulate at (n ∷ [])) at (n ∷ []) (Err (Failed (record { kind = kind.Range; place = at })))
+  unfolding exact_held
+  table_below z k h e = plan_fails (table_is z h ∙ ap (λ z. sized at (exact_held z) (λ k. Val (Apply_each (alone (numbers_from k 0)) (array_of_indices false Unmet_shape at k)))) e)
+
+  pub table_planned : (z : Exact) (k m : ℕ) → Exact_is n (Ok z) → z ≡ exact.Natural k → m ≡ k → Planned (job false Unmet_shape prim.Tabulate at (n ∷ [])) at (n ∷ []) (Ok (plan.Each (finish.Tabulated k) m))
+  unfolding exact_held
+  table_planned z k m h e q = plan_each (alone (numbers_from k 0)) (table_is z h ∙ ap (λ z. sized at (exact_held z) (λ k. Val (Apply_each (alone (numbers_from k 0)) (array_of_indices false Unmet_shape at k)))) e) (q ∙ sym long) row
+    where
+      long : length (alone (numbers_from k 0)) ≡ k
+      long = alone_long (numbers_from k 0) ∙ numbers_long k 0
+
+      row : (i : ℕ) (es : List Datum) → i < length (alone (numbers_from k 0)) → Some (i64 i ∷ []) ≡ Some es → slice_get (alone (numbers_from k 0)) i ≡ Some es
+      row i es l x = get_alone (numbers_from k 0) i (i64 i) (get_number k 0 i (omega (arith, long)) ∙ (let y : 0 + i ≡ i = omega arith in ap (λ z. Some (i64 z)) y)) ∙ x
+
+pub ruleset tables = (table_no_size, table_below, table_planned)
+
+-- ---- reductions
+
+pub two_counted : (ds : List Data) (d : Data) (n : ℕ) → length ds ≡ 2 → Counts (held (get_or ds 1 d)) (Ok n) → Two_rows (held_all ds) (Ok tt)
+two_counted ds d n e (counts q p) = two_rows (held (get_or ds 0 d)) (held (get_or ds 1 d)) (two_held ds d d e) q
+
+pub two_not : (ds : List Data) (d : Data) (e : Stop) → length ds ≡ 2 → Counts (held (get_or ds 1 d)) (Err e) → Two_rows (held_all ds) (Err e)
+two_not ds d _ e (no_array q) = no_second (held (get_or ds 0 d)) (held (get_or ds 1 d)) (two_held ds d d e) q
+
+pub ruleset two_arguments = (two_counted, two_not, two_memory)
+
+-- ---- plans
+
+module _ (at : Place) (ne d : Datum) where
+  no_reduce : rows_of d ≡ Wrong → job false Unmet_shape prim.Reduce at (ne ∷ d ∷ []) ≡ Wrong
+  unfolding job
+  no_reduce x = ap (λ z. and_then z (λ r. Val (Reduce_each false ne (r.1 ∷ []) first_fresh))) x
+
+  no_reduce_comm : rows_of d ≡ Wrong → job false Unmet_shape prim.ReduceComm at (ne ∷ d ∷ []) ≡ Wrong
+  unfolding job
+  no_reduce_comm x = ap (λ z. and_then z (λ r. Val (Reduce_each true ne (r.1 ∷ []) first_fresh))) x
+
+  no_scan : rows_of d ≡ Wrong → job false Unmet_shape prim.Scan at (ne ∷ d ∷ []) ≡ Wrong
+  unfolding job
+  no_scan x = ap (λ z. and_then z (λ r. Val (Reduce_each false ne (prefixes_on [] r.1) (λ es. all_fresh (array false at r.0 es))))) x
+
+  some_reduce : rows_of d ≡ Val (row_shape_in d, rows_in d) → job false Unmet_shape prim.Reduce at (ne ∷ d ∷ []) ≡ Val (Reduce_each false ne (rows_in d ∷ []) first_fresh)
+  unfolding job
+  some_reduce x = ap (λ z. and_then z (λ r. Val (Reduce_each false ne (r.1 ∷ []) first_fresh))) x
+
+  some_reduce_comm : rows_of d ≡ Val (row_shape_in d, rows_in d) → job false Unmet_shape prim.ReduceComm at (ne ∷ d ∷ []) ≡ Val (Reduce_each true ne (rows_in d ∷ []) first_fresh)
+  unfolding job
+  some_reduce_comm x = ap (λ z. and_then z (λ r. Val (Reduce_each true ne (r.1 ∷ []) first_fresh))) x
+
+  some_scan : rows_of d ≡ Val (row_shape_in d, rows_in d) → job false Unmet_shape prim.Scan at (ne ∷ d ∷ []) ≡ Val (Reduce_each false ne (prefixes_on [] (rows_in d)) (λ es. all_fresh (array false at (row_shape_in d) es)))
+  unfolding job
+  some_scan x = ap (λ z. and_then z (λ r. Val (Reduce_each false ne (prefixes_on [] r.1) (λ es. all_fresh (array false at r.0 es))))) x
+
+module _ (p : Primitive) (at : Place) (ds : List Datum) where
+  abbrev planning : Result Plan Stop → Type 0
+  planning r = Planned (job false Unmet_shape p at ds) at ds r
+
+  as_this : (q : Primitive) (r : Result Plan Stop) → p ≡ q → Planned (job false Unmet_shape q at ds) at ds r → planning r
+  as_this q r e h = subst (λ z. Planned (job false Unmet_shape z at ds) at ds r) (sym e) h
+
+  pub as_map : (r : Result Plan Stop) → p ≡ prim.Map → Planned (mapped false Unmet_shape at ds) at ds r → Planned (job false Unmet_shape p at ds) at ds r
+  unfolding job
+  as_map r e h = as_this prim.Map r e h
+
+  pub as_map2 : (r : Result Plan Stop) → p ≡ prim.Map2 → Planned (mapped false Unmet_shape at ds) at ds r → Planned (job false Unmet_shape p at ds) at ds r
+  unfolding job
+  as_map2 r e h = as_this prim.Map2 r e h
+
+  pub as_map3 : (r : Result Plan Stop) → p ≡ prim.Map3 → Planned (mapped false Unmet_shape at ds) at ds r → Planned (job false Unmet_shape p at ds) at ds r
+  unfolding job
+  as_map3 r e h = as_this prim.Map3 r e h
+
+  pub as_map4 : (r : Result Plan Stop) → p ≡ prim.Map4 → Planned (mapped false Unmet_shape at ds) at ds r → Planned (job false Unmet_shape p at ds) at ds r
+  unfolding job
+  as_map4 r e h = as_this prim.Map4 r e h
+
+  pub as_map5 : (r : Result Plan Stop) → p ≡ prim.Map5 → Planned (mapped false Unmet_shape at ds) at ds r → Planned (job false Unmet_shape p at ds) at ds r
+  unfolding job
+  as_map5 r e h = as_this prim.Map5 r e h
+
+  reduce_stop_at : (any : Bool) (e : Stop) → ((ne d : Datum) → ds ≡ ne ∷ d ∷ [] → rows_of d ≡ Wrong → job false Unmet_shape p at ds ≡ Wrong) → Two_rows ds (Err e) → planning (Err e)
+  reduce_stop_at any _ k (no_second ne d q x) = plan_lost (k ne d q x)
+  reduce_stop_at any _ k two_memory = plan_memory
+
+  reduce_lost : (q : Primitive) (ne d : Datum) → p ≡ q → ds ≡ ne ∷ d ∷ [] → job false Unmet_shape q at (ne ∷ d ∷ []) ≡ Wrong → job false Unmet_shape p at ds ≡ Wrong
+  reduce_lost q ne d e f h = ap (λ z. job false Unmet_shape z at ds) e ∙ ap (job false Unmet_shape q at) f ∙ h
+
+  pub reduce_stop : (e : Stop) → p ≡ prim.Reduce → Two_rows ds (Err e) → Planned (job false Unmet_shape p at ds) at ds (Err e)
+  reduce_stop e i h = reduce_stop_at false e (λ ne d q x. reduce_lost prim.Reduce ne d i q (no_reduce at ne d x)) h
+
+  pub reduce_comm_stop : (e : Stop) → p ≡ prim.ReduceComm → Two_rows ds (Err e) → Planned (job false Unmet_shape p at ds) at ds (Err e)
+  reduce_comm_stop e i h = reduce_stop_at false e (λ ne d q x. reduce_lost prim.ReduceComm ne d i q (no_reduce_comm at ne d x)) h
+
+  pub scan_stop : (e : Stop) → p ≡ prim.Scan → Two_rows ds (Err e) → Planned (job false Unmet_shape p at ds) at ds (Err e)
+  scan_stop e i h = reduce_stop_at false e (λ ne d q x. reduce_lost prim.Scan ne d i q (no_scan at ne d x)) h
+
+  pub reduce_planned : p ≡ prim.Reduce → Two_rows ds (Ok tt) → Planned (job false Unmet_shape p at ds) at ds (Ok plan.Reduce)
+  reduce_planned e (two_rows ne d q x) = plan_reduce false ne d q (ap (λ z. job false Unmet_shape z at ds) e ∙ ap (job false Unmet_shape prim.Reduce at) q ∙ some_reduce at ne d x)
+
+  pub reduce_comm_planned : p ≡ prim.ReduceComm → Two_rows ds (Ok tt) → Planned (job false Unmet_shape p at ds) at ds (Ok plan.Reduce)
+  reduce_comm_planned e (two_rows ne d q x) = plan_reduce true ne d q (ap (λ z. job false Unmet_shape z at ds) e ∙ ap (job false Unmet_shape prim.ReduceComm at) q ∙ some_reduce_comm at ne d x)
+
+  pub scan_planned : p ≡ prim.Scan → Two_rows ds (Ok tt) → Planned (job false Unmet_shape p at ds) at ds (Ok plan.Scan)
+  scan_planned e (two_rows ne d q x) = plan_scan ne d q (ap (λ z. job false Unmet_shape z at ds) e ∙ ap (job false Unmet_shape prim.Scan at) q ∙ some_scan at ne d x)
+
+  pub done_planned : (v : Data) → Does (job false Unmet_shape p at ds) (as_held (Ok v)) → Planned (job false Unmet_shape p at ds) at ds (Ok (plan.Done v))
+  done_planned v h = plan_done h
+
+  pub done_stop : (e : Stop) → Does (job false Unmet_shape p at ds) (as_held (Err e)) → Planned (job false Unmet_shape p at ds) at ds (Err e)
+  done_stop _ (does_fail q) = plan_fails q
+  done_stop _ does_memory = plan_memory
+  done_stop _ (does_lost q) = plan_lost q
+
+pub as_table : (p : Primitive) (at : Place) (ds : List Data) (d : Data) (r : Result Plan Stop) → p ≡ prim.Tabulate → length ds ≡ 1 → Planned (job false Unmet_shape prim.Tabulate at (held (get_or ds 0 d) ∷ [])) at (held (get_or ds 0 d) ∷ []) r → Planned (job false Unmet_shape p at (held_all ds)) at (held_all ds) r
+as_table p at ds d r e l h = subst (λ z. Planned (job false Unmet_shape z at (held_all ds)) at (held_all ds) r) (sym e) (subst (λ z. Planned (job false Unmet_shape prim.Tabulate at z) at z r) (sym (one_held ds d l)) h)
+
+pub ruleset plans = (as_map, as_map2, as_map3, as_map4, as_map5, reduce_stop, reduce_comm_stop, scan_stop, reduce_planned, reduce_comm_planned, scan_planned, as_table, plan_memory, done_planned, done_stop)
+
+-- ---- arguments and results
+
+pub columns_put : (f g : Finish) (ds : List Datum) (i : ℕ) (s s' : List Datum) (r : Result (Unit {0}) Stop) → f ≡ g → source_row g ds i ≡ each_at i ds → Put ds i s s' r → Put_row f ds i s s' r
+columns_put f g ds i s s' _ e t (put es q p) = put_row es (ap (λ z. source_row z ds i) e ∙ t ∙ q) p
+columns_put f g ds i s s' _ e t not_put = no_row_put
+
+pub table_put : (f : Finish) (ds : List Datum) (i n : ℕ) (s s' : List Data) (v : Data) → f ≡ finish.Tabulated n → held v ≡ i64 i → s' ≡ s ++ v ∷ [] → Put_row f ds i (held_all s) (held_all s') (Ok tt)
+unfolding held_all
+table_put f ds i n s s' v e q p = put_row (i64 i ∷ []) (ap (λ z. source_row z ds i) e) (ap (map held) p ∙ map_push held s v ∙ ap (λ z. map held s ++ z ∷ []) q)
+
+pub ruleset rows_put = (columns_put, table_put, no_row_put)
+
+module _ (f : Finish) (at : Place) (ds es : List Datum) (h : Form) (u : h ≡ form.Unmet) where
+  unmet_is : shape_held h ≡ Unmet_shape
+  unmet_is = ap shape_held u ∙ form_unmet
+
+  pub map_finished : (r : Result Datum Stop) → f ≡ finish.Mapped → Tells (array false at (shape_held h) es) r → Counted_is (made_of f at ds es) r
+  map_finished r e t = subst (λ z. Counted_is (made_of z at ds es) r) (sym e) (by_array r (subst (λ z. Tells (array false at z es) r) unmet_is t))
+    where
+      by_array : (r : Result Datum Stop) → Tells (array false at Unmet_shape es) r → Counted_is (array_of_results false Unmet_shape at es) r
+      by_array _ (told {a} q) = counted_is {c = array_words (shape_of a)} {d = a} (ap all_fresh q)
+      by_array _ (report_told q) = counted_fails (ap all_fresh q)
+      by_array _ no_memory_told = counted_memory
+      by_array r (lost q) = counted_lost (ap all_fresh q)
+
+  pub table_finished : (n : ℕ) (r : Result Datum Stop) → f ≡ finish.Tabulated n → Tells (array false at (shape_held h) es) r → Counted_is (made_of f at ds es) r
+  table_finished n r e t = subst (λ z. Counted_is (made_of z at ds es) r) (sym e) (by_array r (subst (λ z. Tells (array false at z es) r) unmet_is t))
+    where
+      by_array : (r : Result Datum Stop) → Tells (array false at Unmet_shape es) r → Counted_is (array_of_indices false Unmet_shape at n es) r
+      by_array _ (told {a} q) = counted_is {c = array_words (shape_of a) + n} {d = a} (ap (λ z. and_then z (λ e. Val (array_words (shape_of e) + n, e))) q)
+      by_array _ (report_told q) = counted_fails (ap (λ z. and_then z (λ e. Val (array_words (shape_of e) + n, e))) q)
+      by_array _ no_memory_told = counted_memory
+      by_array r (lost q) = counted_lost (ap (λ z. and_then z (λ e. Val (array_words (shape_of e) + n, e))) q)
+
+pub sieve_finished : (f g : Finish) (at : Place) (ds : List Data) (d : Data) (es : List Datum) (r : Result Datum Stop) → f ≡ g → length ds ≡ 1 → Sieved g at (held (get_or ds 0 d)) es r → Counted_is (made_of f at (held_all ds) es) r
+unfolding Sieved
+sieve_finished f g at ds d es r i one h = subst (λ z. Counted_is (made_of z at (held_all ds) es) r) (sym i) (subst (λ z. Counted_is (made_of g at z es) r) (sym (one_held ds d one)) h)
+
+pub ruleset finishes = (sieve_finished, map_finished, table_finished, counted_memory)

@@ -1,0 +1,6 @@
+pub mod Plans
+pub mod Ranges
+pub mod Slices
+pub mod Updates
+pub mod Nested
+pub mod Writes
