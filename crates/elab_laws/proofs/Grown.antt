@@ -100,7 +100,7 @@ Named_so s p q s' = (ls : Locals) → Pattern_resolved (length s.made) (naming s
 unfoldable pub All_named_so : Naming → Patterns Spelled Label → Patterns Ref BindId → Naming → Type 0
 All_named_so s ps qs s' = (ls : Locals) → Patterns_resolved (length s.made) (naming s ls) ps qs (length s'.made) (naming s' ls)
 
-beside_is : {A : Type 0} (bound : List Entry) (r : Numbered A) (a : A) (s : Naming) → beside bound r ≡ Ok (a, s) → (r ≡ Ok (a, s.made)) × (s.bound ≡ bound)
+pub beside_is : {A : Type 0} (bound : List Entry) (r : Numbered A) (a : A) (s : Naming) → beside bound r ≡ Ok (a, s) → (r ≡ Ok (a, s.made)) × (s.bound ≡ bound)
 beside_is bound (Ok (b, made)) a s e = (ap (λ z. Ok (z, made)) (ok_part e) ∙ ap (λ z. Ok (a, z.made)) (ok_rest e), sym (ap (λ z. z.bound) (ok_rest e)))
 beside_is {A} bound (Err x) a s e = absurd (let z : ◌≡◌ {A = Result (A × Naming) Refusal} (Err x) (Ok (a, s)) = e in cc)
 

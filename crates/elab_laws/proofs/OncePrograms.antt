@@ -13,7 +13,7 @@ use Rattle.fut_flat.specs.Sources.{SourceTerm, source_parameters}
 use Rattle.elab_scopes.specs.Names.{Refusal}
 use Rattle.elab_scopes.specs.Scopes.{a_value, Scope, enter}
 use Rattle.elab_scopes.specs.Resolve.{Numbered, with_text}
-use Rattle.elab_scopes.specs.Programs.{FlatDefinition, define, definition_term, has_text, DecLayer, Seen, Defined, behind, resolve_dec_form, resolve_dec, resolve_decs, new_file, resolve_files, FlatProgram, program_of, resolve_program}
+use Rattle.elab_scopes.specs.Programs.{FlatDefinition, define, definition_term, is_entry_named, has_text, DecLayer, Seen, Defined, behind, resolve_dec_form, resolve_dec, resolve_decs, new_file, resolve_files, FlatProgram, program_of, resolve_program}
 use Rattle.elab_laws.proofs.Grown.{went, more_text}
 use Rattle.elab_laws.specs.Binders.{definition_binders}
 use Rattle.elab_laws.specs.OnceClaims.{defined_of, definitions_of, EachIsBoundOnce}
@@ -21,7 +21,7 @@ use Rattle.elab_laws.proofs.Filled.{Filled, fill_none, fill_one, fill_both, fill
 use Rattle.elab_laws.proofs.Parts.{heads_filled}
 use Rattle.elab_laws.proofs.OnceTerms.{term_filled}
 
-abbrev flat_binders : FlatDefinition → List ℕ
+abbrev pub flat_binders : FlatDefinition → List ℕ
 flat_binders d = definition_binders (defined_of d)
 
 abbrev program_binders : List FlatDefinition → List ℕ
@@ -40,7 +40,7 @@ unrefused : {C A : Type 0} (t : Bool) (w : Refusal) (r : Result A Refusal) (z : 
 unrefused true w r z e k = not_refused w z e
 unrefused false w r z e k = k e
 
-define_filled : (file : ℕ) (is_entry : Bool) (x : Text) (heads : List Head) (value : SourceTerm) (sc : Scope) (made made' : List Text) (d : FlatDefinition) → define file is_entry x heads value sc made ≡ Ok (d, made') → Filled (length made) (length made') (flat_binders d)
+pub define_filled : (file : ℕ) (is_entry : Bool) (x : Text) (heads : List Head) (value : SourceTerm) (sc : Scope) (made made' : List Text) (d : FlatDefinition) → define file is_entry x heads value sc made ≡ Ok (d, made') → Filled (length made) (length made') (flat_binders d)
 unfolding define
 define_filled file is_entry x heads value sc made made' d e =
     went _ _ _ e (λ h m i g. went _ _ _ g (λ v n j q.
@@ -52,7 +52,7 @@ behind_filled x s s' d (Err w) f e = not_refused w (d, s') e
 
 form_filled : (file : ℕ) (at : Place) (l : DecLayer) (s s' : Seen) (d : FlatDefinition) → resolve_dec_form file at l s ≡ Ok (d, s') → Filled (seen s) (seen s') (flat_binders d)
 form_filled file at (DecForm-F.Def is_entry x heads ps t e) s s' d h =
-    unrefused (has_text s.own x.name) _ _ (d, s') h (behind_filled x.name s s' d (define file is_entry x.name heads (definition_term ps t e) s.scope s.made) (λ c m. define_filled file is_entry x.name heads (definition_term ps t e) s.scope s.made m c))
+    unrefused (has_text s.own x.name) _ _ (d, s') h (behind_filled x.name s s' d (define file (is_entry_named is_entry x.name) x.name heads (definition_term ps t e) s.scope s.made) (λ c m. define_filled file (is_entry_named is_entry x.name) x.name heads (definition_term ps t e) s.scope s.made m c))
 form_filled file at l s s' d h = not_refused _ (d, s') h
 
 dec_filled : (file : ℕ) (dec : Dec) (s s' : Seen) (d : FlatDefinition) → resolve_dec file dec s ≡ Ok (d, s') → Filled (seen s) (seen s') (flat_binders d)

@@ -12,7 +12,7 @@ use Rattle.fut_ast.specs.declared.module.Program.{Program}
 use Rattle.fut_flat.specs.Numbers.{numbers}
 use Rattle.fut_flat.specs.Sources.{SourceTerm, source_parameters}
 use Rattle.elab_scopes.specs.Names.{Refusal}
-use Rattle.elab_scopes.specs.Scopes.{a_value, Scope, value_in, enter}
+use Rattle.elab_scopes.specs.Scopes.{a_value, Scope, value_in, world_of, enter}
 use Rattle.elab_scopes.specs.Resolve.{Numbered, next, with_text}
 use Rattle.elab_scopes.specs.Programs.{FlatDefinition, define, definition_term, is_entry_named, has_text, DecLayer, Seen, Defined, behind, resolve_dec_form, resolve_dec, resolve_decs, new_file, resolve_files, FlatProgram, program_of, resolve_program}
 use Rattle.fut_meaning.specs.Flats.{flat_tops}
@@ -26,7 +26,7 @@ use Rattle.elab_laws.proofs.Sizes.{no_head, term_plain}
 use Rattle.elab_laws.specs.Sourced.{outside_of, No_sizes, Plain, Written, Plain_written, source_tops, written_form, written_decs, written, binds, named_values}
 use Rattle.fut_meaning.proofs.SameData.{all_datums_same, source_allows, source_reports, flat_allows, flat_reports}
 use Rattle.elab_laws.specs.Claims.{ElaboratedAddsNothing, ElaboratedLosesNothing, SameReports, SameResults}
-use Rattle.elab_laws.proofs.Readings.{reads_outside, Below, sees_below}
+use Rattle.elab_laws.proofs.Readings.{World_under, Reads, reads_outside, sees_below}
 use Rattle.elab_laws.proofs.Downs.{down}
 use Rattle.elab_laws.proofs.Grown.{went, ok_part, ok_rest, More, more_text}
 use Rattle.elab_laws.proofs.Terms.{term_so, heads_more, heads_read}
@@ -60,7 +60,7 @@ def_goes file is_entry x heads value s s' d t e =
     behind_is x.name s s' d _ e (λ m h i j. run_more file is_entry x.name heads value t h (subst (λ z. Run (a_value x.name d.bind ∷ s.scope) m [] [] z s'.made) (sym i) (subst (λ z. Run (a_value x.name d.bind ∷ s.scope) m [] [] (a_value x.name d.bind ∷ s.scope) z) (sym j) run_none)))
 
 form_goes : (file : ℕ) (at : Place) (l : DecLayer) (s s' : Seen) (d : FlatDefinition) → resolve_dec_form file at l s ≡ Ok (d, s') → Goes s (written_form l) (d ∷ []) s'
-form_goes file at (DecForm-F.Def is_entry x heads ps t e) s s' d h = chosen (has_text s.own x.name) _ _ (d, s') h (def_goes file is_entry x heads (definition_term ps t e) s s' d (definition_told ps t e))
+form_goes file at (DecForm-F.Def is_entry x heads ps t e) s s' d h = chosen (has_text s.own x.name) _ _ (d, s') h (def_goes file (is_entry_named is_entry x.name) x heads (definition_term ps t e) s s' d (definition_told ps t e))
 form_goes file at l s s' d h = not_refused _ (d, s') h
 
 dec_goes : (file : ℕ) (dec : Dec) (s s' : Seen) (d : FlatDefinition) → resolve_dec file dec s ≡ Ok (d, s') → Goes s (written_form (out-DecForm dec.form)) (d ∷ []) s'
@@ -81,25 +81,30 @@ files_go file (p ∷ ps) s s' fs e = went _ _ _ e (λ a m h g. went _ _ _ g (λ 
 
 -- ---- each definition
 
-record Defined_so (sc : Scope) (made m : List Text) (d : FlatDefinition) (value : SourceTerm) : Type 0 where
-  bind : d.bind.0 ≡ length made
-  more : suc (length made) ≤ length m
-  resolved : Resolved (suc (length made)) [] (outside_of sc) value d.value
+pub record Defined_so (sc : Scope) (made m : List Text) (d : FlatDefinition) (value : SourceTerm) : Type 0 where
+  pub bind : d.bind.0 ≡ length made
+  pub more : suc (length made) ≤ length m
+  pub resolved : Resolved (suc (length made)) [] (outside_of sc) value d.value
 
-define_so : (file : ℕ) (is_entry : Bool) (x : Text) (heads : List Head) (value : SourceTerm) (sc : Scope) (made m : List Text) (d : FlatDefinition) → No_sizes (source_parameters heads) → Plain value → define file is_entry x heads value sc made ≡ Ok (d, m) → Defined_so sc made m d value
+pub define_so : (file : ℕ) (is_entry : Bool) (x : Text) (heads : List Head) (value : SourceTerm) (sc : Scope) (made m : List Text) (d : FlatDefinition) (n : ℕ) → World_under n (world_of sc) → No_sizes (source_parameters heads) → Plain value → define file is_entry x heads value sc made ≡ Ok (d, m) → Defined_so sc made m d value
 unfolding define
-define_so file is_entry x heads value sc made m d n p e =
-    went _ _ _ e (λ h k i g. went _ _ _ g (λ v l j q.
-    let le : More (with_text made x) k = subst (λ z. More (with_text made x) z) (ok_rest i) (heads_more (source_parameters heads) (with_text made x) n) in
-    let rd = subst (λ z. Rattle.elab_laws.proofs.Readings.Reads (enter z.1 sc) [] (outside_of sc)) (ok_part i) (heads_read (source_parameters heads) (with_text made x) n (reads_outside sc)) in
-    let y = term_so value (enter h.1 sc) k l v [] (outside_of sc) p rd j in
+define_so file is_entry x heads value sc made m d k u n p e =
+    went _ _ _ e (λ h o i g. went _ _ _ g (λ v l j q.
+    let le : More (with_text made x) o = subst (λ z. More (with_text made x) z) (ok_rest i) (heads_more (source_parameters heads) (with_text made x) n) in
+    let rd = subst (λ z. Reads (enter z.1 sc) [] (outside_of sc)) (ok_part i) (heads_read (source_parameters heads) (with_text made x) n (reads_outside k sc u)) in
+    let y = term_so value (enter h.1 sc) o l v [] (outside_of sc) p rd j in
     subst (λ z. Defined_so sc made m z value) (ok_part q)
-    (subst (λ z. Defined_so sc made z (record { bind = next made; parameters = h.0; value = v; is_entry = is_entry_named is_entry x; file = file }) value) (ok_rest q)
+    (subst (λ z. Defined_so sc made z (record { bind = next made; parameters = h.0; value = v; is_entry = is_entry; file = file }) value) (ok_rest q)
     (record { bind = refl; more = omega (arith, more_text made x, le, y.more); resolved = down (omega (arith, more_text made x, le)) y.resolved }))))
 
+-- the values of a scope have numbers below n, in the world too
+record Below (n : ℕ) (sc : Scope) : Type 0 where
+  below : (x : Text) (b : BindId) → value_in sc x ≡ Some b → b.0 < n
+  outer : (k : ℕ) → World_under k (world_of sc)
+
 below_value : {n m : ℕ} {sc : Scope} (x : Text) (b : BindId) → n ≤ m → b.0 < m → Below n sc → Below m (a_value x b ∷ sc)
-unfolding value_in
-below_value {n} {m} {sc} x b le lt r = record { below = λ y c e. either (bytes_eq x y) (value_in sc y) c e (λ h. omega (arith, r.below y c h, le)) }
+unfolding value_in world_of
+below_value {n} {m} {sc} x b le lt r = record { outer = r.outer; below = λ y c e. either (bytes_eq x y) (value_in sc y) c e (λ h. omega (arith, r.below y c h, le)) }
   where
     some_is : (c : BindId) → Some b ≡ Some c → b ≡ c
     some_is c h = cc
@@ -112,12 +117,12 @@ tops_resolved : {sc sc' : Scope} {made made' : List Text} {ws : List Written} {f
 unfolding flat_tops
 tops_resolved lo run_none b p = no_definition
 tops_resolved {sc} {made = made} lo (run_more {m = m} {ws = ws} {d} {fs} file is_entry x heads value t e r) b p =
-    let y = define_so file is_entry x heads value sc made m d p.0 p.1 e in
+    let y = define_so file is_entry x heads value sc made m d 0 (b.outer 0) p.0 p.1 e in
     let le : length made ≤ length m = omega (arith, y.more) in
     let lt : d.bind.0 < length m = omega (arith, y.bind, y.more) in
     let rest = tops_resolved (lo + (1 + numbers value)) r (below_value x d.bind le lt b) p.2 in
     definition_and refl refl (omega (arith, y.bind)) lt
-    (sees_below (suc d.bind.0) sc (record { below = λ z c h. omega (arith, b.below z c h, y.bind) }))
+    (sees_below (suc d.bind.0) sc (λ z c h. omega (arith, b.below z c h, y.bind)) (b.outer (suc d.bind.0)))
     (down (omega (arith, y.bind)) y.resolved)
     (subst (λ z. Definitions_resolved (length m) (source_tops (lo + (1 + numbers value)) (a_value x d.bind ∷ sc) ws (binds fs)) (flat_tops (lo + (1 + z)) (named_values fs))) (numbers_same y.resolved) rest)
 
@@ -131,10 +136,10 @@ program_is (Ok (ds, s)) flat e k = k s (ap (λ z. Ok (z.definitions, s)) (same_p
 program_is (Err w) flat e k = not_refused w flat e
 
 nothing_below : {n : ℕ} → Below n []
-unfolding value_in
-nothing_below = record { below = λ x b e. absurd (let z : None ≡ Some b = e in cc) }
+unfolding value_in world_of
+nothing_below = record { below = λ x b e. absurd (let z : None ≡ Some b = e in cc); outer = λ k. record { names = tt; modules = tt } }
 
-definition_plain : (file : ℕ) (is_entry : Bool) (x : Text) (heads : List Head) (value : SourceTerm) (sc : Scope) (made m : List Text) (d : FlatDefinition) → Told value → No_sizes d.parameters → Sizeless d.value → define file is_entry x heads value sc made ≡ Ok (d, m) → No_sizes (source_parameters heads) × Plain value
+pub definition_plain : (file : ℕ) (is_entry : Bool) (x : Text) (heads : List Head) (value : SourceTerm) (sc : Scope) (made m : List Text) (d : FlatDefinition) → Told value → No_sizes d.parameters → Sizeless d.value → define file is_entry x heads value sc made ≡ Ok (d, m) → No_sizes (source_parameters heads) × Plain value
 unfolding define
 definition_plain file is_entry x heads value sc made m d t n z e =
     went _ _ _ e (λ h k i g. went _ _ _ g (λ v l j q. (

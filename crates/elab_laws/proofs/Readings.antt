@@ -1,9 +1,8 @@
 -- What a path names in a scope, by the local names over what stands outside of them.
-use Rattle.std.proofs.Common.{◌≡◌, ℕ, suc, ◌+◌, ◌<◌, ◌++◌, List, [], ◌∷◌, Bool, true, false, cond, Option, Some, None, Result, Ok, Err, refl, sym, ap, ◌∙◌, subst, arith, length}
+use Rattle.std.proofs.Common.{◌≡◌, ℕ, zero, suc, ◌+◌, ◌<◌, ◌++◌, List, [], ◌∷◌, Bool, true, false, cond, Option, Some, None, Result, Ok, Err, refl, sym, ap, ◌∙◌, subst, arith, length}
 use Rattle.std.specs.Str.{bytes_eq}
 use Rattle.fut_scalar.specs.declared.place.BindId.{BindId}
 use Rattle.fut_scalar.specs.declared.place.Place.{Place}
-use Rattle.fut_scalar.specs.declared.scalar.ScalarType.{ScalarType}
 use Rattle.fut_ast.specs.Sorts.{Text, Path}
 use Rattle.fut_flat.specs.declared.prim.Primitive.{Primitive}
 use Rattle.fut_flat.specs.declared.prim.Ref.{Ref}
@@ -12,58 +11,195 @@ use Rattle.fut_flat.specs.Erased.{FlatTerm}
 use Rattle.fut_flat.specs.Numbers.{numbers}
 use Rattle.fut_flat.specs.Sources.{names_before}
 use Rattle.fut_flat.specs.Terms.{Project, Use, Strict, no_term, term_and}
-use Rattle.fut_primitives.specs.Names.{primitive_of, scalar_of, member_of}
+use Rattle.fut_primitives.specs.Names.{primitive_of, member_of}
 use Rattle.elab_scopes.specs.Names.{Refusal}
-use Rattle.elab_scopes.specs.Scopes.{Entry, a_value, a_type, Scope, value_in, enter, Found, found, member_or, by_module, by_primitive, by_value, value_at}
+use Rattle.elab_scopes.specs.Scopes.{Module_ref, made_module, scalar_module, Member, value_member, type_member, module_member, signature_member, Contents, members, parametric, World, newer, value_among, contents_at, members_of, primitive_ref, value_in_module, module_in_module, module_named, Entry, a_value, a_type, a_world, Scope, value_in, world_of, enter, Found, found, member_or, or_deeper, inside, by_module, by_primitive, by_member, by_value, value_at}
 use Rattle.elab_scopes.specs.Resolve.{use_found}
 use Rattle.elab_scopes.specs.Resolve as resolve
 use Rattle.fut_meaning.specs.Sources.{Named, Names_number, Names_primitive, Names_nothing, Outside}
 use Rattle.fut_meaning.specs.Resolved.{Locals, path_in, projected, flat_use, Sees_below}
 use Rattle.elab_laws.specs.Sourced.{named_of, some_place, outside_of}
 
--- what a path names in the scope, it names by the locals
+-- ---- where a path stands does not matter
+
+member_same : (at at' : Place) (k : ℕ) (y : Text) (fs : Path) (o : Option Ref) → named_of (member_or at k y fs o) ≡ named_of (member_or at' k y fs o)
+member_same at at' k y fs (Some r) = refl
+member_same at at' k y fs None = refl
+
+either_deeper : {A B : Type 0} (f : A → B) (o : Option Module_ref) (g h : Module_ref → A) (a b : A) → ((n : Module_ref) → f (g n) ≡ f (h n)) → f a ≡ f b → f (or_deeper o g a) ≡ f (or_deeper o h b)
+either_deeper f None g h a b e i = i
+either_deeper f (Some n) g h a b e i = e n
+
+inside_same : (cs : List Contents) (at at' : Place) (k : ℕ) (m : Module_ref) (y : Text) (fs : Path) → named_of (inside cs at k m y fs) ≡ named_of (inside cs at' k m y fs)
+unfolding inside
+inside_same cs at at' k m y [] = member_same at at' k y [] (value_in_module cs m y)
+inside_same cs at at' k m y (z ∷ fs) = either_deeper named_of (module_in_module cs m y) _ _ _ _ (λ n. inside_same cs at at' (suc k) n z fs) (member_same at at' k y (z ∷ fs) (value_in_module cs m y))
+
+module_same : (cs : List Contents) (at at' : Place) (x : Text) (rest : Path) (o : Option Module_ref) → named_of (by_module cs at x rest o) ≡ named_of (by_module cs at' x rest o)
+module_same cs at at' x [] o = refl
+module_same cs at at' x (y ∷ fs) None = refl
+module_same cs at at' x (y ∷ fs) (Some m) = inside_same cs at at' 1 m y fs
+
+primitive_same : (w : World) (at at' : Place) (x : Text) (rest : Path) (o : Option Primitive) → named_of (by_primitive w at x rest o) ≡ named_of (by_primitive w at' x rest o)
+primitive_same w at at' x rest (Some p) = refl
+primitive_same w at at' x rest None = module_same w.modules at at' x rest (module_named w x)
+
+outer_same : (w : World) (at at' : Place) (x : Text) (rest : Path) (o : Option Ref) → named_of (by_member w at x rest o) ≡ named_of (by_member w at' x rest o)
+outer_same w at at' x rest (Some r) = refl
+outer_same w at at' x rest None = primitive_same w at at' x rest (primitive_of x)
+
+value_same : (w : World) (at at' : Place) (x : Text) (rest : Path) (o : Option BindId) → named_of (by_value w at x rest o) ≡ named_of (by_value w at' x rest o)
+value_same w at at' x rest (Some b) = refl
+value_same w at at' x rest None = outer_same w at at' x rest (value_among w.names x)
+
+-- ---- the numbers of values that stand outside are below n
+
+abbrev pub Ref_below : ℕ → Ref → Type 0
+Ref_below n (ref.Bound b) = b.0 < n
+Ref_below n (ref.Prim p) = Unit {0}
+Ref_below n (ref.Scalar s) = ⊥
+
+abbrev pub Under : ℕ → List Member → Type 0
+Under n [] = Unit {0}
+Under n (value_member x r ∷ ms) = Ref_below n r × Under n ms
+Under n (type_member x r ∷ ms) = Under n ms
+Under n (module_member x m ∷ ms) = Under n ms
+Under n (signature_member x k ∷ ms) = Under n ms
+
+abbrev pub Contents_under : ℕ → Contents → Type 0
+Contents_under n (members ms) = Under n ms
+Contents_under n (parametric k) = Unit {0}
+
+abbrev pub All_under : ℕ → List Contents → Type 0
+All_under n [] = Unit {0}
+All_under n (c ∷ cs) = Contents_under n c × All_under n cs
+
+pub record World_under (n : ℕ) (w : World) : Type 0 where
+  pub names : Under n w.names
+  pub modules : All_under n w.modules
+
+abbrev pub Option_below : ℕ → Option Ref → Type 0
+Option_below n None = Unit {0}
+Option_below n (Some r) = Ref_below n r
+
+newer_below : (n : ℕ) (t : Bool) (r : Ref) (o : Option Ref) → Ref_below n r → Option_below n o → Option_below n (newer t r o)
+newer_below n true r o b i = b
+newer_below n false r o b i = i
+
+pub among_below : (n : ℕ) (ms : List Member) (x : Text) → Under n ms → Option_below n (value_among ms x)
+unfolding value_among
+among_below n [] x u = tt
+among_below n (value_member y r ∷ ms) x u = newer_below n (bytes_eq y x) r (value_among ms x) u.0 (among_below n ms x u.1)
+among_below n (type_member y r ∷ ms) x u = among_below n ms x u
+among_below n (module_member y m ∷ ms) x u = among_below n ms x u
+among_below n (signature_member y k ∷ ms) x u = among_below n ms x u
+
+pub members_under : (n : ℕ) (c : Contents) → Contents_under n c → Under n (members_of c)
+members_under n (members ms) u = u
+members_under n (parametric k) u = tt
+
+pub contents_under : (n : ℕ) (cs : List Contents) (k : ℕ) → All_under n cs → Under n (members_of (contents_at cs k))
+unfolding contents_at
+contents_under n [] k u = tt
+contents_under n (c ∷ cs) zero u = members_under n c u.0
+contents_under n (c ∷ cs) (suc k) u = contents_under n cs k u.1
+
+pub in_module_below : (n : ℕ) (cs : List Contents) (m : Module_ref) (x : Text) → All_under n cs → Option_below n (value_in_module cs m x)
+unfolding value_in_module
+in_module_below n cs (made_module k) x u = among_below n (members_of (contents_at cs k)) x (contents_under n cs k u)
+in_module_below n cs (scalar_module t) x u = prim_below (member_of t x)
+  where
+    prim_below : (o : Option Primitive) → Option_below n (primitive_ref o)
+    prim_below None = tt
+    prim_below (Some p) = tt
+
+-- ---- what is found of a path
+
+-- it is a value of this kind, and has as many names before its last as the path
+data Finds (B : BindId → Type 0) (p : Path) : Result Found Refusal → Type 0 where
+  finds_bound : (b : BindId) (k : ℕ) (fs : Path) → B b → k + length fs ≡ names_before p → Finds B p (found (ref.Bound b) k fs)
+  finds_primitive : (q : Primitive) (k : ℕ) (fs : Path) → k + length fs ≡ names_before p → Finds B p (found (ref.Prim q) k fs)
+  finds_none : (e : Refusal) → Finds B p (Err e)
+
+before_is : (x : Text) (rest : Path) → length rest ≡ names_before (x ∷ rest)
+before_is x [] = refl
+before_is x (y ∷ ys) = ap suc (before_is y ys)
+
+finds_ref : (n : ℕ) (p : Path) (r : Ref) (k : ℕ) (fs : Path) → Ref_below n r → k + length fs ≡ names_before p → Finds (λ b. b.0 < n) p (found r k fs)
+finds_ref n p (ref.Bound b) k fs u h = finds_bound b k fs u h
+finds_ref n p (ref.Prim q) k fs u h = finds_primitive q k fs h
+finds_ref n p (ref.Scalar s) k fs u h = absurd u
+
+finds_member : (n : ℕ) (p : Path) (at : Place) (k : ℕ) (y : Text) (fs : Path) (o : Option Ref) → Option_below n o → k + length fs ≡ names_before p → Finds (λ b. b.0 < n) p (member_or at k y fs o)
+finds_member n p at k y fs None u h = finds_none _
+finds_member n p at k y fs (Some r) u h = finds_ref n p r k fs u h
+
+finds_deeper : {B : BindId → Type 0} {p : Path} (o : Option Module_ref) (k : Module_ref → Result Found Refusal) (r : Result Found Refusal) → ((n : Module_ref) → Finds B p (k n)) → Finds B p r → Finds B p (or_deeper o k r)
+finds_deeper None k r f g = g
+finds_deeper (Some n) k r f g = f n
+
+finds_inside : (n : ℕ) (p : Path) (cs : List Contents) (at : Place) (k : ℕ) (m : Module_ref) (y : Text) (fs : Path) → All_under n cs → k + length fs ≡ names_before p → Finds (λ b. b.0 < n) p (inside cs at k m y fs)
+unfolding inside
+finds_inside n p cs at k m y [] u h = finds_member n p at k y [] (value_in_module cs m y) (in_module_below n cs m y u) h
+finds_inside n p cs at k m y (z ∷ fs) u h = finds_deeper (module_in_module cs m y) _ _ (λ l. finds_inside n p cs at (suc k) l z fs u (omega (arith, h))) (finds_member n p at k y (z ∷ fs) (value_in_module cs m y) (in_module_below n cs m y u) h)
+
+finds_module : (n : ℕ) (cs : List Contents) (at : Place) (x : Text) (rest : Path) (o : Option Module_ref) → All_under n cs → Finds (λ b. b.0 < n) (x ∷ rest) (by_module cs at x rest o)
+finds_module n cs at x [] o u = finds_none _
+finds_module n cs at x (y ∷ fs) None u = finds_none _
+finds_module n cs at x (y ∷ fs) (Some m) u = finds_inside n (x ∷ y ∷ fs) cs at 1 m y fs u (omega (arith, before_is y fs))
+
+finds_by_primitive : (n : ℕ) (w : World) (at : Place) (x : Text) (rest : Path) (o : Option Primitive) → World_under n w → Finds (λ b. b.0 < n) (x ∷ rest) (by_primitive w at x rest o)
+finds_by_primitive n w at x rest (Some p) u = finds_primitive p 0 rest (omega (arith, before_is x rest))
+finds_by_primitive n w at x rest None u = finds_module n w.modules at x rest (module_named w x) u.modules
+
+finds_outside : (n : ℕ) (w : World) (at : Place) (x : Text) (rest : Path) (o : Option Ref) → Option_below n o → World_under n w → Finds (λ b. b.0 < n) (x ∷ rest) (by_member w at x rest o)
+finds_outside n w at x rest (Some r) b u = finds_ref n (x ∷ rest) r 0 rest b (omega (arith, before_is x rest))
+finds_outside n w at x rest None b u = finds_by_primitive n w at x rest (primitive_of x) u
+
+-- local names are of any number
+any_bound : {B : BindId → Type 0} {p : Path} {r : Result Found Refusal} → Finds B p r → Finds (λ b. Unit {0}) p r
+any_bound (finds_bound b k fs u h) = finds_bound b k fs tt h
+any_bound (finds_primitive q k fs h) = finds_primitive q k fs h
+any_bound (finds_none e) = finds_none e
+
+finds_value : (n : ℕ) (w : World) (at : Place) (x : Text) (rest : Path) (o : Option BindId) → World_under n w → Finds (λ b. Unit {0}) (x ∷ rest) (by_value w at x rest o)
+finds_value n w at x rest (Some b) u = finds_bound b 0 rest tt (omega (arith, before_is x rest))
+finds_value n w at x rest None u = any_bound (finds_outside n w at x rest (value_among w.names x) (among_below n w.names x u.names) u)
+
+finds : (n : ℕ) (sc : Scope) (at : Place) (p : Path) → World_under n (world_of sc) → Finds (λ b. Unit {0}) p (value_at sc at p)
+finds n sc at [] u = finds_none _
+finds n sc at (x ∷ rest) u = finds_value n (world_of sc) at x rest (value_in sc x) u
+
+-- ---- the reading of a scope
+
+-- what a path names in the scope, it names by the locals; and the values outside have numbers below `upto`
 pub record Reads (sc : Scope) (ls : Locals) (outside : Outside) : Type 0 where
   pub reads : (at : Place) (p : Path) → named_of (value_at sc at p) ≡ path_in ls outside p
+  pub upto : ℕ
+  pub under : World_under upto (world_of sc)
 
-module_same : (at at' : Place) (x : Text) (rest : Path) (o : Option ScalarType) → named_of (by_module at x rest o) ≡ named_of (by_module at' x rest o)
-module_same at at' x [] o = refl
-module_same at at' x (y ∷ fs) None = refl
-module_same at at' x (y ∷ fs) (Some t) = member_same (member_of t y)
-  where
-    member_same : (o : Option Primitive) → named_of (member_or at y fs o) ≡ named_of (member_or at' y fs o)
-    member_same (Some p) = refl
-    member_same None = refl
-
-primitive_same : (at at' : Place) (x : Text) (rest : Path) (o : Option Primitive) → named_of (by_primitive at x rest o) ≡ named_of (by_primitive at' x rest o)
-primitive_same at at' x rest (Some p) = refl
-primitive_same at at' x rest None = module_same at at' x rest (scalar_of x)
-
-value_same : (at at' : Place) (x : Text) (rest : Path) (o : Option BindId) → named_of (by_value at x rest o) ≡ named_of (by_value at' x rest o)
-value_same at at' x rest (Some b) = refl
-value_same at at' x rest None = primitive_same at at' x rest (primitive_of x)
-
-pub reads_outside : (sc : Scope) → Reads sc [] (outside_of sc)
-reads_outside sc = record { reads = reads }
+pub reads_outside : (n : ℕ) (sc : Scope) → World_under n (world_of sc) → Reads sc [] (outside_of sc)
+reads_outside n sc u = record { reads = reads; upto = n; under = u }
   where
     reads : (at : Place) (p : Path) → named_of (value_at sc at p) ≡ path_in [] (outside_of sc) p
     reads at [] = refl
-    reads at (x ∷ rest) = value_same at some_place x rest (value_in sc x)
+    reads at (x ∷ rest) = value_same (world_of sc) at some_place x rest (value_in sc x)
 
-newer : (at : Place) (x : Text) (rest : Path) (t : Bool) (b : BindId) (o : Option BindId) (named : Named) → named_of (by_value at x rest o) ≡ named → named_of (by_value at x rest (cond t (Some b) o)) ≡ cond t (Names_number b.0 rest) named
-newer at x rest true b o named e = refl
-newer at x rest false b o named e = e
+newer_local : (w : World) (at : Place) (x : Text) (rest : Path) (t : Bool) (b : BindId) (o : Option BindId) (named : Named) → named_of (by_value w at x rest o) ≡ named → named_of (by_value w at x rest (cond t (Some b) o)) ≡ cond t (Names_number b.0 rest) named
+newer_local w at x rest true b o named e = refl
+newer_local w at x rest false b o named e = e
 
 pub reads_value : {sc : Scope} {ls : Locals} {outside : Outside} (x : Text) (b : BindId) → Reads sc ls outside → Reads (a_value x b ∷ sc) ((x, b.0) ∷ ls) outside
-unfolding value_in
-reads_value {sc} {ls} {outside} x b r = record { reads = reads }
+unfolding value_in world_of
+reads_value {sc} {ls} {outside} x b r = record { reads = reads; upto = r.upto; under = r.under }
   where
     reads : (at : Place) (p : Path) → named_of (value_at (a_value x b ∷ sc) at p) ≡ path_in ((x, b.0) ∷ ls) outside p
     reads at [] = refl
-    reads at (y ∷ rest) = newer at y rest (bytes_eq x y) b (value_in sc y) _ (r.reads at (y ∷ rest))
+    reads at (y ∷ rest) = newer_local (world_of sc) at y rest (bytes_eq x y) b (value_in sc y) _ (r.reads at (y ∷ rest))
 
 pub reads_type : {sc : Scope} {ls : Locals} {outside : Outside} (x : Text) (b : BindId) → Reads sc ls outside → Reads (a_type x b ∷ sc) ls outside
-unfolding value_in
-reads_type {sc} {ls} {outside} x b r = record { reads = reads }
+unfolding value_in world_of
+reads_type {sc} {ls} {outside} x b r = record { reads = reads; upto = r.upto; under = r.under }
   where
     reads : (at : Place) (p : Path) → named_of (value_at (a_type x b ∷ sc) at p) ≡ path_in ls outside p
     reads at [] = r.reads at []
@@ -74,51 +210,30 @@ unfoldable pub entered : List Entry → Locals → Locals
 entered [] ls = ls
 entered (a_value x b ∷ es) ls = entered es ((x, b.0) ∷ ls)
 entered (a_type x b ∷ es) ls = entered es ls
+entered (a_world w ∷ es) ls = entered es ls
 
-pub reads_entered : (es : List Entry) {sc : Scope} {ls : Locals} {outside : Outside} → Reads sc ls outside → Reads (enter es sc) (entered es ls) outside
+-- local names alone
+abbrev pub No_world : List Entry → Type 0
+No_world [] = Unit {0}
+No_world (a_value x b ∷ es) = No_world es
+No_world (a_type x b ∷ es) = No_world es
+No_world (a_world w ∷ es) = ⊥
+
+pub reads_entered : (es : List Entry) → No_world es → {sc : Scope} {ls : Locals} {outside : Outside} → Reads sc ls outside → Reads (enter es sc) (entered es ls) outside
 unfolding entered enter
-reads_entered [] r = r
-reads_entered (a_value x b ∷ es) r = reads_entered es (reads_value x b r)
-reads_entered (a_type x b ∷ es) r = reads_entered es (reads_type x b r)
+reads_entered [] n r = r
+reads_entered (a_value x b ∷ es) n r = reads_entered es n (reads_value x b r)
+reads_entered (a_type x b ∷ es) n r = reads_entered es n (reads_type x b r)
+reads_entered (a_world w ∷ es) n r = absurd n
 
 pub entered-append : (es : List Entry) (x : Text) (b : BindId) (ls : Locals) → entered (es ++ a_value x b ∷ []) ls ≡ (x, b.0) ∷ entered es ls
 unfolding entered
 entered-append [] x b ls = refl
 entered-append (a_value y c ∷ es) x b ls = entered-append es x b ((y, c.0) ∷ ls)
 entered-append (a_type y c ∷ es) x b ls = entered-append es x b ls
+entered-append (a_world w ∷ es) x b ls = entered-append es x b ls
 
 -- ---- uses
-
--- what is found of a path is a value, and has as many names before its last as the path
-data Finds (p : Path) : Result Found Refusal → Type 0 where
-  finds_bound : (b : BindId) (k : ℕ) (fs : Path) → k + length fs ≡ names_before p → Finds p (found (ref.Bound b) k fs)
-  finds_primitive : (q : Primitive) (k : ℕ) (fs : Path) → k + length fs ≡ names_before p → Finds p (found (ref.Prim q) k fs)
-  finds_none : (e : Refusal) → Finds p (Err e)
-
-before_is : (x : Text) (rest : Path) → length rest ≡ names_before (x ∷ rest)
-before_is x [] = refl
-before_is x (y ∷ ys) = ap suc (before_is y ys)
-
-finds_module : (at : Place) (x : Text) (rest : Path) (o : Option ScalarType) → Finds (x ∷ rest) (by_module at x rest o)
-finds_module at x [] o = finds_none _
-finds_module at x (y ∷ fs) None = finds_none _
-finds_module at x (y ∷ fs) (Some t) = finds_member (member_of t y)
-  where
-    finds_member : (o : Option Primitive) → Finds (x ∷ y ∷ fs) (member_or at y fs o)
-    finds_member (Some p) = finds_primitive p 1 fs (omega (arith, before_is y fs))
-    finds_member None = finds_none _
-
-finds_value : (at : Place) (x : Text) (rest : Path) (o : Option BindId) → Finds (x ∷ rest) (by_value at x rest o)
-finds_value at x rest (Some b) = finds_bound b 0 rest (omega (arith, before_is x rest))
-finds_value at x rest None = finds_other (primitive_of x)
-  where
-    finds_other : (o : Option Primitive) → Finds (x ∷ rest) (by_primitive at x rest o)
-    finds_other (Some p) = finds_primitive p 0 rest (omega (arith, before_is x rest))
-    finds_other None = finds_module at x rest (scalar_of x)
-
-finds : (sc : Scope) (at : Place) (p : Path) → Finds p (value_at sc at p)
-finds sc at [] = finds_none _
-finds sc at (x ∷ rest) = finds_value at x rest (value_in sc x)
 
 projected_is : (at : Place) (fs : Path) (e : FlatTerm) → projected at e fs ≡ resolve.projected at e fs
 unfolding resolve.projected
@@ -141,67 +256,33 @@ ok_term {A} {S} {E} {a} {b} {s} {t} h = let z : ◌≡◌ {A = A × S} (a, s) (b
 ok_state : {A S E : Type 0} {a b : A} {s t : S} → ◌≡◌ {A = Result (A × S) E} (Ok (a, s)) (Ok (b, t)) → s ≡ t
 ok_state {A} {S} {E} {a} {b} {s} {t} h = let z : ◌≡◌ {A = A × S} (a, s) (b, t) = cc in ap (λ q. q.1) z
 
-use_of : (at : Place) (p : Path) (made made' : List Text) (t : FlatTerm) (r : Result Found Refusal) → Finds p r → use_found at made r ≡ Ok (t, made') → Is_use at (named_of r) (names_before p) made made' t
-use_of at p made made' t _ (finds_bound b k fs h) e =
+use_of : (B : BindId → Type 0) (at : Place) (p : Path) (made made' : List Text) (t : FlatTerm) (r : Result Found Refusal) → Finds B p r → use_found at made r ≡ Ok (t, made') → Is_use at (named_of r) (names_before p) made made' t
+use_of B at p made made' t _ (finds_bound b k fs u h) e =
     let i : projected at (Use (ref.Bound b) at k) fs ≡ t = projected_is at fs (Use (ref.Bound b) at k) ∙ ok_term e in
     record { modules = k; is = ap Some i; many = ap numbers (sym i) ∙ projected_numbers at fs (Use (ref.Bound b) at k) ∙ omega (arith, h); same = ok_state e }
-use_of at p made made' t _ (finds_primitive q k fs h) e =
+use_of B at p made made' t _ (finds_primitive q k fs h) e =
     let i : projected at (Use (ref.Prim q) at k) fs ≡ t = projected_is at fs (Use (ref.Prim q) at k) ∙ ok_term e in
     record { modules = k; is = ap Some i; many = ap numbers (sym i) ∙ projected_numbers at fs (Use (ref.Prim q) at k) ∙ omega (arith, h); same = ok_state e }
-use_of at p made made' t _ (finds_none x) e = absurd (let z : Err x ≡ Ok (t, made') = e in cc)
+use_of B at p made made' t _ (finds_none x) e = absurd (let z : Err x ≡ Ok (t, made') = e in cc)
 
-pub use_is : (sc : Scope) (place at : Place) (p : Path) (made made' : List Text) (t : FlatTerm) → use_found at made (value_at sc place p) ≡ Ok (t, made') → Is_use at (named_of (value_at sc place p)) (names_before p) made made' t
-use_is sc place at p made made' t e = use_of at p made made' t (value_at sc place p) (finds sc place p) e
+pub use_is : (n : ℕ) (sc : Scope) (place at : Place) (p : Path) (made made' : List Text) (t : FlatTerm) → World_under n (world_of sc) → use_found at made (value_at sc place p) ≡ Ok (t, made') → Is_use at (named_of (value_at sc place p)) (names_before p) made made' t
+use_is n sc place at p made made' t u e = use_of _ at p made made' t (value_at sc place p) (finds n sc place p u) e
 
--- ---- numbers of a scope
+-- ---- the numbers that a definition sees
 
--- the values of a scope have numbers below n
-pub record Below (n : ℕ) (sc : Scope) : Type 0 where
-  pub below : (x : Text) (b : BindId) → value_in sc x ≡ Some b → b.0 < n
+number_below : (n : ℕ) (p rest : Path) (k : ℕ) (r : Result Found Refusal) → Finds (λ b. b.0 < n) p r → named_of r ≡ Names_number k rest → k < n
+number_below n p rest k _ (finds_bound b j fs u h) e = let i : b.0 ≡ k = cc in subst (λ z. z < n) i u
+number_below n p rest k _ (finds_primitive q j fs h) e = absurd (let z : Names_primitive q fs ≡ Names_number k rest = e in cc)
+number_below n p rest k _ (finds_none x) e = absurd (let z : Names_nothing ≡ Names_number k rest = e in cc)
 
-number_below : (n : ℕ) (p rest : Path) (k : ℕ) (r : Result Found Refusal) → Finds p r → ((b : BindId) (j : ℕ) (fs : Path) → r ≡ found (ref.Bound b) j fs → b.0 < n) → named_of r ≡ Names_number k rest → k < n
-number_below n p rest k _ (finds_bound b j fs h) f e = let i : b.0 ≡ k = cc in subst (λ z. z < n) i (f b j fs refl)
-number_below n p rest k _ (finds_primitive q j fs h) f e = absurd (let z : Names_primitive q fs ≡ Names_number k rest = e in cc)
-number_below n p rest k _ (finds_none x) f e = absurd (let z : Names_nothing ≡ Names_number k rest = e in cc)
+-- a value of the scope that is none of the world's
+finds_below : (n : ℕ) (w : World) (at : Place) (x : Text) (rest : Path) (o : Option BindId) → ((b : BindId) → o ≡ Some b → b.0 < n) → World_under n w → Finds (λ b. b.0 < n) (x ∷ rest) (by_value w at x rest o)
+finds_below n w at x rest (Some b) f u = finds_bound b 0 rest (f b refl) (omega (arith, before_is x rest))
+finds_below n w at x rest None f u = finds_outside n w at x rest (value_among w.names x) (among_below n w.names x u.names) u
 
--- only a value of the scope is found as bound
-ref_bound : Ref → Option BindId
-ref_bound (ref.Bound b) = Some b
-ref_bound (ref.Prim p) = None
-ref_bound (ref.Scalar s) = None
-
-bound_of : Result Found Refusal → Option BindId
-bound_of (Ok f) = ref_bound f.names
-bound_of (Err e) = None
-
-module_unbound : (at : Place) (x : Text) (rest : Path) (o : Option ScalarType) → bound_of (by_module at x rest o) ≡ None
-unfolding bound_of ref_bound
-module_unbound at x [] o = refl
-module_unbound at x (y ∷ fs) None = refl
-module_unbound at x (y ∷ fs) (Some t) = member_unbound (member_of t y)
-  where
-    member_unbound : (o : Option Primitive) → bound_of (member_or at y fs o) ≡ None
-    member_unbound (Some p) = refl
-    member_unbound None = refl
-
-primitive_unbound : (at : Place) (x : Text) (rest : Path) (o : Option Primitive) → bound_of (by_primitive at x rest o) ≡ None
-unfolding bound_of ref_bound
-primitive_unbound at x rest (Some p) = refl
-primitive_unbound at x rest None = module_unbound at x rest (scalar_of x)
-
-value_bound : (at : Place) (x : Text) (rest : Path) (o : Option BindId) → bound_of (by_value at x rest o) ≡ o
-unfolding bound_of ref_bound
-value_bound at x rest (Some b) = refl
-value_bound at x rest None = primitive_unbound at x rest (primitive_of x)
-
-bound_found : (at : Place) (x : Text) (rest : Path) (o : Option BindId) (b : BindId) (j : ℕ) (fs : Path) → by_value at x rest o ≡ found (ref.Bound b) j fs → o ≡ Some b
-unfolding bound_of ref_bound
-bound_found at x rest o b j fs e = sym (value_bound at x rest o) ∙ ap bound_of e
-
-pub sees_below : (n : ℕ) (sc : Scope) → Below n sc → Sees_below n (outside_of sc)
-sees_below n sc b = record { below = below }
+pub sees_below : (n : ℕ) (sc : Scope) → ((x : Text) (b : BindId) → value_in sc x ≡ Some b → b.0 < n) → World_under n (world_of sc) → Sees_below n (outside_of sc)
+sees_below n sc locals u = record { below = below }
   where
     below : (p rest : Path) (k : ℕ) → outside_of sc p ≡ Names_number k rest → k < n
     below [] rest k e = absurd (let z : Names_nothing ≡ Names_number k rest = e in cc)
-    below (x ∷ more) rest k e =
-        number_below n (x ∷ more) rest k (value_at sc some_place (x ∷ more)) (finds sc some_place (x ∷ more)) (λ c j fs h. b.below x c (bound_found some_place x more (value_in sc x) c j fs h)) e
+    below (x ∷ more) rest k e = number_below n (x ∷ more) rest k _ (finds_below n (world_of sc) some_place x more (value_in sc x) (locals x) u) e

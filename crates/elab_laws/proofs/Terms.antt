@@ -1,5 +1,5 @@
 -- What resolving gives of a term stands for the term.
-use Rattle.std.proofs.Common.{◌≡◌, ℕ, ◌+◌, ◌≤◌, List, [], ◌∷◌, Bool, true, false, cond, Result, Ok, Err, sym, ap, ◌∙◌, subst, arith, length}
+use Rattle.std.proofs.Common.{◌≡◌, ℕ, ◌+◌, ◌≤◌, ◌++◌, List, [], ◌∷◌, Bool, true, false, cond, Result, Ok, Err, sym, ap, ◌∙◌, subst, arith, length}
 use Rattle.fut_scalar.specs.declared.place.BindId.{BindId}
 use Rattle.fut_scalar.specs.declared.place.Place.{Place}
 use Rattle.fut_ast.specs.Sorts.{Text}
@@ -7,16 +7,16 @@ use Rattle.fut_ast.specs.declared.node.Label.{Label}
 use Rattle.fut_flat.specs.declared.prim.Ref.{Ref}
 use Rattle.fut_flat.specs.Erased.{FlatTerm, FlatPattern, FlatTurns}
 use Rattle.fut_flat.specs.Sources.{Spelled, SourceTerm, SourcePattern, SourceTurns, names_before}
-use Rattle.fut_flat.specs.Terms.{Patterns, no_pattern, pattern_and, Parameter, Size_parameter, Type_parameter, Operation, Integer, Truth, Tuple_of, Record_of, Array_of, Binary, Negate, Complement, Index, Project, Update, Replace, Ascribe, Coerce, Declared, Assert, Range, Use, Strict, Lambda, Apply, Let, If, Loop, Terms, no_term, term_and, Counted, Over, While}
-use Rattle.elab_scopes.specs.Names.{Refusal}
-use Rattle.elab_scopes.specs.Scopes.{Entry, a_value, Scope, enter, value_of}
-use Rattle.elab_scopes.specs.Resolve.{Numbered, next, with_text, Naming, Bound, whole, resolve_pattern, resolve_parameters, number_sizes, number_heads, resolve_operation, is_declared, section_name, use_found, resolve, resolve_all, resolve_turns, stands_behind}
+use Rattle.fut_flat.specs.Terms.{Bound_pattern, Wild_pattern, Tuple_pattern, Record_pattern, Typed_pattern, Patterns, no_pattern, pattern_and, Parameter, Size_parameter, Type_parameter, Operation, Integer, Truth, Tuple_of, Record_of, Array_of, Binary, Negate, Complement, Index, Project, Update, Replace, Ascribe, Coerce, Declared, Assert, Range, Use, Strict, Lambda, Apply, Let, If, Loop, Terms, no_term, term_and, Counted, Over, While}
+use Rattle.elab_scopes.specs.Names.{Refusal, Twice}
+use Rattle.elab_scopes.specs.Scopes.{Entry, a_value, a_type, a_world, Scope, enter, value_of}
+use Rattle.elab_scopes.specs.Resolve.{Numbered, next, with_text, Naming, Bound, has, name_pattern, name_patterns, whole, resolve_pattern, resolve_parameters, number_sizes, number_heads, resolve_operation, is_declared, section_name, use_found, resolve, resolve_all, resolve_turns, stands_behind}
 use Rattle.fut_meaning.specs.Sources.{Outside}
 use Rattle.fut_meaning.specs.Resolved.{Locals, flat_use, Pattern_resolved, p_bound, p_wild, p_tuple, p_record, p_typed, Patterns_resolved, p_none, p_and, Same_operation, o_integer, o_truth, o_tuple, o_record, o_array, o_binary, o_negate, o_complement, o_index, o_project, o_update, o_replace, o_ascribe, o_coerce, o_declared, o_assert, o_range, Resolved, r_use, r_strict, r_lambda, r_apply, r_let, r_if, r_loop, All_resolved, r_none, r_more, Turns_resolved, r_counted, r_over, r_while}
 use Rattle.elab_laws.specs.Sourced.{No_sizes, Plain, All_plain, Plain_turns}
-use Rattle.elab_laws.proofs.Readings.{Reads, reads_type, entered, reads_entered, use_is}
+use Rattle.elab_laws.proofs.Readings.{Reads, reads_type, entered, No_world, reads_entered, use_is}
 use Rattle.elab_laws.proofs.Downs.{pattern_up, down, all_down, turns_down}
-use Rattle.elab_laws.proofs.Grown.{went, led_so, ok_part, ok_rest, More, more_same, more_text, type_more, Named_so, pattern_so}
+use Rattle.elab_laws.proofs.Grown.{went, led_so, beside_is, ok_part, ok_rest, More, more_same, more_text, type_more, Named_so, pattern_so}
 
 mutual
   pattern_le : {n m : ℕ} {ls inner : Locals} {p : SourcePattern} {q : FlatPattern} → Pattern_resolved n ls p q m inner → n ≤ m
@@ -43,6 +43,37 @@ whole_so p sc made made' b ls e =
     subst (λ z. Pattern_resolved (length made) ls p b.0 (length z) (entered b.1 ls)) i
     (subst (λ z. Pattern_resolved (length made) ls p b.0 (length s.made) (entered z ls)) g (pattern_so p sc (record { bound = []; made = made }) s b.0 h ls)))
 
+-- a pattern binds local names alone
+local_more : (es : List Entry) (x : Text) (b : BindId) → No_world es → No_world (es ++ a_value x b ∷ [])
+local_more [] x b n = tt
+local_more (a_value y c ∷ es) x b n = local_more es x b n
+local_more (a_type y c ∷ es) x b n = local_more es x b n
+local_more (a_world w ∷ es) x b n = absurd n
+
+bound_local : (x : Label) (s s' : Naming) (q : FlatPattern) → (t : Bool) → cond {A = Result (FlatPattern × Naming) Refusal} t (Err (Twice x.name x.place)) (Ok (Bound_pattern (next s.made), record { bound = s.bound ++ a_value x.name (next s.made) ∷ []; made = with_text s.made x.name })) ≡ Ok (q, s') → No_world s.bound → No_world s'.bound
+bound_local x s s' q true e n = absurd (let z : Err (Twice x.name x.place) ≡ Ok (q, s') = e in cc)
+bound_local x s s' q false e n = subst (λ z. No_world z.bound) (ok_rest e) (local_more s.bound x.name (next s.made) n)
+
+mutual
+  unfolding name_pattern name_patterns
+
+  pattern_local : (p : SourcePattern) (sc : Scope) (s s' : Naming) (q : FlatPattern) → name_pattern p sc s ≡ Ok (q, s') → No_world s.bound → No_world s'.bound
+  pattern_local (Bound_pattern x) sc s s' q e n = bound_local x s s' q (has s.bound x.name) e n
+  pattern_local Wild_pattern sc s s' q e n = subst (λ z. No_world z.bound) (ok_rest e) n
+  pattern_local (Tuple_pattern ps) sc s s' q e n = went _ _ _ e (λ a m h g. subst (λ z. No_world z.bound) (ok_rest g) (patterns_local ps sc s m a h n))
+  pattern_local (Record_pattern fs ps) sc s s' q e n = went _ _ _ e (λ a m h g. subst (λ z. No_world z.bound) (ok_rest g) (patterns_local ps sc s m a h n))
+  pattern_local (Typed_pattern p t) sc s s' q e n = went _ _ _ e (λ a m h g. went _ _ _ g (λ u k i w.
+      subst (λ z. No_world z.bound) (ok_rest w) (subst No_world (sym (beside_is m.bound _ u k i).1) (pattern_local p sc s m a h n))))
+
+  patterns_local : (ps : Patterns Spelled Label) (sc : Scope) (s s' : Naming) (qs : Patterns Ref BindId) → name_patterns ps sc s ≡ Ok (qs, s') → No_world s.bound → No_world s'.bound
+  patterns_local no_pattern sc s s' qs e n = subst (λ z. No_world z.bound) (ok_rest e) n
+  patterns_local (pattern_and p ps) sc s s' qs e n = went _ _ _ e (λ a m h g. went _ _ _ g (λ b k i w.
+      subst (λ z. No_world z.bound) (ok_rest w) (patterns_local ps sc m k b i (pattern_local p sc s m a h n))))
+
+whole_local : (p : SourcePattern) (sc : Scope) (made made' : List Text) (b : Bound FlatPattern) → resolve_pattern p sc made ≡ Ok (b, made') → No_world b.1
+unfolding resolve_pattern
+whole_local p sc made made' b e = whole_is _ b made' e (λ s h g i. subst No_world g (pattern_local p sc (record { bound = []; made = made }) s b.0 h tt))
+
 record Parameters_so (ls : Locals) (outside : Outside) (made made' : List Text) (ps : Patterns Spelled Label) (qs : Patterns Ref BindId) (sc : Scope) : Type 0 where
   inner : Locals
   patterns : Patterns_resolved (length made) ls ps qs (length made') inner
@@ -55,7 +86,7 @@ parameters_so no_pattern sc made made' r ls outside rd e =
     (subst (λ z. Parameters_so ls outside made z no_pattern no_pattern sc) (ok_rest e) (record { inner = ls; patterns = p_none (omega arith); reads = rd }))
 parameters_so (pattern_and p ps) sc made made' r ls outside rd e =
     went _ _ _ e (λ b m h g. went _ _ _ g (λ qs n i w.
-    let rest = parameters_so ps (enter b.1 sc) m n qs (entered b.1 ls) outside (reads_entered b.1 rd) i in
+    let rest = parameters_so ps (enter b.1 sc) m n qs (entered b.1 ls) outside (reads_entered b.1 (whole_local p sc made m b h) rd) i in
     subst (λ z. Parameters_so ls outside made made' (pattern_and p ps) z.0 z.1) (ok_part w)
     (subst (λ z. Parameters_so ls outside made z (pattern_and p ps) (pattern_and b.0 qs.0) qs.1) (ok_rest w)
     (record { inner = rest.inner; patterns = p_and (whole_so p sc made m b ls h) rest.patterns; reads = rest.reads }))))
@@ -121,6 +152,7 @@ record Turns_so (made made' : List Text) (ls inside : Locals) (outside : Outside
   more : More made made'
   upto : ℕ
   within : upto ≤ length made'
+  local : No_world es
   resolved : Turns_resolved (length made) ls (length made) inside outside ts us upto (entered es inside)
 
 term_ends : {made m made' : List Text} {ls : Locals} {outside : Outside} {t : SourceTerm} {a u : FlatTerm} → Resolved (length made) ls outside t a → More made m → ◌≡◌ {A = Numbered FlatTerm} (Ok (a, m)) (Ok (u, made')) → Term_so made made' ls outside t u
@@ -135,7 +167,7 @@ turns_ends {made} {m} {made'} {ls} {inside} {outside} {ts} {a} {b} r e = subst (
 use_so : (sc : Scope) (p : Spelled) (at : Place) (k : ℕ) (made made' : List Text) (u : FlatTerm) (ls : Locals) (outside : Outside) → k ≡ names_before p.path → Reads sc ls outside → use_found at made (value_of sc p) ≡ Ok (u, made') → Term_so made made' ls outside (Use p at k) u
 unfolding value_of
 use_so sc p at k made made' u ls outside n r e =
-    let i = use_is sc p.place at p.path made made' u e in
+    let i = use_is r.upto sc p.place at p.path made made' u r.under e in
     record { more = more_same i.same; resolved = r_use i.modules (ap (flat_use at i.modules) (sym (r.reads p.place p.path)) ∙ i.is) (i.many ∙ ap (λ z. 1 + (z + z)) (sym n)) }
 
 no_entries : {sc : Scope} {ls : Locals} {outside : Outside} → Reads sc ls outside → Reads (enter [] sc) ls outside
@@ -149,11 +181,11 @@ either_order false e f g = g e
 counted_so : (x : Label) (n : SourceTerm) (made m : List Text) (a : FlatTerm) (ls inside : Locals) (outside : Outside) → Term_so (with_text made x.name) m ls outside n a → Turns_so made m ls inside outside (Counted x n) (Counted (next made) a) (a_value x.name (next made) ∷ [])
 unfolding entered
 counted_so x n made m a ls inside outside y =
-    record { more = omega (arith, more_text made x.name, y.more); upto = length m; within = omega arith; resolved = r_counted (down (omega (arith, more_text made x.name)) y.resolved) (omega arith) (omega (arith, more_text made x.name, y.more)) }
+    record { more = omega (arith, more_text made x.name, y.more); upto = length m; within = omega arith; local = tt; resolved = r_counted (down (omega (arith, more_text made x.name)) y.resolved) (omega arith) (omega (arith, more_text made x.name, y.more)) }
 
 while_so : (c : SourceTerm) (made m : List Text) (a : FlatTerm) (ls inside : Locals) (outside : Outside) → Term_so made m inside outside c a → Turns_so made m ls inside outside (While c) (While a) []
 unfolding entered
-while_so c made m a ls inside outside y = record { more = y.more; upto = length made; within = y.more; resolved = r_while y.resolved }
+while_so c made m a ls inside outside y = record { more = y.more; upto = length made; within = y.more; local = tt; resolved = r_while y.resolved }
 
 mutual
   unfolding resolve resolve_all resolve_turns
@@ -195,7 +227,7 @@ mutual
       let heads : Reads (enter hs.1 sc) ls outside = subst (λ z. Reads (enter z.1 sc) ls outside) (ok_part h3) (heads_read b.parameters m2 n.1 r) in
       let le : More m2 m3 = subst (λ z. More m2 z) (ok_rest h3) (heads_more b.parameters m2 n.1) in
       let y = term_so v (enter hs.1 sc) m3 m4 v' ls outside n.2 heads h4 in
-      let w = term_so body (enter p.1 (enter s.1 sc)) m4 m5 e' (entered p.1 ls) outside n.3 (reads_entered p.1 inner) h5 in
+      let w = term_so body (enter p.1 (enter s.1 sc)) m4 m5 e' (entered p.1 ls) outside n.3 (reads_entered p.1 (whole_local b.pattern (enter s.1 sc) m1 m2 p h2) inner) h5 in
       term_ends (r_let x (down (omega (arith, pattern_le x, le)) y.resolved) (down (omega (arith, le, y.more)) w.resolved)) (omega (arith, pattern_le x, le, y.more, w.more)) q))))))
   term_so (If c a b) sc made made' u ls outside n r e =
       went _ _ _ e (λ c' m h w. went _ _ _ w (λ a' l i w'. went _ _ _ w' (λ b' k j q.
@@ -211,8 +243,8 @@ mutual
       let inner : Reads (enter s.1 sc) ls outside = subst (λ z. Reads (enter z sc) ls outside) (sym no_entry) (no_entries r) in
       let x : Pattern_resolved (length made) ls p p'.0 (length m2) (entered p'.1 ls) = subst (λ z. Pattern_resolved (length z) ls p p'.0 (length m2) (entered p'.1 ls)) same_made (whole_so p (enter s.1 sc) m1 m2 p' ls h2) in
       let y = term_so first sc m2 m3 f ls outside n.1 r h3 in
-      let w = turns_so turns sc (enter p'.1 (enter s.1 sc)) m3 m4 t ls (entered p'.1 ls) outside n.2 r (reads_entered p'.1 inner) h4 in
-      let v = term_so body (enter t.1 (enter p'.1 (enter s.1 sc))) m4 m5 b (entered t.1 (entered p'.1 ls)) outside n.3 (reads_entered t.1 (reads_entered p'.1 inner)) h5 in
+      let w = turns_so turns sc (enter p'.1 (enter s.1 sc)) m3 m4 t ls (entered p'.1 ls) outside n.2 r (reads_entered p'.1 (whole_local p (enter s.1 sc) m1 m2 p' h2) inner) h4 in
+      let v = term_so body (enter t.1 (enter p'.1 (enter s.1 sc))) m4 m5 b (entered t.1 (entered p'.1 ls)) outside n.3 (reads_entered t.1 w.local (reads_entered p'.1 (whole_local p (enter s.1 sc) m1 m2 p' h2) inner)) h5 in
       term_ends (r_loop (down (pattern_le x) y.resolved) (pattern_up y.more x) (turns_down (omega (arith, pattern_le x, y.more)) w.resolved) (down w.within v.resolved)) (omega (arith, pattern_le x, y.more, w.more, v.more)) q)))))
 
   all_so : (ts : Terms Spelled Label) (sc : Scope) (made made' : List Text) (us : Terms Ref BindId) (ls : Locals) (outside : Outside) → All_plain ts → Reads sc ls outside → resolve_all ts sc made ≡ Ok (us, made') → All_so made made' ls outside ts us
@@ -232,7 +264,7 @@ mutual
       went _ _ _ e (λ p' m h w. went _ _ _ w (λ a' l i q.
       let x = whole_so p inner made m p' inside h in
       let y = term_so a out m l a' ls outside pl r i in
-      turns_ends (record { more = omega (arith, pattern_le x, y.more); upto = length m; within = y.more; resolved = r_over (down (pattern_le x) y.resolved) x }) q))
+      turns_ends (record { more = omega (arith, pattern_le x, y.more); upto = length m; within = y.more; local = whole_local p inner made m p' h; resolved = r_over (down (pattern_le x) y.resolved) x }) q))
   turns_so (While c) out inner made made' b ls inside outside pl r ri e =
       went _ _ _ e (λ a m h q.
       let y = term_so c inner made m a inside outside pl ri h in

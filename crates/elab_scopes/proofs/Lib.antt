@@ -3,4 +3,5 @@ pub mod Finding
 pub mod Tied
 pub mod Listed
 pub mod Words
+pub mod Outside
 pub mod Walking

@@ -1,15 +1,14 @@
 -- The names of a table, the newest first.
-use Rattle.std.proofs.Common.{◌≡◌, ℕ, ◌-◌, ◌++◌, List, [], ◌∷◌, Bool, true, false, is_some, length, map, reverse, take, drop, Option, None, Some, cond, refl, sym, ◌∙◌, ap}
+use Rattle.std.proofs.Common.{◌≡◌, ℕ, ◌-◌, ◌++◌, List, [], ◌∷◌, Bool, true, false, is_some, length, reverse, take, drop, Option, None, Some, cond, refl, sym, ◌∙◌, ap}
 use Rattle.std.specs.Str.{bytes_eq}
 use Rattle.std.proofs.Math.Seq.{drop-append_seam}
 use Rattle.std.proofs.lemmas.List.{map-append, reverse-append, length-reverse, length-map, length-drop, take-append-drop, take-map}
 use Rattle.fut_ast.specs.Sorts.{Text}
 use Rattle.fut_scalar.specs.declared.place.BindId.{BindId}
 use Rattle.elab_scopes.specs.declared.table.Entry.{Entry as HeldEntry}
-use Rattle.elab_scopes.specs.declared.table.Names.{Names}
-use Rattle.elab_scopes.specs.Scopes.{Entry, a_value, a_type, Scope, newer_value, newer_type, value_in, type_in, enter}
+use Rattle.elab_scopes.specs.Scopes.{Entry, a_value, a_type, a_world, Scope, value_in}
 use Rattle.elab_scopes.specs.Resolve.{has}
-use Rattle.elab_scopes.specs.Table.{entry_of, entries_of, scope_of, outside}
+use Rattle.elab_scopes.specs.Table.{entry_of, entries_of, outside}
 
 pub scope_push : (es : List HeldEntry) (e : HeldEntry) → reverse (entries_of (es ++ e ∷ [])) ≡ entry_of e ∷ reverse (entries_of es)
 scope_push es e = ap reverse (map-append entry_of es (e ∷ [])) ∙ reverse-append (entries_of es) (entry_of e ∷ [])
@@ -33,6 +32,7 @@ height_is es = sym (length-reverse (entries_of es) ∙ length-map es entry_of)
 abbrev names_value : Entry → Text → Bool
 names_value (a_value y b) x = bytes_eq y x
 names_value (a_type y b) x = false
+names_value (a_world w) x = false
 
 some_newer : (t n : Bool) (b : BindId) (o p : Option BindId) → is_some o ≡ cond n true (is_some p) → is_some (cond t (Some b) o) ≡ cond n true (is_some (cond t (Some b) p))
 some_newer true true b o p h = refl
@@ -47,12 +47,15 @@ some_last [] (a_value y b) x = at_test (bytes_eq y x)
     at_test true = refl
     at_test false = refl
 some_last [] (a_type y b) x = refl
+some_last [] (a_world w) x = refl
 some_last (a_value z c ∷ sc) e x = some_newer (bytes_eq z x) (names_value e x) c (value_in (sc ++ e ∷ []) x) (value_in sc x) (some_last sc e x)
 some_last (a_type z c ∷ sc) e x = some_last sc e x
+some_last (a_world w ∷ sc) e x = some_last sc e x
 
 has_step : (e : Entry) (es : List Entry) (x : Text) → has (e ∷ es) x ≡ cond (names_value e x) true (has es x)
 has_step (a_value y b) es x = refl
 has_step (a_type y b) es x = refl
+has_step (a_world w) es x = refl
 
 -- a pattern's names that are values are those that a search finds
 pub has_found : (es : List Entry) (x : Text) → is_some (value_in (reverse es) x) ≡ has es x

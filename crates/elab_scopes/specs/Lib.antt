@@ -2,6 +2,8 @@ pub mod Names
 pub mod Scopes
 pub mod Resolve
 pub mod Programs
+pub mod Imports
+pub mod Declarations
 pub mod Table
 pub mod Hiding
 pub mod Answers

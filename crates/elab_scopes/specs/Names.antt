@@ -8,5 +8,11 @@ pub data Refusal : Type 0 where
   Twice : Text → Place → Refusal
   -- the module that is named before it has no such member
   NoMember : Text → Place → Refusal
+  -- the module that a seal or a parameter asks for has no such member
+  SealMissing : Text → Place → Refusal
+  -- parametric modules are applied more than 1,024 times
+  TooManyApplications : Place → Refusal
+  -- modules stand deeper in one another than is looked at
+  TooFar : Refusal
   -- a declaration that is not built yet
   NotYet : Place → Refusal

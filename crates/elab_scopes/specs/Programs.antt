@@ -38,7 +38,7 @@ unfoldable pub define : ℕ → Bool → Text → List Head → SourceTerm → S
 define file is_entry x heads value sc made =
     after (Ok (number_heads (source_parameters heads) (with_text made x))) (λ h more.
     after (resolve value (enter h.1 sc) more) (λ v more.
-    Ok (record { bind = next made; parameters = h.0; value = v; is_entry = is_entry_named is_entry x; file = file }, more)))
+    Ok (record { bind = next made; parameters = h.0; value = v; is_entry = is_entry; file = file }, more)))
 
 abbrev pub has_text : List Text → Text → Bool
 has_text [] x = false
@@ -63,7 +63,7 @@ behind x s (Err e) = Err e
 -- one declaration of the file; a name may be defined once in a file
 abbrev pub resolve_dec_form : ℕ → Place → DecLayer → Seen → Defined FlatDefinition
 resolve_dec_form file at (DecForm-F.Def is_entry x heads ps t e) s =
-    cond (has_text s.own x.name) (Err (Twice x.name x.place)) (behind x.name s (define file is_entry x.name heads (definition_term ps t e) s.scope s.made))
+    cond (has_text s.own x.name) (Err (Twice x.name x.place)) (behind x.name s (define file (is_entry_named is_entry x.name) x.name heads (definition_term ps t e) s.scope s.made))
 resolve_dec_form file at l s = Err (NotYet at)
 
 abbrev pub resolve_dec : ℕ → Dec → Seen → Defined FlatDefinition

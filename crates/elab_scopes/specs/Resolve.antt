@@ -11,7 +11,7 @@ use Rattle.fut_flat.specs.Terms.{Size_term, Size_use, Size_const, Size_blank, Ty
 use Rattle.fut_flat.specs.Erased.{FlatType, FlatPattern, FlatTerm, FlatTurns}
 use Rattle.fut_flat.specs.Sources.{Spelled, spelled, SourceSize, WrittenType, SourcePattern, SourceTerm, SourceTurns}
 use Rattle.elab_scopes.specs.Names.{Refusal, Twice}
-use Rattle.elab_scopes.specs.Scopes.{Entry, a_value, a_type, Scope, enter, Found, value_of, size_of, type_of}
+use Rattle.elab_scopes.specs.Scopes.{Entry, a_value, a_type, a_world, Scope, enter, Found, value_of, size_of, type_of}
 
 -- A part with what was numbered up to and with it: the text of each number, in order. So the next number is their count.
 abbrev pub Numbered : Type 0 → Type 0
@@ -72,6 +72,7 @@ abbrev pub has : List Entry → Text → Bool
 has [] x = false
 has (a_value y b ∷ es) x = cond (bytes_eq y x) true (has es x)
 has (a_type y b ∷ es) x = has es x
+has (a_world w ∷ es) x = has es x
 
 -- a part that binds none of the pattern's names
 abbrev pub beside : {A : Type 0} → List Entry → Numbered A → Result (A × Naming) Refusal

@@ -1,5 +1,6 @@
 //! Names and scopes: which binding each use of a name has, and how what is bound is numbered. `specs/Resolve.antt` is
-//! the definition, by structure on terms.
+//! the definition, by structure on terms. `specs/Programs.antt` says which definitions files have that hold no other
+//! declarations, and `specs/Declarations.antt` what files with modules declare; the code has no modules yet.
 #![tactic(auto)]
 
 mod newest;

@@ -1,10 +1,10 @@
 // What a path of names stands for.
-ghost use Rattle.std.specs.Prelude.{◌≡◌};
+ghost use Rattle.std.specs.Prelude.{◌≡◌, None};
 ghost use Rattle.fut_flat.specs.Sources.{spelled};
 ghost use Rattle.fut_tree.specs.Names.{names};
 ghost use Rattle.elab_scopes.specs.Answers.{found_of, viewed};
-ghost use Rattle.fut_primitives.specs.Names.{member_of, primitive_of, scalar_of};
-ghost use Rattle.elab_scopes.specs.Scopes.{by_module, by_primitive, size_of, type_of, value_of};
+ghost use Rattle.fut_primitives.specs.Names.{primitive_of, scalar_of};
+ghost use Rattle.elab_scopes.specs.Scopes.{by_module, by_primitive, no_world, or_scalar, size_of, type_of, value_of};
 ghost use Rattle.elab_scopes.specs.Table.{scope_of};
 
 use crate::refusal::Refusal;
@@ -23,7 +23,7 @@ pub struct Found<'a> {
 
 /// A path whose first name is no value: it may be a module, whose member is named next.
 fn by_module<'a>(first: &'a str, rest: &'a [&'a str], at: Place) -> Result<Found<'a>, Refusal<'a>>
-    ensures { viewed found_of result ≡ by_module at first.now (names rest.now) (scalar_of first.now) }
+    ensures { viewed found_of result ≡ by_module no_world.modules at first.now (names rest.now) (or_scalar None (scalar_of first.now)) }
 {
     match rest {
         [] => Err(Refusal::Unbound { name: first, at }),
@@ -49,7 +49,7 @@ fn by_primitive<'a>(
     rest: &'a [&'a str],
     at: Place,
 ) -> Result<Found<'a>, Refusal<'a>>
-    ensures { viewed found_of result ≡ by_primitive at first.now (names rest.now) (primitive_of first.now) }
+    ensures { viewed found_of result ≡ by_primitive no_world at first.now (names rest.now) (primitive_of first.now) }
 {
     match primitive_of(first) {
         Some(prim) => Ok(Found {

@@ -8,7 +8,7 @@ use Rattle.array_data.specs.Held.{held, held_all}
 use Rattle.array_data.specs.declared.data.Data.{Data}
 use Rattle.array_data.specs.declared.data.Data.TheVariants as hold
 use Rattle.array_data.specs.declared.form.Form.{Form}
-use Rattle.array_data.proofs.Planning.{one_held}
+use Rattle.array_primitives.proofs.Planning.{one_held}
 use Rattle.array_data.proofs.Holding.{held_scalar, held_words, held_rows, held_tuple, held_record}
 use Rattle.unfolded_runs.specs.Results.{opened}
 use Rattle.unfolded_runs.proofs.Data.{listed_datums}

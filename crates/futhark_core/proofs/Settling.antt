@@ -123,6 +123,9 @@ told_as other (Ok flat) = other
 told_as other (Err (refusal.Unbound name at)) = names.Unbound name at
 told_as other (Err (refusal.Twice name at)) = names.Twice name at
 told_as other (Err (refusal.NoMember name at)) = names.NoMember name at
+told_as other (Err (refusal.SealMissing name at)) = other
+told_as other (Err (refusal.TooManyApplications at)) = other
+told_as other (Err refusal.TooFar) = other
 told_as other (Err (refusal.NotYet at)) = other
 
 told_back : (other err : NameErr) → told_as other (Err (refusal_of err)) ≡ err

@@ -29,7 +29,7 @@ seen_of own names = record { own = own; scope = scope_of names; made = made_of n
 
 -- a definition as it is written
 unfoldable pub define_written : ℕ → Written → Scope → List Text → Numbered FlatDefinition
-define_written file w sc made = define file w.is_entry w.label.name.now (heads_of w.heads.now) (definition_term (all w.params.now) (maybe w.ty) w.value.now) sc made
+define_written file w sc made = define file (is_entry_named w.is_entry w.label.name.now) w.label.name.now (heads_of w.heads.now) (definition_term (all w.params.now) (maybe w.ty) w.value.now) sc made
 
 -- the same in a file, which defines a name once
 unfoldable pub define_once : ℕ → Written → Seen → Defined FlatDefinition
