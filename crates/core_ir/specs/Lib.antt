@@ -1,0 +1,9 @@
+pub mod Plain
+pub mod Lists
+pub mod Bundles
+pub mod Arrays
+pub mod Meaning
+pub mod Numbered
+pub mod Typed
+pub mod Programs
+pub mod Claims

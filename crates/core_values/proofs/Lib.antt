@@ -1,0 +1,12 @@
+pub mod Good
+pub mod Counts
+pub mod Rows
+pub mod Same
+pub mod Making
+pub mod Updating
+pub mod Applying
+pub mod Zipping
+pub mod Selecting
+pub mod Cutting
+pub mod Joining
+pub mod Writing
