@@ -1,7 +1,9 @@
 -- Sets of aliases: what a union has.
-use Rattle.std.proofs.Common.{◌≡◌, ℕ, Bool, true, false, ◌||◌, ◌&&◌, cond, nat_eq, [], ◌∷◌, refl, ap, ◌∙◌}
+use Rattle.std.proofs.Common.{◌≡◌, Bool, true, false, ◌||◌, ◌&&◌, cond, nat_eq, [], ◌∷◌, refl, ap, ◌∙◌}
 use Rattle.std.proofs.lemmas.Bool.{eqb-true}
-use Rattle.fut_aliases.specs.Aliases.{Alias, Part, Own, is_before, is_alias, Set, is_in, with_alias, union}
+use Rattle.fut_aliases.specs.Aliases.{is_before, is_alias, Set, is_in, with_alias, union}
+use Rattle.fut_aliases.specs.declared.aliases.Alias.TheVariants.{Part, Own}
+use Rattle.fut_aliases.specs.declared.aliases.Alias.{Alias}
 
 and_left : (s t : Bool) → (s && t) ≡ true → s ≡ true
 and_left true t h = refl

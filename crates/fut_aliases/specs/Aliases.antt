@@ -2,13 +2,8 @@
 -- Array Updates", PLDI 2017, section 3). A value has one set for each of its components: the names with which it may share
 -- memory.
 use Rattle.std.specs.Prelude.{ℕ, ◌||◌, ◌&&◌, Bool, true, false, cond, nat_eq, nat_lt, List, [], ◌∷◌, Option, Some, None}
-use Rattle.fut_scalar.specs.declared.place.BindId.{BindId}
-
-pub data Alias : Type 0 where
-  -- the node where a name is bound, a component of the name, and the name
-  Part : ℕ → ℕ → BindId → Alias
-  -- what the components of a call's result share: the call's node
-  Own : ℕ → Alias
+use Rattle.fut_aliases.specs.declared.aliases.Alias.{Alias}
+use Rattle.fut_aliases.specs.declared.aliases.Alias.TheVariants.{Part, Own}
 
 -- nodes are numbered in the order of the text; a call's own comes after all names
 abbrev pub is_before : Alias → Alias → Bool
@@ -43,6 +38,18 @@ put_at a b s behind = cond (is_before a b) (a ∷ b ∷ s) (cond (is_alias a b) 
 unfoldable pub with_alias : Alias → Set → Set
 with_alias a [] = a ∷ []
 with_alias a (b ∷ s) = put_at a b s (with_alias a s)
+
+-- How a name joins the set of the array that it names. By the rules it stands in its own set.
+abbrev pub Naming : Type 0
+Naming = Alias → Set → Set
+
+-- A name of what has a name already may be left out: whatever shares with it shares with the older name, which comes first.
+abbrev pub has_name : Set → Bool
+has_name (Part n i b ∷ s) = true
+has_name s = false
+
+abbrev pub first_name_alone : Naming
+first_name_alone a s = cond (has_name s) s (with_alias a s)
 
 unfoldable pub union : Set → Set → Set
 union [] t = t

@@ -4,10 +4,17 @@ use Rattle.std.specs.Prelude.{ℕ, suc, Bool, true, false, ◌||◌, cond, nat_l
 use Rattle.fut_scalar.specs.declared.place.BindId.{BindId}
 use Rattle.fut_types.specs.declared.Head.TheVariants as head
 use Rattle.fut_types.specs.Types.{Ty, Made, none, more, Kinds}
-use Rattle.fut_aliases.specs.Aliases.{Own, Set, is_in, with_alias, union, those, shared, is_outside}
+use Rattle.fut_aliases.specs.Aliases.{Set, is_in, with_alias, union, those, shared, is_outside}
+use Rattle.fut_aliases.specs.declared.aliases.Alias.TheVariants.{Own}
 use Rattle.fut_aliases.specs.Stars.{Stars, Arrow, no_stars, consumes_more, gives_less}
 use Rattle.fut_aliases.specs.Values.{Value, Function, with_stars, aliases, Component, starring, taken, left, functions}
-use Rattle.fut_aliases.specs.Steps.{First, Spot, Named, By_alias, By_name, Broken, Consumed, Not_consumable, Captured, Result_aliases, Losses, behind, Step, give, and_then, losses_now, consume, demand, or_else, some_alias, lost}
+use Rattle.fut_aliases.specs.Steps.{Losses, behind, Step, give, and_then, losses_now, consume, demand, or_else, some_alias, lost}
+use Rattle.fut_aliases.specs.declared.refusals.Broken.TheVariants.{Consumed, NotConsumable, Captured, ResultAliases}
+use Rattle.fut_aliases.specs.declared.refusals.Broken.{Broken}
+use Rattle.fut_aliases.specs.declared.refusals.Named.TheVariants.{ByAlias, ByName}
+use Rattle.fut_aliases.specs.declared.refusals.Named.{Named}
+use Rattle.fut_aliases.specs.declared.refusals.Spot.TheVariants.{First}
+use Rattle.fut_aliases.specs.declared.refusals.Spot.{Spot}
 use Rattle.fut_aliases.specs.Patterns.{Scope}
 
 -- where a term stands
@@ -45,7 +52,7 @@ no_name = None
 -- ---- what may not be consumed
 
 abbrev pub not_consumable : Here → Spot → Set → Option Broken
-not_consumable h p s = some_alias (λ n. Not_consumable n p) (those (λ a. is_in a h.fixed || is_outside h.loop_from a) s)
+not_consumable h p s = some_alias (λ n. NotConsumable n p) (those (λ a. is_in a h.fixed || is_outside h.loop_from a) s)
 
 abbrev pub captured : Here → Spot → Set → Option Broken
 captured h p s = some_alias (λ n. Captured n p) (those (is_outside h.function_from) s)
@@ -57,15 +64,15 @@ when true b = Some b
 when false b = None
 
 abbrev pub too_hungry : Stars → Held → Option Broken
-too_hungry u a = when (consumes_more u (functions a.value)) (Not_consumable a.called (First a.node))
+too_hungry u a = when (consumes_more u (functions a.value)) (NotConsumable a.called (First a.node))
 
 abbrev pub too_shared : Stars → Held → Option Broken
-too_shared u a = when (gives_less u (functions a.value)) (Result_aliases a.first_name (First a.node))
+too_shared u a = when (gives_less u (functions a.value)) (ResultAliases a.first_name (First a.node))
 
 -- ---- no part may share memory with what a later part consumed
 
 abbrev pub held_loss : Losses → Held → Option Broken
-held_loss ls a = lost (behind a.losses ls) By_alias (First a.node) (aliases a.value)
+held_loss ls a = lost (behind a.losses ls) ByAlias (First a.node) (aliases a.value)
 
 abbrev pub first_broken : {A : Type 0} → (A → Option Broken) → List A → Option Broken
 first_broken rule [] = None
@@ -154,7 +161,7 @@ starred_argument f g = some_alias_or f (starring g.stars g.argument.value)
   where
     some_alias_or : Named → List Component → Option Broken
     some_alias_or n [] = None
-    some_alias_or n (c ∷ cs) = cond c.starred (Some (Not_consumable n (First g.argument.node))) (some_alias_or n cs)
+    some_alias_or n (c ∷ cs) = cond c.starred (Some (NotConsumable n (First g.argument.node))) (some_alias_or n cs)
 
 module _ (K : Kinds) (h : Here) where
   -- a name is used where something is done with it; that is the answer's name
@@ -163,7 +170,7 @@ module _ (K : Kinds) (h : Here) where
     where
       use_of : Option BindId → Step (Unit {0})
       use_of None = give tt
-      use_of (Some b) = and_then losses_now (λ ls. demand h.asked (lost ls (λ a. By_name b) (First p.head.node) (aliases p.head.value)))
+      use_of (Some b) = and_then losses_now (λ ls. demand h.asked (lost ls (λ a. ByName b) (First p.head.node) (aliases p.head.value)))
 
   -- fewer arguments than parameters: those so far are kept
   abbrev pub partial : Held → List Held → Step Value

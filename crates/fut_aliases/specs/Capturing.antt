@@ -9,7 +9,8 @@ use Rattle.fut_flat.specs.Erased.{FlatTerm, FlatTurns}
 use Rattle.fut_typing.specs.Names.{Names}
 use Rattle.fut_aliases.specs.Aliases.{Set, union}
 use Rattle.fut_aliases.specs.Values.{Value, aliases, part_named}
-use Rattle.fut_aliases.specs.Steps.{Named, By_name, By_primitive, A_function}
+use Rattle.fut_aliases.specs.declared.refusals.Named.TheVariants.{ByName, ByPrimitive, AFunction}
+use Rattle.fut_aliases.specs.declared.refusals.Named.{Named}
 use Rattle.fut_aliases.specs.Patterns.{Scope}
 
 -- ---- what a term names from outside: a path of fields is that component alone
@@ -59,17 +60,17 @@ module _ (N : Names) (scope : Scope) where
 -- ---- how a function is called: by its name if it is one
 
 abbrev pub ref_name : Ref → Option Named
-ref_name (ref.Bound b) = Some (By_name b)
-ref_name (ref.Prim p) = Some (By_primitive p)
+ref_name (ref.Bound b) = Some (ByName b)
+ref_name (ref.Prim p) = Some (ByPrimitive p)
 ref_name (ref.Scalar s) = None
 
 abbrev pub or_function : Option Named → Named
 or_function (Some n) = n
-or_function None = A_function
+or_function None = AFunction
 
 abbrev pub called : FlatTerm → Named
 called (Use r at k) = or_function (ref_name r)
-called e = A_function
+called e = AFunction
 
 -- the first name that stands in it
 abbrev pub or_name : Option Named → Option Named → Option Named

@@ -1,6 +1,6 @@
 -- The aliases of a term's value, or the first rule that is broken, in the order of evaluation: one clause a form. A term's numbers
 -- begin at lo.
-use Rattle.std.specs.Prelude.{ℕ, zero, suc, ◌+◌, true, false, ◌||◌, cond, List, [], ◌∷◌, ◌++◌, length, Option, Some, None}
+use Rattle.std.specs.Prelude.{ℕ, zero, suc, ◌+◌, Bool, true, false, ◌||◌, cond, List, [], ◌∷◌, ◌++◌, length, Option, Some, None}
 use Rattle.fut_ast.specs.Sorts.{Text}
 use Rattle.fut_scalar.specs.declared.place.BindId.{BindId}
 use Rattle.fut_flat.specs.declared.prim.Ref.{Ref}
@@ -12,10 +12,14 @@ use Rattle.fut_types.specs.Types.{Ty, Made, Sub, Kinds}
 use Rattle.fut_types.specs.Shapes.{place}
 use Rattle.fut_types.specs.declared.Head.TheVariants as head
 use Rattle.fut_typing.specs.Names.{Names}
-use Rattle.fut_aliases.specs.Aliases.{Set, is_in, union, those, shared, is_outside}
+use Rattle.fut_aliases.specs.Aliases.{Set, Naming, is_in, union, those, shared, is_outside}
 use Rattle.fut_aliases.specs.Stars.{Stars, Arrow, Row, no_stars, star_at, spread, written_stars, primitive_stars, either}
 use Rattle.fut_aliases.specs.Values.{Value, Scalar, Function, Parts, Values, value_and, no_value, of_type, with_stars, at_type, components, aliases, having, unite, Component, starring, part_named}
-use Rattle.fut_aliases.specs.Steps.{Losses, First, A_function, Broken, Result_aliases, Step, give, and_then, losses_now, apart, either_of, demand, or_else, some_alias}
+use Rattle.fut_aliases.specs.Steps.{Losses, Step, give, and_then, losses_now, lose_too, apart, either_of, demand, or_else, some_alias}
+use Rattle.fut_aliases.specs.declared.refusals.Broken.TheVariants.{ResultAliases}
+use Rattle.fut_aliases.specs.declared.refusals.Broken.{Broken}
+use Rattle.fut_aliases.specs.declared.refusals.Named.TheVariants.{AFunction}
+use Rattle.fut_aliases.specs.declared.refusals.Spot.TheVariants.{First}
 use Rattle.fut_aliases.specs.Patterns.{Scope, with_value, pattern_stars, bound, kept}
 use Rattle.fut_aliases.specs.Capturing.{capture, captures, called, first_name}
 use Rattle.fut_aliases.specs.Calls.{Here, Held, Part, stars_of, stars_behind, too_hungry, too_shared, finished, use_name}
@@ -51,7 +55,7 @@ values_of v = no_value
 
 -- a path is no name
 abbrev pub unnamed : Held → Held
-unnamed a = record { node = a.node; called = A_function; first_name = a.first_name; value = a.value; losses = a.losses }
+unnamed a = record { node = a.node; called = AFunction; first_name = a.first_name; value = a.value; losses = a.losses }
 
 abbrev pub bound_name : Ref → Option BindId
 bound_name (ref.Bound b) = Some b
@@ -88,7 +92,7 @@ abbrev pub or_plain : Option Stars → Stars → Stars
 or_plain (Some u) v = u
 or_plain None v = v
 
-module _ (N : Names) (K : Kinds) (types : Sub) where
+module _ (naming : Naming) (N : Names) (K : Kinds) (types : Sub) where
   -- the stars of a result: those that are declared, with those that are wanted
   abbrev pub declared_stars : FlatTerm → ℕ → Option Stars
   declared_stars (Strict (Declared e) mark ts) n = Some (written_stars N false e (types n))
@@ -111,11 +115,11 @@ module _ (N : Names) (K : Kinds) (types : Sub) where
 
   abbrev pub with_parameters : Patterns Ref BindId → ℕ → Scope → Scope
   with_parameters no_pattern q scope = scope
-  with_parameters (pattern_and p ps) q scope = with_parameters ps (q + pattern_numbers p) (bound N types true p q (parameter_value p q) scope)
+  with_parameters (pattern_and p ps) q scope = with_parameters ps (q + pattern_numbers p) (bound naming N types true p q (parameter_value p q) scope)
 
   abbrev pub all_kept : Patterns Ref BindId → ℕ → Set
   all_kept no_pattern q = []
-  all_kept (pattern_and p ps) q = union (kept N types p q (pattern_stars N types p q) (parameter_value p q)) (all_kept ps (q + pattern_numbers p))
+  all_kept (pattern_and p ps) q = union (kept naming N types p q (pattern_stars N types p q) (parameter_value p q)) (all_kept ps (q + pattern_numbers p))
 
   -- the body of a function at lo
   abbrev pub body_node : Patterns Ref BindId → ℕ → ℕ
@@ -142,7 +146,7 @@ module _ (N : Names) (K : Kinds) (types : Sub) where
   abbrev pub give_back : Here → Stars → Held → Step (Unit {0})
   give_back h u a =
       and_then (demand h.asked (too_hungry u a)) (λ z.
-      demand h.asked (or_else (some_alias (λ n. Result_aliases n (First a.node)) (shared_in_result h [] (starring u a.value))) (too_shared u a)))
+      demand h.asked (or_else (some_alias (λ n. ResultAliases n (First a.node)) (shared_in_result h [] (starring u a.value))) (too_shared u a)))
 
   -- ---- lets
 
@@ -224,7 +228,7 @@ module _ (N : Names) (K : Kinds) (types : Sub) where
   value_node p lo = 1 + lo + pattern_numbers p
 
   abbrev pub behind_let : Binding Ref BindId → ℕ → Held → Here → Here
-  behind_let b lo a h = with_scope (bound N types false b.pattern (1 + lo) a.value h.scope) h
+  behind_let b lo a h = with_scope (bound naming N types false b.pattern (1 + lo) a.value h.scope) h
 
   -- ---- loops
 
@@ -245,23 +249,33 @@ module _ (N : Names) (K : Kinds) (types : Sub) where
     pub losses : Losses
 
   abbrev pub carried_scope : FlatPattern → ℕ → List Set → Scope → Scope
-  carried_scope p q xs scope = bound N types false p q (having xs (of_type K [] (types q))) scope
+  carried_scope p q xs scope = bound naming N types false p q (having xs (of_type K [] (types q))) scope
 
   -- inside the loop at lo, where the parameters share with these
   abbrev pub turn_here : Here → FlatPattern → ℕ → Going → List Set → Here
   turn_here h p lo going xs = in_loop lo (going.bring (carried_scope p (1 + lo) xs h.scope)) h
 
   abbrev pub carried_by : FlatPattern → ℕ → FlatTerm → ℕ → Held → Flow → List Carried
-  carried_by p q first n a flow = all_carried flow.losses (starts N first n a.value) (components (own_names N p q (of_type K [] (types q)))) (components a.value) (components flow.value)
+  carried_by p q first n a flow = all_carried flow.losses (starts N first n a.value) (components (own_names naming N p q (of_type K [] (types q)))) (components a.value) (components flow.value)
+
+  -- Where rules are asked for, the body is looked at with what the parameters share with. Where only values flow, the first look has
+  -- it all: what the body gives for a parameter shares with what the parameter does, and that is united with it in any case.
+  abbrev pub looked_again : Bool → Flow → Step Value → Step Value
+  looked_again true flow again = again
+  looked_again false flow again = and_then (lose_too flow.losses) (λ z. give flow.value)
 
   -- the turns of a loop at a node, whose body is at another
-  abbrev pub turned : Here → FlatPattern → ℕ → ℕ → Held → Going → (Here → Step (Unit {0})) → (Here → Step Held) → List Carried → Step Value
-  turned h p lo at a going condition body cs =
+  abbrev pub turned : Here → FlatPattern → ℕ → ℕ → Held → Going → (Here → Step (Unit {0})) → (Here → Step Held) → Flow → List Carried → Step Value
+  turned h p lo at a going condition body flow cs =
       and_then (enter h a going.over at cs) (λ z.
-      and_then (condition (turn_here h p lo going (over_all_turns lo cs))) (λ y.
-      and_then (body (turn_here h p lo going (over_all_turns lo cs))) (λ g.
-      and_then (leave h lo at cs (components g.value)) (λ x.
-      give (having (results cs (over_all_turns lo cs) (components g.value)) g.value)))))
+      and_then (looked_again h.asked flow (a_turn (turn_here h p lo going (over_all_turns lo cs)))) (λ v.
+      give (having (results cs (over_all_turns lo cs) (components v)) v)))
+    where
+      a_turn : Here → Step Value
+      a_turn inside =
+          and_then (condition inside) (λ y.
+          and_then (body inside) (λ g.
+          and_then (leave h lo at cs (components g.value)) (λ x. give g.value)))
 
   -- the first look, for which each parameter stands for itself
   abbrev pub flow_of : Here → FlatPattern → ℕ → Going → (Here → Step (Unit {0})) → (Here → Step Held) → Step Flow
@@ -302,7 +316,7 @@ module _ (N : Names) (K : Kinds) (types : Sub) where
         and_then (by_itself first (value_node p lo) h (looked first (value_node p lo) h None)) (λ a.
         and_then (turns_looked turns (turns_node p first lo) h) (λ going.
         and_then (flow_of h p lo going (condition_looked turns (turns_node p first lo)) (λ inside. by_itself body (turn_node p first turns lo) inside (looked body (turn_node p first turns lo) inside None))) (λ flow.
-        and_then (turned h p lo (turn_node p first turns lo) a going (condition_looked turns (turns_node p first lo)) (λ inside. by_itself body (turn_node p first turns lo) inside (looked body (turn_node p first turns lo) inside None)) (carried_by p (1 + lo) first (value_node p lo) a flow)) (λ v.
+        and_then (turned h p lo (turn_node p first turns lo) a going (condition_looked turns (turns_node p first lo)) (λ inside. by_itself body (turn_node p first turns lo) inside (looked body (turn_node p first turns lo) inside None)) flow (carried_by p (1 + lo) first (value_node p lo) a flow)) (λ v.
         whole (Loop mark sizes p first turns body) lo v))))
 
     pub all_looked : Terms Ref BindId → ℕ → Here → (ℕ → Option Stars) → ℕ → Step (List Held)
@@ -313,7 +327,7 @@ module _ (N : Names) (K : Kinds) (types : Sub) where
     pub turns_looked : FlatTurns → ℕ → Here → Step Going
     turns_looked (Counted i m) lo h = and_then (by_itself m (1 + lo) h (looked m (1 + lo) h None)) (λ a. give (record { over = []; bring = with_value i.0 (of_type K [] (types lo)) }))
     turns_looked (Over p e) lo h = and_then (by_itself e (lo + pattern_numbers p) h (looked e (lo + pattern_numbers p) h None)) (λ a.
-        give (record { over = aliases a.value; bring = bound N types false p lo (of_type K (aliases a.value) (types lo)) }))
+        give (record { over = aliases a.value; bring = bound naming N types false p lo (of_type K (aliases a.value) (types lo)) }))
     turns_looked (While c) lo h = give (record { over = []; bring = λ scope. scope })
 
     -- a condition sees what the loop carries

@@ -11,9 +11,12 @@ use Rattle.fut_flat.specs.Numbers.{pattern_numbers, numbers}
 use Rattle.fut_flat.specs.Erased.{FlatTerm, FlatPattern}
 use Rattle.fut_types.specs.declared.Head.TheVariants as head
 use Rattle.fut_typing.specs.Names.{Names}
-use Rattle.fut_aliases.specs.Aliases.{Set, is_in, union, those, shared, is_outside}
+use Rattle.fut_aliases.specs.Aliases.{Set, Naming, is_in, union, those, shared, is_outside}
 use Rattle.fut_aliases.specs.Values.{Value, Parts, Values, value_and, components, named, part_named, with_part_named}
-use Rattle.fut_aliases.specs.Steps.{First, Broken, Result_aliases, Losses, Step, give, and_then, consume, demand, some_alias, is_lost}
+use Rattle.fut_aliases.specs.Steps.{Losses, Step, give, and_then, consume, demand, some_alias, is_lost}
+use Rattle.fut_aliases.specs.declared.refusals.Broken.TheVariants.{ResultAliases}
+use Rattle.fut_aliases.specs.declared.refusals.Broken.{Broken}
+use Rattle.fut_aliases.specs.declared.refusals.Spot.TheVariants.{First}
 use Rattle.fut_aliases.specs.Calls.{Here, Held, not_consumable, captured, settled, first_broken}
 
 -- a component that a loop carries
@@ -31,11 +34,11 @@ pub record Carried : Type 0 where
 
 -- ---- the own names of what a pattern binds, by component
 
-module _ (N : Names) where
+module _ (naming : Naming) (N : Names) where
   unfoldable mutual
     -- of a value whose sets are all empty
     pub own_names : FlatPattern → ℕ → Value → Value
-    own_names (Bound_pattern b) q v = named true q b 0 v
+    own_names (Bound_pattern b) q v = named naming true q b 0 v
     own_names (Tuple_pattern ps) q (Parts h vs) = Parts h (all_own_names ps (1 + q) vs)
     own_names (Record_pattern fs ps) q v = fields_own_names fs ps (1 + q) v
     own_names (Typed_pattern p e) q v = own_names p q v
@@ -153,7 +156,7 @@ enter h first over body cs =
     and_then (demand h.asked (first_broken (eaten_not_consumable h) cs)) (λ z.
     and_then (demand h.asked (first_broken (eaten_captured h) cs)) (λ y.
     and_then (settled h (first ∷ [])) (λ x.
-    and_then (demand h.asked (some_alias (λ n. Result_aliases n (First body)) (shared_firsts over [] cs))) (λ w. consume_firsts cs))))
+    and_then (demand h.asked (some_alias (λ n. ResultAliases n (First body)) (shared_firsts over [] cs))) (λ w. consume_firsts cs))))
 
 -- ---- what the body gives
 
@@ -173,7 +176,7 @@ shared_results from kept before (c ∷ cs) (g ∷ gs) =
 shared_results from kept before cs gs = []
 
 abbrev pub leave : Here → ℕ → ℕ → List Carried → List Set → Step (Unit {0})
-leave h from body cs gs = demand h.asked (some_alias (λ n. Result_aliases n (First body)) (shared_results from (kept_names cs) [] cs gs))
+leave h from body cs gs = demand h.asked (some_alias (λ n. ResultAliases n (First body)) (shared_results from (kept_names cs) [] cs gs))
 
 -- the result: nothing where a parameter is consumed, else what it may have been in any turn
 abbrev pub results : List Carried → List Set → List Set → List Set

@@ -9,10 +9,17 @@ use Rattle.fut_flat.specs.Terms.{Operation, Tuple_of, Record_of, Index, Project,
 use Rattle.fut_types.specs.declared.Head.TheVariants as head
 use Rattle.fut_types.specs.Types.{Ty, Made, Sub, Kinds}
 use Rattle.fut_typing.specs.Names.{Names}
-use Rattle.fut_aliases.specs.Aliases.{Alias, Set, shared}
+use Rattle.fut_aliases.specs.Aliases.{Set, shared}
+use Rattle.fut_aliases.specs.declared.aliases.Alias.{Alias}
 use Rattle.fut_aliases.specs.Stars.{Stars, written_stars}
 use Rattle.fut_aliases.specs.Values.{Value, Scalar, Parts, Values, no_value, value_and, of_type, aliases, ascribed, part_named, with_part_named}
-use Rattle.fut_aliases.specs.Steps.{Mark, Spot, Named, By_alias, By_name, Broken, Result_aliases, Step, give, and_then, consume, demand, some_alias}
+use Rattle.fut_aliases.specs.Steps.{Step, give, and_then, consume, demand, some_alias}
+use Rattle.fut_aliases.specs.declared.refusals.Broken.TheVariants.{ResultAliases}
+use Rattle.fut_aliases.specs.declared.refusals.Broken.{Broken}
+use Rattle.fut_aliases.specs.declared.refusals.Named.TheVariants.{ByAlias, ByName}
+use Rattle.fut_aliases.specs.declared.refusals.Named.{Named}
+use Rattle.fut_aliases.specs.declared.refusals.Spot.TheVariants.{Mark}
+use Rattle.fut_aliases.specs.declared.refusals.Spot.{Spot}
 use Rattle.fut_aliases.specs.Calls.{Here, Held, not_consumable, captured, too_hungry, too_shared, settled}
 
 -- ---- records: the parts in the order of their labels
@@ -46,14 +53,14 @@ last_value (a ∷ more_of) = last_value more_of
 
 -- the array's name, or else the least that both share
 abbrev pub array_name : Named → Alias → Named
-array_name (By_name b) a = By_name b
-array_name n a = By_alias a
+array_name (ByName b) a = ByName b
+array_name n a = ByAlias a
 
 abbrev pub shares_with : Held → Spot → Set → Option Broken
-shares_with a p s = some_alias (λ n. Result_aliases (shown n) p) (shared (aliases a.value) s)
+shares_with a p s = some_alias (λ n. ResultAliases (shown n) p) (shared (aliases a.value) s)
   where
     shown : Named → Named
-    shown (By_alias b) = array_name a.called b
+    shown (ByAlias b) = array_name a.called b
     shown n = n
 
 -- the new element may not share with the array, and the array must be one that may be consumed

@@ -10,7 +10,7 @@ use Rattle.fut_types.specs.declared.Head.{Head}
 use Rattle.fut_types.specs.Types.{Ty, Made, Sub}
 use Rattle.fut_types.specs.Shapes.{place}
 use Rattle.fut_typing.specs.Names.{Names}
-use Rattle.fut_aliases.specs.Aliases.{Set, union}
+use Rattle.fut_aliases.specs.Aliases.{Set, Naming, union}
 use Rattle.fut_aliases.specs.Stars.{Stars, Row, StarRow, no_star, star_and, spread, star_at, with_star, row_of, written_stars}
 use Rattle.fut_aliases.specs.Values.{Value, Parts, Values, value_and, named, left, ascribed, part_named}
 
@@ -41,11 +41,12 @@ module _ (N : Names) (types : Sub) where
     record_stars (f ∷ fs) (pattern_and p ps) q (Made h ts) = Row (with_star (place N.shapes (N.label f) h) (pattern_stars p q) (row_of (record_stars fs ps (q + pattern_numbers p) (Made h ts))))
     record_stars fs ps q t = spread false t
 
+module _ (naming : Naming) (N : Names) (types : Sub) where
   -- ---- what a pattern that begins at q binds; a parameter's functions stand in their own sets too
 
   unfoldable mutual
     pub bound : Bool → FlatPattern → ℕ → Value → Scope → Scope
-    bound parameter (Bound_pattern b) q v scope = with_value b.0 (named parameter q b 0 v) scope
+    bound parameter (Bound_pattern b) q v scope = with_value b.0 (named naming parameter q b 0 v) scope
     bound parameter Wild_pattern q v scope = scope
     bound parameter (Tuple_pattern ps) q (Parts h vs) scope = all_bound parameter ps (1 + q) vs scope
     bound parameter (Record_pattern fs ps) q v scope = fields_bound parameter fs ps (1 + q) v scope
@@ -64,7 +65,7 @@ module _ (N : Names) (types : Sub) where
 
   unfoldable mutual
     pub kept : FlatPattern → ℕ → Stars → Value → Set
-    kept (Bound_pattern b) q u v = left u (named true q b 0 v)
+    kept (Bound_pattern b) q u v = left u (named naming true q b 0 v)
     kept (Tuple_pattern ps) q (Row us) (Parts h vs) = all_kept ps (1 + q) us vs
     kept (Record_pattern fs ps) q (Row us) (Parts h vs) = fields_kept fs ps (1 + q) h us vs
     kept (Typed_pattern p e) q u v = kept p q u v

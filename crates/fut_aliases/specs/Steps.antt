@@ -1,31 +1,14 @@
 -- The rules are looked at in the order of evaluation. A step gives a result or the first rule that is broken, and carries what
 -- was consumed.
 use Rattle.std.specs.Prelude.{ℕ, zero, suc, Bool, true, false, cond, List, [], ◌∷◌, ◌++◌, Option, Some, None, Result, Ok, Err}
-use Rattle.fut_scalar.specs.declared.place.BindId.{BindId}
-use Rattle.fut_scalar.specs.declared.place.Place.{Place}
-use Rattle.fut_flat.specs.declared.prim.Primitive.{Primitive}
-use Rattle.fut_aliases.specs.Aliases.{Alias, is_alias, Set, those, least}
-
--- the first token of a node, or the mark of an update
-pub data Spot : Type 0 where
-  First : ℕ → Spot
-  Mark : Place → Spot
-
--- what a refusal names
-pub data Named : Type 0 where
-  By_alias : Alias → Named
-  By_name : BindId → Named
-  By_primitive : Primitive → Named
-  -- a function that has no name
-  A_function : Named
-
-pub data Broken : Type 0 where
-  -- what was consumed at the first spot is used at the second
-  Consumed : Named → Spot → Spot → Broken
-  Not_consumable : Named → Spot → Broken
-  Captured : Named → Spot → Broken
-  -- what must be fresh shares memory with this
-  Result_aliases : Named → Spot → Broken
+use Rattle.fut_aliases.specs.declared.aliases.Alias.{Alias}
+use Rattle.fut_aliases.specs.declared.refusals.Broken.{Broken}
+use Rattle.fut_aliases.specs.declared.refusals.Broken.TheVariants.{Consumed}
+use Rattle.fut_aliases.specs.declared.refusals.Loss.{Loss}
+use Rattle.fut_aliases.specs.declared.refusals.Named.{Named}
+use Rattle.fut_aliases.specs.declared.refusals.Named.TheVariants.{ByAlias}
+use Rattle.fut_aliases.specs.declared.refusals.Spot.{Spot}
+use Rattle.fut_aliases.specs.Aliases.{is_alias, Set, those, least}
 
 abbrev pub Answer : Type 0 → Type 0
 Answer A = Result A Broken
@@ -35,10 +18,6 @@ then_do (Ok a) more_of = more_of a
 then_do (Err e) more_of = Err e
 
 -- ---- what was consumed: each alias once, where it was consumed first, in the order in which that happened
-
-pub record Loss : Type 0 where
-  pub alias : Alias
-  pub at : Spot
 
 abbrev pub Losses : Type 0
 Losses = List Loss
@@ -92,6 +71,10 @@ losses_now ls = Ok (record { result = ls; losses = ls })
 abbrev pub consume : Spot → Set → Step (Unit {0})
 consume p s ls = Ok (record { result = tt; losses = lose_all (losses_at p s) ls })
 
+-- this is consumed too
+abbrev pub lose_too : Losses → Step (Unit {0})
+lose_too more_of ls = Ok (record { result = tt; losses = lose_all more_of ls })
+
 -- a step whose consumption is put back
 abbrev pub apart : {A : Type 0} → Step A → Step A
 apart m ls = then_do (m ls) (λ d. Ok (record { result = d.result; losses = ls }))
@@ -120,7 +103,7 @@ naming make None = None
 
 -- the least of these aliases, if there is one
 abbrev pub some_alias : (Named → Broken) → Set → Option Broken
-some_alias make s = naming (λ a. make (By_alias a)) (least s)
+some_alias make s = naming (λ a. make (ByAlias a)) (least s)
 
 abbrev pub consumed_at : (Spot → Broken) → Option Spot → Option Broken
 consumed_at make (Some p) = Some (make p)

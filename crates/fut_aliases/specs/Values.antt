@@ -8,7 +8,8 @@ use Rattle.fut_types.specs.declared.Head.TheVariants as head
 use Rattle.fut_types.specs.Types.{Ty, Var, Made, Tys, none, more, Kinds, level}
 use Rattle.fut_types.specs.Shapes.{place}
 use Rattle.fut_typing.specs.Names.{Names}
-use Rattle.fut_aliases.specs.Aliases.{Part, Set, with_alias, union}
+use Rattle.fut_aliases.specs.Aliases.{Set, Naming, union}
+use Rattle.fut_aliases.specs.declared.aliases.Alias.TheVariants.{Part}
 use Rattle.fut_aliases.specs.Stars.{Stars, Leaf, Arrow, Row, StarRow, no_star, star_and, no_stars, spread}
 
 mutual
@@ -129,16 +130,17 @@ abbrev pub unite : Value → Value → Value
 unite v w = having (united (components v) (components w)) v
 
 -- the components that a name has: each array of the name stands in its own set, and where the name is a parameter each function
-unfoldable mutual
-  pub named : Bool → ℕ → BindId → ℕ → Value → Value
-  named parameter n b i Scalar = Scalar
-  named parameter n b i (Array s) = Array (with_alias (Part n i b) s)
-  named parameter n b i (Function s u) = Function (cond parameter (with_alias (Part n i b) s) s) u
-  named parameter n b i (Parts h vs) = Parts h (all_named parameter n b i vs)
+module _ (naming : Naming) where
+  unfoldable mutual
+    pub named : Bool → ℕ → BindId → ℕ → Value → Value
+    named parameter n b i Scalar = Scalar
+    named parameter n b i (Array s) = Array (naming (Part n i b) s)
+    named parameter n b i (Function s u) = Function (cond parameter (naming (Part n i b) s) s) u
+    named parameter n b i (Parts h vs) = Parts h (all_named parameter n b i vs)
 
-  pub all_named : Bool → ℕ → BindId → ℕ → Values → Values
-  all_named parameter n b i no_value = no_value
-  all_named parameter n b i (value_and v vs) = value_and (named parameter n b i v) (all_named parameter n b (i + how_many v) vs)
+    pub all_named : Bool → ℕ → BindId → ℕ → Values → Values
+    all_named parameter n b i no_value = no_value
+    all_named parameter n b i (value_and v vs) = value_and (named parameter n b i v) (all_named parameter n b (i + how_many v) vs)
 
 -- ---- stars and components
 

@@ -2,7 +2,8 @@
 ghost use Rattle.std.specs.Prelude.{◌≡◌, ◌||◌};
 ghost use Rattle.fut_flat.specs.declared.prim.Primitive.{Primitive};
 ghost use Rattle.fut_primitives.specs.Table.{arity};
-ghost use Rattle.fut_aliases.specs.Aliases.{Alias, Set, is_in, union};
+ghost use Rattle.fut_aliases.specs.declared.aliases.Alias.{Alias};
+ghost use Rattle.fut_aliases.specs.Aliases.{Set, is_in, union};
 ghost use Rattle.fut_aliases.specs.Stars.{arrows, primitive_stars};
 
 /// A primitive is called with as many arguments as its type has arrows, and a union has the aliases of both sets.

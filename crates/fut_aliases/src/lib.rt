@@ -10,6 +10,10 @@
 //! `specs/Operations.antt` and `specs/Loops.antt`. `proofs/Programs.antt` has programs with what they are answered.
 #![tactic(auto)]
 
+mod aliases;
 mod laws;
+mod refusals;
 
+pub use aliases::Alias;
 pub use laws::stars_and_sets;
+pub use refusals::{Broken, Loss, Named, Spot};

@@ -1,0 +1,7 @@
+use Rattle.std.proofs.Common.{ap, ◌∙◌}
+use Rattle.alias_values.specs.Trees.{value_of}
+use Rattle.alias_values.proofs.Forms.{value_array}
+use Rattle.alias_values.proofs.nodes.array.Goals as goal
+
+pub returns-in-Ok : goal.returns-in-Ok
+returns-in-Ok c = ap value_of c.in-Ok.ensures ∙ value_array c.args.set

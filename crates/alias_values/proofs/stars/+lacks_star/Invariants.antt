@@ -1,0 +1,7 @@
+use Rattle.std.proofs.Common.{◌≡◌, drop}
+use Rattle.fut_aliases.specs.Stars.{some_lacks_star}
+use Rattle.alias_values.specs.Trees.{row_of}
+use Rattle.alias_values.proofs.stars.+lacks_star.Given as goal
+
+abbrev pub invariant-some_lacks_star-loop-part : goal.invariant-some_lacks_star-loop-part
+invariant-some_lacks_star-loop-part l = some_lacks_star (row_of l.parts) ≡ some_lacks_star (row_of (drop l.part-index l.parts))
