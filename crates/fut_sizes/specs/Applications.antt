@@ -7,9 +7,10 @@ use Rattle.fut_flat.specs.Terms.{Integer, Use, Strict, no_term}
 use Rattle.fut_flat.specs.Erased.{FlatTerm}
 use Rattle.fut_types.specs.Types.{Ty, Made}
 use Rattle.fut_types.specs.declared.Head.TheVariants as head
-use Rattle.sized_types.specs.Sizes.{Free, Const, Name, Unknown, Slot, Dim, At, Variable, Size, Hole, Open, Level, Built, Fun, Sizes, no_size, size_and, levels}
+use Rattle.sized_types.specs.Sizes.{Free, Const, Name, Unknown, Slot, Dim, At, Variable, Size, Hole, Open, Level, Built, Fun, Sizes, no_size, size_and, renamed}
+use Rattle.fut_sizes.specs.Levels.{levels_within}
 use Rattle.fut_sizes.specs.Agreeing.{type_levels, of_type, Answer, then_do}
-use Rattle.fut_sizes.specs.Matching.{Found, type_found, counted, read, Opened, none_opened, inside, in_opened, meet, data_way, function_way}
+use Rattle.fut_sizes.specs.Matching.{Found, found_size, type_found, counted, read, Opened, none_opened, inside, in_opened, meet, data_way, function_way}
 use Rattle.fut_sizes.specs.Steps.{Step, give, ask, and_then}
 
 -- what an application at a node wants of a lambda
@@ -64,7 +65,7 @@ is_function t = false
 -- ---- variables that are still open get sizes of their own
 
 abbrev pub own_type : ℕ → Variable → Ty → Found → Found
-own_type n v u σ = type_found n v (of_type (λ i. At (Slot (σ.next + i))) 0 u) (counted (type_levels u) σ)
+own_type n v u σ = type_found n v (renamed (found_size σ) (of_type (λ i. At (Slot (σ.next + i))) 0 u)) (counted (type_levels u) σ)
 
 abbrev pub still_open : ℕ → Variable → Size → Found → Found
 still_open n v (Open m w u) σ = own_type m w u σ
@@ -141,11 +142,11 @@ module _ (n : ℕ) where
   applied regular (a ∷ rest) ws φ goes_on (Fun k p r) ls σ = applied regular rest
       (ws ++ record { argument = a; opened = inside (applied_frame (n + length rest) σ.next k a) φ; wanted = p } ∷ [])
       (inside (applied_frame (n + length rest) σ.next k a) φ) (is_arrow r) r
-      (ls ++ record { node = suc (n + length rest); size = in_opened φ (Fun k p r) } ∷ []) (counted (suc k + levels r) σ)
+      (ls ++ record { node = suc (n + length rest); size = in_opened φ (Fun k p r) } ∷ []) (counted (suc k + levels_within r) σ)
   applied regular (a ∷ rest) ws φ goes_on t ls σ = and_then (all_matched regular ws σ) (λ found. again (read found (in_opened φ t)) found (applied regular rest))
     where
       again : Size → Found → (List Wanting → Opened → Bool → Size → List Later → Found → Step Met) → Step Met
       again (Fun k p r) found go = go (record { argument = a; opened = inside (applied_frame (n + length rest) found.next k a) none_opened; wanted = p } ∷ [])
           (inside (applied_frame (n + length rest) found.next k a) none_opened) (is_arrow r) r
-          (ls ++ uses ws ++ record { node = suc (n + length rest); size = Fun k p r } ∷ []) (counted (suc k + levels r) found)
+          (ls ++ uses ws ++ record { node = suc (n + length rest); size = Fun k p r } ∷ []) (counted (suc k + levels_within r) found)
       again u found go = give (record { size = u; found = found; later = ls ++ uses ws; goes_on = false })

@@ -1,3 +1,4 @@
+pub mod Levels
 pub mod Primitives
 pub mod Agreeing
 pub mod WrittenSizes

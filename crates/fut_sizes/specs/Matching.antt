@@ -3,8 +3,9 @@
 -- later one has to agree.
 use Rattle.std.specs.Prelude.{ℕ, zero, suc, ◌+◌, ◌-◌, Bool, true, false, not, ◌&&◌, cond, nat_eq, nat_lt, Ok, Err}
 use Rattle.fut_types.specs.Types.{Ty}
-use Rattle.sized_types.specs.Sizes.{Free, Unknown, Slot, Dim, At, Bound, Variable, is_variable, Size, Hole, Open, Level, Built, Fun, Sizes, no_size, size_and, is_free, levels, replaced, renamed, has}
-use Rattle.fut_sizes.specs.Agreeing.{Mismatch, Irregular, Answer, then_do}
+use Rattle.sized_types.specs.Sizes.{Free, Unknown, Slot, Dim, At, Bound, Variable, is_variable, Size, Hole, Open, Level, Built, Fun, Sizes, no_size, size_and, is_free, replaced, renamed, has}
+use Rattle.fut_sizes.specs.Levels.{levels_within}
+use Rattle.fut_sizes.specs.Agreeing.{Mismatch, Irregular, Answer, then_do, agree}
 
 -- ---- what has been found: a substitution, which leaves what it gives as it is
 
@@ -78,9 +79,14 @@ unfoldable pub inside : (ℕ → Dim) → Opened → Opened
 inside δ φ zero = δ
 inside δ φ (suc j) = φ j
 
+-- what stands outside of j function types, inside them
+abbrev pub lifted : ℕ → Dim → Dim
+lifted j (At d) = At d
+lifted j (Bound k i) = Bound (j + k) i
+
 abbrev pub dim_in : Opened → ℕ → Dim → Dim
 dim_in φ j (At d) = At d
-dim_in φ j (Bound k i) = cond (nat_lt k j) (Bound k i) (φ (k - j) i)
+dim_in φ j (Bound k i) = cond (nat_lt k j) (Bound k i) (lifted j (φ (k - j) i))
 
 abbrev pub in_opened : Opened → Size → Size
 in_opened φ t = replaced (dim_in φ) 0 t
@@ -127,51 +133,70 @@ meet_dim w at d e σ = Ok σ
 abbrev pub meet_dims : Way → ℕ → Dim → Dim → Found → Answer Found
 meet_dims w at d e σ = cond w.left_wanted (meet_dim w at d e σ) (meet_dim w at e d σ)
 
--- ---- a sized type and one that a variable has taken, both read, without opening function types
+-- ---- open variables
 
+-- what is met when a wanted function runs is any size: a variable that takes it has slots there
+abbrev pub any_size : ℕ → Dim → Dim
+any_size j (At d) = At d
+any_size j (Bound k i) = cond (nat_lt k j) (Bound k i) (At (Slot i))
+
+abbrev pub with_any_sizes : Found → Size → Size
+with_any_sizes σ t = renamed (found_size σ) (replaced any_size 0 t)
+
+-- a variable that is open, which is wanted or found, takes a sized type that is read. One of the wanted type takes none with an
+-- unknown size of a function's results.
+abbrev pub open_takes : Bool → Way → ℕ → ℕ → Variable → Size → Found → Answer Found
+open_takes wanted w at n v (Open m x u) σ = cond (is_open n v m x) (Ok σ) (Ok (type_found n v (Open m x u) σ))
+open_takes wanted w at n v t σ = cond (wanted && (w.in_result && has is_unknown t)) (Err (Irregular at)) (Ok (type_found n v (with_any_sizes σ t) σ))
+
+-- what stands for a variable in a sized type that another variable has taken
+abbrev pub variable_compared : Bool → Way → ℕ → Size → Size → Found → Answer Found
+variable_compared wanted w at (Open n v u) t σ = open_takes wanted w at n v t σ
+variable_compared wanted w at taken t σ = then_do (agree at taken t) (λ z. Ok σ)
+
+-- a sized type that a variable has taken, and one that is read. Function types have to have one and the same sizes.
 unfoldable mutual
   pub compared : Way → ℕ → Size → Size → Found → Answer Found
   compared w at (Level d t) (Level e u) σ = then_do (meet_dims w at d e σ) (λ found. compared w at t u found)
   compared w at (Built h ts) (Built g us) σ = all_compared w at ts us σ
-  compared w at (Fun k p r) (Fun l q s) σ = then_do (compared (turned w) at p q σ) (λ found. compared w at r s found)
-  compared w at (Open n v x) t σ = Ok (type_found n v t σ)
-  compared w at t (Open n v x) σ = Ok (type_found n v t σ)
+  compared w at (Fun k p r) (Fun l q s) σ = then_do (agree at (Fun k p r) (Fun l q s)) (λ z. Ok σ)
+  compared w at (Open n v x) u σ = variable_compared w.left_wanted w at (σ.type n v x) (read σ u) σ
+  compared w at t (Open n v x) σ = variable_compared (not w.left_wanted) w at (σ.type n v x) (read σ t) σ
   compared w at t u σ = Ok σ
 
   pub all_compared : Way → ℕ → Sizes → Sizes → Found → Answer Found
   all_compared w at (size_and t ts) (size_and u us) σ = then_do (compared w at t u σ) (λ found. all_compared w at ts us found)
   all_compared w at ts us σ = Ok σ
 
--- an open variable of the wanted type takes no sized type with an unknown size of a function's results
-abbrev pub variable_takes : Bool → Way → ℕ → ℕ → Variable → Size → Found → Answer Found
-variable_takes wanted w at n v t σ = cond (wanted && (w.in_result && has is_unknown t)) (Err (Irregular at)) (Ok (type_found n v t σ))
-
 -- what an open variable stands for so far, which is wanted or found, and what it meets
 abbrev pub meet_variable : Bool → Way → ℕ → Size → Size → Found → Answer Found
-meet_variable wanted w at (Open m x y) (Open n v u) σ = cond (is_open m x n v) (Ok σ) (Ok (type_found m x (Open n v u) σ))
-meet_variable wanted w at (Open m x y) t σ = variable_takes wanted w at m x t σ
+meet_variable wanted w at (Open n v u) t σ = open_takes wanted w at n v t σ
 meet_variable wanted w at taken t σ = compared (record { left_wanted = wanted; in_result = w.in_result; regular = w.regular }) at taken t σ
 
 -- ---- matching
 
 -- the positions of the wanted function type, at the next numbers: its caller chooses sizes and an argument that nothing is known
--- of; what is met stays as it is
+-- of; what is met stays so, outside of all function types, at numbers that no other has
 abbrev pub wanted_frame : ℕ → ℕ → ℕ → ℕ → Dim
-wanted_frame lo next k i = cond (nat_lt k i) (Bound 0 i) (At (Unknown lo (next + i)))
+wanted_frame lo next k i = cond (nat_lt k i) (Bound 0 (next + i)) (At (Unknown lo (next + i)))
 
--- those of the found one: slots, the same argument, and what is met
+-- those of the found one, at the numbers behind: slots, the argument that has this number, and what is met
 abbrev pub found_frame : ℕ → ℕ → ℕ → ℕ → ℕ → Dim
-found_frame lo next k l i = cond (nat_lt i l) (At (Slot (next + suc k + i))) (cond (nat_eq i l) (At (Unknown lo (next + k))) (At (Unknown lo (next + suc k + i))))
+found_frame lo next argument l i = cond (nat_lt i l) (At (Slot (next + i))) (At (Unknown lo (cond (nat_eq i l) argument (next + i))))
 
-abbrev pub left_frame : Way → ℕ → ℕ → ℕ → ℕ → ℕ → Dim
-left_frame w lo next k l = cond w.left_wanted (wanted_frame lo next k) (found_frame lo next l k)
+-- the numbers behind those of the positions of a function type
+abbrev pub past_frame : ℕ → ℕ → Size → ℕ
+past_frame next k r = next + suc k + levels_within r
 
-abbrev pub right_frame : Way → ℕ → ℕ → ℕ → ℕ → ℕ → Dim
-right_frame w lo next k l = cond w.left_wanted (found_frame lo next k l) (wanted_frame lo next l)
+abbrev pub left_frame : Way → ℕ → ℕ → ℕ → ℕ → Size → ℕ → Dim
+left_frame w lo next k l s = cond w.left_wanted (wanted_frame lo next k) (found_frame lo (past_frame next l s) (next + l) k)
+
+abbrev pub right_frame : Way → ℕ → ℕ → ℕ → ℕ → Size → ℕ → Dim
+right_frame w lo next k l r = cond w.left_wanted (found_frame lo (past_frame next k r) (next + k) l) (wanted_frame lo next l)
 
 -- how many numbers the two take
 abbrev pub frame_numbers : ℕ → ℕ → Size → Size → ℕ
-frame_numbers k l r s = suc k + suc l + levels r + levels s
+frame_numbers k l r s = suc k + levels_within r + (suc l + levels_within s)
 
 -- the found function's results have one shape where that is asked for
 abbrev pub is_irregular : Way → Size → Size → Bool
@@ -183,9 +208,9 @@ module _ (lo : ℕ) where
     meet w at φ (Level d t) ψ (Level e u) σ = then_do (meet_dims w at (dim_in φ 0 d) (dim_in ψ 0 e) σ) (λ found. meet w at φ t ψ u found)
     meet w at φ (Built h ts) ψ (Built g us) σ = all_meet w at φ ts ψ us σ
     meet w at φ (Fun k p r) ψ (Fun l q s) σ =
-        then_do (meet (turned w) at (inside (left_frame w lo σ.next k l) φ) p (inside (right_frame w lo σ.next k l) ψ) q (counted (frame_numbers k l r s) σ))
-        (λ found. cond (is_irregular w (read found (in_opened (inside (left_frame w lo σ.next k l) φ) r)) (read found (in_opened (inside (right_frame w lo σ.next k l) ψ) s))) (Err (Irregular at))
-        (meet (to_result w) at (inside (left_frame w lo σ.next k l) φ) r (inside (right_frame w lo σ.next k l) ψ) s found))
+        then_do (meet (turned w) at (inside (left_frame w lo σ.next k l s) φ) p (inside (right_frame w lo σ.next k l r) ψ) q (counted (frame_numbers k l r s) σ))
+        (λ found. cond (is_irregular w (read found (in_opened (inside (left_frame w lo σ.next k l s) φ) r)) (read found (in_opened (inside (right_frame w lo σ.next k l r) ψ) s))) (Err (Irregular at))
+        (meet (to_result w) at (inside (left_frame w lo σ.next k l s) φ) r (inside (right_frame w lo σ.next k l r) ψ) s found))
     meet w at φ (Open n v x) ψ u σ = meet_variable w.left_wanted w at (σ.type n v x) (read σ (in_opened ψ u)) σ
     meet w at φ t ψ (Open n v x) σ = meet_variable (not w.left_wanted) w at (σ.type n v x) (read σ (in_opened φ t)) σ
     meet w at φ t ψ u σ = Ok σ

@@ -52,17 +52,17 @@ wanted_size (Some w) = Some w.size
 wanted_size None = None
 
 -- inside a lambda, the positions of the type that is wanted of it: the sizes that the caller chooses are own ones of the
--- parameter's node, and the argument's value is its name, if it has one; what is met agrees with all
+-- parameter's node, and so are those that are met; the argument's value is its name, if it has one
 abbrev pub value_of_parameter : ℕ → ℕ → Option ℕ → Dim
 value_of_parameter q k (Some b) = At (Name b)
 value_of_parameter q k None = At (Own q k)
 
 abbrev pub parameter_frame : FlatPattern → ℕ → ℕ → ℕ → Dim
-parameter_frame p q k i = cond (nat_lt i k) (At (Own q i)) (cond (nat_eq i k) (value_of_parameter q k (value_name p)) (Bound 0 i))
+parameter_frame p q k i = cond (nat_eq i k) (value_of_parameter q k (value_name p)) (At (Own q i))
 
 -- of a parameter whose wanted type is still open, they stay so
 abbrev pub open_frame : FlatPattern → ℕ → ℕ → ℕ → Dim
-open_frame p q k i = cond (nat_lt i k) (At (Slot i)) (cond (nat_eq i k) (value_of_parameter q k (value_name p)) (Bound 0 i))
+open_frame p q k i = cond (nat_lt i k) (At (Slot i)) (parameter_frame p q k i)
 
 -- the names of a parameter that are parts of its argument
 abbrev pub part_names : FlatPattern → List ℕ

@@ -5,7 +5,7 @@ use Rattle.std.specs.Prelude.{IfOk}
 use Rattle.std.specs.Borrow.{Bor}
 use Rattle.fut_scalar.specs.declared.memory.NoMemory.{NoMemory}
 use Rattle.sized_types.specs.Sizes.{Free, Unknown, Slot, Dim, At, Bound}
-use Rattle.fut_sizes.specs.Matching.{Opened, none_opened, inside, wanted_frame, found_frame, dim_in}
+use Rattle.fut_sizes.specs.Matching.{Opened, none_opened, inside, wanted_frame, found_frame, lifted, dim_in}
 use Rattle.size_arena.specs.declared.dims.Dim as dims
 use Rattle.size_arena.specs.declared.dims.Free as frees
 use Rattle.size_arena.specs.declared.opened.Frame as frame
@@ -18,23 +18,24 @@ use Rattle.size_arena.specs.Trees.{free_of, dim_of}
 -- ---- one frame
 
 module _ (lo next k l i n : ℕ) where
-  pub wanted_met : k < i → Bound 0 i ≡ wanted_frame lo next k i
-  wanted_met h = ap (λ z. cond z (Bound 0 i) (At (Unknown lo (next + i)))) (sym (lt-ltb k i h))
+  pub wanted_met : k < i → n ≡ next + i → Bound 0 n ≡ wanted_frame lo next k i
+  wanted_met h e = ap (Bound 0) e ∙ ap (λ z. cond z (Bound 0 (next + i)) (At (Unknown lo (next + i)))) (sym (lt-ltb k i h))
 
   pub wanted_chosen : i ≤ k → n ≡ next + i → At (Unknown lo n) ≡ wanted_frame lo next k i
-  wanted_chosen h e = ap (λ z. At (Unknown lo z)) e ∙ ap (λ z. cond z (Bound 0 i) (At (Unknown lo (next + i)))) (sym (le-ltb k i h))
+  wanted_chosen h e = ap (λ z. At (Unknown lo z)) e ∙ ap (λ z. cond z (Bound 0 (next + i)) (At (Unknown lo (next + i)))) (sym (le-ltb k i h))
 
-  found_by : (a b : Bool) → nat_lt i l ≡ a → nat_eq i l ≡ b → found_frame lo next k l i ≡ cond a (At (Slot (next + suc k + i))) (cond b (At (Unknown lo (next + k))) (At (Unknown lo (next + suc k + i))))
-  found_by a b p q = ap (λ z. cond z (At (Slot (next + suc k + i))) (cond (nat_eq i l) (At (Unknown lo (next + k))) (At (Unknown lo (next + suc k + i))))) p ∙ ap (λ z. cond a (At (Slot (next + suc k + i))) (cond z (At (Unknown lo (next + k))) (At (Unknown lo (next + suc k + i))))) q
+  -- k is the argument's number here
+  found_by : (a b : Bool) → nat_lt i l ≡ a → nat_eq i l ≡ b → found_frame lo next k l i ≡ cond a (At (Slot (next + i))) (At (Unknown lo (cond b k (next + i))))
+  found_by a b p q = ap (λ z. cond z (At (Slot (next + i))) (At (Unknown lo (cond (nat_eq i l) k (next + i))))) p ∙ ap (λ z. cond a (At (Slot (next + i))) (At (Unknown lo (cond z k (next + i))))) q
 
-  pub found_value : i ≡ l → n ≡ next + k → At (Unknown lo n) ≡ found_frame lo next k l i
-  found_value h e = ap (λ z. At (Unknown lo z)) e ∙ sym (found_by false true (le-ltb i l (omega (arith, h))) (eq-eqb i l h))
+  pub found_value : i ≡ l → At (Unknown lo k) ≡ found_frame lo next k l i
+  found_value h = sym (found_by false true (le-ltb i l (omega (arith, h))) (eq-eqb i l h))
 
-  pub found_slot : (v b : ℕ) → i < l → v ≡ next + k → b ≡ v + 1 → n ≡ b + i → At (Slot n) ≡ found_frame lo next k l i
-  found_slot v b h x y z = let e : n ≡ next + suc k + i = omega (arith, x, y, z) in ap (λ z. At (Slot z)) e ∙ sym (found_by true (nat_eq i l) (lt-ltb i l h) refl)
+  pub found_slot : i < l → n ≡ next + i → At (Slot n) ≡ found_frame lo next k l i
+  found_slot h e = ap (λ z. At (Slot z)) e ∙ sym (found_by true (nat_eq i l) (lt-ltb i l h) refl)
 
-  pub found_met : (v b : ℕ) → (i ≡ l → ⊥) → l ≤ i → v ≡ next + k → b ≡ v + 1 → n ≡ b + i → At (Unknown lo n) ≡ found_frame lo next k l i
-  found_met v b ne h x y z = let e : n ≡ next + suc k + i = omega (arith, x, y, z) in ap (λ z. At (Unknown lo z)) e ∙ sym (found_by false false (le-ltb i l h) (ne_eqb i l ne))
+  pub found_met : (i ≡ l → ⊥) → l ≤ i → n ≡ next + i → At (Unknown lo n) ≡ found_frame lo next k l i
+  found_met ne h e = ap (λ z. At (Unknown lo z)) e ∙ sym (found_by false false (le-ltb i l h) (ne_eqb i l ne))
 
   applied_by : (v : Option frees.Free) (a b : Bool) → nat_lt i k ≡ a → nat_eq i k ≡ b → applied_at lo next k v i ≡ cond a (At (Slot (next + i))) (cond b (At (value_at v (Unknown lo (next + k)))) (At (Unknown lo (next + i))))
   applied_by v a b p q = ap (λ z. cond z (At (Slot (next + i))) (cond (nat_eq i k) (At (value_at v (Unknown lo (next + k)))) (At (Unknown lo (next + i))))) p ∙ ap (λ z. cond a (At (Slot (next + i))) (cond z (At (value_at v (Unknown lo (next + k)))) (At (Unknown lo (next + i))))) q
@@ -106,10 +107,10 @@ pub ruleset frames = (at_closed, at_nearest, at_outer)
 
 module _ (φ : Opened) (j k i : ℕ) where
   pub in_near : k < j → Bound k i ≡ dim_in φ j (Bound k i)
-  in_near h = ap (λ z. cond z (Bound k i) (φ (k - j) i)) (sym (lt-ltb k j h))
+  in_near h = ap (λ z. cond z (Bound k i) (lifted j (φ (k - j) i))) (sym (lt-ltb k j h))
 
-  pub in_far : (c : ℕ) (o : Told) → j ≤ k → c ≡ k - j → IfOk o (λ d. dim_of d ≡ φ c i) → IfOk o (λ d. dim_of d ≡ dim_in φ j (Bound k i))
-  in_far c (Ok d) h e p = p ∙ ap (λ z. φ z i) e ∙ ap (λ z. cond z (Bound k i) (φ (k - j) i)) (sym (le-ltb k j h))
-  in_far c (Err x) h e p = tt
+  pub in_far : (c : ℕ) (d : dims.Dim) (o : Told) → j ≤ k → c ≡ k - j → dim_of d ≡ φ c i → IfOk o (λ x. dim_of x ≡ lifted j (dim_of d)) → IfOk o (λ x. dim_of x ≡ dim_in φ j (Bound k i))
+  in_far c d (Ok x) h e is p = p ∙ ap (lifted j) is ∙ ap (λ z. lifted j (φ z i)) e ∙ ap (λ z. cond z (Bound k i) (lifted j (φ (k - j) i))) (sym (le-ltb k j h))
+  in_far c d (Err x) h e is p = tt
 
 pub ruleset dims_in = (in_near, in_far)

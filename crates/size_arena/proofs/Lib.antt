@@ -3,6 +3,7 @@ pub mod Same
 pub mod Parts
 pub mod Unlike
 pub mod LevelForms
+pub mod WithinForms
 pub mod AgreeForms
 pub mod KeptForms
 pub mod ScopeForms

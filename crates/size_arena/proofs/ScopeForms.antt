@@ -1,12 +1,12 @@
 -- Names that go out of scope, form by form.
-use Rattle.std.proofs.Common.{◌≡◌, ℕ, suc, ◌+◌, ◌<◌, ◌≤◌, List, [], ◌∷◌, ◌++◌, length, get_or, drop, Bool, true, false, cond, Ok, Err, refl, sym, ap, ◌∙◌, add-one, eq-eqb, ne_eqb}
+use Rattle.std.proofs.Common.{◌≡◌, ℕ, suc, ◌+◌, ◌<◌, ◌≤◌, List, [], ◌∷◌, ◌++◌, length, get_or, drop, Bool, true, false, cond, Ok, Err, refl, sym, ap, ◌∙◌, add-one, eq-eqb, ne_eqb, lt-ltb, le-ltb}
 use Rattle.std.proofs.Math.Seq.{drop-cons}
 use Rattle.std.specs.Borrow.{Bor}
 use Rattle.fut_types.specs.declared.Head.{Head}
 use Rattle.fut_types.specs.Types.{Ty}
-use Rattle.sized_types.specs.Sizes.{Name, Unknown, Dim, At, Variable, Size, Hole, Open, Level, Built, Fun, Sizes, size_and, replaced, all_replaced, renaming, has, some_has, takes, some_takes}
+use Rattle.sized_types.specs.Sizes.{Name, Unknown, Slot, Dim, At, Bound, Variable, Size, Hole, Open, Level, Built, Fun, Sizes, size_and, replaced, all_replaced, renaming, has, some_has, takes, some_takes}
 use Rattle.fut_sizes.specs.Agreeing.{is_among, left, leave, leaving, names_one}
-use Rattle.fut_sizes.specs.Matching.{is_unknown}
+use Rattle.fut_sizes.specs.Matching.{is_unknown, any_size}
 use Rattle.size_arena.specs.declared.agreeing.Refusal.TheVariants as refusal
 use Rattle.size_arena.specs.declared.agreeing.SizeErr.TheVariants as size_err
 use Rattle.size_arena.specs.declared.trees.SizeTree.{SizeTree}
@@ -115,6 +115,15 @@ module _ (xs : List ℕ) (b i : ℕ) where
 
   pub left_end : (n j : ℕ) → length xs ≤ i → left n 0 xs b ≡ left n j (drop i xs) b → Name b ≡ left n 0 xs b
   left_end n j l e = sym (e ∙ ap (λ z. left n j z b) (drop_past xs i l))
+
+module _ (j k i : ℕ) where
+  pub any_near : k < j → Bound k i ≡ any_size j (Bound k i)
+  any_near h = ap (λ z. cond z (Bound k i) (At (Slot i))) (sym (lt-ltb k j h))
+
+  pub any_far : j ≤ k → At (Slot i) ≡ any_size j (Bound k i)
+  any_far h = ap (λ z. cond z (Bound k i) (At (Slot i))) (sym (le-ltb k j h))
+
+pub ruleset any = (any_near, any_far)
 
 module _ (g : ℕ → Dim → Dim) (j : ℕ) where
   pub changed_hole : (v : Variable) → replaced g j (Hole v) ≡ Hole v

@@ -2,7 +2,7 @@
 use Rattle.std.specs.Prelude.{ℕ, Bool, cond, nat_eq, nat_lt}
 use Rattle.sized_types.specs.Sizes.{Free, Own, Unknown, Dim, renaming, given}
 use Rattle.fut_sizes.specs.Agreeing.{leave, names_one}
-use Rattle.fut_sizes.specs.Matching.{is_unknown, dim_in}
+use Rattle.fut_sizes.specs.Matching.{is_unknown, dim_in, any_size}
 use Rattle.size_arena.specs.declared.scopes.Change.{Change}
 use Rattle.size_arena.specs.declared.scopes.Change.TheVariants as change
 use Rattle.size_arena.specs.declared.scopes.Property.{Property}
@@ -22,3 +22,4 @@ abbrev pub change_of : Change → ℕ → Dim → Dim
 change_of (change.Leave n xs) = renaming (leave n xs.now)
 change_of (change.Give n k value) = given (given_at n k (free_of value))
 change_of (change.Open frames) = dim_in (opened_of frames.now)
+change_of change.Any = any_size

@@ -20,7 +20,7 @@ applied_at n next k value i = cond (nat_lt i k) (At (Slot (next + i))) (cond (na
 
 abbrev pub frame_of : frames.Frame → ℕ → Dim
 frame_of (frame.Wanted n next k) = wanted_frame n next k
-frame_of (frame.Found n next k l) = found_frame n next k l
+frame_of (frame.Found n next argument l) = found_frame n next argument l
 frame_of (frame.Applied n next k value) = applied_at n next k value
 
 unfoldable pub frames_form : Frames-F Opened → Opened

@@ -2,10 +2,12 @@
 ghost use Rattle.std.specs.Prelude.{◌≡◌};
 ghost use Rattle.fut_sizes.specs.Agreeing.{agree, all_agree, compare};
 ghost use Rattle.size_arena.specs.Answers.{told};
+ghost use Rattle.size_arena.specs.declared.agreeing.SizeErr.TheVariants.{Memory, Refused};
 ghost use Rattle.size_arena.specs.Trees.{dim_of, size_of, sizes_of};
 
 use crate::dims::{Dim, same_dim};
 use crate::trees::SizeTree;
+use fut_scalar::NoMemory;
 
 /// Why a program has no sizing, and the node at which that shows.
 #[derive(Clone, Copy)]
@@ -23,6 +25,22 @@ pub enum Refusal {
 pub enum SizeErr {
     Refused(Refusal),
     Memory,
+}
+
+impl From<NoMemory> for SizeErr {
+    ghost from_gives = { λ _ e. e ≡ Memory };
+
+    fn from(_error: NoMemory) -> SizeErr {
+        SizeErr::Memory
+    }
+}
+
+impl From<Refusal> for SizeErr {
+    ghost from_gives = { λ r e. e ≡ Refused r };
+
+    fn from(refusal: Refusal) -> SizeErr {
+        SizeErr::Refused(refusal)
+    }
 }
 
 #[tactic(auto, using(crate::proofs::AgreeForms::compares))]

@@ -17,7 +17,7 @@ mod types;
 pub use agreeing::{Refusal, SizeErr, agree};
 pub use dims::{Dim, Free, Variable, same_dim, same_free};
 pub use keeping::kept;
-pub use levels::past;
+pub use levels::{past, past_within};
 pub use opened::{Frame, Frames, dim_in};
 pub use scopes::{Change, Property, changed, has, leaving, takes};
 pub use trees::{HIGHEST, SizeTree, built, function, hole, level, open};

@@ -1,6 +1,6 @@
 // Function types that are opened: what their positions stand for.
 ghost use Rattle.std.specs.Prelude.{◌≡◌, ◌+◌, IfOk};
-ghost use Rattle.fut_sizes.specs.Matching.{dim_in};
+ghost use Rattle.fut_sizes.specs.Matching.{dim_in, lifted};
 ghost use Rattle.size_arena.specs.Frames.{frame_of, opened_of};
 ghost use Rattle.size_arena.specs.Trees.{dim_of};
 
@@ -11,17 +11,17 @@ use fut_scalar::NoMemory;
 #[derive(Clone, Copy)]
 pub enum Frame {
     /// Of a wanted function type at a node, whose caller chooses so many sizes: these and the argument's value are unknowns, and
-    /// what is met stays as it is.
+    /// what is met stays so, outside of all function types.
     Wanted {
         node: u32,
         first: u32,
         chosen: u32,
     },
-    /// Of a found one, beside a wanted one whose caller chooses so many: slots, the same argument's value, and what is met.
+    /// Of a found one: slots, the argument's value, which has a number of its own, and what is met.
     Found {
         node: u32,
         first: u32,
-        wanted: u32,
+        argument: u32,
         chosen: u32,
     },
     /// Of a function that is applied at a node: slots, the argument's value, and what is met there.
@@ -60,25 +60,23 @@ fn position_of(frame: Frame, position: u32) -> Result<Dim, NoMemory>
             first,
             chosen,
         } => {
-            if chosen < position {
-                return Ok(Dim::Bound(0, position));
-            }
             let number = plus(first, position)?;
-            Ok(Dim::At(Free::Unknown(node, number)))
+            if chosen < position {
+                Ok(Dim::Bound(0, number))
+            } else {
+                Ok(Dim::At(Free::Unknown(node, number)))
+            }
         }
         Frame::Found {
             node,
             first,
-            wanted,
+            argument,
             chosen,
         } => {
             if position == chosen {
-                let number = plus(first, wanted)?;
-                return Ok(Dim::At(Free::Unknown(node, number)));
+                return Ok(Dim::At(Free::Unknown(node, argument)));
             }
-            let value = plus(first, wanted)?;
-            let behind = plus(value, 1)?;
-            let number = plus(behind, position)?;
+            let number = plus(first, position)?;
             if position < chosen {
                 Ok(Dim::At(Free::Slot(number)))
             } else {
@@ -126,6 +124,19 @@ fn opened_at(frames: &Frames<'_>, between: u32, position: u32) -> Result<Dim, No
     }
 }
 
+/// What stands outside of so many function types, inside them.
+fn lifted(around: u32, dim: Dim) -> Result<Dim, NoMemory>
+    ensures { IfOk result (λ inside. dim_of inside ≡ lifted around (dim_of dim)) }
+{
+    match dim {
+        Dim::At(_) => Ok(dim),
+        Dim::Bound(between, position) => match around.checked_add(between) {
+            Some(deep) => Ok(Dim::Bound(deep, position)),
+            None => Err(NoMemory),
+        },
+    }
+}
+
 /// A size inside so many function types of one that stands in these frames.
 #[tactic(auto, using(crate::proofs::FrameLaws::dims_in))]
 pub fn dim_in(frames: &Frames<'_>, around: u32, dim: Dim) -> Result<Dim, NoMemory>
@@ -135,10 +146,10 @@ pub fn dim_in(frames: &Frames<'_>, around: u32, dim: Dim) -> Result<Dim, NoMemor
         Dim::At(_) => Ok(dim),
         Dim::Bound(between, position) => {
             if between < around {
-                Ok(dim)
-            } else {
-                opened_at(frames, between - around, position)
+                return Ok(dim);
             }
+            let opened = opened_at(frames, between - around, position)?;
+            lifted(around, opened)
         }
     }
 }

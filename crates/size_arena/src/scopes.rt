@@ -2,6 +2,7 @@
 ghost use Rattle.std.specs.Prelude.{◌≡◌, IfOk};
 ghost use Rattle.sized_types.specs.Sizes.{all_replaced, has, replaced, some_has, some_takes, takes};
 ghost use Rattle.fut_sizes.specs.Agreeing.{is_among, leaving, left};
+ghost use Rattle.fut_sizes.specs.Matching.{any_size};
 ghost use Rattle.size_arena.specs.Answers.{Gives};
 ghost use Rattle.size_arena.specs.Changes.{change_of, given_at, property_of};
 ghost use Rattle.size_arena.specs.Trees.{dim_of, free_of, size_of, sizes_of};
@@ -114,6 +115,8 @@ pub enum Change<'a> {
     Give { node: u32, chosen: u32, value: Free },
     /// The function types around are opened.
     Open(&'a Frames<'a>),
+    /// What is bound outside becomes a slot, which takes any size.
+    Any,
 }
 
 /// What becomes of a name at the node that ends the scope of these.
@@ -143,6 +146,23 @@ fn given(node: u32, chosen: u32, value: Free, position: u32) -> Free
         Free::Own(node, position)
     } else {
         Free::Unknown(node, position)
+    }
+}
+
+/// What is bound outside of so many function types is any size.
+#[tactic(auto, using(crate::proofs::ScopeForms::any))]
+fn any_size(around: u32, dim: Dim) -> Dim
+    ensures { dim_of result ≡ any_size around (dim_of dim) }
+{
+    match dim {
+        Dim::At(_) => dim,
+        Dim::Bound(between, position) => {
+            if between < around {
+                dim
+            } else {
+                Dim::At(Free::Slot(position))
+            }
+        }
     }
 }
 
@@ -180,6 +200,7 @@ fn changed_dim(change: &Change<'_>, around: u32, dim: Dim) -> Result<Dim, NoMemo
             },
         },
         Change::Open(frames) => dim_in(frames, around, dim),
+        Change::Any => Ok(any_size(around, dim)),
     }
 }
 
