@@ -4,9 +4,7 @@ use Rattle.std.specs.Prelude.{Result}
 use Rattle.std.proofs.lemmas.List.{length-append}
 use Rattle.fut_flat.specs.Erased.{FlatTerm}
 use Rattle.fut_flat.specs.Terms.{If}
-use Rattle.fut_blocks.proofs.Layers.{action_of-If}
-use Rattle.fut_blocks.specs.declared.block.Act.TheVariants as tree
-use Rattle.fut_blocks.specs.Plain.{action_of, body_of, lets}
+use Rattle.fut_blocks.specs.Plain.{body_of, lets}
 use Rattle.fut_blocks.specs.Plain as act
 use Rattle.unfold.specs.Held.{known_of}
 use Rattle.unfold.specs.Knowns.{Known, Scalar_known, Scope}
@@ -21,9 +19,10 @@ use Rattle.unfold_parts.specs.declared.steps.Unfolding.{Unfolding}
 use Rattle.unfold_parts.proofs.Refusing.{refused_as}
 use Rattle.unfold_program.specs.declared.walked.Branch.{Branch}
 use Rattle.unfold_program.specs.declared.walked.Context.{Context}
+use Rattle.unfold_program.specs.declared.walked.Shapes.{Shapes}
 use Rattle.unfold_program.specs.declared.walked.Walked.{Walked}
 use Rattle.unfold_program.specs.declared.walked.WalkedScalar.{WalkedScalar}
-use Rattle.unfold_program.specs.Answers.{Unfolded, unfolded, refused, Becomes, stays, becomes_one, Closed_to, closed_to, other_form, not_closed, No_block, stuck_inside, gives_function, Blocked_to, blocked_to, block_differs, not_blocked, Stepped_to, stepped_to, not_stepped, Given_as, given_walked, given_refusal, is_component, Asked, asked_one, asked_same, Branches_stuck, Branches_to, branches_to, branches_differ, no_branches, Scalar_unfolded, scalar_unfolded, no_scalar_unfolded, Not_scalar, stuck_term, other_value, defined, told}
+use Rattle.unfold_program.specs.Answers.{Unfolded, unfolded, refused, Becomes, stays, becomes_one, Closed_to, closed_to, other_form, not_closed, No_block, stuck_inside, gives_function, Blocked_to, blocked_to, block_differs, not_blocked, Stepped_to, stepped_to, not_stepped, is_component, Asked, asked_one, asked_same, Branches_stuck, Branches_to, branches_to, branches_differ, no_branches, Scalar_unfolded, scalar_unfolded, no_scalar_unfolded, Not_scalar, stuck_term, other_value, agreed, defined, told}
 use Rattle.unfold_program.proofs.Growing.{grown, moved, stuck_at, ending}
 
 module _ (c : Context) (sc : Scope) (lo : ℕ) (t : FlatTerm) where
@@ -87,17 +86,17 @@ module _ (c : Context) (sc : Scope) (truth : WalkedScalar) (ta tb : FlatTerm) (p
       else_differs new asked (unfolded bs g u h) (closed_to cs us b l f n) (block_differs ds none same) = branches_differ ds (not_packs asked none) (same ∙ ap (λ z. z ++ ds) ((f (steps_of old) bs (sym q) g).0))
 
       module _ (m3 new : Unfolding) (e : Branch) where
-        pub branches_end : (s : Result Walked Refusal) (r : Result (Option Walked) Refusal) → Asked packs (known_of w.known) like → Unfolded c sc truth.at ta old m1 (Ok w) → Closed_to mark like w m1 m2 (Ok (Some a)) → Blocked_to c sc mark a.at tb like m2 m3 (Ok (Some e)) → Stepped_to like (action_of (tree.If truth.atom a.block e.block)) e.at m3 new s → Given_as s r → Branches_to c sc truth ta tb packs old new r
-        branches_end s _ asked (unfolded bs g u h) (closed_to cs us b l f n) (blocked_to ds ws f' u' l' h') (stepped_to xs gs up lx) given_walked =
+        pub branches_end : (r : Result (Option Walked) Refusal) → Asked packs (known_of w.known) like → Unfolded c sc truth.at ta old m1 (Ok w) → Closed_to mark like w m1 m2 (Ok (Some a)) → Blocked_to c sc mark a.at tb like m2 m3 (Ok (Some e)) → Stepped_to like (act.If truth.atom (body_of a.block.now) (body_of e.block.now)) e.at m3 new r → Branches_to c sc truth ta tb packs old new r
+        branches_end _ asked (unfolded bs g u h) (closed_to cs us b l f n) (blocked_to ds ws f' u' l' h') (stepped_to xs gs up lx) =
             let first = f (steps_of old) bs (sym q) g in
             let second = f' (steps_of old) [] (sym q) (first.0 ∙ sym (append-nil (steps_of old))) in
             branches_to (record {
               steps = step xs (act.If truth.atom (lets (bs ++ cs) us) (lets ds ws));
-              grown = gs ∙ ap (λ z. z ++ step xs (action_of (tree.If truth.atom a.block e.block))) (second.0) ∙ ap (λ z. steps_of old ++ step xs z) (action_of-If truth.atom a.block e.block ∙ ap (λ z. act.If truth.atom z (body_of e.block.now)) (first.1) ∙ ap (λ z. act.If truth.atom (lets (bs ++ cs) us) z) (second.1));
+              grown = gs ∙ ap (λ z. z ++ step xs (act.If truth.atom (body_of a.block.now) (body_of e.block.now))) (second.0) ∙ ap (λ z. steps_of old ++ step xs z) (ap (λ z. act.If truth.atom z (body_of e.block.now)) (first.1) ∙ ap (λ z. act.If truth.atom (lets (bs ++ cs) us) z) (second.1));
               unfolds = λ lo i es tc at v. u_if xs v (moved c at (becomes c sc truth.at ta u b)) l (moved c (omega (arith, n, h, at)) u') l' up lx;
               behind = omega (arith, n, h, h');
             })
-        branches_end s _ asked (unfolded bs g u h) (closed_to cs us b l f n) (blocked_to ds ws f' u' l' h') (not_stepped x) given_refusal = no_branches (refused_as (no_such c sc truth ta tb packs old m1 w asked (unfolded bs g u h)) x)
+        branches_end _ asked (unfolded bs g u h) (closed_to cs us b l f n) (blocked_to ds ws f' u' l' h') (not_stepped x) = no_branches (refused_as (no_such c sc truth ta tb packs old m1 w asked (unfolded bs g u h)) x)
 
 -- the same from where as many steps and names stand again
 pub branches_again : (c : Context) (sc : Scope) (truth : WalkedScalar) (ta tb : FlatTerm) (packs : Bool) (old now new : Unfolding) (r : Result (Option Walked) Refusal) → steps_of now ≡ steps_of old → now.next ≡ old.next → Branches_to c sc truth ta tb packs now new r → Branches_to c sc truth ta tb packs old new r
@@ -145,6 +144,6 @@ module _ {c : Context} {sc : Scope} {mark lo : ℕ} {t : FlatTerm} {like : Known
   pub blocked_as : o ≡ o' → Blocked_to c sc mark lo t like old new (Ok o) → Blocked_to c sc mark lo t like old new (Ok o')
   blocked_as e h = subst (λ z. Blocked_to c sc mark lo t like old new (Ok z)) e h
 
-module _ {c : Context} {sc : Scope} {truth : WalkedScalar} {ta tb : FlatTerm} {packs : Bool} {old new : Unfolding} {o o' : Option Walked} where
-  pub branches_as : o ≡ o' → Branches_to c sc truth ta tb packs old new (Ok o) → Branches_to c sc truth ta tb packs old new (Ok o')
-  branches_as e h = subst (λ z. Branches_to c sc truth ta tb packs old new (Ok z)) e h
+module _ {c : Context} {sc : Scope} {truth : WalkedScalar} {ta tb : FlatTerm} {packs : Bool} {old new : Unfolding} {o o' : Shapes} (w : Walked) where
+  pub branches_as : o ≡ o' → Branches_to c sc truth ta tb packs old new (agreed (Ok o) w) → Branches_to c sc truth ta tb packs old new (agreed (Ok o') w)
+  branches_as e h = subst (λ z. Branches_to c sc truth ta tb packs old new (agreed (Ok z) w)) e h

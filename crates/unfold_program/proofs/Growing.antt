@@ -44,7 +44,7 @@ use Rattle.unfold_program.specs.declared.walked.Parts.{Parts}
 use Rattle.unfold_program.specs.declared.walked.Branch.{Branch}
 use Rattle.unfold_program.specs.declared.walked.Walked.{Walked}
 use Rattle.unfold_program.specs.declared.walked.WalkedScalar.{WalkedScalar}
-use Rattle.unfold_program.specs.Answers.{Stepped_to, stepped_to, not_stepped, is_component, Becomes, stays, becomes_one, Packed_walk, packed_walk, not_packed_walk, Closed_to, closed_to, other_form, not_closed, Packed_closed, Scalar_closed, scalar_closed, not_scalar_closed, Given_as, given_walked, given_refusal, Walked_to, walked_to, not_walked, Operated_to, operated_to, not_operated, Use_known, use_known, no_use, Argued, argued, not_argued, defined, told}
+use Rattle.unfold_program.specs.Answers.{Stepped_to, stepped_to, not_stepped, is_component, Becomes, stays, becomes_one, Packed_walk, packed_walk, not_packed_walk, Closed_to, closed_to, other_form, not_closed, Packed_closed, Scalar_closed, scalar_closed, not_scalar_closed, Walked_to, walked_to, not_walked, Operated_to, operated_to, not_operated, Use_known, use_known, no_use, Argued, argued, not_argued, defined, told}
 
 module _ {A : Type 0} where
   pub grown : (a b c bs cs : List A) → b ≡ a ++ bs → c ≡ b ++ cs → c ≡ a ++ (bs ++ cs)
@@ -72,9 +72,12 @@ beginning c {sc} {t} {lo} {m = m} {bs} {s} e u = subst (λ z. Unfolds (told c) (
 -- ---- steps and blocks that are made
 
 -- a step under new names
-pub give_ok : (like : Known) (a : Act) (at : ℕ) (old mid new : Unfolding) (f : Fresh) (st : Step) (v : Unit {0}) → Renewed like old.next mid.next (Ok f) → steps_of mid ≡ steps_of old → Pushed (binding_of st) (steps_of mid) (steps_of new) (Ok v) → new.next ≡ mid.next → binding_of st ≡ (f.names.now, action_of a) → Stepped_to like (action_of a) at old new (Ok (record { known = f.known; at = at }))
+pub give_ok : (like : Known) (a : Act) (at : ℕ) (old mid new : Unfolding) (f : Fresh) (st : Step) (v : Unit {0}) → Renewed like old.next mid.next (Ok f) → steps_of mid ≡ steps_of old → Pushed (binding_of st) (steps_of mid) (steps_of new) (Ok v) → new.next ≡ mid.next → binding_of st ≡ (f.names.now, action_of a) → Stepped_to like (action_of a) at old new (Ok (Some (record { known = f.known; at = at })))
 give_ok like a at old mid new f st v (renewed up l) same (pushed gs) n made =
     stepped_to f.names.now (gs ∙ ap (λ z. z ++ binding_of st ∷ []) same ∙ ap (λ z. steps_of old ++ z ∷ []) made) (subst (λ z. Upward old.next f.names.now z) (sym n) up) l
+
+pub stepped_as : (like : Known) (a a' : Action) (at : ℕ) (old new : Unfolding) (r : Result (Option Walked) Refusal) → a ≡ a' → Stepped_to like a at old new r → Stepped_to like a' at old new r
+stepped_as like a a' at old new r e h = subst (λ z. Stepped_to like z at old new r) e h
 
 pub give_unnamed : (like : Known) (a : Action) (at n n' : ℕ) (old new : Unfolding) (r : Refusal) → Renewed like n n' (Err r) → Stepped_to like a at old new (Err r)
 give_unnamed like a at n n' old new r (not_renewed x) = not_stepped x
@@ -147,12 +150,6 @@ unpacked_block mark w old mid new r (unanswered h) = not_closed (refused_as (unp
 
 pub again_steps : (mark : ℕ) (old mid new : Unfolding) → Cut mark (steps_of old) (steps_of mid) → steps_of new ≡ steps_of mid → Cut mark (steps_of old) (steps_of new)
 again_steps mark old mid new f same outside inside l e = same ∙ f outside inside l e
-
-pub given_ok : (x : Result Walked Refusal) (w : Walked) → x ≡ Ok w → Given_as x (Ok (Some w))
-given_ok x w e = subst (λ z. Given_as z (Ok (Some w))) (sym e) given_walked
-
-pub given_err : (x : Result Walked Refusal) (r : Refusal) → x ≡ Err r → Given_as x (Err r)
-given_err x r e = subst (λ z. Given_as z (Err r)) (sym e) given_refusal
 
 -- ---- operations and uses
 

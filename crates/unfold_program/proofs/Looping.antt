@@ -12,9 +12,7 @@ use Rattle.fut_flat.specs.Erased.{FlatPattern, FlatTerm, FlatTurns, pattern_of, 
 use Rattle.fut_flat.specs.Numbers.{numbers, pattern_numbers, turn_numbers}
 use Rattle.fut_flat.specs.Terms.{Counted, Over, While}
 use Rattle.fut_flat.proofs.ErasedForms.{loop_of, loop_is, turns_of, turns_counted, turns_over, turns_while}
-use Rattle.fut_blocks.specs.declared.block.Act.TheVariants as tree
-use Rattle.fut_blocks.specs.Plain.{action_of, body_of, lets}
-use Rattle.fut_blocks.proofs.Layers.{action_of-For, action_of-ForEach, action_of-While}
+use Rattle.fut_blocks.specs.Plain.{body_of, lets}
 use Rattle.fut_blocks.specs.Plain as act
 use Rattle.unfold.specs.Held.{known_of, scope_of}
 use Rattle.unfold.specs.Knowns.{Known, Scope}
@@ -30,10 +28,11 @@ use Rattle.unfold_parts.specs.declared.steps.Unfolding.{Unfolding}
 use Rattle.unfold_parts.proofs.Refusing.{refused_as}
 use Rattle.unfold_program.specs.declared.walked.Branch.{Branch}
 use Rattle.unfold_program.specs.declared.walked.Context.{Context}
+use Rattle.unfold_program.specs.declared.walked.Shapes.{Shapes}
 use Rattle.unfold_program.specs.declared.walked.Entered.{Entered}
 use Rattle.unfold_program.specs.declared.walked.Walked.{Walked}
 use Rattle.unfold_program.specs.declared.walked.WalkedScalar.{WalkedScalar}
-use Rattle.unfold_program.specs.Answers.{Unfolded, unfolded, refused, Not_scalar, stuck_term, other_value, Scalar_unfolded, scalar_unfolded, no_scalar_unfolded, Entered_to, entered_to, not_entered, Turn_bound_to, turn_bound_to, not_turn_bound, No_row_names, no_value_names, no_names_of_row, Row_bound_to, row_bound_to, not_row_bound, Stepped_to, stepped_to, not_stepped, Given_as, given_walked, given_refusal, Packed_walk, packed_walk, not_packed_walk, Loop_stuck, Looped_to, looped_to, turns_differ, not_looped, Tried_to, tried_to, has_to_pack, not_tried, No_truth, no_names_of_value, stuck_truth, other_truth, Tested_to, tested_to, not_tested, Scalar_closed, scalar_closed, not_scalar_closed, No_block, stuck_inside, gives_function, Blocked_to, blocked_to, block_differs, not_blocked, defined, told}
+use Rattle.unfold_program.specs.Answers.{Unfolded, unfolded, refused, Not_scalar, stuck_term, other_value, Scalar_unfolded, scalar_unfolded, no_scalar_unfolded, Entered_to, entered_to, not_entered, Turn_bound_to, turn_bound_to, not_turn_bound, No_row_names, no_value_names, no_names_of_row, Row_bound_to, row_bound_to, not_row_bound, Stepped_to, stepped_to, not_stepped, Packed_walk, packed_walk, not_packed_walk, Loop_stuck, Looped_to, looped_to, turns_differ, not_looped, Tried_to, tried_to, has_to_pack, not_tried, No_truth, no_names_of_value, stuck_truth, other_truth, Tested_to, tested_to, not_tested, Scalar_closed, scalar_closed, not_scalar_closed, No_block, stuck_inside, gives_function, Blocked_to, blocked_to, block_differs, not_blocked, agreed, defined, told}
 use Rattle.unfold_program.proofs.Growing.{grown, moved, stuck_at, ending, known_as}
 
 -- ---- a loop around its turns
@@ -159,18 +158,18 @@ module _ (c : Context) (sc : Scope) (l : LoopTree) (i : BindId) (count : FlatTer
       counted_differs new same (scalar_unfolded cs g p h) (turn_bound_to es g' b is) (block_differs ds none g'') =
           turns_differ (cs ++ (es ++ ds)) none (grown (steps_of old) (steps_of m1) (steps_of new) cs (es ++ ds) g (grown (steps_of m1) (steps_of m4) (steps_of new) es ds (g' ∙ ap (λ z. z ++ es) same) g''))
 
-      pub counted_end : (m5 new : Unfolding) (e : Branch) (s : Result Walked Refusal) (r : Result (Option Walked) Refusal) → mark ≡ length (steps_of m3) → steps_of m3 ≡ steps_of m1 → Named_as m2.next m3.next (Ok y) → Scalar_unfolded c sc counting count old m1 (Ok k) → Entered_to (known_of first.known) m1.next m2.next (Ok en) → Turn_bound_to (pattern_of l.pat) i y sc (known_of en.known) m3 m4 (Ok inner) → Blocked_to c (scope_of inner.now) mark k.at (term_of l.body) (known_of first.known) m4 m5 (Ok (Some e)) → Stepped_to (known_of first.known) (action_of (tree.For en.params en.first y k.atom e.block)) e.at m5 new s → Given_as s r → Looped_to c sc l (Counted i count) first old new r
-      counted_end m5 new e s _ at_mark same nm (scalar_unfolded cs g p h) (entered_to la up lt) (turn_bound_to {inside = inside} es g' b is) (blocked_to {s = s'} ds ws f u lb hb) (stepped_to xs gs up' lx) given_walked =
+      pub counted_end : (m5 new : Unfolding) (e : Branch) (r : Result (Option Walked) Refusal) → mark ≡ length (steps_of m3) → steps_of m3 ≡ steps_of m1 → Named_as m2.next m3.next (Ok y) → Scalar_unfolded c sc counting count old m1 (Ok k) → Entered_to (known_of first.known) m1.next m2.next (Ok en) → Turn_bound_to (pattern_of l.pat) i y sc (known_of en.known) m3 m4 (Ok inner) → Blocked_to c (scope_of inner.now) mark k.at (term_of l.body) (known_of first.known) m4 m5 (Ok (Some e)) → Stepped_to (known_of first.known) (act.For en.params.now en.first.now y k.atom (body_of e.block.now)) e.at m5 new r → Looped_to c sc l (Counted i count) first old new r
+      counted_end m5 new e _ at_mark same nm (scalar_unfolded cs g p h) (entered_to la up lt) (turn_bound_to {inside = inside} es g' b is) (blocked_to {s = s'} ds ws f u lb hb) (stepped_to xs gs up' lx) =
           let t = f (steps_of m3) es (sym at_mark) g' in
           let b' = subst (λ z. Binds (pattern_of l.pat) (known_of en.known) sc z es inside m4.next) (name_is nm) b in
           let u' = subst (λ z. Unfolds (told c) (defined c) z k.at (term_of l.body) m4.next ds s' m5.next) is u in
           looped_to (record {
             steps = cs ++ step xs (act.For en.params.now en.first.now y k.atom (lets (es ++ ds) ws));
-            grown = grown (steps_of old) (steps_of m1) (steps_of new) cs _ g (gs ∙ ap (λ z. z ++ step xs (action_of (tree.For en.params en.first y k.atom e.block))) (t.0 ∙ same) ∙ ap (λ z. steps_of m1 ++ step xs z) (action_of-For en.params en.first y k.atom e.block ∙ ap (λ z. act.For en.params.now en.first.now y k.atom z) (t.1)));
+            grown = grown (steps_of old) (steps_of m1) (steps_of new) cs _ g (gs ∙ ap (λ z. z ++ step xs (act.For en.params.now en.first.now y k.atom (body_of e.block.now))) (t.0 ∙ same) ∙ ap (λ z. steps_of m1 ++ step xs z) (ap (λ z. act.For en.params.now en.first.now y k.atom z) (t.1)));
             unfolds = λ lo n0 bs at v. u_counted en.params.now xs v la (moved c (omega (arith, q, at)) p) up lt (name_low nm) b' (moved c (omega (arith, q, at, h)) u') lb up' lx;
             behind = omega (arith, q, h, hb);
           })
-      counted_end m5 new e s _ at_mark same nm (scalar_unfolded cs g p h) (entered_to la up lt) (turn_bound_to es g' b is) (blocked_to ds ws f u lb hb) (not_stepped x) given_refusal = unstepped c sc l (Counted i count) first old new m1.next m2.next en _ (entered_to la up lt) x
+      counted_end m5 new e _ at_mark same nm (scalar_unfolded cs g p h) (entered_to la up lt) (turn_bound_to es g' b is) (blocked_to ds ws f u lb hb) (not_stepped x) = unstepped c sc l (Counted i count) first old new m1.next m2.next en _ (entered_to la up lt) x
 
 -- ---- a turn for each row
 
@@ -199,17 +198,17 @@ module _ (c : Context) (sc : Scope) (l : LoopTree) (row : FlatPattern) (rows : F
       row_differs new same (scalar_unfolded cs g p h) (row_bound_to es fs g' b b') (block_differs ds none g'') =
           turns_differ (cs ++ ((es ++ fs) ++ ds)) none (grown (steps_of old) (steps_of m1) (steps_of new) cs ((es ++ fs) ++ ds) g (grown (steps_of m1) (steps_of m4) (steps_of new) (es ++ fs) ds (g' ∙ ap (λ z. z ++ (es ++ fs)) same) g''))
 
-      pub row_end : (m5 new : Unfolding) (e : Branch) (s : Result Walked Refusal) (r : Result (Option Walked) Refusal) → mark ≡ length (steps_of m3) → steps_of m3 ≡ steps_of m1 → Named_as m2.next m3.next (Ok y) → Scalar_unfolded c sc counting rows old m1 (Ok k) → Entered_to (known_of first.known) m1.next m2.next (Ok en) → Row_bound_to (pattern_of l.pat) row y sc (known_of en.known) m3 m4 (Ok inner) → Blocked_to c (scope_of inner.now) mark k.at (term_of l.body) (known_of first.known) m4 m5 (Ok (Some e)) → Stepped_to (known_of first.known) (action_of (tree.ForEach en.params en.first y k.atom e.block)) e.at m5 new s → Given_as s r → Looped_to c sc l (Over row rows) first old new r
-      row_end m5 new e s _ at_mark same nm (scalar_unfolded cs g p h) (entered_to la up lt) (row_bound_to {inside = inside} {k = m} es fs g' b b') (blocked_to {s = s'} ds ws f u lb hb) (stepped_to xs gs up' lx) given_walked =
+      pub row_end : (m5 new : Unfolding) (e : Branch) (r : Result (Option Walked) Refusal) → mark ≡ length (steps_of m3) → steps_of m3 ≡ steps_of m1 → Named_as m2.next m3.next (Ok y) → Scalar_unfolded c sc counting rows old m1 (Ok k) → Entered_to (known_of first.known) m1.next m2.next (Ok en) → Row_bound_to (pattern_of l.pat) row y sc (known_of en.known) m3 m4 (Ok inner) → Blocked_to c (scope_of inner.now) mark k.at (term_of l.body) (known_of first.known) m4 m5 (Ok (Some e)) → Stepped_to (known_of first.known) (act.Over en.params.now en.first.now y k.atom (body_of e.block.now)) e.at m5 new r → Looped_to c sc l (Over row rows) first old new r
+      row_end m5 new e _ at_mark same nm (scalar_unfolded cs g p h) (entered_to la up lt) (row_bound_to {inside = inside} {k = m} es fs g' b b') (blocked_to {s = s'} ds ws f u lb hb) (stepped_to xs gs up' lx) =
           let t = f (steps_of m3) (es ++ fs) (sym at_mark) g' in
           let b'' = subst (λ z. Binds (pattern_of l.pat) (known_of en.known) sc z es inside m) (name_is nm) b in
           looped_to (record {
             steps = cs ++ step xs (act.Over en.params.now en.first.now y k.atom (lets (es ++ (fs ++ ds)) ws));
-            grown = grown (steps_of old) (steps_of m1) (steps_of new) cs _ g (gs ∙ ap (λ z. z ++ step xs (action_of (tree.ForEach en.params en.first y k.atom e.block))) (t.0 ∙ same) ∙ ap (λ z. steps_of m1 ++ step xs z) (action_of-ForEach en.params en.first y k.atom e.block ∙ ap (λ z. act.Over en.params.now en.first.now y k.atom z) (t.1 ∙ ap (λ z. lets z ws) (append_assoc es fs ds))));
+            grown = grown (steps_of old) (steps_of m1) (steps_of new) cs _ g (gs ∙ ap (λ z. z ++ step xs (act.Over en.params.now en.first.now y k.atom (body_of e.block.now))) (t.0 ∙ same) ∙ ap (λ z. steps_of m1 ++ step xs z) (ap (λ z. act.Over en.params.now en.first.now y k.atom z) (t.1 ∙ ap (λ z. lets z ws) (append_assoc es fs ds))));
             unfolds = λ lo n0 bs at v. u_over en.params.now xs v la (moved c (omega (arith, q, at)) p) up lt (name_low nm) b'' b' (moved c (omega (arith, q, at, h)) u) lb up' lx;
             behind = omega (arith, q, h, hb);
           })
-      row_end m5 new e s _ at_mark same nm (scalar_unfolded cs g p h) (entered_to la up lt) (row_bound_to es fs g' b b') (blocked_to ds ws f u lb hb) (not_stepped x) given_refusal = unstepped c sc l (Over row rows) first old new m1.next m2.next en _ (entered_to la up lt) x
+      row_end m5 new e _ at_mark same nm (scalar_unfolded cs g p h) (entered_to la up lt) (row_bound_to es fs g' b b') (blocked_to ds ws f u lb hb) (not_stepped x) = unstepped c sc l (Over row rows) first old new m1.next m2.next en _ (entered_to la up lt) x
 
 -- ---- turns while a condition holds
 
@@ -257,20 +256,20 @@ module _ (c : Context) (sc : Scope) (l : LoopTree) (test : FlatTerm) (first : Wa
       while_differs new before (tested_to es cs same b u is h) (answered fs g b') (block_differs ds none g'') =
           turns_differ (fs ++ ds) none (grown (steps_of old) (steps_of m3) (steps_of new) fs ds (g ∙ ap (λ z. z ++ fs) (same ∙ before)) g'')
 
-      pub while_end : (m4 new : Unfolding) (e : Branch) (s : Result Walked Refusal) (r : Result (Option Walked) Refusal) → mark ≡ length (steps_of m1) → steps_of m1 ≡ steps_of old → Entered_to (known_of first.known) old.next m1.next (Ok en) → Tested_to c sc (pattern_of l.pat) first.at test (known_of en.known) m1 m2 (Ok t) → Bound_to (pattern_of l.pat) (known_of en.known) sc m2.next (steps_of m2) (steps_of m3) m3.next (Ok inner) → Blocked_to c (scope_of inner.now) mark t.at (term_of l.body) (known_of first.known) m3 m4 (Ok (Some e)) → Stepped_to (known_of first.known) (action_of (tree.While l.mark en.params en.first t.block e.block)) e.at m4 new s → Given_as s r → Looped_to c sc l (While test) first old new r
-      while_end m4 new e s _ at_mark before (entered_to la up lt) (tested_to {u = w} es cs same b u is h) (answered fs g b') (blocked_to ds ws f u' lb hb) (stepped_to xs gs up' lx) given_walked =
+      pub while_end : (m4 new : Unfolding) (e : Branch) (r : Result (Option Walked) Refusal) → mark ≡ length (steps_of m1) → steps_of m1 ≡ steps_of old → Entered_to (known_of first.known) old.next m1.next (Ok en) → Tested_to c sc (pattern_of l.pat) first.at test (known_of en.known) m1 m2 (Ok t) → Bound_to (pattern_of l.pat) (known_of en.known) sc m2.next (steps_of m2) (steps_of m3) m3.next (Ok inner) → Blocked_to c (scope_of inner.now) mark t.at (term_of l.body) (known_of first.known) m3 m4 (Ok (Some e)) → Stepped_to (known_of first.known) (act.While l.mark en.params.now en.first.now (body_of t.block.now) (body_of e.block.now)) e.at m4 new r → Looped_to c sc l (While test) first old new r
+      while_end m4 new e _ at_mark before (entered_to la up lt) (tested_to {u = w} es cs same b u is h) (answered fs g b') (blocked_to ds ws f u' lb hb) (stepped_to xs gs up' lx) =
           let z = f (steps_of m1) fs (sym at_mark) (g ∙ ap (λ y. y ++ fs) same) in
           looped_to (record {
             steps = step xs (act.While l.mark en.params.now en.first.now (lets (es ++ cs) (w ∷ [])) (lets (fs ++ ds) ws));
-            grown = gs ∙ ap (λ y. y ++ step xs (action_of (tree.While l.mark en.params en.first t.block e.block))) (z.0 ∙ before) ∙ ap (λ y. steps_of old ++ step xs y) (action_of-While l.mark en.params en.first t.block e.block ∙ ap (λ y. act.While l.mark en.params.now en.first.now y (body_of e.block.now)) is ∙ ap (λ y. act.While l.mark en.params.now en.first.now (lets (es ++ cs) (w ∷ [])) y) (z.1));
+            grown = gs ∙ ap (λ y. y ++ step xs (act.While l.mark en.params.now en.first.now (body_of t.block.now) (body_of e.block.now))) (z.0 ∙ before) ∙ ap (λ y. steps_of old ++ step xs y) (ap (λ y. act.While l.mark en.params.now en.first.now y (body_of e.block.now)) is ∙ ap (λ y. act.While l.mark en.params.now en.first.now (lets (es ++ cs) (w ∷ [])) y) (z.1));
             unfolds = λ lo n0 bs at v. u_while en.params.now xs v la up lt b (moved c at u) b' (moved c (omega (arith, h, at)) u') lb up' lx;
             behind = omega (arith, h, hb);
           })
-      while_end m4 new e s _ at_mark before (entered_to la up lt) (tested_to es cs same b u is h) (answered fs g b') (blocked_to ds ws f u' lb hb) (not_stepped x) given_refusal = unstepped c sc l (While test) first old new old.next m1.next en _ (entered_to la up lt) x
+      while_end m4 new e _ at_mark before (entered_to la up lt) (tested_to es cs same b u is h) (answered fs g b') (blocked_to ds ws f u' lb hb) (not_stepped x) = unstepped c sc l (While test) first old new old.next m1.next en _ (entered_to la up lt) x
 
-module _ {c : Context} {sc : Scope} {l : LoopTree} {turns : FlatTurns} {first : Walked} {old new : Unfolding} {o o' : Option Walked} where
-  pub looped_as : o ≡ o' → Looped_to c sc l turns first old new (Ok o) → Looped_to c sc l turns first old new (Ok o')
-  looped_as e h = subst (λ z. Looped_to c sc l turns first old new (Ok z)) e h
+module _ {c : Context} {sc : Scope} {l : LoopTree} {turns : FlatTurns} {first : Walked} {old new : Unfolding} {o o' : Shapes} (w : Walked) where
+  pub looped_as : o ≡ o' → Looped_to c sc l turns first old new (agreed (Ok o) w) → Looped_to c sc l turns first old new (agreed (Ok o') w)
+  looped_as e h = subst (λ z. Looped_to c sc l turns first old new (agreed (Ok z) w)) e h
 
-  pub tried_as : o ≡ o' → Tried_to c sc l turns first old new (Ok o) → Tried_to c sc l turns first old new (Ok o')
-  tried_as e h = subst (λ z. Tried_to c sc l turns first old new (Ok z)) e h
+  pub tried_as : o ≡ o' → Tried_to c sc l turns first old new (agreed (Ok o) w) → Tried_to c sc l turns first old new (agreed (Ok o') w)
+  tried_as e h = subst (λ z. Tried_to c sc l turns first old new (agreed (Ok z) w)) e h

@@ -35,7 +35,7 @@ use Rattle.unfold_parts.specs.declared.refusal.Refusal.TheVariants.{Lost, Memory
 use Rattle.unfold_parts.specs.declared.steps.Unfolding.{Unfolding}
 use Rattle.unfold_program.specs.declared.walked.Context.{Context}
 use Rattle.unfold_program.specs.declared.walked.Walked.{Walked}
-use Rattle.unfold_program.specs.Answers.{Unfolded, unfolded, refused, Applied, applied, not_applied, All_applied, all_applied, not_all_applied, Job_applied, Argued, argued, not_argued, defined, told}
+use Rattle.unfold_program.specs.Answers.{Unfolded, unfolded, refused, Applied, applied, not_applied, All_applied, all_applied, not_all_applied, Job_applied, Argued, argued, not_argued, written, defined, told}
 use Rattle.unfold_program.proofs.Growing.{grown}
 
 back : (f g : KnownForm) → out-KnownForm f ≡ out-KnownForm g → f ≡ g
@@ -61,6 +61,14 @@ module _ (c : Context) (s : Known) (old new : Unfolding) (h : Held_known) where
 
   pub apply_of_primitive : (r : Result Held_known Refusal) (p : Primitive) (at : Place) (ss : Bor (List Held_known)) → h.form ≡ form.Primitive p at ss → Applied c (Primitive_known p at (knowns (map known_of ss.now))) s old new r → Applied c (known_of h) s old new r
   apply_of_primitive r p at ss is a = subst (λ z. Applied c z s old new r) (sym (known_primitive h p at ss is)) a
+
+-- the same answer, given otherwise
+module _ (c : Context) (old new : Unfolding) (r r' : Result Held_known Refusal) (is : r' ≡ r) where
+  pub applied_as : (f s : Known) → Applied c f s old new r → Applied c f s old new r'
+  applied_as f s h = subst (λ z. Applied c f s old new z) (sym is) h
+
+  pub job_as : (p : Primitive) (at : Place) (ss : List Known) → Job_applied c p at ss old new r → Job_applied c p at ss old new r'
+  job_as p at ss h gs s e ready = applied_as (Primitive_known p at gs) s (h gs s e ready)
 
 -- a primitive with one argument more
 module _ (c : Context) (p : Primitive) (at : Place) (ss : Knowns) (s : Known) (old mid : Unfolding) where
@@ -153,3 +161,7 @@ module _ (c : Context) (s : Known) (old : Unfolding) (h : Held_known) (f : Bor F
         stuck_there [] nonempty few b w = absurd (nonempty refl)
         stuck_there (p ∷ []) nonempty few b w = stuck_result (old.next, es, mid.next, b) w
         stuck_there (p ∷ q ∷ ps) nonempty few b w = absurd (omega (arith, few))
+
+    pub apply_walks : (new : Unfolding) (r : Result (Unit {0}) Refusal) (w : Walked) → Argued f.now s old mid (Ok inner) → length f.now.parameters.now ≤ 1 → Unfolded c (scope_of inner.now) f.now.first (term_of f.now.body.now) mid new (written r w) → Applied c (known_of h) s old new (written r w.known)
+    apply_walks new (Ok u) w a few h = apply_runs new w a few h
+    apply_walks new (Err x) w a few h = apply_stuck new x a few h

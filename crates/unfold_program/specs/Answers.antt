@@ -38,6 +38,8 @@ use Rattle.unfold_parts.specs.declared.refusal.Refusal.TheVariants.{Memory}
 use Rattle.unfold_parts.specs.declared.steps.Unfolding.{Unfolding}
 use Rattle.unfold_program.specs.declared.peel.Peeled.{Peeled}
 use Rattle.unfold_program.specs.declared.walked.Context.{Context}
+use Rattle.unfold_program.specs.declared.walked.Shapes.{Shapes}
+use Rattle.unfold_program.specs.declared.walked.Shapes.TheVariants as shapes
 use Rattle.unfold_program.specs.declared.walked.Walked.{Walked}
 use Rattle.unfold_program.specs.declared.walked.WalkedScalar.{WalkedScalar}
 use Rattle.unfold_program.specs.declared.walked.Parts.{Parts}
@@ -59,6 +61,19 @@ pub data Peels : ℕ → FlatTerm → ℕ → FlatTerm → Type 0 where
 pub data Peeled_to (lo : ℕ) (e : FlatTerm) : Result Peeled Refusal → Type 0 where
   peeled_to : {r : Peeled} → Peels lo e r.at (term_of r.exp.now) → Peeled_to lo e (Ok r)
   not_peeled : Peeled_to lo e (Err Memory)
+
+-- ---- what is written behind a reference
+
+-- the answer of a call that writes what it walks
+abbrev pub written : {A : Type 0} → Result (Unit {0}) Refusal → A → Result A Refusal
+written (Ok u) w = Ok w
+written (Err r) w = Err r
+
+-- and of one that writes nothing where shapes differ
+abbrev pub agreed : {A : Type 0} → Result Shapes Refusal → A → Result (Option A) Refusal
+agreed (Ok shapes.Agree) w = Ok (Some w)
+agreed (Ok shapes.Differ) w = Ok None
+agreed (Err r) w = Err r
 
 -- ---- terms
 
@@ -175,14 +190,9 @@ pub data Blocked_to (c : Context) (sc : Scope) (mark lo : ℕ) (t : FlatTerm) (l
   not_blocked : {r : Refusal} → Refused (No_block c sc lo t) r → Blocked_to c sc mark lo t like old new (Err r)
 
 -- one more step, which gives data of the shape of what is known under new names
-pub data Stepped_to (like : Known) (a : Action) (at : ℕ) (old new : Unfolding) : Result Walked Refusal → Type 0 where
-  stepped_to : {s : Held_known} (xs : List ℕ) → steps_of new ≡ steps_of old ++ step xs a → Upward old.next xs new.next → Laid (shape_of like) (known_of s) (names xs) [] → Stepped_to like a at old new (Ok (record { known = s; at = at }))
+pub data Stepped_to (like : Known) (a : Action) (at : ℕ) (old new : Unfolding) : Result (Option Walked) Refusal → Type 0 where
+  stepped_to : {s : Held_known} (xs : List ℕ) → steps_of new ≡ steps_of old ++ step xs a → Upward old.next xs new.next → Laid (shape_of like) (known_of s) (names xs) [] → Stepped_to like a at old new (Ok (Some (record { known = s; at = at })))
   not_stepped : {r : Refusal} → Refused (No_data like) r → Stepped_to like a at old new (Err r)
-
--- what has been walked, if anything
-pub data Given_as : Result Walked Refusal → Result (Option Walked) Refusal → Type 0 where
-  given_walked : {w : Walked} → Given_as (Ok w) (Ok (Some w))
-  given_refusal : {r : Refusal} → Given_as (Err r) (Err r)
 
 -- ---- branches
 

@@ -14,8 +14,8 @@ use unfold::{Known, KnownForm, Scope};
 use unfold_parts::{Refusal, Unfolding, bind, bound, lay};
 
 /// The atom of a scalar that has been walked.
-pub fn scalar_of(walked: Walked<'_>) -> Result<WalkedScalar, Refusal>
-    ensures { Scalar_to walked.entry result }
+pub fn scalar_of(walked: &Walked<'_>) -> Result<WalkedScalar, Refusal>
+    ensures { Scalar_to walked.now result }
 {
     match walked.known.form {
         KnownForm::Scalar(atom) => Ok(WalkedScalar {
@@ -28,15 +28,15 @@ pub fn scalar_of(walked: Walked<'_>) -> Result<WalkedScalar, Refusal>
 
 /// A first value in components, and new names for its parameters.
 #[inline(never)]
-pub fn enter<'a>(known: Known<'a>, state: &mut Unfolding<'a>) -> Result<Entered<'a>, Refusal>
-    ensures entered { Entered_to (known_of known.entry) state.old.next state.new.next result }
+pub fn enter<'a>(known: &Known<'a>, state: &mut Unfolding<'a>) -> Result<Entered<'a>, Refusal>
+    ensures entered { Entered_to (known_of known.now) state.old.next state.new.next result }
     ensures steps { steps_of state.new ≡ steps_of state.old }
 {
-    let first = match lay(state.bump, known, known) {
+    let first = match lay(state.bump, *known, *known) {
         Ok(first) => first,
         Err(refusal) => return Err(refusal),
     };
-    match state.fresh(known) {
+    match state.fresh(*known) {
         Ok(made) => Ok(Entered {
             first,
             params: made.names,
@@ -61,12 +61,12 @@ pub fn bind_turn<'a>(
     index: BindId,
     name: u32,
     scope: &'a Scope<'a>,
-    known: Known<'a>,
+    known: &Known<'a>,
     state: &mut Unfolding<'a>,
 ) -> Result<&'a Scope<'a>, Refusal>
-    ensures { Turn_bound_to (pattern_of pat.now) index name (scope_of scope.now) (known_of known.entry) state.old state.new result }
+    ensures { Turn_bound_to (pattern_of pat.now) index name (scope_of scope.now) (known_of known.now) state.old state.new result }
 {
-    let inside = match bind(state, pat, known, scope) {
+    let inside = match bind(state, pat, *known, scope) {
         Ok(inside) => inside,
         Err(refusal) => return Err(refusal),
     };
@@ -80,12 +80,12 @@ pub fn bind_row<'a>(
     row: &'a Pat<'a>,
     name: u32,
     scope: &'a Scope<'a>,
-    known: Known<'a>,
+    known: &Known<'a>,
     state: &mut Unfolding<'a>,
 ) -> Result<&'a Scope<'a>, Refusal>
-    ensures { Row_bound_to (pattern_of pat.now) (pattern_of row.now) name (scope_of scope.now) (known_of known.entry) state.old state.new result }
+    ensures { Row_bound_to (pattern_of pat.now) (pattern_of row.now) name (scope_of scope.now) (known_of known.now) state.old state.new result }
 {
-    let inside = match bind(state, pat, known, scope) {
+    let inside = match bind(state, pat, *known, scope) {
         Ok(inside) => inside,
         Err(refusal) => return Err(refusal),
     };

@@ -1,6 +1,6 @@
 // What does not walk on: steps and blocks that give data, operations, uses and arguments.
 ghost use Rattle.std.specs.Prelude.{◌≡◌, ◌≤◌, IfErr, length, true};
-ghost use Rattle.fut_blocks.specs.Plain.{action_of};
+ghost use Rattle.fut_blocks.specs.Plain.{For, If, Over, While, action_of, body_of};
 ghost use Rattle.fut_blocks.specs.declared.block.Atom.TheVariants as atom;
 ghost use Rattle.fut_flat.specs.Erased.{operation_of};
 ghost use Rattle.fut_scalar.specs.declared.scalar.Scalar.TheVariants as scalar;
@@ -10,9 +10,9 @@ ghost use Rattle.unfold_parts.specs.Answers.{Cut};
 ghost use Rattle.unfold_parts.specs.declared.refusal.Refusal.TheVariants as refusal;
 ghost use Rattle.unfold_parts.specs.States.{steps_of};
 ghost use Rattle.unfold_parts.specs.Tables.{Kept, tops_of};
-ghost use Rattle.unfold_program.specs.Answers.{Argued, Asked, Closed_to, Given_as, Operated_to, Packed_closed, Packed_walk, Scalar_closed, Stepped_to, Use_known, Walked_to, is_component};
+ghost use Rattle.unfold_program.specs.Answers.{Argued, Asked, Closed_to, Operated_to, Packed_closed, Packed_walk, Scalar_closed, Stepped_to, Use_known, Walked_to, agreed, is_component, written};
 
-use crate::walked::{Branch, MOST_GIVEN, Parts, Walked, WalkedScalar};
+use crate::walked::{Branch, Entered, MOST_GIVEN, Parts, Shapes, Walked, WalkedScalar};
 use flat_numbers::after_exp;
 use fut_blocks::{Act, Atom, Step};
 use fut_flat::{Act as Operation, Exp, Ref};
@@ -20,17 +20,18 @@ use fut_scalar::{IntType, Place, Scalar};
 use unfold::{Function, Known, KnownForm, Scope};
 use unfold_parts::{Refusal, Tops, Unfolding, bind, known_use, lay, operate, pack};
 
-/// One more step, which gives data of the shape of `like` under new names. The node behind it has the number `at`.
-#[inline(never)]
-pub fn give<'a>(
+// One more step, which gives data of the shape of `like` under new names. The node behind it has the number `at`. It always
+// gives something.
+fn give<'a>(
     state: &mut Unfolding<'a>,
-    like: Known<'a>,
+    like: &Known<'a>,
     act: Act<'a>,
     at: u32,
-) -> Result<Walked<'a>, Refusal>
-    ensures { Stepped_to (known_of like.entry) (action_of act.entry) at state.old state.new result }
+    walked: &mut Walked<'a>,
+) -> Result<Shapes, Refusal>
+    ensures { Stepped_to (known_of like.now) (action_of act.entry) at state.old state.new (agreed result walked.new) }
 {
-    let made = match state.fresh(like) {
+    let made = match state.fresh(*like) {
         Ok(made) => made,
         Err(refusal) => return Err(refusal),
     };
@@ -38,12 +39,105 @@ pub fn give<'a>(
         names: made.names,
         act,
     }) {
-        Ok(()) => Ok(Walked {
-            known: made.known,
-            at,
-        }),
+        Ok(()) => {
+            *walked = Walked {
+                known: made.known,
+                at,
+            };
+            Ok(Shapes::Agree)
+        }
         Err(refusal) => Err(refusal),
     }
+}
+
+/// One more step, which chooses between two blocks.
+#[inline(never)]
+pub fn give_choice<'a>(
+    state: &mut Unfolding<'a>,
+    like: &Known<'a>,
+    truth: &WalkedScalar,
+    yes: &Branch<'a>,
+    no: &Branch<'a>,
+    walked: &mut Walked<'a>,
+) -> Result<Shapes, Refusal>
+    ensures { Stepped_to (known_of like.now) (If truth.now.atom (body_of yes.now.block.now) (body_of no.now.block.now)) no.now.at state.old state.new (agreed result walked.new) }
+{
+    give(
+        state,
+        like,
+        Act::If(truth.atom, yes.block, no.block),
+        no.at,
+        walked,
+    )
+}
+
+/// One more step, which takes so many turns. The index has the name `index`.
+#[inline(never)]
+pub fn give_counted<'a>(
+    state: &mut Unfolding<'a>,
+    like: &Known<'a>,
+    entered: &Entered<'a>,
+    index: u32,
+    count: &WalkedScalar,
+    body: &Branch<'a>,
+    walked: &mut Walked<'a>,
+) -> Result<Shapes, Refusal>
+    ensures { Stepped_to (known_of like.now) (For entered.now.params.now entered.now.first.now index count.now.atom (body_of body.now.block.now)) body.now.at state.old state.new (agreed result walked.new) }
+{
+    let act = Act::For {
+        params: entered.params,
+        first: entered.first,
+        index,
+        count: count.atom,
+        body: body.block,
+    };
+    give(state, like, act, body.at, walked)
+}
+
+/// One more step, which takes a turn for each row. The row has the name `row`.
+#[inline(never)]
+pub fn give_rows<'a>(
+    state: &mut Unfolding<'a>,
+    like: &Known<'a>,
+    entered: &Entered<'a>,
+    row: u32,
+    rows: &WalkedScalar,
+    body: &Branch<'a>,
+    walked: &mut Walked<'a>,
+) -> Result<Shapes, Refusal>
+    ensures { Stepped_to (known_of like.now) (Over entered.now.params.now entered.now.first.now row rows.now.atom (body_of body.now.block.now)) body.now.at state.old state.new (agreed result walked.new) }
+{
+    let act = Act::ForEach {
+        params: entered.params,
+        first: entered.first,
+        row,
+        rows: rows.atom,
+        body: body.block,
+    };
+    give(state, like, act, body.at, walked)
+}
+
+/// One more step, which takes turns while a test holds. It reports at `place`.
+#[inline(never)]
+pub fn give_while<'a>(
+    state: &mut Unfolding<'a>,
+    like: &Known<'a>,
+    place: Place,
+    entered: &Entered<'a>,
+    test: &Branch<'a>,
+    body: &Branch<'a>,
+    walked: &mut Walked<'a>,
+) -> Result<Shapes, Refusal>
+    ensures { Stepped_to (known_of like.now) (While place entered.now.params.now entered.now.first.now (body_of test.now.block.now) (body_of body.now.block.now)) body.now.at state.old state.new (agreed result walked.new) }
+{
+    let act = Act::While {
+        place,
+        params: entered.params,
+        first: entered.first,
+        test: test.block,
+        body: body.block,
+    };
+    give(state, like, act, body.at, walked)
 }
 
 /// A component, whichever.
@@ -56,13 +150,13 @@ pub fn component<'a>() -> Known<'a>
 }
 
 // The shape that both branches are asked for: one component where they are packed, else that of the first one.
-pub fn asked<'a>(packs: bool, first: Known<'a>) -> Known<'a>
-    ensures { Asked packs (known_of first.entry) (known_of result) }
+pub fn asked<'a>(packs: bool, first: &Known<'a>) -> Known<'a>
+    ensures { Asked packs (known_of first.now) (known_of result) }
 {
     if packs {
         return component();
     }
-    first
+    *first
 }
 
 /// Whether what is known is one component.
@@ -75,18 +169,18 @@ pub fn is_component(known: &Known<'_>) -> bool
     }
 }
 
-/// What has been walked, as one component.
+/// What has been walked becomes one component.
 #[inline(never)]
-pub fn packed<'a>(state: &mut Unfolding<'a>, walked: Walked<'a>) -> Result<Walked<'a>, Refusal>
-    ensures { Packed_walk walked.entry state.old state.new result }
+pub fn packed<'a>(state: &mut Unfolding<'a>, walked: &mut Walked<'a>) -> Result<(), Refusal>
+    ensures { Packed_walk walked.old state.old state.new (written result walked.new) }
 {
     match pack(state, &walked.known) {
-        Ok(atom) => Ok(Walked {
-            known: Known {
+        Ok(atom) => {
+            walked.known = Known {
                 form: KnownForm::Scalar(atom),
-            },
-            at: walked.at,
-        }),
+            };
+            Ok(())
+        }
         Err(refusal) => Err(refusal),
     }
 }
@@ -98,16 +192,16 @@ pub fn packed<'a>(state: &mut Unfolding<'a>, walked: Walked<'a>) -> Result<Walke
 pub fn close<'a>(
     state: &mut Unfolding<'a>,
     mark: usize,
-    like: Known<'a>,
-    walked: Walked<'a>,
+    like: &Known<'a>,
+    walked: &Walked<'a>,
 ) -> Result<Option<Branch<'a>>, Refusal>
     requires mark { mark ≤ length (steps_of state.old) }
-    ensures { Closed_to mark (known_of like.entry) walked.entry state.old state.new result }
+    ensures { Closed_to mark (known_of like.now) walked.now state.old state.new result }
 {
-    if is_component(&like) {
+    if is_component(like) {
         return close_packed(state, mark, walked);
     }
-    let results = match lay(state.bump, like, walked.known) {
+    let results = match lay(state.bump, *like, walked.known) {
         Ok(results) => results,
         Err(Refusal::Lost) => return Ok(None),
         Err(Refusal::Memory) => return Err(Refusal::Memory),
@@ -128,16 +222,16 @@ pub fn close<'a>(
 fn close_packed<'a>(
     state: &mut Unfolding<'a>,
     mark: usize,
-    walked: Walked<'a>,
+    walked: &Walked<'a>,
 ) -> Result<Option<Branch<'a>>, Refusal>
     requires mark { mark ≤ length (steps_of state.old) }
-    ensures { Packed_closed mark walked.entry state.old state.new result }
+    ensures { Packed_closed mark walked.now state.old state.new result }
 {
     match pack(state, &walked.known) {
         Ok(atom) => match close_scalar(
             state,
             mark,
-            WalkedScalar {
+            &WalkedScalar {
                 atom,
                 at: walked.at,
             },
@@ -154,10 +248,10 @@ fn close_packed<'a>(
 pub fn close_scalar<'a>(
     state: &mut Unfolding<'a>,
     mark: usize,
-    walked: WalkedScalar,
+    walked: &WalkedScalar,
 ) -> Result<Branch<'a>, Refusal>
     requires mark { mark ≤ length (steps_of state.old) }
-    ensures { Scalar_closed mark walked state.old state.new result }
+    ensures { Scalar_closed mark walked.now state.old state.new result }
 {
     let results = match state.bump.try_alloc_slice_copy(&[walked.atom]) {
         Ok(results) => results,
@@ -189,22 +283,45 @@ pub fn again<'a>(
     state.note(number)
 }
 
-/// What has been walked, if anything.
-pub fn given<'a>(walked: Result<Walked<'a>, Refusal>) -> Result<Option<Walked<'a>>, Refusal>
-    ensures { Given_as walked.entry result }
+/// Nothing yet, into which what is walked is written.
+pub fn unwalked<'a>() -> Walked<'a>
+    ensures { result.at ≡ 0 }
 {
-    match walked {
-        Ok(walked) => Ok(Some(walked)),
-        Err(refusal) => Err(refusal),
+    Walked {
+        known: component(),
+        at: 0,
     }
 }
 
 /// What is known of a value, before the node of a number.
-pub fn walked_to<'a>(known: Result<Known<'a>, Refusal>, at: u32) -> Result<Walked<'a>, Refusal>
-    ensures { Walked_to at known.entry result }
+pub fn put<'a>(
+    known: Result<Known<'a>, Refusal>,
+    at: u32,
+    walked: &mut Walked<'a>,
+) -> Result<(), Refusal>
+    ensures { Walked_to at known.entry (written result walked.new) }
 {
     match known {
-        Ok(known) => Ok(Walked { known, at }),
+        Ok(known) => {
+            *walked = Walked { known, at };
+            Ok(())
+        }
+        Err(refusal) => Err(refusal),
+    }
+}
+
+/// What is known of a value. The number of the node behind it is left as it is.
+pub fn put_known<'a>(
+    known: Result<Known<'a>, Refusal>,
+    walked: &mut Walked<'a>,
+) -> Result<(), Refusal>
+    ensures { written result walked.new.known ≡ known.entry }
+{
+    match known {
+        Ok(known) => {
+            walked.known = known;
+            Ok(())
+        }
         Err(refusal) => Err(refusal),
     }
 }
@@ -217,14 +334,18 @@ pub fn operated<'a>(
     act: &Operation<'a>,
     mark: Place,
     parts: Parts<'a>,
-) -> Result<Walked<'a>, Refusal>
-    ensures { Operated_to ty (operation_of act.now) mark parts.entry state.old state.new result }
+    walked: &mut Walked<'a>,
+) -> Result<(), Refusal>
+    ensures { Operated_to ty (operation_of act.now) mark parts.entry state.old state.new (written result walked.new) }
 {
     match operate(state, ty, act, mark, parts.knowns) {
-        Ok(known) => Ok(Walked {
-            known,
-            at: parts.at,
-        }),
+        Ok(known) => {
+            *walked = Walked {
+                known,
+                at: parts.at,
+            };
+            Ok(())
+        }
         Err(refusal) => Err(refusal),
     }
 }
@@ -237,12 +358,13 @@ pub fn used<'a>(
     reference: Ref,
     at: u32,
     exp: &Exp<'a>,
-) -> Result<Walked<'a>, Refusal>
+    walked: &mut Walked<'a>,
+) -> Result<(), Refusal>
     requires kept { Kept tops.now }
-    ensures { Use_known (tops_of tops.now) (scope_of scope.now) reference at exp.now result }
+    ensures { Use_known (tops_of tops.now) (scope_of scope.now) reference at exp.now (written result walked.new) }
 {
     match after_exp(at, exp) {
-        Ok(next) => walked_to(known_use(tops, scope, reference, exp.place), next),
+        Ok(next) => put(known_use(tops, scope, reference, exp.place), next, walked),
         Err(_) => Err(Refusal::Memory),
     }
 }
@@ -252,13 +374,13 @@ pub fn used<'a>(
 pub fn with_argument<'a>(
     state: &mut Unfolding<'a>,
     lambda: &Function<'a>,
-    argument: Known<'a>,
+    argument: &Known<'a>,
 ) -> Result<&'a Scope<'a>, Refusal>
-    ensures { Argued lambda.now (known_of argument.entry) state.old state.new result }
+    ensures { Argued lambda.now (known_of argument.now) state.old state.new result }
 {
     let params = lambda.parameters;
     if params.len() == 0 {
         return Err(Refusal::Lost);
     }
-    bind(state, &params[0], argument, lambda.scope)
+    bind(state, &params[0], *argument, lambda.scope)
 }

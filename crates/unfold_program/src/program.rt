@@ -11,6 +11,7 @@ ghost use Rattle.unfold_parts.specs.declared.refusal.Refusal.TheVariants as refu
 ghost use Rattle.unfold_program.specs.Answers.{defined};
 ghost use Rattle.unfold_program.specs.Whole.{Are_scalars, Defined_to, Definitions_to, Entry_to, Finished, Given_to, Unfolds_to};
 
+use crate::give::unwalked;
 use crate::walk::{apply_all, walk};
 use crate::walked::{Context, Setting};
 use bumpalo::Bump;
@@ -178,10 +179,11 @@ fn unfold_definition<'a>(
         level: 0,
         scope: nothing,
     };
-    let r = match walk(setting, first, definition.value, state) {
-        Ok(r) => r,
+    let mut r = unwalked();
+    match walk(&setting, first, definition.value, state, &mut r) {
+        Ok(()) => (),
         Err(refusal) => return Err(refusal),
-    };
+    }
     let Context { tops, types } = context;
     let tops = match tops.with(definition.bind, r.known) {
         Ok(tops) => tops,
@@ -237,7 +239,7 @@ fn unfold_entry<'a>(
         Some(function) => function,
         None => return Err(Refusal::Lost),
     };
-    match apply_all(context, 0, function, given.arguments, state) {
+    match apply_all(context, 0, &function, given.arguments, state) {
         Ok(known) => finish(given.names, types, known, state),
         Err(refusal) => Err(refusal),
     }

@@ -9,20 +9,21 @@ ghost use Rattle.unfold.specs.Held.{known_of, scope_of};
 ghost use Rattle.unfold.specs.Knowns.{Primitive_known, knowns};
 ghost use Rattle.unfold_parts.specs.States.{steps_of};
 ghost use Rattle.unfold_parts.specs.Tables.{Kept};
-ghost use Rattle.unfold_program.specs.Answers.{All_applied, All_unfolded, Applied, Blocked_to, Branches_to, Job_applied, Lambda_known, Looped_to, Row_unfolded, Scalar_unfolded, Tested_to, Tried_to, Unfolded, Unfolded_inside};
+ghost use Rattle.unfold_program.specs.Answers.{All_applied, All_unfolded, Applied, Blocked_to, Branches_to, Job_applied, Lambda_known, Looped_to, Row_unfolded, Scalar_unfolded, Tested_to, Tried_to, Unfolded, Unfolded_inside, agreed, written};
 
 use crate::enter::{bind_row, bind_turn, enter, scalar_of};
 use crate::function::function_known;
 use crate::give::{
-    again, asked, close, close_scalar, give, given, operated, packed, used, walked_to,
-    with_argument,
+    again, asked, close, close_scalar, give_choice, give_counted, give_rows, give_while, operated,
+    packed, put, put_known, unwalked, used, with_argument,
 };
 use crate::peel::stripped;
-use crate::walked::{Branch, Context, MOST_DEPTH, Parts, Row, Setting, Walked, WalkedScalar};
+use crate::walked::{
+    Branch, Context, MOST_DEPTH, Parts, Row, Setting, Shapes, Walked, WalkedScalar,
+};
 use bumpalo::Bump;
 use bumpalo::collections::into_bump_slice;
 use flat_numbers::{after, after_exp, after_pattern, after_patterns, own_numbers_of};
-use fut_blocks::Act;
 use fut_flat::{Act as Operation, Exp, Form, Let, Loop, LoopForm, Pat, Primitive};
 use fut_scalar::{BindId, Place};
 use unfold::{Known, KnownForm, Scope};
@@ -30,16 +31,18 @@ use unfold_parts::{
     Applied as Step, Refusal, Unfolding, apply_primitive, begin_job, bind, end_job, literal_type_at,
 };
 
-/// What is known of the value of an expression, whose node has the number `at`.
+/// What is known of the value of an expression, whose node has the number `at`: it is written into `walked`, since a result of
+/// that size would stand several times in the frame of each level.
 #[cycle(walk)]
 pub fn walk<'a>(
-    setting: Setting<'_, 'a>,
+    setting: &Setting<'_, 'a>,
     at: u32,
     exp: &'a Exp<'a>,
     state: &mut Unfolding<'a>,
-) -> Result<Walked<'a>, Refusal>
-    requires kept { Kept setting.context.now.tops }
-    ensures { Unfolded setting.entry.context.now (scope_of setting.entry.scope.now) at (term_of exp.now) state.old state.new result }
+    walked: &mut Walked<'a>,
+) -> Result<(), Refusal>
+    requires kept { Kept setting.now.context.now.tops }
+    ensures { Unfolded setting.now.context.now (scope_of setting.now.scope.now) at (term_of exp.now) state.old state.new (written result walked.new) }
 {
     if setting.level >= MOST_DEPTH {
         return Err(Refusal::Memory);
@@ -48,9 +51,9 @@ pub fn walk<'a>(
         Ok(peeled) => {
             let within = Setting {
                 level: setting.level + 1,
-                ..setting
+                ..*setting
             };
-            walk_form(within, peeled.at, peeled.inside, peeled.exp, state)
+            walk_form(&within, peeled.at, peeled.inside, peeled.exp, state, walked)
         }
         Err(refusal) => Err(refusal),
     }
@@ -59,25 +62,41 @@ pub fn walk<'a>(
 // The same within the limit, for an expression without declared types around it. The number behind that of its node is `inside`.
 #[cycle(walk)]
 fn walk_form<'a>(
-    setting: Setting<'_, 'a>,
+    setting: &Setting<'_, 'a>,
     at: u32,
     inside: u32,
     exp: &'a Exp<'a>,
     state: &mut Unfolding<'a>,
-) -> Result<Walked<'a>, Refusal>
-    requires kept { Kept setting.context.now.tops }
-    requires level { setting.level ≤ 2000 }
+    walked: &mut Walked<'a>,
+) -> Result<(), Refusal>
+    requires kept { Kept setting.now.context.now.tops }
+    requires level { setting.now.level ≤ 2000 }
     requires inside { inside ≡ at + 1 }
-    ensures { Unfolded setting.entry.context.now (scope_of setting.entry.scope.now) at (term_of exp.now) state.old state.new result }
+    ensures { Unfolded setting.now.context.now (scope_of setting.now.scope.now) at (term_of exp.now) state.old state.new (written result walked.new) }
 {
-    match exp.form {
-        Form::Use(reference, _) => used(&setting.context.tops, setting.scope, reference, at, exp),
-        Form::Strict { act, mark, parts } => walk_strict(setting, at, &act, mark, parts, state),
-        Form::Lambda(params, body) => walk_lambda(state.bump, setting.scope, inside, params, body),
-        Form::Apply(function, argument) => walk_apply(setting, inside, function, argument, state),
-        Form::Lets(_, _) => walk_lets(setting, at, exp, state),
-        Form::If(test, yes, no) => walk_if(setting, inside, test, yes, no, state),
-        Form::Loop(whole) => walk_loop(setting, inside, whole, state),
+    match &exp.form {
+        Form::Use(reference, _) => {
+            used(
+                &setting.context.tops,
+                setting.scope,
+                *reference,
+                at,
+                exp,
+                walked,
+            )
+        }
+        Form::Strict { act, mark, parts } => {
+            walk_strict(setting, at, act, *mark, *parts, state, walked)
+        }
+        Form::Lambda(params, body) => {
+            walk_lambda(state.bump, setting.scope, inside, *params, *body, walked)
+        }
+        Form::Apply(function, argument) => {
+            walk_apply(setting, inside, *function, *argument, state, walked)
+        }
+        Form::Lets(_, _) => walk_lets(setting, at, exp, state, walked),
+        Form::If(test, yes, no) => walk_if(setting, inside, *test, *yes, *no, state, walked),
+        Form::Loop(whole) => walk_loop(setting, inside, *whole, state, walked),
     }
 }
 
@@ -89,15 +108,20 @@ fn walk_lambda<'a>(
     inside: u32,
     params: &'a [Pat<'a>],
     body: &'a Exp<'a>,
-) -> Result<Walked<'a>, Refusal>
-    ensures { Lambda_known (scope_of scope.now) inside (patterns (map pattern_of params.now)) (term_of body.now) result }
+    walked: &mut Walked<'a>,
+) -> Result<(), Refusal>
+    ensures { Lambda_known (scope_of scope.now) inside (patterns (map pattern_of params.now)) (term_of body.now) (written result walked.new) }
 {
     let first = match after_patterns(inside, params) {
         Ok(first) => first,
         Err(_) => return Err(Refusal::Memory),
     };
     match after_exp(first, body) {
-        Ok(next) => walked_to(function_known(bump, params, body, first, scope), next),
+        Ok(next) => put(
+            function_known(bump, params, body, first, scope),
+            next,
+            walked,
+        ),
         Err(_) => Err(Refusal::Memory),
     }
 }
@@ -106,16 +130,17 @@ fn walk_lambda<'a>(
 #[cycle(walk)]
 #[inline(never)]
 fn walk_strict<'a>(
-    setting: Setting<'_, 'a>,
+    setting: &Setting<'_, 'a>,
     at: u32,
     act: &Operation<'a>,
     mark: Place,
     parts: &'a [Exp<'a>],
     state: &mut Unfolding<'a>,
-) -> Result<Walked<'a>, Refusal>
-    requires kept { Kept setting.context.now.tops }
-    requires level { setting.level ≤ 2000 }
-    ensures { Unfolded setting.entry.context.now (scope_of setting.entry.scope.now) at (Strict (operation_of act.now) mark (terms (map term_of parts.now))) state.old state.new result }
+    walked: &mut Walked<'a>,
+) -> Result<(), Refusal>
+    requires kept { Kept setting.now.context.now.tops }
+    requires level { setting.now.level ≤ 2000 }
+    ensures { Unfolded setting.now.context.now (scope_of setting.now.scope.now) at (Strict (operation_of act.now) mark (terms (map term_of parts.now))) state.old state.new (written result walked.new) }
 {
     let first = match after(at, own_numbers_of(act)) {
         Ok(first) => first,
@@ -126,27 +151,28 @@ fn walk_strict<'a>(
         Err(refusal) => return Err(refusal),
     };
     let ty = literal_type_at(setting.context.types, at);
-    operated(state, ty, act, mark, made)
+    operated(state, ty, act, mark, made, walked)
 }
 
 #[cycle(walk)]
 fn walk_parts<'a>(
-    setting: Setting<'_, 'a>,
+    setting: &Setting<'_, 'a>,
     at: u32,
     exps: &'a [Exp<'a>],
     state: &mut Unfolding<'a>,
 ) -> Result<Parts<'a>, Refusal>
-    requires kept { Kept setting.context.now.tops }
-    requires level { setting.level ≤ 2000 }
-    ensures { All_unfolded setting.entry.context.now (scope_of setting.entry.scope.now) at (terms (map term_of exps.now)) state.old state.new result }
+    requires kept { Kept setting.now.context.now.tops }
+    requires level { setting.now.level ≤ 2000 }
+    ensures { All_unfolded setting.now.context.now (scope_of setting.now.scope.now) at (terms (map term_of exps.now)) state.old state.new result }
 {
     let mut knowns = Vec::new(state.bump);
     let mut next = at;
     for exp in exps {
-        let r = match walk(setting, next, exp, state) {
-            Ok(r) => r,
+        let mut r = unwalked();
+        match walk(setting, next, exp, state, &mut r) {
+            Ok(()) => (),
             Err(refusal) => return Err(refusal),
-        };
+        }
         match knowns.push(r.known) {
             Ok(()) => (),
             Err(_) => return Err(Refusal::Memory),
@@ -162,44 +188,59 @@ fn walk_parts<'a>(
 #[cycle(walk)]
 #[inline(never)]
 fn walk_apply<'a>(
-    setting: Setting<'_, 'a>,
+    setting: &Setting<'_, 'a>,
     inside: u32,
     function: &'a Exp<'a>,
     argument: &'a Exp<'a>,
     state: &mut Unfolding<'a>,
-) -> Result<Walked<'a>, Refusal>
-    requires kept { Kept setting.context.now.tops }
-    requires level { setting.level ≤ 2000 }
-    ensures { Unfolded_inside setting.entry.context.now (scope_of setting.entry.scope.now) inside (Apply (term_of function.now) (term_of argument.now)) state.old state.new result }
+    walked: &mut Walked<'a>,
+) -> Result<(), Refusal>
+    requires kept { Kept setting.now.context.now.tops }
+    requires level { setting.now.level ≤ 2000 }
+    ensures { Unfolded_inside setting.now.context.now (scope_of setting.now.scope.now) inside (Apply (term_of function.now) (term_of argument.now)) state.old state.new (written result walked.new) }
 {
-    let f = match walk(setting, inside, function, state) {
-        Ok(f) => f,
+    let mut f = unwalked();
+    match walk(setting, inside, function, state, &mut f) {
+        Ok(()) => (),
         Err(refusal) => return Err(refusal),
-    };
-    let e = match walk(setting, f.at, argument, state) {
-        Ok(e) => e,
+    }
+    let mut e = unwalked();
+    match walk(setting, f.at, argument, state, &mut e) {
+        Ok(()) => (),
         Err(refusal) => return Err(refusal),
-    };
-    walked_to(
-        apply(setting.context, setting.level, f.known, e.known, state),
-        e.at,
-    )
+    }
+    match apply(
+        setting.context,
+        setting.level,
+        &f.known,
+        &e.known,
+        state,
+        walked,
+    ) {
+        Ok(()) => {
+            walked.at = e.at;
+            Ok(())
+        }
+        Err(refusal) => Err(refusal),
+    }
 }
 
 // A term whose value is a scalar.
 #[cycle(walk)]
+#[inline(never)]
 fn walk_scalar<'a>(
-    setting: Setting<'_, 'a>,
+    setting: &Setting<'_, 'a>,
     at: u32,
     exp: &'a Exp<'a>,
     state: &mut Unfolding<'a>,
 ) -> Result<WalkedScalar, Refusal>
-    requires kept { Kept setting.context.now.tops }
-    requires level { setting.level ≤ 2000 }
-    ensures { Scalar_unfolded setting.entry.context.now (scope_of setting.entry.scope.now) at (term_of exp.now) state.old state.new result }
+    requires kept { Kept setting.now.context.now.tops }
+    requires level { setting.now.level ≤ 2000 }
+    ensures { Scalar_unfolded setting.now.context.now (scope_of setting.now.scope.now) at (term_of exp.now) state.old state.new result }
 {
-    match walk(setting, at, exp, state) {
-        Ok(walked) => scalar_of(walked),
+    let mut walked = unwalked();
+    match walk(setting, at, exp, state, &mut walked) {
+        Ok(()) => scalar_of(&walked),
         Err(refusal) => Err(refusal),
     }
 }
@@ -208,16 +249,17 @@ fn walk_scalar<'a>(
 #[cycle(walk)]
 #[inline(never)]
 fn walk_if<'a>(
-    setting: Setting<'_, 'a>,
+    setting: &Setting<'_, 'a>,
     inside: u32,
     test: &'a Exp<'a>,
     yes: &'a Exp<'a>,
     no: &'a Exp<'a>,
     state: &mut Unfolding<'a>,
-) -> Result<Walked<'a>, Refusal>
-    requires kept { Kept setting.context.now.tops }
-    requires level { setting.level ≤ 2000 }
-    ensures { Unfolded_inside setting.entry.context.now (scope_of setting.entry.scope.now) inside (If (term_of test.now) (term_of yes.now) (term_of no.now)) state.old state.new result }
+    walked: &mut Walked<'a>,
+) -> Result<(), Refusal>
+    requires kept { Kept setting.now.context.now.tops }
+    requires level { setting.now.level ≤ 2000 }
+    ensures { Unfolded_inside setting.now.context.now (scope_of setting.now.scope.now) inside (If (term_of test.now) (term_of yes.now) (term_of no.now)) state.old state.new (written result walked.new) }
 {
     let truth = match walk_scalar(setting, inside, test, state) {
         Ok(truth) => truth,
@@ -226,18 +268,18 @@ fn walk_if<'a>(
     let mark = state.mark();
     let next = state.next;
     let packs = state.packs(inside);
-    match walk_branches(setting, truth, yes, no, packs, state) {
-        Ok(Some(walked)) => return Ok(walked),
-        Ok(None) => (),
+    match walk_branches(setting, &truth, yes, no, packs, state, walked) {
+        Ok(Shapes::Agree) => return Ok(()),
+        Ok(Shapes::Differ) => (),
         Err(refusal) => return Err(refusal),
     }
     match again(state, mark, next, inside) {
         Ok(()) => (),
         Err(refusal) => return Err(refusal),
     }
-    match walk_branches(setting, truth, yes, no, true, state) {
-        Ok(Some(walked)) => Ok(walked),
-        Ok(None) => unreachable!(),
+    match walk_branches(setting, &truth, yes, no, true, state, walked) {
+        Ok(Shapes::Agree) => Ok(()),
+        Ok(Shapes::Differ) => unreachable!(),
         Err(refusal) => Err(refusal),
     }
 }
@@ -245,53 +287,55 @@ fn walk_if<'a>(
 // Both branches, packed or not; `None` where they are not and give data of different shapes.
 #[cycle(walk)]
 fn walk_branches<'a>(
-    setting: Setting<'_, 'a>,
-    truth: WalkedScalar,
+    setting: &Setting<'_, 'a>,
+    truth: &WalkedScalar,
     yes: &'a Exp<'a>,
     no: &'a Exp<'a>,
     packs: bool,
     state: &mut Unfolding<'a>,
-) -> Result<Option<Walked<'a>>, Refusal>
-    requires kept { Kept setting.context.now.tops }
-    requires level { setting.level ≤ 2000 }
-    ensures { Branches_to setting.entry.context.now (scope_of setting.entry.scope.now) truth (term_of yes.now) (term_of no.now) packs state.old state.new result }
+    walked: &mut Walked<'a>,
+) -> Result<Shapes, Refusal>
+    requires kept { Kept setting.now.context.now.tops }
+    requires level { setting.now.level ≤ 2000 }
+    ensures { Branches_to setting.now.context.now (scope_of setting.now.scope.now) truth.now (term_of yes.now) (term_of no.now) packs state.old state.new (agreed result walked.new) }
 {
     let mark = state.mark();
-    let r = match walk(setting, truth.at, yes, state) {
-        Ok(r) => r,
+    match walk(setting, truth.at, yes, state, walked) {
+        Ok(()) => (),
         Err(refusal) => return Err(refusal),
-    };
-    let like = asked(packs, r.known);
-    let a = match close(state, mark, like, r) {
+    }
+    let like = asked(packs, &walked.known);
+    let a = match close(state, mark, &like, walked) {
         Ok(Some(a)) => a,
-        Ok(None) => return Ok(None),
+        Ok(None) => return Ok(Shapes::Differ),
         Err(refusal) => return Err(refusal),
     };
-    let b = match walk_block(setting, mark, a.at, no, like, state) {
+    let b = match walk_block(setting, mark, a.at, no, &like, state) {
         Ok(Some(b)) => b,
-        Ok(None) => return Ok(None),
+        Ok(None) => return Ok(Shapes::Differ),
         Err(refusal) => return Err(refusal),
     };
-    given(give(state, like, Act::If(truth.atom, a.block, b.block), b.at))
+    give_choice(state, &like, truth, &a, &b, walked)
 }
 
 // The steps from the mark on and those of an expression as a block, which gives data of the shape of `like`.
 #[cycle(walk)]
 fn walk_block<'a>(
-    setting: Setting<'_, 'a>,
+    setting: &Setting<'_, 'a>,
     mark: usize,
     at: u32,
     exp: &'a Exp<'a>,
-    like: Known<'a>,
+    like: &Known<'a>,
     state: &mut Unfolding<'a>,
 ) -> Result<Option<Branch<'a>>, Refusal>
-    requires kept { Kept setting.context.now.tops }
-    requires level { setting.level ≤ 2000 }
+    requires kept { Kept setting.now.context.now.tops }
+    requires level { setting.now.level ≤ 2000 }
     requires mark { mark ≤ length (steps_of state.old) }
-    ensures { Blocked_to setting.entry.context.now (scope_of setting.entry.scope.now) mark at (term_of exp.now) (known_of like.entry) state.old state.new result }
+    ensures { Blocked_to setting.now.context.now (scope_of setting.now.scope.now) mark at (term_of exp.now) (known_of like.now) state.old state.new result }
 {
-    match walk(setting, at, exp, state) {
-        Ok(r) => close(state, mark, like, r),
+    let mut r = unwalked();
+    match walk(setting, at, exp, state, &mut r) {
+        Ok(()) => close(state, mark, like, &r),
         Err(refusal) => Err(refusal),
     }
 }
@@ -300,35 +344,37 @@ fn walk_block<'a>(
 #[cycle(walk)]
 #[inline(never)]
 fn walk_loop<'a>(
-    setting: Setting<'_, 'a>,
+    setting: &Setting<'_, 'a>,
     inside: u32,
     whole: &'a Loop<'a>,
     state: &mut Unfolding<'a>,
-) -> Result<Walked<'a>, Refusal>
-    requires kept { Kept setting.context.now.tops }
-    requires level { setting.level ≤ 2000 }
-    ensures { Unfolded_inside setting.entry.context.now (scope_of setting.entry.scope.now) inside (loop_of whole.now) state.old state.new result }
+    walked: &mut Walked<'a>,
+) -> Result<(), Refusal>
+    requires kept { Kept setting.now.context.now.tops }
+    requires level { setting.now.level ≤ 2000 }
+    ensures { Unfolded_inside setting.now.context.now (scope_of setting.now.scope.now) inside (loop_of whole.now) state.old state.new (written result walked.new) }
 {
     let value = match after_pattern(inside, &whole.pat) {
         Ok(value) => value,
         Err(_) => return Err(Refusal::Memory),
     };
-    let first = match walk(setting, value, &whole.first, state) {
-        Ok(first) => first,
-        Err(refusal) => return Err(refusal),
-    };
-    match walk_first(setting, inside, whole, first, state) {
-        Ok(Some(walked)) => return Ok(walked),
-        Ok(None) => (),
+    let mut first = unwalked();
+    match walk(setting, value, &whole.first, state, &mut first) {
+        Ok(()) => (),
         Err(refusal) => return Err(refusal),
     }
-    let first = match packed(state, first) {
-        Ok(first) => first,
+    match walk_first(setting, inside, whole, &first, state, walked) {
+        Ok(Shapes::Agree) => return Ok(()),
+        Ok(Shapes::Differ) => (),
         Err(refusal) => return Err(refusal),
-    };
-    match walk_turns(setting, whole, first, state) {
-        Ok(Some(walked)) => Ok(walked),
-        Ok(None) => unreachable!(),
+    }
+    match packed(state, &mut first) {
+        Ok(()) => (),
+        Err(refusal) => return Err(refusal),
+    }
+    match walk_turns(setting, whole, &first, state, walked) {
+        Ok(Shapes::Agree) => Ok(()),
+        Ok(Shapes::Differ) => unreachable!(),
         Err(refusal) => Err(refusal),
     }
 }
@@ -336,28 +382,29 @@ fn walk_loop<'a>(
 // The turns with the first value as it is; `None` where it has to be packed.
 #[cycle(walk)]
 fn walk_first<'a>(
-    setting: Setting<'_, 'a>,
+    setting: &Setting<'_, 'a>,
     inside: u32,
     whole: &'a Loop<'a>,
-    first: Walked<'a>,
+    first: &Walked<'a>,
     state: &mut Unfolding<'a>,
-) -> Result<Option<Walked<'a>>, Refusal>
-    requires kept { Kept setting.context.now.tops }
-    requires level { setting.level ≤ 2000 }
-    ensures { Tried_to setting.entry.context.now (scope_of setting.entry.scope.now) whole.now (turns_of whole.now.form) first.entry state.old state.new result }
+    walked: &mut Walked<'a>,
+) -> Result<Shapes, Refusal>
+    requires kept { Kept setting.now.context.now.tops }
+    requires level { setting.now.level ≤ 2000 }
+    ensures { Tried_to setting.now.context.now (scope_of setting.now.scope.now) whole.now (turns_of whole.now.form) first.now state.old state.new (agreed result walked.new) }
 {
     if state.packs(inside) {
-        return Ok(None);
+        return Ok(Shapes::Differ);
     }
     let mark = state.mark();
     let next = state.next;
-    match walk_turns(setting, whole, first, state) {
-        Ok(Some(walked)) => return Ok(Some(walked)),
-        Ok(None) => (),
+    match walk_turns(setting, whole, first, state, walked) {
+        Ok(Shapes::Agree) => return Ok(Shapes::Agree),
+        Ok(Shapes::Differ) => (),
         Err(refusal) => return Err(refusal),
     }
     match again(state, mark, next, inside) {
-        Ok(()) => Ok(None),
+        Ok(()) => Ok(Shapes::Differ),
         Err(refusal) => Err(refusal),
     }
 }
@@ -365,35 +412,39 @@ fn walk_first<'a>(
 // A turn is unfolded once, on new names, and gives data of the shape of the first value; `None` where it does not.
 #[cycle(walk)]
 fn walk_turns<'a>(
-    setting: Setting<'_, 'a>,
+    setting: &Setting<'_, 'a>,
     whole: &'a Loop<'a>,
-    first: Walked<'a>,
+    first: &Walked<'a>,
     state: &mut Unfolding<'a>,
-) -> Result<Option<Walked<'a>>, Refusal>
-    requires kept { Kept setting.context.now.tops }
-    requires level { setting.level ≤ 2000 }
-    ensures { Looped_to setting.entry.context.now (scope_of setting.entry.scope.now) whole.now (turns_of whole.now.form) first.entry state.old state.new result }
+    walked: &mut Walked<'a>,
+) -> Result<Shapes, Refusal>
+    requires kept { Kept setting.now.context.now.tops }
+    requires level { setting.now.level ≤ 2000 }
+    ensures { Looped_to setting.now.context.now (scope_of setting.now.scope.now) whole.now (turns_of whole.now.form) first.now state.old state.new (agreed result walked.new) }
 {
     match &whole.form {
-        LoopForm::For(index, count) => { walk_for(setting, whole, *index, count, first, state) }
-        LoopForm::ForIn(row, rows) => walk_rows(setting, whole, row, rows, first, state),
-        LoopForm::While(test) => walk_while(setting, whole, test, first, state),
+        LoopForm::For(index, count) => {
+            walk_for(setting, whole, *index, count, first, state, walked)
+        }
+        LoopForm::ForIn(row, rows) => walk_rows(setting, whole, row, rows, first, state, walked),
+        LoopForm::While(test) => walk_while(setting, whole, test, first, state, walked),
     }
 }
 
 #[cycle(walk)]
 #[inline(never)]
 fn walk_for<'a>(
-    setting: Setting<'_, 'a>,
+    setting: &Setting<'_, 'a>,
     whole: &'a Loop<'a>,
     index: BindId,
     count: &'a Exp<'a>,
-    first: Walked<'a>,
+    first: &Walked<'a>,
     state: &mut Unfolding<'a>,
-) -> Result<Option<Walked<'a>>, Refusal>
-    requires kept { Kept setting.context.now.tops }
-    requires level { setting.level ≤ 2000 }
-    ensures { Looped_to setting.entry.context.now (scope_of setting.entry.scope.now) whole.now (Counted index (term_of count.now)) first.entry state.old state.new result }
+    walked: &mut Walked<'a>,
+) -> Result<Shapes, Refusal>
+    requires kept { Kept setting.now.context.now.tops }
+    requires level { setting.now.level ≤ 2000 }
+    ensures { Looped_to setting.now.context.now (scope_of setting.now.scope.now) whole.now (Counted index (term_of count.now)) first.now state.old state.new (agreed result walked.new) }
 {
     let counting = match after(first.at, 1) {
         Ok(counting) => counting,
@@ -403,7 +454,7 @@ fn walk_for<'a>(
         Ok(n) => n,
         Err(refusal) => return Err(refusal),
     };
-    let entered = match enter(first.known, state) {
+    let entered = match enter(&first.known, state) {
         Ok(entered) => entered,
         Err(refusal) => return Err(refusal),
     };
@@ -412,39 +463,40 @@ fn walk_for<'a>(
         Err(refusal) => return Err(refusal),
     };
     let mark = state.mark();
-    let scope = match bind_turn(&whole.pat, index, name, setting.scope, entered.known, state) {
+    let scope = match bind_turn(
+        &whole.pat,
+        index,
+        name,
+        setting.scope,
+        &entered.known,
+        state,
+    ) {
         Ok(scope) => scope,
         Err(refusal) => return Err(refusal),
     };
-    let inner = Setting { scope, ..setting };
-    let body = match walk_block(inner, mark, n.at, &whole.body, first.known, state) {
+    let inner = Setting { scope, ..*setting };
+    let body = match walk_block(&inner, mark, n.at, &whole.body, &first.known, state) {
         Ok(Some(body)) => body,
-        Ok(None) => return Ok(None),
+        Ok(None) => return Ok(Shapes::Differ),
         Err(refusal) => return Err(refusal),
     };
-    let act = Act::For {
-        params: entered.params,
-        first: entered.first,
-        index: name,
-        count: n.atom,
-        body: body.block,
-    };
-    given(give(state, first.known, act, body.at))
+    give_counted(state, &first.known, &entered, name, &n, &body, walked)
 }
 
 #[cycle(walk)]
 #[inline(never)]
 fn walk_rows<'a>(
-    setting: Setting<'_, 'a>,
+    setting: &Setting<'_, 'a>,
     whole: &'a Loop<'a>,
     row: &'a Pat<'a>,
     rows: &'a Exp<'a>,
-    first: Walked<'a>,
+    first: &Walked<'a>,
     state: &mut Unfolding<'a>,
-) -> Result<Option<Walked<'a>>, Refusal>
-    requires kept { Kept setting.context.now.tops }
-    requires level { setting.level ≤ 2000 }
-    ensures { Looped_to setting.entry.context.now (scope_of setting.entry.scope.now) whole.now (Over (pattern_of row.now) (term_of rows.now)) first.entry state.old state.new result }
+    walked: &mut Walked<'a>,
+) -> Result<Shapes, Refusal>
+    requires kept { Kept setting.now.context.now.tops }
+    requires level { setting.now.level ≤ 2000 }
+    ensures { Looped_to setting.now.context.now (scope_of setting.now.scope.now) whole.now (Over (pattern_of row.now) (term_of rows.now)) first.now state.old state.new (agreed result walked.new) }
 {
     let counting = match after_pattern(first.at, row) {
         Ok(counting) => counting,
@@ -454,7 +506,7 @@ fn walk_rows<'a>(
         Ok(r) => r,
         Err(refusal) => return Err(refusal),
     };
-    let entered = match enter(first.known, state) {
+    let entered = match enter(&first.known, state) {
         Ok(entered) => entered,
         Err(refusal) => return Err(refusal),
     };
@@ -463,45 +515,39 @@ fn walk_rows<'a>(
         Err(refusal) => return Err(refusal),
     };
     let mark = state.mark();
-    let scope = match bind_row(&whole.pat, row, name, setting.scope, entered.known, state) {
+    let scope = match bind_row(&whole.pat, row, name, setting.scope, &entered.known, state) {
         Ok(scope) => scope,
         Err(refusal) => return Err(refusal),
     };
-    let inner = Setting { scope, ..setting };
-    let body = match walk_block(inner, mark, r.at, &whole.body, first.known, state) {
+    let inner = Setting { scope, ..*setting };
+    let body = match walk_block(&inner, mark, r.at, &whole.body, &first.known, state) {
         Ok(Some(body)) => body,
-        Ok(None) => return Ok(None),
+        Ok(None) => return Ok(Shapes::Differ),
         Err(refusal) => return Err(refusal),
     };
-    let act = Act::ForEach {
-        params: entered.params,
-        first: entered.first,
-        row: name,
-        rows: r.atom,
-        body: body.block,
-    };
-    given(give(state, first.known, act, body.at))
+    give_rows(state, &first.known, &entered, name, &r, &body, walked)
 }
 
 #[cycle(walk)]
 #[inline(never)]
 fn walk_while<'a>(
-    setting: Setting<'_, 'a>,
+    setting: &Setting<'_, 'a>,
     whole: &'a Loop<'a>,
     test: &'a Exp<'a>,
-    first: Walked<'a>,
+    first: &Walked<'a>,
     state: &mut Unfolding<'a>,
-) -> Result<Option<Walked<'a>>, Refusal>
-    requires kept { Kept setting.context.now.tops }
-    requires level { setting.level ≤ 2000 }
-    ensures { Looped_to setting.entry.context.now (scope_of setting.entry.scope.now) whole.now (While (term_of test.now)) first.entry state.old state.new result }
+    walked: &mut Walked<'a>,
+) -> Result<Shapes, Refusal>
+    requires kept { Kept setting.now.context.now.tops }
+    requires level { setting.now.level ≤ 2000 }
+    ensures { Looped_to setting.now.context.now (scope_of setting.now.scope.now) whole.now (While (term_of test.now)) first.now state.old state.new (agreed result walked.new) }
 {
-    let entered = match enter(first.known, state) {
+    let entered = match enter(&first.known, state) {
         Ok(entered) => entered,
         Err(refusal) => return Err(refusal),
     };
     let mark = state.mark();
-    let c = match walk_test(setting, whole, first.at, test, entered.known, state) {
+    let c = match walk_test(setting, whole, first.at, test, &entered.known, state) {
         Ok(c) => c,
         Err(refusal) => return Err(refusal),
     };
@@ -509,44 +555,37 @@ fn walk_while<'a>(
         Ok(scope) => scope,
         Err(refusal) => return Err(refusal),
     };
-    let inner = Setting { scope, ..setting };
-    let body = match walk_block(inner, mark, c.at, &whole.body, first.known, state) {
+    let inner = Setting { scope, ..*setting };
+    let body = match walk_block(&inner, mark, c.at, &whole.body, &first.known, state) {
         Ok(Some(body)) => body,
-        Ok(None) => return Ok(None),
+        Ok(None) => return Ok(Shapes::Differ),
         Err(refusal) => return Err(refusal),
     };
-    let act = Act::While {
-        place: whole.mark,
-        params: entered.params,
-        first: entered.first,
-        test: c.block,
-        body: body.block,
-    };
-    given(give(state, first.known, act, body.at))
+    give_while(state, &first.known, whole.mark, &entered, &c, &body, walked)
 }
 
 // The condition of a loop as a block, on what is known of its value in a turn.
 #[cycle(walk)]
 fn walk_test<'a>(
-    setting: Setting<'_, 'a>,
+    setting: &Setting<'_, 'a>,
     whole: &'a Loop<'a>,
     at: u32,
     test: &'a Exp<'a>,
-    known: Known<'a>,
+    known: &Known<'a>,
     state: &mut Unfolding<'a>,
 ) -> Result<Branch<'a>, Refusal>
-    requires kept { Kept setting.context.now.tops }
-    requires level { setting.level ≤ 2000 }
-    ensures { Tested_to setting.entry.context.now (scope_of setting.entry.scope.now) (pattern_of whole.now.pat) at (term_of test.now) (known_of known.entry) state.old state.new result }
+    requires kept { Kept setting.now.context.now.tops }
+    requires level { setting.now.level ≤ 2000 }
+    ensures { Tested_to setting.now.context.now (scope_of setting.now.scope.now) (pattern_of whole.now.pat) at (term_of test.now) (known_of known.now) state.old state.new result }
 {
     let mark = state.mark();
-    let scope = match bind(state, &whole.pat, known, setting.scope) {
+    let scope = match bind(state, &whole.pat, *known, setting.scope) {
         Ok(scope) => scope,
         Err(refusal) => return Err(refusal),
     };
-    let inner = Setting { scope, ..setting };
-    match walk_scalar(inner, at, test, state) {
-        Ok(truth) => close_scalar(state, mark, truth),
+    let inner = Setting { scope, ..*setting };
+    match walk_scalar(&inner, at, test, state) {
+        Ok(truth) => close_scalar(state, mark, &truth),
         Err(refusal) => Err(refusal),
     }
 }
@@ -555,14 +594,15 @@ fn walk_test<'a>(
 #[cycle(walk)]
 #[inline(never)]
 fn walk_lets<'a>(
-    setting: Setting<'_, 'a>,
+    setting: &Setting<'_, 'a>,
     at: u32,
     exp: &'a Exp<'a>,
     state: &mut Unfolding<'a>,
-) -> Result<Walked<'a>, Refusal>
-    requires kept { Kept setting.context.now.tops }
-    requires level { setting.level ≤ 2000 }
-    ensures { Unfolded setting.entry.context.now (scope_of setting.entry.scope.now) at (term_of exp.now) state.old state.new result }
+    walked: &mut Walked<'a>,
+) -> Result<(), Refusal>
+    requires kept { Kept setting.now.context.now.tops }
+    requires level { setting.now.level ≤ 2000 }
+    ensures { Unfolded setting.now.context.now (scope_of setting.now.scope.now) at (term_of exp.now) state.old state.new (written result walked.new) }
 {
     let mut rest = exp;
     let mut row = Row {
@@ -578,22 +618,22 @@ fn walk_lets<'a>(
     }
     let behind = Setting {
         scope: row.scope,
-        ..setting
+        ..*setting
     };
-    walk(behind, row.at, rest, state)
+    walk(&behind, row.at, rest, state, walked)
 }
 
 // The `let`s of a row, one after the other.
 #[cycle(walk)]
 fn walk_row<'a>(
-    setting: Setting<'_, 'a>,
+    setting: &Setting<'_, 'a>,
     row: Row<'a>,
     lets: &'a [Let<'a>],
     state: &mut Unfolding<'a>,
 ) -> Result<Row<'a>, Refusal>
-    requires kept { Kept setting.context.now.tops }
-    requires level { setting.level ≤ 2000 }
-    ensures { Row_unfolded setting.entry.context.now row.entry (map row_of lets.now) state.old state.new result }
+    requires kept { Kept setting.now.context.now.tops }
+    requires level { setting.now.level ≤ 2000 }
+    ensures { Row_unfolded setting.now.context.now row.entry (map row_of lets.now) state.old state.new result }
 {
     let mut at = row;
     for one in lets {
@@ -607,12 +647,13 @@ fn walk_row<'a>(
         };
         let inner = Setting {
             scope: at.scope,
-            ..setting
+            ..*setting
         };
-        let value = match walk(inner, first, &one.value, state) {
-            Ok(value) => value,
+        let mut value = unwalked();
+        match walk(&inner, first, &one.value, state, &mut value) {
+            Ok(()) => (),
             Err(refusal) => return Err(refusal),
-        };
+        }
         let scope = match bind(state, &one.pat, value.known, at.scope) {
             Ok(scope) => scope,
             Err(refusal) => return Err(refusal),
@@ -630,18 +671,21 @@ fn walk_row<'a>(
 pub fn apply<'a>(
     context: &Context<'a>,
     level: u32,
-    function: Known<'a>,
-    argument: Known<'a>,
+    function: &Known<'a>,
+    argument: &Known<'a>,
     state: &mut Unfolding<'a>,
-) -> Result<Known<'a>, Refusal>
+    walked: &mut Walked<'a>,
+) -> Result<(), Refusal>
     requires kept { Kept context.now.tops }
     requires level { level ≤ 2000 }
-    ensures { Applied context.now (known_of function.entry) (known_of argument.entry) state.old state.new result }
+    ensures { Applied context.now (known_of function.now) (known_of argument.now) state.old state.new (written result walked.new.known) }
 {
     let lambda = match function.form {
         KnownForm::Function(lambda) => lambda,
         KnownForm::Primitive(primitive, place, known) => {
-            return apply_to(context, level, primitive, place, known, argument, state);
+            return apply_to(
+                context, level, primitive, place, known, argument, state, walked,
+            );
         }
         _ => return Err(Refusal::Lost),
     };
@@ -651,17 +695,17 @@ pub fn apply<'a>(
     };
     let params = lambda.parameters;
     if params.len() > 1 {
-        return function_known(state.bump, &params[1..], lambda.body, lambda.first, inner);
+        return put_known(
+            function_known(state.bump, &params[1..], lambda.body, lambda.first, inner),
+            walked,
+        );
     }
     let setting = Setting {
         context,
         level,
         scope: inner,
     };
-    match walk(setting, lambda.first, lambda.body, state) {
-        Ok(r) => Ok(r.known),
-        Err(refusal) => Err(refusal),
-    }
+    walk(&setting, lambda.first, lambda.body, state, walked)
 }
 
 // A primitive with the arguments that it has, applied to one more.
@@ -673,16 +717,22 @@ fn apply_to<'a>(
     primitive: Primitive,
     place: Place,
     known: &'a [Known<'a>],
-    argument: Known<'a>,
+    argument: &Known<'a>,
     state: &mut Unfolding<'a>,
-) -> Result<Known<'a>, Refusal>
+    walked: &mut Walked<'a>,
+) -> Result<(), Refusal>
     requires kept { Kept context.now.tops }
     requires level { level ≤ 2000 }
-    ensures { Applied context.now (Primitive_known primitive place (knowns (map known_of known.now))) (known_of argument.entry) state.old state.new result }
+    ensures { Applied context.now (Primitive_known primitive place (knowns (map known_of known.now))) (known_of argument.now) state.old state.new (written result walked.new.known) }
 {
-    match apply_primitive(state, primitive, place, known, argument) {
-        Ok(Step::Known(known)) => Ok(known),
-        Ok(Step::Ready(arguments)) => walk_job(context, level, primitive, place, arguments, state),
+    match apply_primitive(state, primitive, place, known, *argument) {
+        Ok(Step::Known(known)) => {
+            walked.known = known;
+            Ok(())
+        }
+        Ok(Step::Ready(arguments)) => {
+            walk_job(context, level, primitive, place, arguments, state, walked)
+        }
         Err(refusal) => Err(refusal),
     }
 }
@@ -697,10 +747,11 @@ fn walk_job<'a>(
     place: Place,
     arguments: &'a [Known<'a>],
     state: &mut Unfolding<'a>,
-) -> Result<Known<'a>, Refusal>
+    walked: &mut Walked<'a>,
+) -> Result<(), Refusal>
     requires kept { Kept context.now.tops }
     requires level { level ≤ 2000 }
-    ensures { Job_applied context.now primitive place (map known_of arguments.now) state.old state.new result }
+    ensures { Job_applied context.now primitive place (map known_of arguments.now) state.old state.new (written result walked.new.known) }
 {
     if level >= MOST_DEPTH {
         return Err(Refusal::Memory);
@@ -710,8 +761,11 @@ fn walk_job<'a>(
         Err(refusal) => return Err(refusal),
     };
     let mark = state.mark();
-    match apply_all(context, level + 1, job.function, job.arguments, state) {
-        Ok(result) => end_job(state, mark, primitive, place, &job, &result),
+    match apply_all(context, level + 1, &job.function, job.arguments, state) {
+        Ok(result) => put_known(
+            end_job(state, mark, primitive, place, &job, &result),
+            walked,
+        ),
         Err(refusal) => Err(refusal),
     }
 }
@@ -721,20 +775,22 @@ fn walk_job<'a>(
 pub fn apply_all<'a>(
     context: &Context<'a>,
     level: u32,
-    function: Known<'a>,
+    function: &Known<'a>,
     arguments: &'a [Known<'a>],
     state: &mut Unfolding<'a>,
 ) -> Result<Known<'a>, Refusal>
     requires kept { Kept context.now.tops }
     requires level { level ≤ 2000 }
-    ensures { All_applied context.now (map known_of arguments.now) (known_of function.entry) state.old state.new result }
+    ensures { All_applied context.now (map known_of arguments.now) (known_of function.now) state.old state.new result }
 {
-    let mut made = function;
+    let mut made = *function;
     for argument in arguments {
-        made = match apply(context, level, made, *argument, state) {
-            Ok(made) => made,
+        let mut walked = unwalked();
+        match apply(context, level, &made, argument, state, &mut walked) {
+            Ok(()) => (),
             Err(refusal) => return Err(refusal),
-        };
+        }
+        made = walked.known;
     }
     Ok(made)
 }

@@ -33,6 +33,14 @@ pub struct Walked<'a> {
     pub at: u32,
 }
 
+/// Whether the branches of a condition, or a turn and what its loop begins with, give data of one shape. Where they do, what is
+/// known of the value has been written; else the form is unfolded once more and packed.
+#[derive(Clone, Copy)]
+pub enum Shapes {
+    Agree,
+    Differ,
+}
+
 /// What is known of several values, and the number of the node behind them.
 #[derive(Clone, Copy)]
 pub struct Parts<'a> {

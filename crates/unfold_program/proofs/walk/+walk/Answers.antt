@@ -2,14 +2,14 @@ use Rattle.std.proofs.Common.{refl, arith, ◌∙◌}
 use Rattle.std.proofs.lemmas.Slice.{between_to_end}
 use Rattle.unfold_parts.specs.Refused.{no_memory}
 use Rattle.unfold_parts.proofs.Refusing.{only_memory}
-use Rattle.unfold_program.specs.Answers.{refused, all_refused, not_applied, not_looped, has_to_pack, not_tried, row_refused}
+use Rattle.unfold_program.specs.Answers.{walked_to, not_walked, refused, all_refused, not_applied, not_looped, has_to_pack, not_tried, row_refused}
 use Rattle.unfold_program.proofs.Arms.{form_use, form_strict, form_lambda, form_apply, form_if, form_loop, strict_parts_err, strict_end, apply_function_err, apply_argument_err, apply_end, scalar_end, scalar_stuck}
 use Rattle.unfold_program.proofs.Branching.{closes, block_mark, block_stuck, closed_as, blocked_as, branches_as, then_err, then_unlaid, then_differs, closed_mark, else_err, else_differs, branches_end, branches_again, if_test_err, if_branched, if_branches_err, branches_mark, branches_cut}
 use Rattle.unfold_program.proofs.Looping.{turns_for, turns_for_in, turns_test, loop_first_err, loop_looped, loop_turns_err, loop_unpacked, loop_tried, loop_tried_err, packed_first, tried_looped, tried_err, tried_again, tried_as, looped_as, turns_mark, turn_mark, unentered, unnamed, count_err, counted_unbound, counted_body_err, counted_differs, counted_end, rows_err, row_unbound, row_mark, row_body_err, row_differs, row_end, test_unbound, test_err, test_mark, test_end, while_test_err, while_unbound, while_mark, while_body_err, while_differs, while_end}
 use Rattle.unfold_program.proofs.Peeling.{unpeeled, peeled_unfolded}
 use Rattle.unfold_program.proofs.Programs.{all_start, all_more, all_done, all_err}
 use Rattle.unfold_program.proofs.Rows.{parts_start, parts_err, parts_more, parts_done, row_start, row_next, row_value_err, row_bind_err, row_done, lets_start, lets_more, lets_done, lets_err}
-use Rattle.unfold_program.proofs.Running.{apply_of_other, apply_of_primitive, primitive_as, primitive_known, primitive_err, primitive_job, job_unbegun, job_stuck, job_mark, job_end, apply_unargued, apply_waits, apply_runs, apply_stuck}
+use Rattle.unfold_program.proofs.Running.{apply_of_other, apply_of_primitive, primitive_as, primitive_known, primitive_err, primitive_job, job_unbegun, job_stuck, job_mark, job_end, apply_unargued, apply_waits, apply_walks, applied_as, job_as}
 use Rattle.unfold_program.proofs.walk.+walk.Goals as goal
 
 pub walk-returns-then-setting-ge-MOST_DEPTH : goal.walk-returns-then-setting-ge-MOST_DEPTH
@@ -69,8 +69,11 @@ walk_apply-returns-in-Err t c = λ lo q. apply_function_err _ _ lo _ _ _ _ _ _ q
 pub walk_apply-returns-in-Err-walk : goal.walk_apply-returns-in-Err-walk
 walk_apply-returns-in-Err-walk t c = λ lo q. apply_argument_err _ _ lo _ _ _ _ _ _ _ _ q c.in-Ok.ensures c.in-Err-walk.ensures
 
-pub walk_apply-returns : goal.walk_apply-returns
-walk_apply-returns t c = λ lo q. apply_end _ _ lo _ _ _ _ _ _ _ _ _ _ _ q c.in-Ok.ensures c.in-Ok-walk.ensures c.apply.ensures c.walked_to.ensures
+pub walk_apply-returns-in-Ok-apply : goal.walk_apply-returns-in-Ok-apply
+walk_apply-returns-in-Ok-apply t c = λ lo q. apply_end _ _ lo _ _ _ _ _ _ _ _ _ _ _ q c.in-Ok.ensures c.in-Ok-walk.ensures c.in-Ok-apply.ensures walked_to
+
+pub walk_apply-returns-in-Err-apply : goal.walk_apply-returns-in-Err-apply
+walk_apply-returns-in-Err-apply t c = λ lo q. apply_end _ _ lo _ _ _ _ _ _ _ _ _ _ _ q c.in-Ok.ensures c.in-Ok-walk.ensures c.in-Err-apply.ensures not_walked
 
 pub walk_scalar-returns-in-Ok : goal.walk_scalar-returns-in-Ok
 walk_scalar-returns-in-Ok t c = scalar_end _ _ _ _ _ _ _ _ c.in-Ok.ensures c.scalar_of.ensures
@@ -159,6 +162,9 @@ walk_row-walk-requires t c = (omega arith, c.requires.kept)
 pub apply-walk-requires : goal.apply-walk-requires
 apply-walk-requires t c = (omega arith, c.requires.kept)
 
+pub apply-returns : goal.apply-returns
+apply-returns t c = apply_walks _ _ _ _ _ c.in-Function.is _ _ _ _ _ c.in-Ok.ensures c.if-params-gt1.false c.walk.ensures
+
 pub walk_block-close-requires : goal.walk_block-close-requires
 walk_block-close-requires t c = record { mark = block_mark _ _ _ _ _ _ _ _ c.requires.mark c.in-Ok.ensures }
 
@@ -190,13 +196,7 @@ pub apply-returns-in-Err : goal.apply-returns-in-Err
 apply-returns-in-Err t c = apply_unargued _ _ _ _ _ c.in-Function.is _ _ _ c.in-Err.ensures
 
 pub apply-returns-then-params-gt1 : goal.apply-returns-then-params-gt1
-apply-returns-then-params-gt1 t c = apply_waits _ _ _ _ _ c.in-Function.is _ _ _ _ c.in-Ok.ensures c.if-params-gt1.true (between_to_end c.in-Function.lambda.now.parameters.now 1 _ (omega arith)) c.function_known.ensures.ok c.function_known.ensures.err
-
-pub apply-returns-in-Ok-walk : goal.apply-returns-in-Ok-walk
-apply-returns-in-Ok-walk t c = apply_runs _ _ _ _ _ c.in-Function.is _ _ _ _ c.in-Ok.ensures c.if-params-gt1.false c.in-Ok-walk.ensures
-
-pub apply-returns-in-Err-walk : goal.apply-returns-in-Err-walk
-apply-returns-in-Err-walk t c = apply_stuck _ _ _ _ _ c.in-Function.is _ _ _ _ c.in-Ok.ensures c.if-params-gt1.false c.in-Err-walk.ensures
+apply-returns-then-params-gt1 t c = applied_as _ _ _ _ _ c.put_known.ensures _ _ (apply_waits _ _ _ _ _ c.in-Function.is _ _ _ _ c.in-Ok.ensures c.if-params-gt1.true (between_to_end c.in-Function.lambda.now.parameters.now 1 _ (omega arith)) c.function_known.ensures.ok c.function_known.ensures.err)
 
 pub walk_if-returns-in-Err : goal.walk_if-returns-in-Err
 walk_if-returns-in-Err t c = λ lo q. if_test_err _ _ lo _ _ _ _ _ _ q _ _ c.in-Err.ensures
@@ -256,7 +256,7 @@ pub walk_for-returns-in-Err-walk_block : goal.walk_for-returns-in-Err-walk_block
 walk_for-returns-in-Err-walk_block t c = counted_body_err _ _ _ _ _ _ _ _ _ c.in-Ok.ensures c.enter.new.state _ _ c.in-Ok-walk_scalar.n c.in-Ok-enter.entered _ _ _ _ _ _ c.in-Ok-walk_scalar.ensures c.in-Ok-enter.ensures.entered c.in-Ok-bind_turn.ensures c.in-Err-walk_block.ensures
 
 pub walk_for-returns : goal.walk_for-returns
-walk_for-returns t c = counted_end _ _ _ _ _ _ _ _ _ c.in-Ok.ensures c.enter.new.state _ _ c.in-Ok-walk_scalar.n c.in-Ok-enter.entered _ _ _ _ _ _ _ _ c.mark-mark.ensures (c.in-Ok-name.ensures.steps ∙ c.in-Ok-enter.ensures.steps) c.in-Ok-name.ensures.name c.in-Ok-walk_scalar.ensures c.in-Ok-enter.ensures.entered c.in-Ok-bind_turn.ensures (blocked_as c.in-Ok-Some.field-0-is c.in-Ok-Some.ensures) c.give.ensures c.given.ensures
+walk_for-returns t c = counted_end _ _ _ _ _ _ _ _ _ c.in-Ok.ensures c.enter.new.state _ _ c.in-Ok-walk_scalar.n c.in-Ok-enter.entered _ _ _ _ _ _ _ c.mark-mark.ensures (c.in-Ok-name.ensures.steps ∙ c.in-Ok-enter.ensures.steps) c.in-Ok-name.ensures.name c.in-Ok-walk_scalar.ensures c.in-Ok-enter.ensures.entered c.in-Ok-bind_turn.ensures (blocked_as c.in-Ok-Some.field-0-is c.in-Ok-Some.ensures) c.give_counted.ensures
 
 pub walk_rows-returns-in-Err : goal.walk_rows-returns-in-Err
 walk_rows-returns-in-Err t c = not_looped no_memory
@@ -280,7 +280,7 @@ pub walk_rows-returns-in-Err-walk_block : goal.walk_rows-returns-in-Err-walk_blo
 walk_rows-returns-in-Err-walk_block t c = row_body_err _ _ _ _ _ _ _ _ _ c.in-Ok.ensures c.enter.new.state _ _ c.in-Ok-walk_scalar.r c.in-Ok-enter.entered _ _ _ _ _ _ c.in-Ok-walk_scalar.ensures c.in-Ok-enter.ensures.entered c.in-Ok-bind_row.ensures c.in-Err-walk_block.ensures
 
 pub walk_rows-returns : goal.walk_rows-returns
-walk_rows-returns t c = row_end _ _ _ _ _ _ _ _ _ c.in-Ok.ensures c.enter.new.state _ _ c.in-Ok-walk_scalar.r c.in-Ok-enter.entered _ _ _ _ _ _ _ _ c.mark-mark.ensures (c.in-Ok-name.ensures.steps ∙ c.in-Ok-enter.ensures.steps) c.in-Ok-name.ensures.name c.in-Ok-walk_scalar.ensures c.in-Ok-enter.ensures.entered c.in-Ok-bind_row.ensures (blocked_as c.in-Ok-Some.field-0-is c.in-Ok-Some.ensures) c.give.ensures c.given.ensures
+walk_rows-returns t c = row_end _ _ _ _ _ _ _ _ _ c.in-Ok.ensures c.enter.new.state _ _ c.in-Ok-walk_scalar.r c.in-Ok-enter.entered _ _ _ _ _ _ _ c.mark-mark.ensures (c.in-Ok-name.ensures.steps ∙ c.in-Ok-enter.ensures.steps) c.in-Ok-name.ensures.name c.in-Ok-walk_scalar.ensures c.in-Ok-enter.ensures.entered c.in-Ok-bind_row.ensures (blocked_as c.in-Ok-Some.field-0-is c.in-Ok-Some.ensures) c.give_rows.ensures
 
 pub walk_test-returns-in-Err : goal.walk_test-returns-in-Err
 walk_test-returns-in-Err t c = test_unbound _ _ _ _ _ _ _ c.bind.new.work _ _ c.in-Err.ensures
@@ -307,7 +307,7 @@ pub walk_while-returns-in-Err-walk_block : goal.walk_while-returns-in-Err-walk_b
 walk_while-returns-in-Err-walk_block t c = while_body_err _ _ _ _ _ _ c.enter.new.state c.walk_test.new.state c.in-Ok.entered c.bind.new.work _ _ _ _ _ _ c.in-Ok.ensures.entered c.in-Ok-walk_test.ensures c.in-Ok-bind.ensures c.in-Err-walk_block.ensures
 
 pub walk_while-returns : goal.walk_while-returns
-walk_while-returns t c = while_end _ _ _ _ _ _ c.enter.new.state c.walk_test.new.state c.in-Ok.entered c.bind.new.work _ _ _ _ _ _ _ _ c.mark-mark.ensures c.in-Ok.ensures.steps c.in-Ok.ensures.entered c.in-Ok-walk_test.ensures c.in-Ok-bind.ensures (blocked_as c.in-Ok-Some.field-0-is c.in-Ok-Some.ensures) c.give.ensures c.given.ensures
+walk_while-returns t c = while_end _ _ _ _ _ _ c.enter.new.state c.walk_test.new.state c.in-Ok.entered c.bind.new.work _ _ _ _ _ _ _ c.mark-mark.ensures c.in-Ok.ensures.steps c.in-Ok.ensures.entered c.in-Ok-walk_test.ensures c.in-Ok-bind.ensures (blocked_as c.in-Ok-Some.field-0-is c.in-Ok-Some.ensures) c.give_while.ensures
 
 pub walk_job-returns-then-level-ge-MOST_DEPTH : goal.walk_job-returns-then-level-ge-MOST_DEPTH
 walk_job-returns-then-level-ge-MOST_DEPTH t c = λ gs s e ready. not_applied no_memory
@@ -331,49 +331,49 @@ pub walk_branches-returns-in-Err-walk_block : goal.walk_branches-returns-in-Err-
 walk_branches-returns-in-Err-walk_block t c = else_err _ _ _ _ _ _ c.args.state.now _ _ _ _ _ _ c.mark-mark.ensures _ _ _ c.in-Ok.ensures (closed_as c.in-Ok-Some.field-0-is c.in-Ok-Some.ensures) c.in-Err-walk_block.ensures
 
 pub walk_branches-returns : goal.walk_branches-returns
-walk_branches-returns t c = branches_end _ _ _ _ _ _ c.args.state.now _ _ _ _ _ _ c.mark-mark.ensures _ _ _ _ _ c.asked-like.ensures c.in-Ok.ensures (closed_as c.in-Ok-Some.field-0-is c.in-Ok-Some.ensures) (blocked_as c.in-Ok-Some-walk_block.field-0-is c.in-Ok-Some-walk_block.ensures) c.give.ensures c.given.ensures
+walk_branches-returns t c = branches_end _ _ _ _ _ _ c.args.state.now _ _ _ _ _ _ c.mark-mark.ensures _ _ _ _ c.asked-like.ensures c.in-Ok.ensures (closed_as c.in-Ok-Some.field-0-is c.in-Ok-Some.ensures) (blocked_as c.in-Ok-Some-walk_block.field-0-is c.in-Ok-Some-walk_block.ensures) c.give_choice.ensures
 
-pub walk_if-returns-in-Ok-Some : goal.walk_if-returns-in-Ok-Some
-walk_if-returns-in-Ok-Some t c = λ lo q. if_branched _ _ lo _ _ _ _ _ _ q _ _ _ _ c.in-Ok.ensures (branches_as c.in-Ok-Some.field-0-is c.in-Ok-Some.ensures)
+pub walk_if-returns-in-Ok-Agree : goal.walk_if-returns-in-Ok-Agree
+walk_if-returns-in-Ok-Agree t c = λ lo q. if_branched _ _ lo _ _ _ _ _ _ q _ _ _ _ c.in-Ok.ensures (branches_as _ c.in-Ok-Agree.field-0-is c.in-Ok-Agree.ensures)
 
 pub walk_if-again-requires : goal.walk_if-again-requires
-walk_if-again-requires t c = record { mark = branches_mark _ _ _ _ _ c.walk_scalar.new.state _ _ _ c.mark-mark.ensures (branches_as c.in-Ok-None.field-0-is c.in-Ok-None.ensures) }
+walk_if-again-requires t c = record { mark = branches_mark _ _ _ _ _ c.walk_scalar.new.state _ _ _ c.mark-mark.ensures (branches_as _ c.in-Ok-Differ.field-0-is c.in-Ok-Differ.ensures) }
 
-pub walk_if-returns-in-Ok-Some-walk_branches : goal.walk_if-returns-in-Ok-Some-walk_branches
-walk_if-returns-in-Ok-Some-walk_branches t c = λ lo q. if_branched _ _ lo _ _ _ _ _ _ q _ _ _ _ c.in-Ok.ensures (branches_again _ _ _ _ _ _ c.walk_scalar.new.state c.again.new.state _ _ (branches_cut _ _ _ _ _ c.walk_scalar.new.state _ c.walk_branches.new.state c.again.new.state _ c.mark-mark.ensures (branches_as c.in-Ok-None.field-0-is c.in-Ok-None.ensures) c.in-Ok-again.ensures.steps) c.in-Ok-again.ensures.next (branches_as c.in-Ok-Some-walk_branches.field-0-is c.in-Ok-Some-walk_branches.ensures))
+pub walk_if-returns-in-Ok-Agree-walk_branches : goal.walk_if-returns-in-Ok-Agree-walk_branches
+walk_if-returns-in-Ok-Agree-walk_branches t c = λ lo q. if_branched _ _ lo _ _ _ _ _ _ q _ _ _ _ c.in-Ok.ensures (branches_again _ _ _ _ _ _ c.walk_scalar.new.state c.again.new.state _ _ (branches_cut _ _ _ _ _ c.walk_scalar.new.state _ c.walk_branches.new.state c.again.new.state _ c.mark-mark.ensures (branches_as _ c.in-Ok-Differ.field-0-is c.in-Ok-Differ.ensures) c.in-Ok-again.ensures.steps) c.in-Ok-again.ensures.next (branches_as _ c.in-Ok-Agree-walk_branches.field-0-is c.in-Ok-Agree-walk_branches.ensures))
 
 pub walk_if-returns-in-Err-walk_branches-2 : goal.walk_if-returns-in-Err-walk_branches-2
-walk_if-returns-in-Err-walk_branches-2 t c = λ lo q. if_branches_err _ _ lo _ _ _ _ _ _ q _ _ _ _ _ c.in-Ok.ensures (branches_again _ _ _ _ _ _ c.walk_scalar.new.state c.again.new.state _ _ (branches_cut _ _ _ _ _ c.walk_scalar.new.state _ c.walk_branches.new.state c.again.new.state _ c.mark-mark.ensures (branches_as c.in-Ok-None.field-0-is c.in-Ok-None.ensures) c.in-Ok-again.ensures.steps) c.in-Ok-again.ensures.next c.in-Err-walk_branches-2.ensures)
+walk_if-returns-in-Err-walk_branches-2 t c = λ lo q. if_branches_err _ _ lo _ _ _ _ _ _ q _ _ _ _ _ c.in-Ok.ensures (branches_again _ _ _ _ _ _ c.walk_scalar.new.state c.again.new.state _ _ (branches_cut _ _ _ _ _ c.walk_scalar.new.state _ c.walk_branches.new.state c.again.new.state _ c.mark-mark.ensures (branches_as _ c.in-Ok-Differ.field-0-is c.in-Ok-Differ.ensures) c.in-Ok-again.ensures.steps) c.in-Ok-again.ensures.next c.in-Err-walk_branches-2.ensures)
 
-pub walk_loop-returns-in-Ok-Some : goal.walk_loop-returns-in-Ok-Some
-walk_loop-returns-in-Ok-Some t c = λ lo q. loop_tried _ _ _ lo _ _ _ q c.in-Ok.ensures _ _ _ _ c.in-Ok-walk.ensures (tried_as c.in-Ok-Some.field-0-is c.in-Ok-Some.ensures)
+pub walk_loop-returns-in-Ok-Agree : goal.walk_loop-returns-in-Ok-Agree
+walk_loop-returns-in-Ok-Agree t c = λ lo q. loop_tried _ _ _ lo _ _ _ q c.in-Ok.ensures _ _ _ _ c.in-Ok-walk.ensures (tried_as _ c.in-Ok-Agree.field-0-is c.in-Ok-Agree.ensures)
 
 pub walk_loop-returns-in-Err-walk_first : goal.walk_loop-returns-in-Err-walk_first
 walk_loop-returns-in-Err-walk_first t c = λ lo q. loop_tried_err _ _ _ lo _ _ _ q c.in-Ok.ensures _ _ _ _ _ c.in-Ok-walk.ensures c.in-Err-walk_first.ensures
 
-pub walk_loop-returns-in-Ok-Some-walk_turns : goal.walk_loop-returns-in-Ok-Some-walk_turns
-walk_loop-returns-in-Ok-Some-walk_turns t c = λ lo q. loop_looped _ _ _ lo _ _ _ q c.in-Ok.ensures _ _ _ _ (packed_first _ _ _ _ _ _ _ _ _ _ _ _ (tried_as c.in-Ok-None.field-0-is c.in-Ok-None.ensures) c.in-Ok-walk.ensures c.in-Ok-packed.ensures) (looped_as c.in-Ok-Some-walk_turns.field-0-is c.in-Ok-Some-walk_turns.ensures)
+pub walk_loop-returns-in-Ok-Agree-walk_turns : goal.walk_loop-returns-in-Ok-Agree-walk_turns
+walk_loop-returns-in-Ok-Agree-walk_turns t c = λ lo q. loop_looped _ _ _ lo _ _ _ q c.in-Ok.ensures _ _ _ _ (packed_first _ _ _ _ _ _ _ _ _ _ _ _ (tried_as _ c.in-Ok-Differ.field-0-is c.in-Ok-Differ.ensures) c.in-Ok-walk.ensures c.in-Ok-packed.ensures) (looped_as _ c.in-Ok-Agree-walk_turns.field-0-is c.in-Ok-Agree-walk_turns.ensures)
 
 pub walk_loop-returns-in-Err-walk_turns : goal.walk_loop-returns-in-Err-walk_turns
-walk_loop-returns-in-Err-walk_turns t c = λ lo q. loop_turns_err _ _ _ lo _ _ _ q c.in-Ok.ensures _ _ _ _ _ (packed_first _ _ _ _ _ _ _ _ _ _ _ _ (tried_as c.in-Ok-None.field-0-is c.in-Ok-None.ensures) c.in-Ok-walk.ensures c.in-Ok-packed.ensures) c.in-Err-walk_turns.ensures
+walk_loop-returns-in-Err-walk_turns t c = λ lo q. loop_turns_err _ _ _ lo _ _ _ q c.in-Ok.ensures _ _ _ _ _ (packed_first _ _ _ _ _ _ _ _ _ _ _ _ (tried_as _ c.in-Ok-Differ.field-0-is c.in-Ok-Differ.ensures) c.in-Ok-walk.ensures c.in-Ok-packed.ensures) c.in-Err-walk_turns.ensures
 
 pub walk_first-returns-then-packs : goal.walk_first-returns-then-packs
 walk_first-returns-then-packs t c = has_to_pack refl refl
 
-pub walk_first-returns-in-Ok-Some : goal.walk_first-returns-in-Ok-Some
-walk_first-returns-in-Ok-Some t c = tried_looped _ _ _ _ _ _ _ _ (looped_as c.in-Ok-Some.field-0-is c.in-Ok-Some.ensures)
+pub walk_first-returns-in-Ok-Agree : goal.walk_first-returns-in-Ok-Agree
+walk_first-returns-in-Ok-Agree t c = tried_looped _ _ _ _ _ _ _ _ (looped_as _ c.in-Ok-Agree.field-0-is c.in-Ok-Agree.ensures)
 
 pub walk_first-returns-in-Err : goal.walk_first-returns-in-Err
 walk_first-returns-in-Err t c = tried_err _ _ _ _ _ _ _ _ _ c.in-Err.ensures
 
 pub walk_first-again-requires : goal.walk_first-again-requires
-walk_first-again-requires t c = record { mark = turns_mark _ _ _ _ _ c.args.state.now _ _ c.mark-mark.ensures (looped_as c.in-Ok-None.field-0-is c.in-Ok-None.ensures) }
+walk_first-again-requires t c = record { mark = turns_mark _ _ _ _ _ c.args.state.now _ _ c.mark-mark.ensures (looped_as _ c.in-Ok-Differ.field-0-is c.in-Ok-Differ.ensures) }
 
 pub walk_first-returns-in-Err-again : goal.walk_first-returns-in-Err-again
 walk_first-returns-in-Err-again t c = not_tried (only_memory c.in-Err-again.ensures.err)
 
 pub walk_first-returns-in-Ok : goal.walk_first-returns-in-Ok
-walk_first-returns-in-Ok t c = tried_again _ _ _ _ _ c.args.state.now _ _ c.again.new.state c.mark-mark.ensures (looped_as c.in-Ok-None.field-0-is c.in-Ok-None.ensures) c.in-Ok.ensures.steps c.in-Ok.ensures.next
+walk_first-returns-in-Ok t c = tried_again _ _ _ _ _ c.args.state.now _ _ c.again.new.state c.mark-mark.ensures (looped_as _ c.in-Ok-Differ.field-0-is c.in-Ok-Differ.ensures) c.in-Ok.ensures.steps c.in-Ok.ensures.next
 
 pub walk_for-walk_block-requires : goal.walk_for-walk_block-requires
 walk_for-walk_block-requires t c = (omega arith, (c.requires.kept, (c.requires.level, turn_mark _ _ _ _ _ c.name.new.self _ _ _ c.mark-mark.ensures c.in-Ok-bind_turn.ensures)))
@@ -400,4 +400,4 @@ pub walk_job-end_job-requires : goal.walk_job-end_job-requires
 walk_job-end_job-requires t c = record { mark = job_mark _ _ _ c.begin_job.new.work _ _ _ c.mark-mark.ensures c.in-Ok-apply_all.ensures }
 
 pub walk_job-returns-in-Ok-apply_all : goal.walk_job-returns-in-Ok-apply_all
-walk_job-returns-in-Ok-apply_all t c = job_end _ _ _ _ _ c.begin_job.new.work _ _ _ _ c.mark-mark.ensures _ _ c.in-Ok.ensures c.in-Ok-apply_all.ensures c.end_job.ensures
+walk_job-returns-in-Ok-apply_all t c = job_as _ _ _ _ _ c.put_known.ensures _ _ _ (job_end _ _ _ _ _ c.begin_job.new.work _ _ _ _ c.mark-mark.ensures _ _ c.in-Ok.ensures c.in-Ok-apply_all.ensures c.end_job.ensures)

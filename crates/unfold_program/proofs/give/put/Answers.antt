@@ -1,5 +1,5 @@
 use Rattle.unfold_program.proofs.Growing.{walked_ok, walked_err}
-use Rattle.unfold_program.proofs.give.walked_to.Goals as goal
+use Rattle.unfold_program.proofs.give.put.Goals as goal
 
 pub returns-in-Ok : goal.returns-in-Ok
 returns-in-Ok c = walked_ok _ _ _ c.in-Ok.is

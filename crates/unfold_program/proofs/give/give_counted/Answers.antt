@@ -1,0 +1,6 @@
+use Rattle.fut_blocks.proofs.Layers.{action_of-For}
+use Rattle.unfold_program.proofs.Growing.{stepped_as}
+use Rattle.unfold_program.proofs.give.give_counted.Goals as goal
+
+pub returns : goal.returns
+returns c = stepped_as _ _ _ _ _ _ _ (action_of-For _ _ _ _ _) c.give.ensures
