@@ -7,6 +7,7 @@ pub mod Storing
 pub mod Steps
 pub mod Loops
 pub mod Acts
+pub mod ScalarSteps
 pub mod Applying
 pub mod Rowing
 pub mod Folding

@@ -1,5 +1,5 @@
 -- Operations on what is read.
-use Rattle.std.proofs.Common.{◌≡◌, ℕ, List, [], ◌∷◌, Result, Ok, Err, Bool, true, false, cond, not, Some, None, refl, sym, ap, ◌∙◌, subst}
+use Rattle.std.proofs.Common.{◌≡◌, ℕ, List, [], ◌∷◌, ◌++◌, Result, Ok, Err, Bool, true, false, cond, not, Some, None, refl, sym, ap, ◌∙◌, subst}
 use Rattle.std.specs.Bool.{beq}
 use Rattle.std.specs.Ordering.{int_eq}
 use Rattle.fut_scalar.specs.Integers.{integer_of}
@@ -35,7 +35,7 @@ use Rattle.fut_blocks.specs.declared.block.Operation.TheVariants as operation
 use Rattle.fut_blocks.specs.Meaning.{Component, Names, fitted, value_of, parts_of, one, asserted, binary_scalar, operated, truth_of_atom, turns_of_datum}
 use Rattle.array_data.specs.declared.stop.Stop.{Stop}
 use Rattle.array_data.specs.declared.stop.Stop.TheVariants.{Failed, Memory}
-use Rattle.fut_eval.specs.Answers.{Answer, Tells, Runs, ran, failed, no_memory, Reads, Truth_at, Turns_at, Operates, Pushed, pushed, not_pushed}
+use Rattle.fut_eval.specs.Answers.{Answer, Tells, Runs, ran, failed, no_memory, Reads, Truth_at, Turns_at, Gives, Operates, Pushed, pushed, not_pushed}
 use Rattle.fut_eval.proofs.Tells.{the_is, tells_then, tells_stop, runs_next, runs_stop, kept_same, fit_any}
 
 module _ (table : List Component) (u : Atom) where
@@ -198,8 +198,63 @@ module _ (t s : List Component) (a : Atom) where
       runs_next n t t s s' (value_of env a) parts_of d (Ok tt) (h env n st)
       (ran es 0 q (fit_any es) (kept_same n t) (the_is (parts_of d) (Val es) (ap parts_of e ∙ ap Val (listed_datums es))))
 
+-- ---- the one scalar that an operation gives
+
+module _ (t : List Component) where
+  module _ (op : BinOp) (at : Place) (a b : Atom) where
+    pub gives_right_stop : (v : Scalar) (e : Stop) → Reads t a (as_scalar (Ok v)) → Reads t b (as_scalar (Err e)) → Gives t (operation.Binary op at a b) (Err e)
+    unfolding Gives
+    gives_right_stop v e h k s = right_stop t s s op at a b v e h k
+
+    pub gives_binary_stop : (v w : Scalar) (e : Stop) → Reads t a (as_scalar (Ok v)) → Reads t b (as_scalar (Ok w)) → Tells (reported at (binary_result op v w)) (Err e) → Gives t (operation.Binary op at a b) (Err e)
+    unfolding Gives
+    gives_binary_stop v w e h k l s = binary_stop t s s op at a b v w e h k l
+
+    pub gives_binary : (v w x : Scalar) → Reads t a (as_scalar (Ok v)) → Reads t b (as_scalar (Ok w)) → Tells (reported at (binary_result op v w)) (Ok x) → FitsType x → Gives t (operation.Binary op at a b) (Ok (Some x))
+    unfolding Gives
+    gives_binary v w x h k l f s = binary_done t s (s ++ held (hold.Scalar x) ∷ []) op at a b v w x (Ok tt) h k l f (pushed refl)
+
+  module _ (op : UnOp) (a : Atom) where
+    pub gives_operand_stop : (e : Stop) → Reads t a (as_scalar (Err e)) → Gives t (operation.Unary op a) (Err e)
+    unfolding Gives
+    gives_operand_stop e h s = operand_stop t s s op a e h
+
+    pub gives_unary_stop : (v : Scalar) (e : Stop) → Reads t a (as_scalar (Ok v)) → Tells (or_wrong (unary_result op v)) (Err e) → Gives t (operation.Unary op a) (Err e)
+    unfolding Gives
+    gives_unary_stop v e h l s = unary_stop t s s op a v e h l
+
+    pub gives_unary : (v x : Scalar) → Reads t a (as_scalar (Ok v)) → Tells (or_wrong (unary_result op v)) (Ok x) → FitsType x → Gives t (operation.Unary op a) (Ok (Some x))
+    unfolding Gives
+    gives_unary v x h l f s = unary_done t s (s ++ held (hold.Scalar x) ∷ []) op a v x (Ok tt) h l f (pushed refl)
+
+  module _ (to : ScalarType) (a : Atom) where
+    pub gives_convert_stop : (e : Stop) → Reads t a (as_scalar (Err e)) → Gives t (operation.Convert to a) (Err e)
+    unfolding Gives
+    gives_convert_stop e h s = convert_stop t s s to a e h
+
+    pub gives_converted : (v x : Scalar) → Reads t a (as_scalar (Ok v)) → x ≡ converted to v → FitsType x → Gives t (operation.Convert to a) (Ok (Some x))
+    unfolding Gives
+    gives_converted v x h q f s = convert_done t s (s ++ held (hold.Scalar x) ∷ []) to a v x (Ok tt) h q f (pushed refl)
+
+  pub gives_none : (o : Operation) → Gives t o (Ok None)
+  unfolding Gives
+  gives_none o = tt
+
+pub ruleset scalar_results = (gives_right_stop, gives_binary_stop, gives_binary, gives_operand_stop, gives_unary_stop, gives_unary, gives_convert_stop, gives_converted, gives_none)
+
 pub operation_memory : (o : Operation) (t s s' : List Component) → Operates t o s s' (Err Memory)
 unfolding Operates
 operation_memory o t s s' env n st = no_memory
 
-pub ruleset operations = (parts_unread, parts_done, operation_memory, left_stop, right_stop, binary_stop, binary_done, operand_stop, unary_stop, unary_done, convert_stop, convert_done, assert_stop, assert_holds, assert_fails)
+-- an operation, by the scalar that it gives
+module _ (o : Operation) (t s : List Component) where
+  pub given_stop : (e : Stop) → Gives t o (Err e) → Operates t o s s (Err e)
+  unfolding Gives
+  given_stop e h = h s
+
+  pub given_pushed : (v : Scalar) (s' : List Component) (r : Answer) → Gives t o (Ok (Some v)) → Pushed (held (hold.Scalar v)) s s' r → Operates t o s s' r
+  unfolding Gives
+  given_pushed v s' _ h (pushed e) = subst (λ z. Operates t o s z (Ok tt)) (sym e) (h s)
+  given_pushed v s' _ h not_pushed = operation_memory o t s s'
+
+pub ruleset operations = (parts_unread, parts_done, operation_memory, given_stop, given_pushed, assert_stop, assert_holds, assert_fails)

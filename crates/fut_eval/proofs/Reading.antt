@@ -87,6 +87,12 @@ scalar_constant table s r f env n st = told (ap (λ z. Val (Scalar_datum z)) (sy
 
 pub ruleset scalar_readings = (scalar_name, no_scalar, scalar_beyond, scalar_constant)
 
+-- a scalar that is found
+pub found_scalar : (table : List Data) (x : ℕ) (d : Data) (v : Scalar) → x < length table → get_or table x d ≡ hold.Scalar v → Reads (held_all table) (atom.Name x) (Ok (held (hold.Scalar v)))
+found_scalar table x d v l e = read_name table x d (hold.Scalar v) (Ok (hold.Scalar v)) l (sym e) (copied refl)
+
+pub ruleset scalars_found = (found_scalar, read_constant)
+
 pub push_done : (s : Data) (st st' : List Data) → st' ≡ st ++ s ∷ [] → Pushed (held s) (held_all st) (held_all st') (Ok tt)
 push_done s st st' e = pushed (ap held_all e ∙ held_append st s)
 

@@ -144,6 +144,9 @@ module _ (xs : List ℕ) (vs : List Data) (t0 : List Component) (i : ℕ) (t : L
       subst (λ z. Stores xs (held_all vs) t0 (i + 1) z) (sym (held_set t (get_or xs i d) a ∙ ap (slice_set (held_all t) (get_or xs i d)) (ap held y ∙ r ∙ sym (held_get vs i e))))
       (store_more xs (held_all vs) t0 i (held_all t) d (held e) l k h)
 
+  pub held_scalar_more : (a : Data) (d : ℕ) (e : Data) (v : Scalar) → i < length xs → length xs ≡ length vs → get_or vs i e ≡ hold.Scalar v → a ≡ hold.Scalar v → Stores xs (held_all vs) t0 i (held_all t) → Stores xs (held_all vs) t0 (i + 1) (held_all (slice_set t (get_or xs i d) a))
+  held_scalar_more a d e v l q r y h = held_more a (hold.Scalar v) d e l q (subst (λ z. Copied z (Ok (hold.Scalar v))) (sym r) (copied refl)) y h
+
   pub held_past : (d : ℕ) → i < length xs → length t ≤ get_or xs i d → Stores xs (held_all vs) t0 i (held_all t) → Stored xs (held_all vs) t0 (held_all t) (Err Stuck)
   held_past d l g h = store_past xs (held_all vs) t0 i (held_all t) d l (omega (arith, held_length t)) h
 
@@ -156,7 +159,7 @@ module _ (xs : List ℕ) (vs : List Data) (t0 : List Component) (i : ℕ) (t : L
 pub held_differs : (xs : List ℕ) (vs : List Data) (t : List Component) → (length xs ≡ length vs → ⊥) → Stored xs (held_all vs) t t (Err Stuck)
 held_differs xs vs t h = not_as_many (λ e. h (e ∙ held_length vs))
 
-pub ruleset storing = (store_start, held_more, held_past, held_full, held_end, held_differs)
+pub ruleset storing = (store_start, held_more, held_scalar_more, held_past, held_full, held_end, held_differs)
 
 -- ---- values from the stack
 

@@ -1,6 +1,6 @@
 -- What the steps of a run answer, in words of the meaning. Want of memory may come anywhere; and where the meaning is wrong,
 -- as it never is in a well-formed program, an answer says nothing.
-use Rattle.std.specs.Prelude.{◌≡◌, ℕ, ◌<◌, ◌≤◌, List, [], ◌∷◌, ◌++◌, length, get_or, slice_get, slice_set, Bool, Some, None, Result, Ok, Err}
+use Rattle.std.specs.Prelude.{◌≡◌, ℕ, ◌<◌, ◌≤◌, List, [], ◌∷◌, ◌++◌, length, get_or, slice_get, slice_set, Bool, Option, Some, None, Result, Ok, Err}
 use Rattle.fut_scalar.specs.declared.place.BindId.{BindId}
 use Rattle.fut_scalar.specs.declared.report.Report.{Report}
 use Rattle.fut_scalar.specs.declared.scalar.IntType.{IntType}
@@ -17,7 +17,8 @@ use Rattle.fut_blocks.specs.Numbered.{Upward}
 pub use Rattle.array_data.specs.Answers.{Tells, told, report_told, no_memory_told, lost, Copied, copied, not_copied}
 use Rattle.fut_value.specs.Data.{Datum, Scalar_datum, datums}
 use Rattle.array_data.specs.declared.data.Data.{Data}
-use Rattle.array_data.specs.Held.{held_all}
+use Rattle.array_data.specs.declared.data.Data.TheVariants as hold
+use Rattle.array_data.specs.Held.{held, held_all}
 use Rattle.array_data.specs.declared.stop.Stop.{Stop}
 use Rattle.array_data.specs.declared.stop.Stop.TheVariants.{Failed, Stuck, Memory}
 
@@ -67,6 +68,12 @@ Turns_at table u r = (env : Names Component) (n : ℕ) → Stands env n table �
 
 unfoldable pub Operates : List Component → Operation → List Component → List Component → Answer → Type 0
 Operates table o stack stack' r = (env : Names Component) (n : ℕ) → Stands env n table → Runs (the (operated env o)) n table table stack stack' r
+
+-- on any stack: the one scalar that an operation puts there, or why it stops
+unfoldable pub Gives : List Component → Operation → Result (Option Scalar) Stop → Type 0
+Gives table o (Ok (Some v)) = (stack : List Component) → Operates table o stack (stack ++ held (hold.Scalar v) ∷ []) (Ok tt)
+Gives table o (Ok None) = Unit {0}
+Gives table o (Err e) = (stack : List Component) → Operates table o stack stack (Err e)
 
 unfoldable pub Reads_all : List Component → List Atom → List Component → List Component → Answer → Type 0
 Reads_all table us stack stack' r = (env : Names Component) (n : ℕ) → Stands env n table → Runs (the (values_of env us)) n table table stack stack' r

@@ -9,8 +9,10 @@ ghost use Rattle.fut_eval.specs.Primitives.{Applied_runs, Combine_runs, Each_run
 ghost use Rattle.fut_eval.specs.Runs.{Act_runs, Body_runs, For_runs, Over_runs, Step_runs, Test_runs, Turn_runs, While_runs};
 
 use crate::make::make;
-use crate::names::{bind, name, pop_one, pop_truth, push, push_all, read, read_data, take};
-use crate::operate::{operate, truth_at, turns_at};
+use crate::names::{
+    bind, name, name_scalar, pop_one, pop_truth, push, push_all, read, read_data, take,
+};
+use crate::operate::{operate, scalar_result, truth_at, turns_at};
 use crate::slots::{Branch, Slot, give_up_bound, give_up_moved, give_up_used};
 use array_data::{
     Built, Data, Exact, Stop, array, copy, count, first_apart, in_place, row, row_depth, row_form,
@@ -42,7 +44,7 @@ pub fn run_block(
 }
 
 /// Runs a step: its names get what its act gives.
-#[tactic(auto, using(crate::proofs::Steps::one_step))]
+#[tactic(auto, using(crate::proofs::Steps::one_step, crate::proofs::ScalarSteps::scalar_steps))]
 #[cycle(blocks)]
 fn run_step(
     alloc: Global,
@@ -53,6 +55,12 @@ fn run_step(
 ) -> Result<(), Stop>
     ensures { Step_runs turns (binding_of step.now) (held_all table.old) (held_all table.new) (held_all stack.old.items) (held_all stack.new.items) result }
 {
+    if let Act::Operate(operation) = &step.act
+        && step.names.len() == 1
+        && let Some(scalar) = scalar_result(operation, table)?
+    {
+        return name_scalar(step.names[0], scalar, table);
+    }
     let mark = stack.len();
     run_act(alloc, &step.act, step.names, turns, table, stack)?;
     give_up_used(step, table);

@@ -1,8 +1,9 @@
 // The table of names, and the stack of values that have no names yet.
-ghost use Rattle.std.specs.Prelude.{IfOk};
+ghost use Rattle.std.specs.Prelude.{IfOk, IfSome, Ok};
 ghost use Rattle.fut_scalar.specs.Integers.{FitsType};
 ghost use Rattle.fut_eval.specs.Answers.{Reads, Pushed, Stored, Named, Pops, Pops_one, Takes, Binds, Reads_all, Reads_data, as_all_held};
 ghost use Rattle.array_data.specs.Held.{held, held_all, as_held};
+ghost use Rattle.array_data.specs.declared.data.Data.TheVariants as hold;
 ghost use Rattle.fut_eval.specs.Answers.{as_scalar};
 
 use crate::operate::truth;
@@ -59,6 +60,23 @@ pub fn scalar_at(table: &[Slot], atom: Atom) -> Result<Scalar, Stop>
     }
 }
 
+/// The value of an atom, where it is a scalar.
+#[tactic(auto, using(crate::proofs::Reading::scalars_found))]
+fn scalar_of(table: &[Slot], atom: Atom) -> Option<Scalar>
+    ensures { IfSome result (λ scalar. Reads (held_all table.now) atom (Ok (held (hold.Scalar scalar)))) }
+{
+    match atom {
+        Atom::Name(name) => {
+            let at = name as usize;
+            if at >= table.len() {
+                return None;
+            }
+            table[at].scalar()
+        }
+        Atom::Constant(scalar) => Some(scalar),
+    }
+}
+
 /// Puts a value on the stack.
 #[tactic(auto, using(crate::proofs::Reading::pushes))]
 pub fn push(stack: &mut Vec<Data>, value: Data) -> Result<(), Stop>
@@ -76,8 +94,13 @@ pub fn push_all(atoms: &[Atom], table: &[Slot], stack: &mut Vec<Data>) -> Result
     ensures { Reads_all (held_all table.now) atoms.now (held_all stack.old.items) (held_all stack.new.items) result }
 {
     for atom in atoms {
-        let value = read(table, *atom)?;
-        push(stack, value)?;
+        match scalar_of(table, *atom) {
+            Some(scalar) => push(stack, Data::Scalar(scalar))?,
+            None => {
+                let value = read(table, *atom)?;
+                push(stack, value)?;
+            }
+        }
     }
     Ok(())
 }
@@ -105,8 +128,13 @@ pub fn store(names: &[u32], table: &mut [Slot], values: &[Data]) -> Result<(), S
         if at >= table.len() {
             return Err(Stop::Stuck);
         }
-        let value = copy(&values[i])?;
-        table[at].set(value);
+        match &values[i] {
+            Data::Scalar(scalar) => table[at].set_scalar(*scalar),
+            value => {
+                let value = copy(value)?;
+                table[at].set(value);
+            }
+        }
     }
     Ok(())
 }
@@ -147,6 +175,19 @@ pub fn name(at: u32, value: Data, table: &mut [Slot]) -> Result<(), Stop>
         return Err(Stop::Stuck);
     }
     table[at].set(value);
+    Ok(())
+}
+
+/// Gives a name a scalar.
+#[tactic(auto, using(crate::proofs::Storing::naming))]
+pub fn name_scalar(at: u32, scalar: Scalar, table: &mut [Slot]) -> Result<(), Stop>
+    ensures { Named at (held (hold.Scalar scalar)) (held_all table.old) (held_all table.new) result }
+{
+    let at = at as usize;
+    if at >= table.len() {
+        return Err(Stop::Stuck);
+    }
+    table[at].set_scalar(scalar);
     Ok(())
 }
 

@@ -6,7 +6,7 @@ ghost use Rattle.fut_meaning.specs.Accessors.{count_of, or_wrong, truth_of_scala
 ghost use Rattle.fut_meaning.specs.Operations.{reported};
 ghost use Rattle.fut_meaning.specs.Operators.{binary_result, unary_result};
 ghost use Rattle.array_data.specs.Held.{held_all};
-ghost use Rattle.fut_eval.specs.Answers.{Tells, Operates, Truth_at, Turns_at};
+ghost use Rattle.fut_eval.specs.Answers.{Gives, Tells, Operates, Truth_at, Turns_at};
 
 use crate::equality::compare;
 use crate::names::{push, read, scalar_at};
@@ -123,29 +123,44 @@ pub fn turns_at(table: &[Slot], atom: Atom) -> Result<(IntType, u64), Stop>
     turns_of(value)
 }
 
+/// The one scalar that an operation gives, unless it gives none or more, or reads something else than scalars.
+#[tactic(auto, using(crate::proofs::Operations::scalar_results))]
+pub fn scalar_result(operation: &Operation, table: &[Slot]) -> Result<Option<Scalar>, Stop>
+    ensures { Gives (held_all table.now) operation.now result }
+{
+    match operation {
+        Operation::Binary(op, at, a, b) => {
+            let Ok(left) = scalar_at(table, *a) else {
+                return Ok(None);
+            };
+            let right = scalar_at(table, *b)?;
+            let value = binary(*op, *at, left, right)?;
+            Ok(Some(value))
+        }
+        Operation::Unary(op, a) => {
+            let operand = scalar_at(table, *a)?;
+            let value = unary(*op, operand)?;
+            Ok(Some(value))
+        }
+        Operation::Convert(to, a) => {
+            let operand = scalar_at(table, *a)?;
+            Ok(Some(convert(*to, operand)))
+        }
+        Operation::Assert(_, _) => Ok(None),
+        Operation::Parts(_) => Ok(None),
+    }
+}
+
 /// Puts on the stack what an operation gives.
 #[tactic(auto, using(crate::proofs::Operations::operations))]
 pub fn operate(operation: Operation, table: &[Slot], stack: &mut Vec<Data>) -> Result<(), Stop>
     ensures { Operates (held_all table.now) operation (held_all stack.old.items) (held_all stack.new.items) result }
 {
+    if let Some(value) = scalar_result(&operation, table)? {
+        return push(stack, Data::Scalar(value));
+    }
     match operation {
-        Operation::Binary(op, at, a, b) => {
-            let Ok(left) = scalar_at(table, a) else {
-                return compare(op, at, a, b, table, stack);
-            };
-            let right = scalar_at(table, b)?;
-            let value = binary(op, at, left, right)?;
-            push(stack, Data::Scalar(value))
-        }
-        Operation::Unary(op, a) => {
-            let operand = scalar_at(table, a)?;
-            let value = unary(op, operand)?;
-            push(stack, Data::Scalar(value))
-        }
-        Operation::Convert(to, a) => {
-            let operand = scalar_at(table, a)?;
-            push(stack, Data::Scalar(convert(to, operand)))
-        }
+        Operation::Binary(op, at, a, b) => compare(op, at, a, b, table, stack),
         Operation::Assert(at, a) => {
             if truth_at(table, a)? {
                 Ok(())
@@ -160,5 +175,8 @@ pub fn operate(operation: Operation, table: &[Slot], stack: &mut Vec<Data>) -> R
             let whole = read(table, a)?;
             put_parts(&whole, stack)
         }
+        // These give a scalar, or stop.
+        Operation::Unary(_, _) => Err(Stop::Memory),
+        Operation::Convert(_, _) => Err(Stop::Memory),
     }
 }

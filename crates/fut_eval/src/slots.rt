@@ -1,10 +1,11 @@
 // The table of names: what each name stands for, as long as something may read it.
 ghost use Rattle.std.specs.Prelude.{◌≡◌, IfSome};
+ghost use Rattle.array_data.specs.declared.data.Data.TheVariants as hold;
 ghost use Rattle.fut_eval.specs.Slots.{shown};
 
 use array_data::{Data, Form, Trace};
 use fut_blocks::{Act, Atom, Step};
-use fut_scalar::{List, ScalarType, Shared};
+use fut_scalar::{List, Scalar, ScalarType, Shared};
 use std::marker::Model;
 
 /// One of the branches of an `if`. What has none is in the first.
@@ -105,10 +106,31 @@ impl Slot {
         }
     }
 
+    /// The value, where it is a scalar.
+    pub fn scalar(&self) -> Option<Scalar>
+        ensures { IfSome result (λ scalar. self.now ≡ hold.Scalar scalar) }
+    {
+        match &self.content {
+            Content::Here(Data::Scalar(scalar)) => Some(*scalar),
+            _ => None,
+        }
+    }
+
     pub fn set(&mut self, value: Data)
         ensures { self.new ≡ value }
     {
         self.content = Content::Here(value);
+    }
+
+    /// Sets a scalar. Over another one, as mostly, it is written where that stands.
+    pub fn set_scalar(&mut self, scalar: Scalar)
+        ensures { self.new ≡ hold.Scalar scalar }
+    {
+        if let Content::Here(Data::Scalar(held)) = &mut self.content {
+            *held = scalar;
+        } else {
+            self.content = Content::Here(Data::Scalar(scalar));
+        }
     }
 
     /// Whether the name gets its value from one that may be given up then.
