@@ -3,8 +3,8 @@ use Rattle.std.proofs.Common.{◌≡◌, ℕ, ◌+◌, ◌<◌, ◌≤◌, List,
 use Rattle.fut_scalar.specs.declared.place.BindId.{BindId}
 use Rattle.fut_types.specs.declared.Head.{Head}
 use Rattle.fut_aliases.specs.declared.aliases.Alias.{Alias}
-use Rattle.fut_aliases.specs.declared.aliases.Alias.TheVariants.{Part, Own}
-use Rattle.fut_aliases.specs.Aliases.{Set, first_name_alone, has_name, with_alias}
+use Rattle.fut_aliases.specs.declared.aliases.Alias.TheVariants.{Part}
+use Rattle.fut_aliases.specs.Aliases.{Set, comes_first, first_name_alone, is_before}
 use Rattle.fut_aliases.specs.Stars.{Stars}
 use Rattle.fut_aliases.specs.Values.{Scalar, Array, Function, Parts, Values, value_and, how_many, named, all_named}
 use Rattle.alias_values.specs.declared.trees.ValueTree.{ValueTree}
@@ -12,29 +12,25 @@ use Rattle.alias_values.specs.Trees.{value_of, values_of}
 use Rattle.alias_values.proofs.Forms.{value_forms}
 use Rattle.alias_values.proofs.Rows.{values_at, values_end, values_before, values_before_more, values_before_none}
 
--- ---- sets with names
+-- ---- what comes first
 
-pub has_none : (s : Set) → length s ≡ 0 → false ≡ has_name s
-has_none [] l = refl
-has_none (a ∷ s) l = absurd (omega (arith, l))
+pub first_of_none : (a : Alias) (s : Set) → length s ≡ 0 → true ≡ comes_first a s
+first_of_none a [] l = refl
+first_of_none a (b ∷ s) l = absurd (omega (arith, l))
 
-pub has_first : (s : Set) (d : Alias) (n i : ℕ) (b : BindId) → get_or s 0 d ≡ Part n i b → 0 < length s → true ≡ has_name s
-has_first [] d n i b e l = absurd (omega (arith, l))
-has_first (a ∷ s) d n i b e l = ap (λ z. has_name (z ∷ s)) (sym e)
+pub first_of_some : (a : Alias) (s : Set) (d : Alias) → 0 < length s → is_before a (get_or s 0 d) ≡ comes_first a s
+first_of_some a [] d l = absurd (omega (arith, l))
+first_of_some a (b ∷ s) d l = refl
 
-pub has_own : (s : Set) (d : Alias) (n : ℕ) → get_or s 0 d ≡ Own n → 0 < length s → false ≡ has_name s
-has_own [] d n e l = absurd (omega (arith, l))
-has_own (a ∷ s) d n e l = ap (λ z. has_name (z ∷ s)) (sym e)
+pub ruleset first_forms = (first_of_none, first_of_some)
 
-pub ruleset has_forms = (has_none, has_first, has_own)
+pub name_left_out : (a : Alias) (s : Set) → false ≡ comes_first a s → s ≡ first_name_alone a s
+name_left_out a s h = ap (λ z. cond z (a ∷ s) s) h
 
-pub name_kept : (a : Alias) (s : Set) → true ≡ has_name s → s ≡ first_name_alone a s
-name_kept a s h = ap (λ z. cond z s (with_alias a s)) h
+pub name_joined : (a : Alias) (s : Set) → true ≡ comes_first a s → a ∷ s ≡ first_name_alone a s
+name_joined a s h = ap (λ z. cond z (a ∷ s) s) h
 
-pub name_joined : (a : Alias) (s : Set) → false ≡ has_name s → with_alias a s ≡ first_name_alone a s
-name_joined a s h = ap (λ z. cond z s (with_alias a s)) h
-
-pub ruleset name_forms = (name_kept, name_joined)
+pub ruleset name_forms = (name_left_out, name_joined)
 
 -- ---- values
 

@@ -1,11 +1,11 @@
 // What names stand for.
-ghost use Rattle.std.specs.Prelude.{◌≡◌, IfOk};
-ghost use Rattle.fut_aliases.specs.Aliases.{first_name_alone, has_name};
+ghost use Rattle.std.specs.Prelude.{◌≡◌, ◌∷◌, IfOk};
+ghost use Rattle.fut_aliases.specs.Aliases.{comes_first, first_name_alone};
 ghost use Rattle.fut_aliases.specs.Values.{all_named, named};
 ghost use Rattle.alias_values.specs.Trees.{value_of, values_of};
 
 use crate::nodes::{array, function, parts};
-use crate::sets::with_alias;
+use crate::sets::is_before;
 use crate::trees::ValueTree;
 use crate::values::component_count;
 use bumpalo::Bump;
@@ -13,29 +13,36 @@ use bumpalo::collections::into_bump_slice;
 use fut_aliases::Alias;
 use fut_scalar::{BindId, NoMemory};
 
-// Whether some name is in a set; names come first.
-#[tactic(auto, using(crate::proofs::NameForms::has_forms))]
-fn has_name(set: &[Alias]) -> bool
-    ensures { result ≡ has_name set.now }
+// Whether an alias comes before all of a set.
+#[tactic(auto, using(crate::proofs::NameForms::first_forms))]
+fn comes_first(alias: Alias, set: &[Alias]) -> bool
+    ensures { result ≡ comes_first alias set.now }
 {
     if set.is_empty() {
-        return false;
+        return true;
     }
-    match set[0] {
-        Alias::Part(_, _, _) => true,
-        Alias::Own(_) => false,
-    }
+    is_before(alias, set[0])
 }
 
-/// The set of what a name stands for: what has a name already shares with that.
+// The set behind one more alias.
+fn put_first<'a>(bump: &'a Bump, alias: Alias, set: &[Alias]) -> Result<&'a [Alias], NoMemory>
+    ensures { IfOk result (λ all. all.now ≡ alias ∷ set.now) }
+{
+    let mut all = Vec::new(bump);
+    all.push(alias)?;
+    all.extend_from_slice(set)?;
+    Ok(into_bump_slice(all))
+}
+
+/// The set of what a name stands for: what has an earlier name already shares with that.
 #[tactic(auto, using(crate::proofs::NameForms::name_forms))]
 pub fn joined<'a>(bump: &'a Bump, alias: Alias, set: &'a [Alias]) -> Result<&'a [Alias], NoMemory>
     ensures { IfOk result (λ all. all.now ≡ first_name_alone alias set.now) }
 {
-    if has_name(set) {
+    if !comes_first(alias, set) {
         return Ok(set);
     }
-    let all = with_alias(bump, alias, set)?;
+    let all = put_first(bump, alias, set)?;
     Ok(all)
 }
 

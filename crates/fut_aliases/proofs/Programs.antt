@@ -557,6 +557,10 @@ first_in_order = record { types = (fun_ty ints (fun_ty i64_ty (pair_ty ints ints
 abbrev least_name : Case
 least_name = record { types = (fun_ty ints (fun_ty ints (fun_ty bool_ty ints))) ∷ (fun_ty ints (fun_ty ints (fun_ty bool_ty ints))) ∷ ints ∷ ints ∷ bool_ty ∷ ints ∷ ints ∷ ints ∷ bool_ty ∷ ints ∷ ints ∷ i64_ty ∷ i64_ty ∷ []; program = (define 0 (lambda (Typed_pattern (name 1) (array_of i64_type) ∷ Typed_pattern (name 2) (array_of i64_type) ∷ Typed_pattern (name 3) bool_type ∷ []) (strict (Declared (array_of i64_type)) 49 (strict Update 74 (If (var 3 52) (var 2 59) (var 1 66) ∷ literal 0 ∷ literal 1 ∷ []) ∷ []))) ∷ []); answer = Some (NotConsumable (ByAlias (Part 2 0 (b 1))) (Mark (at 74))) }
 
-orders_answered : map found (value_before_parameter ∷ parameter_before_captured ∷ parameter_before_second_argument ∷ captured_before_second_argument ∷ second_argument_before_result ∷ first_in_order ∷ least_name ∷ []) ≡ map answer (value_before_parameter ∷ parameter_before_captured ∷ parameter_before_second_argument ∷ captured_before_second_argument ∷ second_argument_before_result ∷ first_in_order ∷ least_name ∷ [])
+-- def f (a: *[]i64) (c: []i64): i64 = 0 def main (n: i64): i64 = let x = (let y = iota n in y) in f x x
+abbrev name_within : Case
+name_within = record { types = (fun_ty ints (fun_ty ints i64_ty)) ∷ (fun_ty ints (fun_ty ints i64_ty)) ∷ ints ∷ ints ∷ i64_ty ∷ i64_ty ∷ (fun_ty i64_ty i64_ty) ∷ (fun_ty i64_ty i64_ty) ∷ i64_ty ∷ i64_ty ∷ i64_ty ∷ ints ∷ ints ∷ ints ∷ ints ∷ (fun_ty i64_ty ints) ∷ i64_ty ∷ ints ∷ i64_ty ∷ (fun_ty ints i64_ty) ∷ (fun_ty ints (fun_ty ints i64_ty)) ∷ ints ∷ ints ∷ []; program = (define 0 (lambda (Typed_pattern (name 1) (Unique_type (array_of i64_type)) ∷ Typed_pattern (name 2) (array_of i64_type) ∷ []) (strict (Declared i64_type) 37 (literal 0 ∷ []))) ∷ define 3 (lambda (Typed_pattern (name 4) i64_type ∷ []) (strict (Declared i64_type) 60 (let_in (name 5) (let_in (name 6) (Apply (the prim.Iota) (var 4 84)) (var 6 94)) (Apply (Apply (var 0 100) (var 5 102)) (var 5 104)) ∷ []))) ∷ []); answer = Some (Consumed (ByAlias (Part 11 0 (b 5))) (First 21) (First 22)) }
+
+orders_answered : map found (value_before_parameter ∷ parameter_before_captured ∷ parameter_before_second_argument ∷ captured_before_second_argument ∷ second_argument_before_result ∷ first_in_order ∷ least_name ∷ name_within ∷ []) ≡ map answer (value_before_parameter ∷ parameter_before_captured ∷ parameter_before_second_argument ∷ captured_before_second_argument ∷ second_argument_before_result ∷ first_in_order ∷ least_name ∷ name_within ∷ [])
 unfolding is_in with_alias union those spread all_spread written_stars tuple_stars record_stars has_star some_has_star lacks_star some_lacks_star adds_star some_adds_star consumes some_consumes consumes_more consumed_more some_consumes_more some_consumed_more gives_less given_less some_gives_less some_given_less either all_either of_type of_types with_stars all_with_stars at_type all_at_type components all_components with_sets all_with_sets named all_named starring all_starring functions all_functions ascribed all_ascribed part_named with_part_named lose_all lost pattern_stars patterns_stars fields_stars bound all_bound fields_bound kept all_kept fields_kept capture all_captured turns_captured some_name name_in turns_name own_names all_own_names fields_own_names starts all_starts fields_start misfit all_misfit fields_misfit looked all_looked turns_looked condition_looked value_looked first_broken place_from place part_at
 orders_answered = refl

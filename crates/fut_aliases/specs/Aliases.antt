@@ -43,13 +43,14 @@ with_alias a (b ∷ s) = put_at a b s (with_alias a s)
 abbrev pub Naming : Type 0
 Naming = Alias → Set → Set
 
--- A name of what has a name already may be left out: whatever shares with it shares with the older name, which comes first.
-abbrev pub has_name : Set → Bool
-has_name (Part n i b ∷ s) = true
-has_name s = false
+-- A name may be left out of the set of what has an earlier name: whatever shares with it shares with that one, and of two names
+-- the earlier one is told. A name inside of what another stands for is the later one in the text.
+abbrev pub comes_first : Alias → Set → Bool
+comes_first a [] = true
+comes_first a (b ∷ s) = is_before a b
 
 abbrev pub first_name_alone : Naming
-first_name_alone a s = cond (has_name s) s (with_alias a s)
+first_name_alone a s = cond (comes_first a s) (a ∷ s) s
 
 unfoldable pub union : Set → Set → Set
 union [] t = t

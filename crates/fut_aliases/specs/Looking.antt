@@ -10,11 +10,10 @@ use Rattle.fut_flat.specs.Numbers.{pattern_numbers, all_pattern_numbers, own_num
 use Rattle.fut_flat.specs.Erased.{FlatTerm, FlatTurns, FlatPattern}
 use Rattle.fut_types.specs.Types.{Ty, Made, Sub, Kinds}
 use Rattle.fut_types.specs.Shapes.{place}
-use Rattle.fut_types.specs.declared.Head.TheVariants as head
 use Rattle.fut_typing.specs.Names.{Names}
 use Rattle.fut_aliases.specs.Aliases.{Set, Naming, is_in, union, those, shared, is_outside}
 use Rattle.fut_aliases.specs.Stars.{Stars, Arrow, Row, no_stars, star_at, spread, written_stars, primitive_stars, either}
-use Rattle.fut_aliases.specs.Values.{Value, Scalar, Function, Parts, Values, value_and, no_value, of_type, with_stars, at_type, components, aliases, having, unite, Component, starring, part_named}
+use Rattle.fut_aliases.specs.Values.{Value, Function, Parts, Values, value_and, no_value, of_type, with_stars, at_type, components, aliases, having, unite, Component, starring, part_named}
 use Rattle.fut_aliases.specs.Steps.{Losses, Step, give, and_then, losses_now, lose_too, apart, either_of, demand, or_else, some_alias}
 use Rattle.fut_aliases.specs.declared.refusals.Broken.TheVariants.{ResultAliases}
 use Rattle.fut_aliases.specs.declared.refusals.Broken.{Broken}

@@ -1,0 +1,3 @@
+pub mod CountForms
+pub mod ClashForms
+pub mod ResultForms

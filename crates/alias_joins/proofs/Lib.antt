@@ -1,0 +1,2 @@
+pub mod UniteForms
+pub mod DeclaredForms

@@ -1,0 +1,5 @@
+pub mod Tables
+pub mod Linked
+pub mod Finding
+pub mod Keeping
+pub mod Losing

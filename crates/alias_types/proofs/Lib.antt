@@ -1,0 +1,3 @@
+pub mod MakeForms
+pub mod PickForms
+pub mod ReshapeForms

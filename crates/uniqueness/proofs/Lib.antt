@@ -1,0 +1,4 @@
+pub mod Ruling
+pub mod Growing
+pub mod Branching
+pub mod Stepping
