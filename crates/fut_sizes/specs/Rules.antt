@@ -1,6 +1,6 @@
 -- What a sizing is: each node of a term has a sized type, and meets one rule a form (Futhark Language Reference, "Size Types").
 -- A term's numbers begin at lo, and end before hi. Each name has a home, the number of the node that binds it.
-use Rattle.std.specs.Prelude.{◌≡◌, ◌⊎◌, ℕ, ◌+◌, ◌<◌, ◌≤◌, Bool, true, false, cond, List, [], ◌∷◌, ◌++◌, Option, Some, None, Ok}
+use Rattle.std.specs.Prelude.{◌≡◌, ◌⊎◌, ℕ, ◌+◌, ◌^◌, ◌<◌, ◌≤◌, Bool, true, false, cond, List, [], ◌∷◌, ◌++◌, Option, Some, None, Ok}
 use Rattle.fut_ast.specs.Sorts.{Text}
 use Rattle.fut_scalar.specs.declared.place.BindId.{BindId}
 use Rattle.fut_flat.specs.declared.prim.Ref.{Ref}
@@ -170,11 +170,11 @@ module _ (N : Names) (types : Sub) (s : ℕ → Size) (home : ℕ → ℕ) where
 
   -- ---- applications
 
-  -- the argument's value, where it is a name or a constant
-  abbrev pub Is_value : FlatTerm → Context → Free → Type 0
-  Is_value (Use (ref.Bound x) at j) G d = (d ≡ Name x.0) × (G.sizes x.0 ≡ Some i64_size)
-  Is_value (Strict (Integer c t) mark no_term) G d = d ≡ Const c
-  Is_value e G d = ⊥
+  -- the value of an argument at a node, where it is a name or a constant that an i64 holds
+  abbrev pub Is_value : FlatTerm → ℕ → Context → Free → Type 0
+  Is_value (Use (ref.Bound x) at j) mid G d = (d ≡ Name x.0) × (G.sizes x.0 ≡ Some i64_size)
+  Is_value (Strict (Integer c t) mark no_term) mid G d = (d ≡ Const c) × (s mid ≡ i64_size) × (c < 2 ^ 63)
+  Is_value e mid G d = ⊥
 
   -- What an application gives: what the function gives, or a function whose caller chooses what is still open. That is so only
   -- where nothing is met, and neither the function nor the argument knows of the choice.
@@ -195,7 +195,7 @@ module _ (N : Names) (types : Sub) (s : ℕ → Size) (home : ℕ → ℕ) where
     pub base : ℕ
     -- a size that the caller chooses is one that is known here, or any: then it is an unknown of the node
     pub known : (i : ℕ) → i < chosen → Outside lo (1 + lo) (inside i) ⊎ (inside i ≡ Unknown lo (base + i))
-    pub value : Is_value e G (inside chosen) ⊎ (inside chosen ≡ Unknown lo (base + chosen))
+    pub value : Is_value e mid G (inside chosen) ⊎ (inside chosen ≡ Unknown lo (base + chosen))
     pub new : (i : ℕ) → chosen < i → inside i ≡ Unknown lo (base + i)
     pub result : Application_gives lo (s (1 + lo)) (s mid) chosen to (opened inside to)
     -- what was sized first knows nothing of the other
@@ -259,7 +259,7 @@ module _ (N : Names) (types : Sub) (s : ℕ → Size) (home : ℕ → ℕ) where
   -- an if keeps the sizes that both of its branches have; the branches know nothing of its own unknowns
   pub record Branches (lo at_then at_else : ℕ) : Type 0 where
     pub kept_sizes : s lo ≡ kept lo 0 (s at_then) (s at_else)
-    pub no_function : Data (s at_then)
+    pub no_function : Data (s at_then) × Data (s at_else)
     pub one_type : erased (s at_then) ≡ erased (s at_else)
     pub away : Away lo (1 + lo) (s at_then) × Away lo (1 + lo) (s at_else)
 

@@ -1,12 +1,14 @@
 -- Which sizes stand in a sized type outside of functions, and what is known of the names in scope where a sizing is judged by
 -- its rules.
-use Rattle.std.specs.Prelude.{ℕ, Bool, false, ◌||◌, cond, nat_eq, ◌+◌, List, [], ◌∷◌, Option, Some, None}
+use Rattle.std.specs.Prelude.{ℕ, Bool, true, false, ◌||◌, cond, nat_eq, ◌+◌, List, [], ◌∷◌, Option, Some, None}
 use Rattle.fut_scalar.specs.declared.place.BindId.{BindId}
+use Rattle.fut_scalar.specs.declared.scalar.ScalarType.TheVariants as scalar
+use Rattle.fut_types.specs.declared.Head.TheVariants as head
 use Rattle.fut_flat.specs.declared.prim.Ref.{Ref}
 use Rattle.fut_flat.specs.Terms.{Bound_pattern, Wild_pattern, Tuple_pattern, Record_pattern, Typed_pattern, Patterns, no_pattern, pattern_and}
 use Rattle.fut_flat.specs.Numbers.{pattern_numbers}
 use Rattle.fut_flat.specs.Erased.{FlatPattern}
-use Rattle.sized_types.specs.Sizes.{Free, Name, Variable, Size}
+use Rattle.sized_types.specs.Sizes.{Free, Name, Variable, Size, Built}
 use Rattle.sized_types.specs.Standing.{stands, has_hole, stands_told, has_told}
 use Rattle.fut_sizes.specs.Scopes.{i64_size}
 
@@ -26,8 +28,17 @@ abbrev pub is_name : ℕ → Free → Bool
 is_name b (Name c) = nat_eq b c
 is_name b d = false
 
+-- a whole number: what is bound to one is found as a size
+abbrev pub is_number : Size → Bool
+is_number (Built (head.Scalar (scalar.Int t)) ts) = true
+is_number t = false
+
 abbrev pub with_name : ℕ → Size → Context → Context
-with_name b t G = record { sizes = λ c. cond (nat_eq b c) (Some t) (G.sizes c); schemes = λ c. cond (nat_eq b c) None (G.schemes c); general = G.general; finds = λ d. is_name b d || G.finds d; finds_types = G.finds_types }
+with_name b t G = record { sizes = λ c. cond (nat_eq b c) (Some t) (G.sizes c); schemes = λ c. cond (nat_eq b c) None (G.schemes c); general = G.general; finds = λ d. cond (is_name b d) (is_number t) (G.finds d); finds_types = G.finds_types }
+
+-- the name of a size has no value of its own: it is found where it stands
+abbrev pub with_size_name : ℕ → Context → Context
+with_size_name b G = record { sizes = λ c. cond (nat_eq b c) (Some i64_size) (G.sizes c); schemes = λ c. cond (nat_eq b c) None (G.schemes c); general = G.general; finds = G.finds; finds_types = G.finds_types }
 
 -- a general name is no size
 abbrev pub with_scheme : ℕ → Size → (Variable → Bool) → Context → Context
@@ -47,7 +58,7 @@ with_positions position G = record { sizes = λ c. if_some (position (Name c)) (
 
 abbrev pub with_size_names : List ℕ → Context → Context
 with_size_names [] G = G
-with_size_names (b ∷ bs) G = with_size_names bs (with_name b i64_size G)
+with_size_names (b ∷ bs) G = with_size_names bs (with_size_name b G)
 
 module _ (s : ℕ → Size) where
   -- the names of a pattern at a node, each of the sized type of its own node

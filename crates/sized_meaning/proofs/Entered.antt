@@ -5,37 +5,30 @@ use Rattle.std.specs.Str.{bytes_eq}
 use Rattle.fut_ast.specs.Sorts.{Text}
 use Rattle.fut_types.specs.declared.Head.TheVariants as head
 use Rattle.fut_typing.specs.Names.{Names, AreNames}
-use Rattle.fut_value.specs.Data.{Shape, Tuple_shape, Record_shape, Array_shape, Shapes, no_shape, shape_and, Named_shapes, named_shape_and, Datum, Tuple_datum, Record_datum, Datums, datum_and, Named_datums, named_and, shape_of, shapes_of, named_shapes_of}
+use Rattle.fut_value.specs.Data.{Shape, Scalar_shape, Tuple_shape, Record_shape, Array_shape, Shapes, no_shape, shape_and, Named_shapes, named_shape_and, Datum, Tuple_datum, Record_datum, Datums, datum_and, Named_datums, named_and, shape_of, shapes_of, named_shapes_of}
 use Rattle.fut_meaning.specs.Accessors.{count_of}
 use Rattle.fut_meaning.specs.Datums.{datum_of, datums_of, named_datums_of}
 use Rattle.fut_meaning.specs.Found.{field_shape, or_unmet, is_integer, agrees, if_field, has_sizes, have_sizes, named_sizes, worth, Sizing, Found, as_integer, size_in, type_in, named_worth, with_worth, with_data, with_results, if_told, chosen_shape, number, shape_found, count, told_shape}
 use Rattle.fut_meaning.specs.Telling.{worth_of, value_shape, value_shapes, field_shapes, found, tells, row_of}
 use Rattle.fut_meaning.specs.Flats.{FlatValue, FlatEnv}
 use Rattle.fut_meaning.specs.Meaning.{row_found, sizes_agree, row_told, fits_type, Of_literal}
-use Rattle.fut_meaning.specs.Outcomes.{Out, Val, Fail, Wrong, and_then, Rel}
+use Rattle.fut_meaning.specs.Outcomes.{Out, Val, Wrong, and_then, Rel}
 use Rattle.fut_meaning.specs.Values.{Scalar_value, Tuple_value, Record_value, Array_value, Closure, Primitive_value, no_value, value_and, no_field, field_and, field, base, bind, entered}
 use Rattle.sized_types.specs.Sizes.{Free, Const, Name, Own, Unknown, Slot, Dim, At, Bound, Variable, Size, Hole, Open, Level, Built, Fun, Sizes, no_size, size_and}
 use Rattle.sized_types.specs.Standing.{is_known, gives_chosen}
 use Rattle.fut_sizes.specs.Rules.{Each_hole, Each_holes}
-use Rattle.fut_sizes.specs.Suiting.{Each, Each_all}
+use Rattle.fut_sizes.specs.Suiting.{Each, Each_all, Data, All_data}
 use Rattle.sized_meaning.specs.Worth.{Worth, free, Frames, no_frames, push, number as size_number}
-use Rattle.sized_meaning.specs.Shapes.{Has_shape, Have_shapes, Have_named}
+use Rattle.sized_meaning.specs.Shapes.{Meant, exactly, Has_shape, Have_shapes, Have_named, Has_datum}
 use Rattle.sized_meaning.specs.Fits.{FlatValues, FlatFields, Is_data, Fits, All_fit, Named_fit}
 use Rattle.sized_meaning.specs.Claims.{calls_of}
-use Rattle.sized_meaning.specs.Finding.{Fields_from, Fields_are, One_shape_each, As_many, Formed, All_formed, Reads, All_read, Named_read}
+use Rattle.sized_meaning.specs.Finding.{Fields_from, Fields_are, One_kind_each, As_many, Formed, All_formed, Reads, All_read, Named_read}
 use Rattle.sized_meaning.specs.Entered.{none_chosen, All_entered, Right_found, FoundUnderNamesIsRight, Is_found, Type_is_found, LiteralRowsAreRight, CoercedHasItsSizes, ValuesRead}
 use Rattle.sized_meaning.proofs.Reading.{each_as}
-use Rattle.sized_meaning.proofs.Finding.{some_same, none_no, first_or, same_text, data_reads, size_right, type_right, told_is_right}
+use Rattle.sized_meaning.proofs.Finding.{some_same, none_no, first_or, same_text, data_reads, size_right, type_right, told_right, exact_kinds}
+use Rattle.sized_meaning.proofs.Datas.{value_same, the_value, datum_shaped}
 
 -- ---- a value that is data has the shape of that data
-
-value_same : {A B : Type 0} (o : Out A) (k : A → Out B) (b : B) → and_then o k ≡ Val b → (a : A) × (o ≡ Val a) × (k a ≡ Val b)
-value_same (Val a) k b e = (a, refl, e)
-value_same {B = B} (Fail r) k b e = absurd (let z : ◌≡◌ {A = Out B} (Fail r) (Val b) = e in cc)
-value_same {B = B} Wrong k b e = absurd (let z : ◌≡◌ {A = Out B} Wrong (Val b) = e in cc)
-
-the_value : {A : Type 0} (a b : A) → ◌≡◌ {A = Out A} (Val a) (Val b) → a ≡ b
-the_value a b e = cc
 
 mutual
   unfolding datum_of datums_of named_datums_of value_shape value_shapes field_shapes shape_of shapes_of named_shapes_of
@@ -73,14 +66,14 @@ field_here f (field_and g w fs) v e = tested (bytes_eq g f) e (λ q. field_here 
     tested true e rest = ap (λ z. Some (value_shape z)) (some_same e)
     tested false e rest = rest e
 
-module _ (N : Names) (τ : Variable → Shape) (calls : FlatValue → FlatValue → Rel FlatValue) (m : Worth) (φ : Frames) where
-  data_as_read : (t : Size) (v : FlatValue) → Is_data (Has_shape N τ m φ t) v → Reads N τ m φ t (value_shape v)
-  data_as_read t v h = subst (Reads N τ m φ t) (sym (shape_as v h.datum h.is_datum)) (data_reads N τ m φ t (shape_of h.datum) h.shape)
+module _ (N : Names) (τ : Meant) (Z : Sizing) (calls : FlatValue → FlatValue → Rel FlatValue) (m : Worth) (φ : Frames) where
+  data_as_read : (t : Size) (v : FlatValue) → Is_data (Has_datum N τ m φ t) v → Reads N τ m φ t (value_shape v)
+  data_as_read t v h = subst (Reads N τ m φ t) (sym (shape_as v h.datum h.is_datum)) (data_reads N τ m φ t (shape_of h.datum) (datum_shaped N τ m φ t h.datum h.fits))
 
   mutual
     unfolding Fits All_fit Named_fit Reads All_read Named_read value_shape value_shapes
 
-    fits_read : (t : Size) (v : FlatValue) → Fits N τ calls m φ t v → Reads N τ m φ t (value_shape v)
+    pub fits_read : (t : Size) (v : FlatValue) → Fits N τ Z calls m φ t v → Reads N τ m φ t (value_shape v)
     fits_read (Hole a) v h = data_as_read (Hole a) v h
     fits_read (Open n a u) v h = tt
     fits_read (Level d t) v h = data_as_read (Level d t) v h
@@ -91,31 +84,65 @@ module _ (N : Names) (τ : Variable → Shape) (calls : FlatValue → FlatValue 
     fits_read (Built k ts) v h = tt
     fits_read (Fun k p r) v h = tt
 
-    all_read : (ts : Sizes) (vs : FlatValues) → All_fit N τ calls m φ ts vs → All_read N τ m φ ts (value_shapes vs)
+    all_read : (ts : Sizes) (vs : FlatValues) → All_fit N τ Z calls m φ ts vs → All_read N τ m φ ts (value_shapes vs)
     all_read no_size vs h = tt
     all_read (size_and t ts) no_value h = absurd h
     all_read (size_and t ts) (value_and v vs) h = (fits_read t v h.0, all_read ts vs h.1)
 
-    named_read : (n i : ℕ) (ts : Sizes) (fs : FlatFields) → Named_fit N τ calls m φ n i ts fs → Named_read N τ m φ n i ts (field_shapes fs)
+    named_read : (n i : ℕ) (ts : Sizes) (fs : FlatFields) → Named_fit N τ Z calls m φ n i ts fs → Named_read N τ m φ n i ts (field_shapes fs)
     named_read n i no_size fs h = tt
     named_read n i (size_and t ts) fs h = ((λ f p. let c = h.0 f p in (value_shape c.0, field_here f fs c.0 c.1, fits_read t c.0 c.2)), named_read n (suc i) ts fs h.1)
 
-both_true : (a b : Bool) → a && b ≡ true → (a ≡ true) × (b ≡ true)
+module _ (N : Names) (τ : Meant) (Z : Sizing) (calls : FlatValue → FlatValue → Rel FlatValue) (m : Worth) (φ : Frames) where
+  data_as_shaped : (t : Size) (v : FlatValue) → Is_data (Has_datum N τ m φ t) v → Has_shape N τ m φ t (value_shape v)
+  data_as_shaped t v h = subst (Has_shape N τ m φ t) (sym (shape_as v h.datum h.is_datum)) (datum_shaped N τ m φ t h.datum h.fits)
+
+  mutual
+    unfolding Fits All_fit Named_fit Has_shape Have_shapes Have_named value_shape value_shapes Data All_data
+
+    -- a value of data has the shape of the type
+    pub value_shaped : (t : Size) → Data t → (v : FlatValue) → Fits N τ Z calls m φ t v → Has_shape N τ m φ t (value_shape v)
+    value_shaped (Hole a) d v h = data_as_shaped (Hole a) v h
+    value_shaped (Open n a u) d v h = absurd d
+    value_shaped (Level x t) d v h = data_as_shaped (Level x t) v h
+    value_shaped (Built (head.Scalar s) ts) d (Scalar_value c) h = ap Scalar_shape h
+    value_shaped (Built (head.Scalar s) ts) d v h = absurd h
+    value_shaped (Built head.Tuple ts) d (Tuple_value vs) h = all_shaped ts d vs h
+    value_shaped (Built head.Tuple ts) d v h = absurd h
+    value_shaped (Built (head.Record n) ts) d (Record_value fs) h = named_shaped n 0 ts d fs h
+    value_shaped (Built (head.Record n) ts) d v h = absurd h
+    value_shaped (Built (head.Abstract n k) ts) d v h = absurd h
+    value_shaped (Built head.Array ts) d v h = absurd h
+    value_shaped (Built head.Fun ts) d v h = absurd h
+    value_shaped (Built (head.Rigid n k) ts) d v h = absurd h
+    value_shaped (Fun k p r) d v h = absurd d
+
+    all_shaped : (ts : Sizes) → All_data ts → (vs : FlatValues) → All_fit N τ Z calls m φ ts vs → Have_shapes N τ m φ ts (value_shapes vs)
+    all_shaped no_size d no_value h = tt
+    all_shaped no_size d (value_and v vs) h = absurd h
+    all_shaped (size_and t ts) d no_value h = absurd h
+    all_shaped (size_and t ts) d (value_and v vs) h = (value_shaped t d.0 v h.0, all_shaped ts d.1 vs h.1)
+
+    named_shaped : (n i : ℕ) (ts : Sizes) → All_data ts → (fs : FlatFields) → Named_fit N τ Z calls m φ n i ts fs → Have_named N τ m φ n i ts (field_shapes fs)
+    named_shaped n i no_size d fs h = tt
+    named_shaped n i (size_and t ts) d fs h = ((λ f p. let c = h.0 f p in (value_shape c.0, field_here f fs c.0 c.1, value_shaped t d.0 c.0 c.2)), named_shaped n (suc i) ts d.1 fs h.1)
+
+pub both_true : (a b : Bool) → a && b ≡ true → (a ≡ true) × (b ≡ true)
 both_true true b e = (refl, e)
 both_true false b e = absurd (let z : false ≡ true = e in cc)
 
 -- ---- what is found
 
-module _ (N : Names) (τ : Variable → Shape) (Z : Sizing) (m : Worth) (are : Fields_are N Z.fields) (one : One_shape_each τ) where
+module _ (N : Names) (τ : Meant) (Z : Sizing) (m : Worth) (are : Fields_are N Z.fields) (one : One_kind_each τ) where
   abbrev Right : Found → Type 0
   Right W = Right_found N τ Z m W
 
-  integer_is : (o : Option ℕ) (n : ℤ) → as_integer o ≡ Some n → (k : ℕ) × (o ≡ Some k) × (n ≡ pos k)
+  pub integer_is : (o : Option ℕ) (n : ℤ) → as_integer o ≡ Some n → (k : ℕ) × (o ≡ Some k) × (n ≡ pos k)
   integer_is (Some k) n e = (k, refl, sym (some_same e))
   integer_is None n e = none_no e
 
   -- data of a sized type has a shape
-  data_right : (φ : Frames) (t : Size) (h : Shape) (W : Found) → Reads N τ m φ t h → Right W → Right (with_data Z.fields t h W)
+  pub data_right : (φ : Frames) (t : Size) (h : Shape) (W : Found) → Reads N τ m φ t h → Right W → Right (with_data Z.fields t h W)
   data_right φ t h W k r = (
     λ d n e. first_or (as_integer (size_in Z.fields (At d) t h)) (W.size d) n e
         (λ q. let c = integer_is (size_in Z.fields (At d) t h) n q in ap count_of c.2 ∙ size_right N Z.fields τ m φ are (At d) t h k c.0 c.1)
@@ -192,7 +219,7 @@ module _ (N : Names) (τ : Variable → Shape) (Z : Sizing) (m : Worth) (are : F
         sizes_have (Built head.Tuple ts) h f d k e = absurd k
         sizes_have (Built (head.Record n) ts) (Record_shape hs) f d k e = named_have n 0 ts (Z.fields n) hs (are n) f.0 f.1 d k e
         sizes_have (Built (head.Record n) ts) h f d k e = absurd k
-        sizes_have (Built (head.Abstract n a) ts) h f d k e = tt
+        sizes_have (Built (head.Abstract n a) ts) h f d k e = absurd f.0
         sizes_have (Built head.Array ts) h f d k e = absurd f.0
         sizes_have (Built head.Fun ts) h f d k e = absurd f.0
         sizes_have (Built (head.Rigid n a) ts) h f d k e = absurd f.0
@@ -215,40 +242,43 @@ module _ (N : Names) (τ : Variable → Shape) (Z : Sizing) (m : Worth) (are : F
             tested : (g : Text) (h : Shape) → g ≡ x → field_shape g hs ≡ Some h → if_field (field_shape x hs) (has_sizes Z.fields W t) ≡ true → has_sizes Z.fields W t h ≡ true
             tested g h q found test = subst (λ o. if_field o (has_sizes Z.fields W t) ≡ true) (subst (λ y. field_shape y hs ≡ Some h) q found) test
 
-    type_as : (v : Variable) → Type_is_found W v → shape_found W v ≡ τ v
-    type_as v f = ap or_unmet f.1 ∙ right.1 v f.0 f.1
+    type_as : (v : Variable) → Type_is_found W v → (τ v).shape (shape_found W v)
+    type_as v f = subst (λ o. (τ v).shape (or_unmet o)) (sym f.1) (right.1 v f.0 f.1)
 
     mutual
       unfolding Each_hole Each_holes
 
-      holes_as : (t : Size) → Each_hole (Type_is_found W) t → Each_hole (λ v. shape_found W v ≡ τ v) t
+      holes_as : (t : Size) → Each_hole (Type_is_found W) t → Each_hole (λ v. (τ v).shape (shape_found W v)) t
       holes_as (Hole v) h = type_as v h
       holes_as (Open n v u) h = h
       holes_as (Level d t) h = holes_as t h
       holes_as (Built k ts) h = all_holes_as ts h
       holes_as (Fun k p r) h = (holes_as p h.0, holes_as r h.1)
 
-      all_holes_as : (ts : Sizes) → Each_holes (Type_is_found W) ts → Each_holes (λ v. shape_found W v ≡ τ v) ts
+      all_holes_as : (ts : Sizes) → Each_holes (Type_is_found W) ts → Each_holes (λ v. (τ v).shape (shape_found W v)) ts
       all_holes_as no_size h = tt
       all_holes_as (size_and t ts) h = (holes_as t h.0, all_holes_as ts h.1)
 
+  -- the shape that is told of data in which all is found
+  pub told_found : (named : AreNames N) (W : Found) → Right W → (t : Size) → Formed Z.fields t → Each (λ j x. Is_found W x) 0 t → Each_hole (Type_is_found W) t → Has_shape N τ m no_frames t (told_shape Z.fields (number W) (shape_found W) t)
+  told_found named W w t formed dims holes =
+      told_right N Z.fields are τ m no_frames named (number W) (shape_found W) t formed
+      (each_as (λ j x. Is_found W x) (λ j x. number W x ≡ size_number m no_frames x) (number_right W w) t 0 dims) (holes_as W w t holes)
+
 pub found_under_names_is_right : FoundUnderNamesIsRight
-found_under_names_is_right N τ Z m env are one a = under N τ Z m are one env a
+found_under_names_is_right N τ Z m env are one a = under N (exactly τ) Z m are (exact_kinds τ one) env a
 
 pub literal_rows_are_right : LiteralRowsAreRight
 unfolding row_told told_shape
 literal_rows_are_right N named τ Z m L env lo d t sizes type formed are one a dims holes =
-    let w = under N τ Z m are one env a in
-    subst (λ o. Has_shape N τ m no_frames t (row_found o (Of_literal env lo))) (sym sizes)
-    (subst (λ u. Has_shape N τ m no_frames t (row_of (told_shape Z.fields (number (found Z env)) (shape_found (found Z env)) u))) (sym type)
-    (told_is_right N named Z.fields τ m no_frames (number (found Z env)) (shape_found (found Z env)) t are formed
-    (each_as (λ j x. Is_found (found Z env) x) (λ j x. number (found Z env) x ≡ size_number m no_frames x) (number_right N τ Z m are one (found Z env) w) t 0 dims)
-    (holes_as N τ Z m are one (found Z env) w t holes)))
+    subst (λ o. Has_shape N (exactly τ) m no_frames t (row_found o (Of_literal env lo))) (sym sizes)
+    (subst (λ u. Has_shape N (exactly τ) m no_frames t (row_of (told_shape Z.fields (number (found Z env)) (shape_found (found Z env)) u))) (sym type)
+    (told_found N (exactly τ) Z m are (exact_kinds τ one) named (found Z env) (under N (exactly τ) Z m are (exact_kinds τ one) env a) t formed dims holes))
 
 pub coerced_has_its_sizes : CoercedHasItsSizes
 unfolding fits_type
 coerced_has_its_sizes N named τ Z m other L env lo v sizes formed are one a dims has test =
-    sizes_have N τ Z m are one (found Z env) (under N τ Z m are one env a) named other (Z.size_at lo) (value_shape v) formed dims has (subst (λ o. sizes_agree o env lo v ≡ true) sizes test)
+    sizes_have N (exactly τ) Z m are (exact_kinds τ one) (found Z env) (under N (exactly τ) Z m are (exact_kinds τ one) env a) named other (Z.size_at lo) (value_shape v) formed dims has (subst (λ o. sizes_agree o env lo v ≡ true) sizes test)
 
 pub values_read : ValuesRead
-values_read N τ L tight budget m t v h = fits_read N τ (calls_of L tight budget) m no_frames t v h
+values_read N τ Z L tight budget m t v h = fits_read N (exactly τ) Z (calls_of L tight budget) m no_frames t v h

@@ -2,8 +2,22 @@ pub mod Ways
 pub mod Outcomes
 pub mod Reading
 pub mod Suiting
+pub mod Scalars
 pub mod Environments
+pub mod Operations
 pub mod Finding
+pub mod Datas
 pub mod Entered
+pub mod Alike
+pub mod Branches
+pub mod Applications
+pub mod Mapping
+pub mod Reducing
+pub mod Elements
+pub mod Indexing
+pub mod Declared
+pub mod Primitives
+pub mod Functions
+pub mod Lets
 pub mod Law
 mod Examples

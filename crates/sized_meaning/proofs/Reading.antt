@@ -2,15 +2,17 @@
 use Rattle.std.proofs.Common.{◌≡◌, ℕ, zero, suc, ◌<◌, ◌≤◌, Bool, true, false, cond, nat_eq, refl, sym, ap, ◌∙◌, subst, arith, eqb-true}
 use Rattle.std.proofs.lemmas.Bool.{eqb-false}
 use Rattle.fut_typing.specs.Names.{Names}
-use Rattle.fut_value.specs.Data.{Shape, Shapes, Named_shapes}
+use Rattle.fut_value.specs.Data.{Shape, Shapes, Named_shapes, Datum, Datums, Named_datums}
 use Rattle.fut_meaning.specs.Flats.{FlatValue}
+use Rattle.fut_meaning.specs.Found.{Sizing}
 use Rattle.fut_meaning.specs.Outcomes.{Rel}
 use Rattle.sized_types.specs.Sizes.{Free, Const, Name, Own, Unknown, Slot, Dim, At, Bound, Variable, Size, Hole, Open, Level, Built, Fun, Sizes, no_size, size_and, replaced, all_replaced, given, opened, renaming, renamed}
-use Rattle.fut_sizes.specs.Suiting.{Each, Each_all, Scoped, Of_positions}
+use Rattle.fut_sizes.specs.Suiting.{Each, Each_all, Scoped, Of_positions, Data, All_data}
+use Rattle.fut_sizes.specs.Rules.{Each_hole, Each_holes}
 use Rattle.sized_meaning.specs.Worth.{Worth, free, Frames, push, number}
-use Rattle.sized_meaning.specs.Shapes.{Has_shape, Have_shapes, Have_named}
-use Rattle.sized_meaning.specs.Fits.{FlatValues, FlatFields, Fits, All_fit, Named_fit}
-use Rattle.sized_meaning.proofs.Ways.{Ways, same_ways, on_array_shape_as, first_shape_as, shape_of_head_as, data_as, of_head_as, first_value_as, gives_as}
+use Rattle.sized_meaning.specs.Shapes.{Meant, Has_shape, Have_shapes, Have_named, Has_datum, Have_data, Named_data}
+use Rattle.sized_meaning.specs.Fits.{FlatValues, FlatFields, Tells_right, Fits, All_fit, Named_fit}
+use Rattle.sized_meaning.proofs.Ways.{Ways, same_ways, on_array_shape_as, first_shape_as, shape_of_head_as, on_array_datum_as, first_datum_as, every_datum_as, datum_of_head_as, data_as, of_head_as, first_value_as, gives_as}
 
 abbrev pub Numbers_as : Worth → Worth → (ℕ → Dim → Dim) → (ℕ → Dim → Type 0) → (ℕ → Frames → Frames → Type 0) → Type 0
 Numbers_as m m' g ok S = (j : ℕ) (φ φ' : Frames) (d : Dim) → S j φ φ' → ok j d → number m φ (g j d) ≡ number m' φ' d
@@ -18,7 +20,41 @@ Numbers_as m m' g ok S = (j : ℕ) (φ φ' : Frames) (d : Dim) → S j φ φ' �
 abbrev pub Goes_in : (ℕ → Frames → Frames → Type 0) → Type 0
 Goes_in S = (j : ℕ) (φ φ' : Frames) (F : ℕ → ℕ) → S j φ φ' → S (suc j) (push F φ) (push F φ')
 
-module _ (N : Names) (τ : Variable → Shape) (m m' : Worth) (g : ℕ → Dim → Dim) (ok : ℕ → Dim → Type 0) (S : ℕ → Frames → Frames → Type 0) (numbers : Numbers_as m m' g ok S) where
+-- what replaces dims leaves those of a function's own frame, at its parts, as they are
+abbrev pub Keeps_own : (ℕ → Dim → Dim) → (ℕ → Frames → Frames → Type 0) → Type 1
+Keeps_own g S = (j : ℕ) (φ φ' : Frames) → S j φ φ' → (Q : ℕ → Type 0) (d : Dim) → Ways (Of_positions Q 1 d) (Of_positions Q 1 (g (suc j) d))
+
+module _ (g : ℕ → Dim → Dim) where
+  mutual
+    unfolding Data All_data replaced all_replaced
+
+    pub data_replaced : (t : Size) (j : ℕ) → Ways (Data t) (Data (replaced g j t))
+    data_replaced (Hole a) j = same_ways
+    data_replaced (Open n v u) j = same_ways
+    data_replaced (Level d t) j = data_replaced t j
+    data_replaced (Built k ts) j = all_data_replaced ts j
+    data_replaced (Fun k p r) j = same_ways
+
+    all_data_replaced : (ts : Sizes) (j : ℕ) → Ways (All_data ts) (All_data (all_replaced g j ts))
+    all_data_replaced no_size j = same_ways
+    all_data_replaced (size_and t ts) j = let a = data_replaced t j in let b = all_data_replaced ts j in ((λ h. (a.0 h.0, b.0 h.1)), (λ h. (a.1 h.0, b.1 h.1)))
+
+  module _ (ok : ℕ → Dim → Type 0) (j : ℕ) (turns : (d : Dim) → Ways (ok 1 d) (ok 1 (g j d))) where
+    mutual
+      unfolding Each Each_all Data All_data replaced all_replaced
+
+      pub own_replaced : (t : Size) → Data t → Ways (Each ok 1 t) (Each ok 1 (replaced g j t))
+      own_replaced (Hole a) h = same_ways
+      own_replaced (Open n v u) h = same_ways
+      own_replaced (Level d t) h = let a = turns d in let b = own_replaced t h in ((λ e. (a.0 e.0, b.0 e.1)), (λ e. (a.1 e.0, b.1 e.1)))
+      own_replaced (Built k ts) h = all_own_replaced ts h
+      own_replaced (Fun k p r) h = absurd h
+
+      all_own_replaced : (ts : Sizes) → All_data ts → Ways (Each_all ok 1 ts) (Each_all ok 1 (all_replaced g j ts))
+      all_own_replaced no_size h = same_ways
+      all_own_replaced (size_and t ts) h = let a = own_replaced t h.0 in let b = all_own_replaced ts h.1 in ((λ e. (a.0 e.0, b.0 e.1)), (λ e. (a.1 e.0, b.1 e.1)))
+
+module _ (N : Names) (τ : Meant) (m m' : Worth) (g : ℕ → Dim → Dim) (ok : ℕ → Dim → Type 0) (S : ℕ → Frames → Frames → Type 0) (numbers : Numbers_as m m' g ok S) where
   mutual
     unfolding Has_shape Have_shapes Have_named replaced all_replaced Each Each_all
 
@@ -39,25 +75,64 @@ module _ (N : Names) (τ : Variable → Shape) (m m' : Worth) (g : ℕ → Dim �
     named_replaced (size_and t ts) j φ φ' e q n i hs = let b = named_replaced ts j φ φ' e.1 q n (suc i) hs in
         ((λ x. ((λ f p. let c = x.0 f p in (c.0, c.1, (shape_replaced t j φ φ' e.0 q c.0).0 c.2)), b.0 x.1)), (λ x. ((λ f p. let c = x.0 f p in (c.0, c.1, (shape_replaced t j φ φ' e.0 q c.0).1 c.2)), b.1 x.1)))
 
-  module _ (calls : FlatValue → FlatValue → Rel FlatValue) (pushed : Goes_in S) where
+  mutual
+    unfolding Has_datum Have_data Named_data replaced all_replaced Each Each_all
+
+    pub datum_replaced : (t : Size) (j : ℕ) (φ φ' : Frames) → Each ok j t → S j φ φ' → (x : Datum) → Ways (Has_datum N τ m φ (replaced g j t) x) (Has_datum N τ m' φ' t x)
+    datum_replaced (Hole v) j φ φ' e q x = same_ways
+    datum_replaced (Open n v u) j φ φ' e q x = same_ways
+    datum_replaced (Level d t) j φ φ' e q x = on_array_datum_as _ _ (λ row ds. let a = numbers j φ φ' d q e.0 in let b = shape_replaced t j φ φ' e.1 q row in let c = every_datum_as _ _ (λ y. datum_replaced t j φ φ' e.1 q y) ds in
+        ((λ z. (z.0 ∙ a, b.0 z.1, c.0 z.2)), (λ z. (z.0 ∙ sym a, b.1 z.1, c.1 z.2)))) x
+    datum_replaced (Built k ts) j φ φ' e q x = datum_of_head_as k _ _ _ _ (λ ds. data_replaced_all ts j φ φ' e q ds) (λ n fs. named_data_replaced ts j φ φ' e q n 0 fs) x
+    datum_replaced (Fun k p r) j φ φ' e q x = same_ways
+
+    data_replaced_all : (ts : Sizes) (j : ℕ) (φ φ' : Frames) → Each_all ok j ts → S j φ φ' → (ds : Datums) → Ways (Have_data N τ m φ (all_replaced g j ts) ds) (Have_data N τ m' φ' ts ds)
+    data_replaced_all no_size j φ φ' e q ds = same_ways
+    data_replaced_all (size_and t ts) j φ φ' e q ds = first_datum_as _ _ _ _ (λ x. datum_replaced t j φ φ' e.0 q x) (λ ds. data_replaced_all ts j φ φ' e.1 q ds) ds
+
+    named_data_replaced : (ts : Sizes) (j : ℕ) (φ φ' : Frames) → Each_all ok j ts → S j φ φ' → (n i : ℕ) (fs : Named_datums) → Ways (Named_data N τ m φ n i (all_replaced g j ts) fs) (Named_data N τ m' φ' n i ts fs)
+    named_data_replaced no_size j φ φ' e q n i fs = same_ways
+    named_data_replaced (size_and t ts) j φ φ' e q n i fs = let b = named_data_replaced ts j φ φ' e.1 q n (suc i) fs in
+        ((λ x. ((λ f p. let c = x.0 f p in (c.0, c.1, (datum_replaced t j φ φ' e.0 q c.0).0 c.2)), b.0 x.1)), (λ x. ((λ f p. let c = x.0 f p in (c.0, c.1, (datum_replaced t j φ φ' e.0 q c.0).1 c.2)), b.1 x.1)))
+
+  module _ (Z : Sizing) (calls : FlatValue → FlatValue → Rel FlatValue) (pushed : Goes_in S) (owns : Keeps_own g S) where
+    tells_out : (k : ℕ) (p r : Size) (j : ℕ) (φ φ' : Frames) → Each ok (suc j) p → Each ok (suc j) r → S j φ φ' → (f : FlatValue) → Tells_right N τ Z m φ k (replaced g (suc j) p) (replaced g (suc j) r) f → Tells_right N τ Z m' φ' k p r f
+    tells_out k p r j φ φ' ep er q f t = (
+      t.0,
+      λ dr pos F h hp.
+          (shape_replaced r (suc j) (push F φ) (push F φ') er (pushed j φ φ' F q) _).0
+          (t.1 ((data_replaced g r (suc j)).0 dr) ((own_replaced g (Of_positions (λ i. i < k)) (suc j) (owns j φ φ' q (λ i. i < k)) r dr).0 pos) F h
+          ((shape_replaced p (suc j) (push F φ) (push F φ') ep (pushed j φ φ' F q) h).1 hp)),
+    )
+
+    tells_in : (k : ℕ) (p r : Size) (j : ℕ) (φ φ' : Frames) → Each ok (suc j) p → Each ok (suc j) r → S j φ φ' → (f : FlatValue) → Tells_right N τ Z m' φ' k p r f → Tells_right N τ Z m φ k (replaced g (suc j) p) (replaced g (suc j) r) f
+    tells_in k p r j φ φ' ep er q f t = (
+      t.0,
+      λ dr pos F h hp.
+          let dr' = (data_replaced g r (suc j)).1 dr in
+          (shape_replaced r (suc j) (push F φ) (push F φ') er (pushed j φ φ' F q) _).1
+          (t.1 dr' ((own_replaced g (Of_positions (λ i. i < k)) (suc j) (owns j φ φ' q (λ i. i < k)) r dr').1 pos) F h
+          ((shape_replaced p (suc j) (push F φ) (push F φ') ep (pushed j φ φ' F q) h).0 hp)),
+    )
+
     mutual
       unfolding Fits All_fit Named_fit replaced all_replaced Each Each_all
 
-      pub fits_replaced : (t : Size) (j : ℕ) (φ φ' : Frames) → Each ok j t → S j φ φ' → (v : FlatValue) → Ways (Fits N τ calls m φ (replaced g j t) v) (Fits N τ calls m' φ' t v)
-      fits_replaced (Hole a) j φ φ' e q v = data_as _ _ (shape_replaced (Hole a) j φ φ' e q) v
+      pub fits_replaced : (t : Size) (j : ℕ) (φ φ' : Frames) → Each ok j t → S j φ φ' → (v : FlatValue) → Ways (Fits N τ Z calls m φ (replaced g j t) v) (Fits N τ Z calls m' φ' t v)
+      fits_replaced (Hole a) j φ φ' e q v = data_as _ _ (datum_replaced (Hole a) j φ φ' e q) v
       fits_replaced (Open n a u) j φ φ' e q v = same_ways
-      fits_replaced (Level d t) j φ φ' e q v = data_as _ _ (shape_replaced (Level d t) j φ φ' e q) v
+      fits_replaced (Level d t) j φ φ' e q v = data_as _ _ (datum_replaced (Level d t) j φ φ' e q) v
       fits_replaced (Built k ts) j φ φ' e q v = of_head_as k _ _ _ _ (λ vs. all_fit_replaced ts j φ φ' e q vs) (λ n fs. named_fit_replaced ts j φ φ' e q n 0 fs) v
       fits_replaced (Fun k p r) j φ φ' e q v = (
-        (λ h F u w a. gives_as _ _ _ (h F u w ((fits_replaced p (suc j) (push F φ) (push F φ') e.0 (pushed j φ φ' F q) u).1 a)) (λ x b. (b.0, b.1, (fits_replaced r (suc j) (push b.0 φ) (push b.0 φ') e.1 (pushed j φ φ' b.0 q) x).0 b.2))),
-        (λ h F u w a. gives_as _ _ _ (h F u w ((fits_replaced p (suc j) (push F φ) (push F φ') e.0 (pushed j φ φ' F q) u).0 a)) (λ x b. (b.0, b.1, (fits_replaced r (suc j) (push b.0 φ) (push b.0 φ') e.1 (pushed j φ φ' b.0 q) x).1 b.2))),
+        (λ h. (tells_out k p r j φ φ' e.0 e.1 q v h.0, (λ F u w a. gives_as _ _ _ (h.1 F u w ((fits_replaced p (suc j) (push F φ) (push F φ') e.0 (pushed j φ φ' F q) u).1 a)) (λ x b. (b.0, b.1, (fits_replaced r (suc j) (push b.0 φ) (push b.0 φ') e.1 (pushed j φ φ' b.0 q) x).0 b.2))))),
+        (λ h. (tells_in k p r j φ φ' e.0 e.1 q v h.0, (λ F u w a. gives_as _ _ _ (h.1 F u w ((fits_replaced p (suc j) (push F φ) (push F φ') e.0 (pushed j φ φ' F q) u).0 a)) (λ x b. (b.0, b.1, (fits_replaced r (suc j) (push b.0 φ) (push b.0 φ') e.1 (pushed j φ φ' b.0 q) x).1 b.2))))),
       )
 
-      all_fit_replaced : (ts : Sizes) (j : ℕ) (φ φ' : Frames) → Each_all ok j ts → S j φ φ' → (vs : FlatValues) → Ways (All_fit N τ calls m φ (all_replaced g j ts) vs) (All_fit N τ calls m' φ' ts vs)
+      all_fit_replaced : (ts : Sizes) (j : ℕ) (φ φ' : Frames) → Each_all ok j ts → S j φ φ' → (vs : FlatValues) → Ways (All_fit N τ Z calls m φ (all_replaced g j ts) vs) (All_fit N τ Z calls m' φ' ts vs)
       all_fit_replaced no_size j φ φ' e q vs = same_ways
       all_fit_replaced (size_and t ts) j φ φ' e q vs = first_value_as _ _ _ _ (λ v. fits_replaced t j φ φ' e.0 q v) (λ vs. all_fit_replaced ts j φ φ' e.1 q vs) vs
 
-      named_fit_replaced : (ts : Sizes) (j : ℕ) (φ φ' : Frames) → Each_all ok j ts → S j φ φ' → (n i : ℕ) (fs : FlatFields) → Ways (Named_fit N τ calls m φ n i (all_replaced g j ts) fs) (Named_fit N τ calls m' φ' n i ts fs)
+      named_fit_replaced : (ts : Sizes) (j : ℕ) (φ φ' : Frames) → Each_all ok j ts → S j φ φ' → (n i : ℕ) (fs : FlatFields) → Ways (Named_fit N τ Z calls m φ n i (all_replaced g j ts) fs) (Named_fit N τ Z calls m' φ' n i ts fs)
       named_fit_replaced no_size j φ φ' e q n i fs = same_ways
       named_fit_replaced (size_and t ts) j φ φ' e q n i fs = let b = named_fit_replaced ts j φ φ' e.1 q n (suc i) fs in
           ((λ x. ((λ f p. let c = x.0 f p in (c.0, c.1, (fits_replaced t j φ φ' e.0 q c.0).0 c.2)), b.0 x.1)), (λ x. ((λ f p. let c = x.0 f p in (c.0, c.1, (fits_replaced t j φ φ' e.0 q c.0).1 c.2)), b.1 x.1)))
@@ -101,9 +176,16 @@ module _ (In : Free → Type 0) (m m' : Worth) where
   free_same all (Unknown n k) i = all (Unknown n k) i
   free_same all (Slot k) i = all (Slot k) i
 
-  module _ (N : Names) (τ : Variable → Shape) (calls : FlatValue → FlatValue → Rel FlatValue) where
-    pub fits_same : ((d : Free) → In d → m d ≡ m' d) → (t : Size) (j : ℕ) (φ φ' : Frames) → Each (Scoped In) j t → Same_below j φ φ' → (v : FlatValue) → Fits N τ calls m φ t v → Fits N τ calls m' φ' t v
-    fits_same all t j φ φ' e q v h = (fits_replaced N τ m m' same (Scoped In) Same_below (numbers_same (free_same all)) calls below_goes_in t j φ φ' e q v).0 (subst (λ u. Fits N τ calls m φ u v) (sym (same_size t j)) h)
+  module _ (N : Names) (τ : Meant) where
+    pub shape_same : ((d : Free) → In d → m d ≡ m' d) → (t : Size) (j : ℕ) (φ φ' : Frames) → Each (Scoped In) j t → Same_below j φ φ' → (h : Shape) → Has_shape N τ m φ t h → Has_shape N τ m' φ' t h
+    shape_same all t j φ φ' e q h x = (shape_replaced N τ m m' same (Scoped In) Same_below (numbers_same (free_same all)) t j φ φ' e q h).0 (subst (λ u. Has_shape N τ m φ u h) (sym (same_size t j)) x)
+
+    pub datum_same : ((d : Free) → In d → m d ≡ m' d) → (t : Size) (j : ℕ) (φ φ' : Frames) → Each (Scoped In) j t → Same_below j φ φ' → (x : Datum) → Has_datum N τ m φ t x → Has_datum N τ m' φ' t x
+    datum_same all t j φ φ' e q y x = (datum_replaced N τ m m' same (Scoped In) Same_below (numbers_same (free_same all)) t j φ φ' e q y).0 (subst (λ u. Has_datum N τ m φ u y) (sym (same_size t j)) x)
+
+    module _ (Z : Sizing) (calls : FlatValue → FlatValue → Rel FlatValue) where
+      pub fits_same : ((d : Free) → In d → m d ≡ m' d) → (t : Size) (j : ℕ) (φ φ' : Frames) → Each (Scoped In) j t → Same_below j φ φ' → (v : FlatValue) → Fits N τ Z calls m φ t v → Fits N τ Z calls m' φ' t v
+      fits_same all t j φ φ' e q v h = (fits_replaced N τ m m' same (Scoped In) Same_below (numbers_same (free_same all)) Z calls below_goes_in (λ j φ φ' q Q d. same_ways) t j φ φ' e q v).0 (subst (λ u. Fits N τ Z calls m φ u v) (sym (same_size t j)) h)
 
 -- ---- the nearest frame's sizes given
 abbrev Opens : Worth → (ℕ → Free) → (ℕ → Type 0) → ℕ → Frames → Frames → Type 0
@@ -129,6 +211,14 @@ numbers_opened m δ Q j φ φ' (Bound j' i) q s = by_test (nat_eq (suc j') j) re
     by_test true e = let p = eqb-true (suc j') j e in sym (q.2 j' i p (s p))
     by_test false e = q.1 j' i
 
+opens_own : (m : Worth) (δ : ℕ → Free) (Q : ℕ → Type 0) → Keeps_own (given δ) (Opens m δ Q)
+opens_own m δ Q j φ φ' q P (At d) = same_ways
+opens_own m δ Q j φ φ' q P (Bound j' i) = by_test (nat_eq (suc j') (suc j)) refl
+  where
+    by_test : (b : Bool) → nat_eq (suc j') (suc j) ≡ b → Ways (Of_positions P 1 (Bound j' i)) (Of_positions P 1 (cond b (At (δ i)) (Bound j' i)))
+    by_test true e = ((λ x. tt), (λ x z. absurd (let a = eqb-true (suc j') (suc j) e in let l = q.0 in omega (arith, a, l, z))))
+    by_test false e = same_ways
+
 -- every dim has another property where it is replaced, one function type further out
 module _ (ok ok' : ℕ → Dim → Type 0) (g : ℕ → Dim → Dim) (turns : (j : ℕ) (d : Dim) → ok (suc j) d → ok' j (g (suc j) d)) where
   mutual
@@ -145,6 +235,37 @@ module _ (ok ok' : ℕ → Dim → Type 0) (g : ℕ → Dim → Dim) (turns : (j
     all_each_replaced no_size j e = tt
     all_each_replaced (size_and t ts) j e = (each_replaced t j e.0, all_each_replaced ts j e.1)
 
+module _ (ok ok' : ℕ → Dim → Type 0) where
+  mutual
+    unfolding Each Each_all
+
+    pub each_and : (t : Size) (j : ℕ) → Each ok j t → Each ok' j t → Each (λ j d. ok j d × ok' j d) j t
+    each_and (Hole a) j e e' = tt
+    each_and (Open n v u) j e e' = tt
+    each_and (Level d t) j e e' = ((e.0, e'.0), each_and t j e.1 e'.1)
+    each_and (Built k ts) j e e' = all_each_and ts j e e'
+    each_and (Fun k p r) j e e' = (each_and p (suc j) e.0 e'.0, each_and r (suc j) e.1 e'.1)
+
+    all_each_and : (ts : Sizes) (j : ℕ) → Each_all ok j ts → Each_all ok' j ts → Each_all (λ j d. ok j d × ok' j d) j ts
+    all_each_and no_size j e e' = tt
+    all_each_and (size_and t ts) j e e' = (each_and t j e.0 e'.0, all_each_and ts j e.1 e'.1)
+
+-- of data, back from where dims were replaced
+module _ (ok ok' : ℕ → Dim → Type 0) (g : ℕ → Dim → Dim) (turn : (d : Dim) → ok' 0 (g 1 d) → ok 1 d) where
+  mutual
+    unfolding Each Each_all Data All_data replaced all_replaced
+
+    pub each_back : (t : Size) → Data t → Each ok' 0 (replaced g 1 t) → Each ok 1 t
+    each_back (Hole a) h e = tt
+    each_back (Open n v u) h e = tt
+    each_back (Level d t) h e = (turn d e.0, each_back t h e.1)
+    each_back (Built k ts) h e = all_each_back ts h e
+    each_back (Fun k p r) h e = absurd h
+
+    all_each_back : (ts : Sizes) → All_data ts → Each_all ok' 0 (all_replaced g 1 ts) → Each_all ok 1 ts
+    all_each_back no_size h e = tt
+    all_each_back (size_and t ts) h e = (each_back t h.0 e.0, all_each_back ts h.1 e.1)
+
 module _ (ok ok' : ℕ → Dim → Type 0) (turns : (j : ℕ) (d : Dim) → ok j d → ok' j d) where
   mutual
     unfolding Each Each_all
@@ -159,6 +280,36 @@ module _ (ok ok' : ℕ → Dim → Type 0) (turns : (j : ℕ) (d : Dim) → ok j
     all_each_as : (ts : Sizes) (j : ℕ) → Each_all ok j ts → Each_all ok' j ts
     all_each_as no_size j e = tt
     all_each_as (size_and t ts) j e = (each_as t j e.0, all_each_as ts j e.1)
+
+module _ (ok ok' : ℕ → Dim → Type 0) (turn : (d : Dim) → ok 0 d → ok' 0 d) where
+  mutual
+    unfolding Each Each_all Data All_data
+
+    pub each_data : (t : Size) → Data t → Each ok 0 t → Each ok' 0 t
+    each_data (Hole a) h e = tt
+    each_data (Open n v u) h e = tt
+    each_data (Level d t) h e = (turn d e.0, each_data t h e.1)
+    each_data (Built k ts) h e = all_each_data ts h e
+    each_data (Fun k p r) h e = absurd h
+
+    all_each_data : (ts : Sizes) → All_data ts → Each_all ok 0 ts → Each_all ok' 0 ts
+    all_each_data no_size h e = tt
+    all_each_data (size_and t ts) h e = (each_data t h.0 e.0, all_each_data ts h.1 e.1)
+
+module _ (ok ok' : Variable → Type 0) (turn : (v : Variable) → ok v → ok' v) where
+  mutual
+    unfolding Each_hole Each_holes
+
+    pub each_hole_as : (t : Size) → Each_hole ok t → Each_hole ok' t
+    each_hole_as (Hole v) e = turn v e
+    each_hole_as (Open n v u) e = e
+    each_hole_as (Level d t) e = each_hole_as t e
+    each_hole_as (Built k ts) e = all_each_hole_as ts e
+    each_hole_as (Fun k p r) e = (each_hole_as p e.0, each_hole_as r e.1)
+
+    all_each_hole_as : (ts : Sizes) → Each_holes ok ts → Each_holes ok' ts
+    all_each_hole_as no_size e = tt
+    all_each_hole_as (size_and t ts) e = (each_hole_as t e.0, all_each_hole_as ts e.1)
 
 abbrev pub Any : Free → Type 0
 Any d = Unit {0}
@@ -175,7 +326,7 @@ closes In δ j (Bound j' i) s = by_test (nat_eq (suc j') (suc j)) refl
     by_test false e = let p = eqb-false (suc j') (suc j) e in omega (arith, s, p)
 
 -- the part of a function type under a frame is the part with the sizes given that the frame has
-module _ (N : Names) (τ : Variable → Shape) (calls : FlatValue → FlatValue → Rel FlatValue) (m : Worth) (δ : ℕ → Free) (Q : ℕ → Type 0) (In : Free → Type 0) (F : ℕ → ℕ) (t : Size) (positions : Each (Of_positions Q) 1 t) (scoped : Each (Scoped In) 1 t) (same_frame : (i : ℕ) → Q i → F i ≡ free m (δ i)) where
+module _ (N : Names) (τ : Meant) (m : Worth) (δ : ℕ → Free) (Q : ℕ → Type 0) (In : Free → Type 0) (F : ℕ → ℕ) (t : Size) (positions : Each (Of_positions Q) 1 t) (scoped : Each (Scoped In) 1 t) (same_frame : (i : ℕ) → Q i → F i ≡ free m (δ i)) where
   starts : (φ : Frames) → Opens m δ Q 1 (push F φ) (push F φ)
   unfolding push
   starts φ = (omega arith, (λ j' i. refl), (λ j0 i e w. subst (λ j. push F φ j i ≡ free m (δ i)) (let z : zero ≡ j0 = omega (arith, e) in z) (same_frame i w)))
@@ -186,13 +337,22 @@ module _ (N : Names) (τ : Variable → Shape) (calls : FlatValue → FlatValue 
   any_frames : (φ φ' : Frames) → Same_below 0 φ φ'
   any_frames φ φ' j' i lt = absurd (omega (arith, lt))
 
-  pub fits_opened : (φ φ' : Frames) (v : FlatValue) → Fits N τ calls m (push F φ) t v → Fits N τ calls m φ' (opened δ t) v
-  fits_opened φ φ' v h = fits_same Any m m N τ calls (λ d i. refl) (opened δ t) 0 (push F φ) φ' closed (any_frames (push F φ) φ') v
-      ((fits_replaced N τ m m (given δ) (Of_positions Q) (Opens m δ Q) (numbers_opened m δ Q) calls (opens_goes_in m δ Q) t 1 (push F φ) (push F φ) positions (starts φ) v).1 h)
+  pub shape_opened : (φ φ' : Frames) (h : Shape) → Has_shape N τ m (push F φ) t h → Has_shape N τ m φ' (opened δ t) h
+  shape_opened φ φ' h x = shape_same Any m m N τ (λ d i. refl) (opened δ t) 0 (push F φ) φ' closed (any_frames (push F φ) φ') h
+      ((shape_replaced N τ m m (given δ) (Of_positions Q) (Opens m δ Q) (numbers_opened m δ Q) t 1 (push F φ) (push F φ) positions (starts φ) h).1 x)
 
-  pub opened_fits : (φ φ' : Frames) (v : FlatValue) → Fits N τ calls m φ' (opened δ t) v → Fits N τ calls m (push F φ) t v
-  opened_fits φ φ' v h = (fits_replaced N τ m m (given δ) (Of_positions Q) (Opens m δ Q) (numbers_opened m δ Q) calls (opens_goes_in m δ Q) t 1 (push F φ) (push F φ) positions (starts φ) v).0
-      (fits_same Any m m N τ calls (λ d i. refl) (opened δ t) 0 φ' (push F φ) closed (any_frames φ' (push F φ)) v h)
+  pub opened_shape : (φ φ' : Frames) (h : Shape) → Has_shape N τ m φ' (opened δ t) h → Has_shape N τ m (push F φ) t h
+  opened_shape φ φ' h x = (shape_replaced N τ m m (given δ) (Of_positions Q) (Opens m δ Q) (numbers_opened m δ Q) t 1 (push F φ) (push F φ) positions (starts φ) h).0
+      (shape_same Any m m N τ (λ d i. refl) (opened δ t) 0 φ' (push F φ) closed (any_frames φ' (push F φ)) h x)
+
+  module _ (Z : Sizing) (calls : FlatValue → FlatValue → Rel FlatValue) where
+    pub fits_opened : (φ φ' : Frames) (v : FlatValue) → Fits N τ Z calls m (push F φ) t v → Fits N τ Z calls m φ' (opened δ t) v
+    fits_opened φ φ' v h = fits_same Any m m N τ Z calls (λ d i. refl) (opened δ t) 0 (push F φ) φ' closed (any_frames (push F φ) φ') v
+        ((fits_replaced N τ m m (given δ) (Of_positions Q) (Opens m δ Q) (numbers_opened m δ Q) Z calls (opens_goes_in m δ Q) (opens_own m δ Q) t 1 (push F φ) (push F φ) positions (starts φ) v).1 h)
+
+    pub opened_fits : (φ φ' : Frames) (v : FlatValue) → Fits N τ Z calls m φ' (opened δ t) v → Fits N τ Z calls m (push F φ) t v
+    opened_fits φ φ' v h = (fits_replaced N τ m m (given δ) (Of_positions Q) (Opens m δ Q) (numbers_opened m δ Q) Z calls (opens_goes_in m δ Q) (opens_own m δ Q) t 1 (push F φ) (push F φ) positions (starts φ) v).0
+        (fits_same Any m m N τ Z calls (λ d i. refl) (opened δ t) 0 φ' (push F φ) closed (any_frames φ' (push F φ)) v h)
 
 -- ---- sizes by themselves replaced
 abbrev Same_frames : ℕ → Frames → Frames → Type 0
@@ -220,18 +380,25 @@ mutual
   all_each_any no_size j = tt
   all_each_any (size_and t ts) j = (each_any t j, all_each_any ts j)
 
-module _ (N : Names) (τ : Variable → Shape) (calls : FlatValue → FlatValue → Rel FlatValue) (m m' : Worth) (ρ : Free → Free) where
+module _ (N : Names) (τ : Meant) (Z : Sizing) (calls : FlatValue → FlatValue → Rel FlatValue) (m m' : Worth) (ρ : Free → Free) where
   numbers_renamed : ((d : Free) → free m (ρ d) ≡ free m' d) → Numbers_as m m' (renaming ρ) Any_dim Same_frames
   numbers_renamed worth j φ φ' (At d) q s = worth d
   numbers_renamed worth j φ φ' (Bound j' i) q s = q j' i
 
-  pub fits_renamed : ((d : Free) → free m (ρ d) ≡ free m' d) → (t : Size) (φ : Frames) (v : FlatValue) → Ways (Fits N τ calls m φ (renamed ρ t) v) (Fits N τ calls m' φ t v)
-  fits_renamed worth t φ v = fits_replaced N τ m m' (renaming ρ) Any_dim Same_frames (numbers_renamed worth) calls frames_go_in t 0 φ φ (each_any t 0) (λ j' i. refl) v
+  renames_own : Keeps_own (renaming ρ) Same_frames
+  renames_own j φ φ' q Q (At d) = same_ways
+  renames_own j φ φ' q Q (Bound j' i) = same_ways
+
+  pub fits_renamed : ((d : Free) → free m (ρ d) ≡ free m' d) → (t : Size) (φ : Frames) (v : FlatValue) → Ways (Fits N τ Z calls m φ (renamed ρ t) v) (Fits N τ Z calls m' φ t v)
+  fits_renamed worth t φ v = fits_replaced N τ m m' (renaming ρ) Any_dim Same_frames (numbers_renamed worth) Z calls frames_go_in renames_own t 0 φ φ (each_any t 0) (λ j' i. refl) v
+
+  pub shape_renamed : ((d : Free) → free m (ρ d) ≡ free m' d) → (t : Size) (φ : Frames) (h : Shape) → Ways (Has_shape N τ m φ (renamed ρ t) h) (Has_shape N τ m' φ t h)
+  shape_renamed worth t φ h = shape_replaced N τ m m' (renaming ρ) Any_dim Same_frames (numbers_renamed worth) t 0 φ φ (each_any t 0) (λ j' i. refl) h
 
   -- those of these alone
   numbers_in : (In : Free → Type 0) → ((d : Free) → In d → free m (ρ d) ≡ free m' d) → Numbers_as m m' (renaming ρ) (Scoped In) Same_frames
   numbers_in In worth j φ φ' (At d) q s = worth d s
   numbers_in In worth j φ φ' (Bound j' i) q s = q j' i
 
-  pub fits_renamed_in : (In : Free → Type 0) → ((d : Free) → In d → free m (ρ d) ≡ free m' d) → (t : Size) (φ : Frames) (v : FlatValue) → Each (Scoped In) 0 t → Fits N τ calls m' φ t v → Fits N τ calls m φ (renamed ρ t) v
-  fits_renamed_in In worth t φ v e h = (fits_replaced N τ m m' (renaming ρ) (Scoped In) Same_frames (numbers_in In worth) calls frames_go_in t 0 φ φ e (λ j' i. refl) v).1 h
+  pub fits_renamed_in : (In : Free → Type 0) → ((d : Free) → In d → free m (ρ d) ≡ free m' d) → (t : Size) (φ : Frames) (v : FlatValue) → Each (Scoped In) 0 t → Fits N τ Z calls m' φ t v → Fits N τ Z calls m φ (renamed ρ t) v
+  fits_renamed_in In worth t φ v e h = (fits_replaced N τ m m' (renaming ρ) (Scoped In) Same_frames (numbers_in In worth) Z calls frames_go_in renames_own t 0 φ φ e (λ j' i. refl) v).1 h

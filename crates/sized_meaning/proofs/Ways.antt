@@ -2,11 +2,11 @@
 use Rattle.std.proofs.Common.{ℕ}
 use Rattle.fut_types.specs.declared.Head.{Head}
 use Rattle.fut_types.specs.declared.Head.TheVariants as head
-use Rattle.fut_value.specs.Data.{Shape, Scalar_shape, Tuple_shape, Record_shape, Array_shape, Unmet_shape, Shapes, no_shape, shape_and, Named_shapes}
+use Rattle.fut_value.specs.Data.{Shape, Scalar_shape, Tuple_shape, Record_shape, Array_shape, Unmet_shape, Shapes, no_shape, shape_and, Named_shapes, Datum, Scalar_datum, Tuple_datum, Record_datum, Array_datum, Datums, no_datum, datum_and, Named_datums}
 use Rattle.fut_meaning.specs.Flats.{FlatValue}
 use Rattle.fut_meaning.specs.Outcomes.{Out, Val, Fail, Wrong, Rel}
 use Rattle.fut_meaning.specs.Values.{Scalar_value, Tuple_value, Record_value, Array_value, Closure, Primitive_value, no_value, value_and}
-use Rattle.sized_meaning.specs.Shapes.{On_array_shape, On_tuple_shape, On_record_shape, First_shape, Shape_of_head}
+use Rattle.sized_meaning.specs.Shapes.{On_array_shape, On_tuple_shape, On_record_shape, First_shape, Shape_of_head, On_array_datum, On_tuple_datum, On_record_datum, First_datum, Every_datum, Datum_of_head}
 use Rattle.sized_meaning.specs.Fits.{FlatValues, FlatFields, Out_fits, Gives, Is_data, On_tuple, On_record, First_value, Of_head}
 
 abbrev pub Ways : Type 0 → Type 0 → Type 0
@@ -49,13 +49,53 @@ shape_of_head_as head.Array P P' Q Q' p q h = same_ways
 shape_of_head_as head.Fun P P' Q Q' p q h = same_ways
 shape_of_head_as (head.Rigid n k) P P' Q Q' p q h = same_ways
 
+-- ---- data
+
+pub on_array_datum_as : (P Q : Shape → Datums → Type 0) → ((h : Shape) (ds : Datums) → Ways (P h ds) (Q h ds)) → (x : Datum) → Ways (On_array_datum P x) (On_array_datum Q x)
+on_array_datum_as P Q go (Array_datum row ds) = go row ds
+on_array_datum_as P Q go (Scalar_datum s) = same_ways
+on_array_datum_as P Q go (Tuple_datum ds) = same_ways
+on_array_datum_as P Q go (Record_datum fs) = same_ways
+
+on_tuple_datum_as : (P Q : Datums → Type 0) → ((ds : Datums) → Ways (P ds) (Q ds)) → (x : Datum) → Ways (On_tuple_datum P x) (On_tuple_datum Q x)
+on_tuple_datum_as P Q go (Tuple_datum ds) = go ds
+on_tuple_datum_as P Q go (Array_datum row ds) = same_ways
+on_tuple_datum_as P Q go (Scalar_datum s) = same_ways
+on_tuple_datum_as P Q go (Record_datum fs) = same_ways
+
+on_record_datum_as : (P Q : Named_datums → Type 0) → ((fs : Named_datums) → Ways (P fs) (Q fs)) → (x : Datum) → Ways (On_record_datum P x) (On_record_datum Q x)
+on_record_datum_as P Q go (Record_datum fs) = go fs
+on_record_datum_as P Q go (Array_datum row ds) = same_ways
+on_record_datum_as P Q go (Scalar_datum s) = same_ways
+on_record_datum_as P Q go (Tuple_datum ds) = same_ways
+
+pub first_datum_as : (P P' : Datum → Type 0) (Q Q' : Datums → Type 0) → ((x : Datum) → Ways (P x) (P' x)) → ((ds : Datums) → Ways (Q ds) (Q' ds)) → (ds : Datums) → Ways (First_datum P Q ds) (First_datum P' Q' ds)
+first_datum_as P P' Q Q' p q no_datum = same_ways
+first_datum_as P P' Q Q' p q (datum_and d ds) = ((λ x. ((p d).0 x.0, (q ds).0 x.1)), (λ x. ((p d).1 x.0, (q ds).1 x.1)))
+
+pub every_datum_goes : (P Q : Datum → Type 0) → ((x : Datum) → P x → Q x) → (ds : Datums) → Every_datum P ds → Every_datum Q ds
+every_datum_goes P Q go no_datum h = tt
+every_datum_goes P Q go (datum_and d ds) h = (go d h.0, every_datum_goes P Q go ds h.1)
+
+pub every_datum_as : (P Q : Datum → Type 0) → ((x : Datum) → Ways (P x) (Q x)) → (ds : Datums) → Ways (Every_datum P ds) (Every_datum Q ds)
+every_datum_as P Q go ds = (every_datum_goes P Q (λ x. (go x).0) ds, every_datum_goes Q P (λ x. (go x).1) ds)
+
+pub datum_of_head_as : (k : Head) (P P' : Datums → Type 0) (Q Q' : ℕ → Named_datums → Type 0) → ((ds : Datums) → Ways (P ds) (P' ds)) → ((n : ℕ) (fs : Named_datums) → Ways (Q n fs) (Q' n fs)) → (x : Datum) → Ways (Datum_of_head k P Q x) (Datum_of_head k P' Q' x)
+datum_of_head_as (head.Scalar s) P P' Q Q' p q x = same_ways
+datum_of_head_as head.Tuple P P' Q Q' p q x = on_tuple_datum_as P P' p x
+datum_of_head_as (head.Record n) P P' Q Q' p q x = on_record_datum_as (Q n) (Q' n) (q n) x
+datum_of_head_as (head.Abstract n k) P P' Q Q' p q x = same_ways
+datum_of_head_as head.Array P P' Q Q' p q x = same_ways
+datum_of_head_as head.Fun P P' Q Q' p q x = same_ways
+datum_of_head_as (head.Rigid n k) P P' Q Q' p q x = same_ways
+
 -- ---- values
 
-pub data_goes : (P Q : Shape → Type 0) → ((h : Shape) → P h → Q h) → (v : FlatValue) → Is_data P v → Is_data Q v
-data_goes P Q go v d = record { datum = d.datum; is_datum = d.is_datum; shape = go _ d.shape; whole = d.whole }
+pub data_goes : (P Q : Datum → Type 0) → ((x : Datum) → P x → Q x) → (v : FlatValue) → Is_data P v → Is_data Q v
+data_goes P Q go v d = record { datum = d.datum; is_datum = d.is_datum; fits = go _ d.fits }
 
-pub data_as : (P Q : Shape → Type 0) → ((h : Shape) → Ways (P h) (Q h)) → (v : FlatValue) → Ways (Is_data P v) (Is_data Q v)
-data_as P Q go v = (data_goes P Q (λ h. (go h).0) v, data_goes Q P (λ h. (go h).1) v)
+pub data_as : (P Q : Datum → Type 0) → ((x : Datum) → Ways (P x) (Q x)) → (v : FlatValue) → Ways (Is_data P v) (Is_data Q v)
+data_as P Q go v = (data_goes P Q (λ x. (go x).0) v, data_goes Q P (λ x. (go x).1) v)
 
 pub on_tuple_goes : (P Q : FlatValues → Type 0) → ((vs : FlatValues) → P vs → Q vs) → (v : FlatValue) → On_tuple P v → On_tuple Q v
 on_tuple_goes P Q go (Tuple_value vs) h = go vs h

@@ -5,12 +5,14 @@ use Rattle.fut_flat.specs.declared.prim.Ref.{Ref}
 use Rattle.fut_typing.specs.Names.{Names}
 use Rattle.fut_value.specs.Data.{Shape}
 use Rattle.fut_meaning.specs.Flats.{FlatValue}
+use Rattle.fut_meaning.specs.Found.{Sizing}
 use Rattle.fut_meaning.specs.Meaning.{Lang, plain, Ever}
 use Rattle.fut_meaning.specs.Outcomes.{Rel}
 use Rattle.fut_meaning.specs.Values.{Call}
 use Rattle.sized_types.specs.Sizes.{Variable, Size}
 use Rattle.fut_sizes.specs.Suiting.{Suits}
 use Rattle.sized_meaning.specs.Worth.{Worth, no_frames}
+use Rattle.sized_meaning.specs.Shapes.{exactly}
 use Rattle.sized_meaning.specs.Fits.{Fits}
 
 abbrev pub FlatLang : Type 0
@@ -21,5 +23,5 @@ abbrev pub calls_of : FlatLang → Bool → ℕ → FlatValue → FlatValue → 
 calls_of L tight budget f v = Ever L (plain tight) budget (Call f v)
 
 abbrev pub SuitingValuesFit : Type 0
-SuitingValuesFit = (N : Names) (τ : Variable → Shape) (L : FlatLang) (tight : Bool) (budget : ℕ) (t u : Size) (m : Worth) (v : FlatValue)
-    → Suits t u → Fits N τ (calls_of L tight budget) m no_frames t v → Fits N τ (calls_of L tight budget) m no_frames u v
+SuitingValuesFit = (N : Names) (τ : Variable → Shape) (Z : Sizing) (L : FlatLang) (tight : Bool) (budget : ℕ) (t u : Size) (m : Worth) (v : FlatValue)
+    → Suits t u → Fits N (exactly τ) Z (calls_of L tight budget) m no_frames t v → Fits N (exactly τ) Z (calls_of L tight budget) m no_frames u v

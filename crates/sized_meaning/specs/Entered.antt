@@ -13,7 +13,7 @@ use Rattle.sized_types.specs.Standing.{is_known, gives_chosen}
 use Rattle.fut_sizes.specs.Rules.{Each_hole}
 use Rattle.fut_sizes.specs.Suiting.{Each}
 use Rattle.sized_meaning.specs.Worth.{Worth, free, no_frames, push}
-use Rattle.sized_meaning.specs.Shapes.{Has_shape}
+use Rattle.sized_meaning.specs.Shapes.{Meant, exactly, Has_shape}
 use Rattle.sized_meaning.specs.Fits.{Fits}
 use Rattle.sized_meaning.specs.Claims.{FlatLang, calls_of}
 use Rattle.sized_meaning.specs.Finding.{Fields_are, One_shape_each, Formed, Reads}
@@ -22,7 +22,7 @@ use Rattle.sized_meaning.specs.Finding.{Fields_are, One_shape_each, Formed, Read
 abbrev pub none_chosen : ℕ → ℕ
 none_chosen i = 0
 
-module _ (N : Names) (τ : Variable → Shape) (Z : Sizing) (m : Worth) where
+module _ (N : Names) (τ : Meant) (Z : Sizing) (m : Worth) where
   -- the pattern at node q took a value of its sized type; a name that is bound there is worth it; and a function tells right
   pub record Right_entry (q : ℕ) (v : FlatValue) : Type 0 where
     pub shape : Reads N τ m no_frames (Z.size_at q) (value_shape v)
@@ -36,10 +36,10 @@ module _ (N : Names) (τ : Variable → Shape) (Z : Sizing) (m : Worth) where
 
   -- sizes that are found are what they are worth, and type variables what they stand for
   abbrev pub Right_found : Found → Type 0
-  Right_found W = ((d : Free) (n : ℤ) → W.size d ≡ Some n → count_of n ≡ free m d) × ((v : Variable) (h : Shape) → W.type v ≡ Some h → h ≡ τ v)
+  Right_found W = ((d : Free) (n : ℤ) → W.size d ≡ Some n → count_of n ≡ free m d) × ((v : Variable) (h : Shape) → W.type v ≡ Some h → (τ v).shape h)
 
 abbrev pub FoundUnderNamesIsRight : Type 0
-FoundUnderNamesIsRight = (N : Names) (τ : Variable → Shape) (Z : Sizing) (m : Worth) (env : FlatEnv) → Fields_are N Z.fields → One_shape_each τ → All_entered N τ Z m env → Right_found N τ Z m (found Z env)
+FoundUnderNamesIsRight = (N : Names) (τ : Variable → Shape) (Z : Sizing) (m : Worth) (env : FlatEnv) → Fields_are N Z.fields → One_shape_each τ → All_entered N (exactly τ) Z m env → Right_found N (exactly τ) Z m (found Z env)
 
 -- what is found of a size, or it is a constant
 abbrev pub Is_found : Found → Dim → Type 0
@@ -53,15 +53,15 @@ Type_is_found W v = (h : Shape) × (W.type v ≡ Some h)
 -- an array literal without elements has rows of its element's sized type, where what stands in that is found
 abbrev pub LiteralRowsAreRight : Type 0
 LiteralRowsAreRight = (N : Names) → AreNames N → (τ : Variable → Shape) (Z : Sizing) (m : Worth) (L : FlatLang) (env : FlatEnv) (lo : ℕ) (d : Dim) (t : Size) → L.told.sizes ≡ Some Z → Z.size_at lo ≡ Level d t → Formed Z.fields t
-    → Fields_are N Z.fields → One_shape_each τ → All_entered N τ Z m env → Each (λ j x. Is_found (found Z env) x) 0 t → Each_hole (Type_is_found (found Z env)) t
-    → Has_shape N τ m no_frames t (row_told L (Of_literal env lo))
+    → Fields_are N Z.fields → One_shape_each τ → All_entered N (exactly τ) Z m env → Each (λ j x. Is_found (found Z env) x) 0 t → Each_hole (Type_is_found (found Z env)) t
+    → Has_shape N (exactly τ) m no_frames t (row_told L (Of_literal env lo))
 
 -- and data of the type's form for which `:>` does not report has the sizes of the type, where they are found
 abbrev pub CoercedHasItsSizes : Type 0
 CoercedHasItsSizes = (N : Names) → AreNames N → (τ : Variable → Shape) (Z : Sizing) (m other : Worth) (L : FlatLang) (env : FlatEnv) (lo : ℕ) (v : FlatValue) → L.told.sizes ≡ Some Z → Formed Z.fields (Z.size_at lo)
-    → Fields_are N Z.fields → One_shape_each τ → All_entered N τ Z m env → Each (λ j x. Is_found (found Z env) x) 0 (Z.size_at lo)
-    → Has_shape N τ other no_frames (Z.size_at lo) (value_shape v) → fits_type L env lo v ≡ true → Has_shape N τ m no_frames (Z.size_at lo) (value_shape v)
+    → Fields_are N Z.fields → One_shape_each τ → All_entered N (exactly τ) Z m env → Each (λ j x. Is_found (found Z env) x) 0 (Z.size_at lo)
+    → Has_shape N (exactly τ) other no_frames (Z.size_at lo) (value_shape v) → fits_type L env lo v ≡ true → Has_shape N (exactly τ) m no_frames (Z.size_at lo) (value_shape v)
 
 -- a value of a sized type has its shape
 abbrev pub ValuesRead : Type 0
-ValuesRead = (N : Names) (τ : Variable → Shape) (L : FlatLang) (tight : Bool) (budget : ℕ) (m : Worth) (t : Size) (v : FlatValue) → Fits N τ (calls_of L tight budget) m no_frames t v → Reads N τ m no_frames t (value_shape v)
+ValuesRead = (N : Names) (τ : Variable → Shape) (Z : Sizing) (L : FlatLang) (tight : Bool) (budget : ℕ) (m : Worth) (t : Size) (v : FlatValue) → Fits N (exactly τ) Z (calls_of L tight budget) m no_frames t v → Reads N (exactly τ) m no_frames t (value_shape v)

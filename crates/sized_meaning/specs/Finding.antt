@@ -12,7 +12,7 @@ use Rattle.sized_types.specs.Standing.{stands, has_hole}
 use Rattle.fut_sizes.specs.Rules.{Each_hole}
 use Rattle.fut_sizes.specs.Suiting.{Each}
 use Rattle.sized_meaning.specs.Worth.{Worth, free, Frames, number}
-use Rattle.sized_meaning.specs.Shapes.{On_array_shape, On_tuple_shape, On_record_shape, First_shape, Has_shape}
+use Rattle.sized_meaning.specs.Shapes.{Meant, exactly, On_array_shape, On_tuple_shape, On_record_shape, First_shape, Has_shape}
 
 -- the names of a record's fields are in the order of its parts, from a part on
 abbrev pub Fields_from : Names → ℕ → ℕ → List Text → Type 0
@@ -26,7 +26,11 @@ Fields_are N fields = (n : ℕ) → Fields_from N n 0 (fields n)
 abbrev pub One_shape_each : (Variable → Shape) → Type 0
 One_shape_each τ = (v w : Variable) → is_variable v w ≡ true → τ v ≡ τ w
 
--- ---- data whose values have a form: a record has a part for each field, and a scalar has none
+-- and for data of the same shapes
+abbrev pub One_kind_each : Meant → Type 0
+One_kind_each τ = (v w : Variable) → is_variable v w ≡ true → (h : Shape) → (τ v).shape h → (τ w).shape h
+
+-- ---- data whose values have a form: a record has a part for each field, a scalar has none, and a type of its own has no values
 
 abbrev pub As_many : List Text → Sizes → Type 0
 As_many [] no_size = Unit {0}
@@ -38,7 +42,7 @@ abbrev pub Parts_of : (ℕ → List Text) → Head → Sizes → Type 0
 Parts_of fields (head.Scalar s) ts = As_many [] ts
 Parts_of fields head.Tuple ts = Unit {0}
 Parts_of fields (head.Record n) ts = As_many (fields n) ts
-Parts_of fields (head.Abstract n d) ts = As_many [] ts
+Parts_of fields (head.Abstract n d) ts = ⊥
 Parts_of fields head.Array ts = ⊥
 Parts_of fields head.Fun ts = ⊥
 Parts_of fields (head.Rigid n k) ts = ⊥
@@ -55,6 +59,19 @@ unfoldable mutual
   All_formed fields no_size = Unit {0}
   All_formed fields (size_and t ts) = Formed fields t × All_formed fields ts
 
+-- the same of its parts that are data
+unfoldable mutual
+  pub Well_formed : (ℕ → List Text) → Size → Type 0
+  Well_formed fields (Hole v) = Unit {0}
+  Well_formed fields (Open n v u) = Unit {0}
+  Well_formed fields (Level d t) = Well_formed fields t
+  Well_formed fields (Built k ts) = Parts_of fields k ts × All_well_formed fields ts
+  Well_formed fields (Fun k p r) = Well_formed fields p × Well_formed fields r
+
+  pub All_well_formed : (ℕ → List Text) → Sizes → Type 0
+  All_well_formed fields no_size = Unit {0}
+  All_well_formed fields (size_and t ts) = Well_formed fields t × All_well_formed fields ts
+
 -- ---- what shapes say, also of values with functions in them, of which nothing is said
 
 abbrev pub Read_head : Head → (Shapes → Type 0) → (ℕ → Named_shapes → Type 0) → Shape → Type 0
@@ -62,10 +79,10 @@ Read_head head.Tuple P Q h = On_tuple_shape P h
 Read_head (head.Record n) P Q h = On_record_shape (Q n) h
 Read_head k P Q h = Unit {0}
 
-module _ (N : Names) (τ : Variable → Shape) where
+module _ (N : Names) (τ : Meant) where
   unfoldable mutual
     pub Reads : Worth → Frames → Size → Shape → Type 0
-    Reads m φ (Hole v) h = h ≡ τ v
+    Reads m φ (Hole v) h = (τ v).shape h
     Reads m φ (Open n v u) h = Unit {0}
     Reads m φ (Level d t) h = On_array_shape (λ n row. (n ≡ number m φ d) × Reads m φ t row) h
     Reads m φ (Built k ts) h = Read_head k (All_read m φ ts) (λ n. Named_read m φ n 0 ts) h
@@ -83,15 +100,15 @@ module _ (N : Names) (τ : Variable → Shape) where
 
 -- a size that is found in the shape of a value is what it is worth there, and a type variable what it stands for
 abbrev pub FoundIsRight : Type 0
-FoundIsRight = (N : Names) (fields : ℕ → List Text) (τ : Variable → Shape) (m : Worth) (φ : Frames) (t : Size) (h : Shape) → Fields_are N fields → Reads N τ m φ t h
+FoundIsRight = (N : Names) (fields : ℕ → List Text) (τ : Variable → Shape) (m : Worth) (φ : Frames) (t : Size) (h : Shape) → Fields_are N fields → Reads N (exactly τ) m φ t h
     → ((x : Dim) (n : ℕ) → size_in fields x t h ≡ Some n → n ≡ number m φ x) × (One_shape_each τ → (v : Variable) (k : Shape) → type_in fields v t h ≡ Some k → k ≡ τ v)
 
 -- and those that stand in the type are found
 abbrev pub StandingIsFound : Type 0
-StandingIsFound = (N : Names) (fields : ℕ → List Text) (τ : Variable → Shape) (m : Worth) (φ : Frames) (t : Size) (h : Shape) → Fields_are N fields → Formed fields t → Has_shape N τ m φ t h
+StandingIsFound = (N : Names) (fields : ℕ → List Text) (τ : Variable → Shape) (m : Worth) (φ : Frames) (t : Size) (h : Shape) → Fields_are N fields → Formed fields t → Has_shape N (exactly τ) m φ t h
     → ((d : Free) → stands t d ≡ true → size_in fields (At d) t h ≡ Some (free m d)) × (One_shape_each τ → (v : Variable) → has_hole t v ≡ true → type_in fields v t h ≡ Some (τ v))
 
 -- where the numbers of sizes and the shapes of type variables are right, so is the shape that is told of data
 abbrev pub ToldIsRight : Type 0
 ToldIsRight = (N : Names) → AreNames N → (fields : ℕ → List Text) (τ : Variable → Shape) (m : Worth) (φ : Frames) (sizes : Dim → ℕ) (shapes : Variable → Shape) (t : Size) → Fields_are N fields → Formed fields t
-    → Each (λ j d. sizes d ≡ number m φ d) 0 t → Each_hole (λ v. shapes v ≡ τ v) t → Has_shape N τ m φ t (told_shape fields sizes shapes t)
+    → Each (λ j d. sizes d ≡ number m φ d) 0 t → Each_hole (λ v. shapes v ≡ τ v) t → Has_shape N (exactly τ) m φ t (told_shape fields sizes shapes t)

@@ -1,25 +1,31 @@
 -- Which values are of a sized type. A function is of one where, whatever sizes its caller chooses, it takes each value of its
--- parameter's type to values of its result's, for some sizes that are met when it runs.
-use Rattle.std.specs.Prelude.{◌≡◌, ℕ, suc, ◌≤◌, Some}
+-- parameter's type to values of its result's, for some sizes that are met when it runs; and what it tells of its results is
+-- right.
+use Rattle.std.specs.Prelude.{◌≡◌, ℕ, suc, ◌<◌, ◌≤◌, true, [], ◌∷◌, Some}
+use Rattle.fut_arithmetic.specs.Types.{type_of}
 use Rattle.fut_ast.specs.Sorts.{Text}
 use Rattle.fut_scalar.specs.Integers.{integer_of}
 use Rattle.fut_scalar.specs.declared.scalar.Scalar.{Scalar}
 use Rattle.fut_scalar.specs.declared.scalar.Scalar.TheVariants as scalar
+use Rattle.fut_scalar.specs.declared.scalar.ScalarType.{ScalarType}
 use Rattle.fut_types.specs.declared.Head.{Head}
 use Rattle.fut_types.specs.declared.Head.TheVariants as head
 use Rattle.fut_types.specs.Shapes.{place}
 use Rattle.fut_typing.specs.Names.{Names}
-use Rattle.fut_value.specs.Data.{Shape, Scalar_shape, Datum, Scalar_datum, Tuple_datum, Record_datum, Array_datum, Datums, no_datum, datum_and, Named_datums, no_named, named_and, shape_of}
+use Rattle.fut_value.specs.Data.{Shape, Datum}
 use Rattle.fut_meaning.specs.Accessors.{count_of}
 use Rattle.fut_meaning.specs.Datums.{datum_of}
 use Rattle.fut_meaning.specs.Flats.{FlatValue}
+use Rattle.fut_meaning.specs.Found.{Sizing}
+use Rattle.fut_meaning.specs.Telling.{is_function, tells}
 use Rattle.fut_meaning.specs.Outcomes.{Out, Val, Fail, Wrong, Rel}
 use Rattle.fut_meaning.specs.Values.{Scalar_value, Tuple_value, Record_value, Values, no_value, value_and, Fields, field}
 use Rattle.fut_flat.specs.declared.prim.Ref.{Ref}
 use Rattle.fut_scalar.specs.declared.place.BindId.{BindId}
-use Rattle.sized_types.specs.Sizes.{Variable, Size, Hole, Open, Level, Built, Fun, Sizes, no_size, size_and}
+use Rattle.sized_types.specs.Sizes.{Size, Hole, Open, Level, Built, Fun, Sizes, no_size, size_and}
+use Rattle.fut_sizes.specs.Suiting.{Each, Of_positions, Data}
 use Rattle.sized_meaning.specs.Worth.{Worth, Frames, push}
-use Rattle.sized_meaning.specs.Shapes.{Has_shape}
+use Rattle.sized_meaning.specs.Shapes.{Meant, Has_shape, Has_datum}
 
 abbrev pub FlatValues : Type 0
 FlatValues = Values Ref BindId (Unit {0})
@@ -45,32 +51,15 @@ unfoldable pub word : FlatValue → ℕ
 word (Scalar_value s) = word_of s
 word v = 0
 
--- each row of an array has the shape that the array keeps, in its parts too
-unfoldable mutual
-  pub Whole : Datum → Type 0
-  Whole (Scalar_datum s) = Unit {0}
-  Whole (Tuple_datum ds) = All_whole ds
-  Whole (Record_datum fs) = Named_whole fs
-  Whole (Array_datum row ds) = Rows_whole row ds
-
-  pub All_whole : Datums → Type 0
-  All_whole no_datum = Unit {0}
-  All_whole (datum_and d ds) = Whole d × All_whole ds
-
-  pub Named_whole : Named_datums → Type 0
-  Named_whole no_named = Unit {0}
-  Named_whole (named_and f d fs) = Whole d × Named_whole fs
-
-  pub Rows_whole : Shape → Datums → Type 0
-  Rows_whole row no_datum = Unit {0}
-  Rows_whole row (datum_and d ds) = (shape_of d ≡ row) × Whole d × Rows_whole row ds
-
--- data of such a shape
-pub record Is_data (P : Shape → Type 0) (v : FlatValue) : Type 0 where
+-- data with a property
+pub record Is_data (P : Datum → Type 0) (v : FlatValue) : Type 0 where
   pub datum : Datum
   pub is_datum : datum_of v ≡ Val datum
-  pub shape : P (shape_of datum)
-  pub whole : Whole datum
+  pub fits : P datum
+
+abbrev pub Is_scalar : ScalarType → FlatValue → Type 0
+Is_scalar s (Scalar_value c) = type_of c ≡ s
+Is_scalar s v = ⊥
 
 abbrev pub On_tuple : (FlatValues → Type 0) → FlatValue → Type 0
 On_tuple P (Tuple_value vs) = P vs
@@ -88,26 +77,30 @@ abbrev pub First_value : (FlatValue → Type 0) → (FlatValues → Type 0) → 
 First_value P Q no_value = ⊥
 First_value P Q (value_and v vs) = P v × Q vs
 
--- by what a type is made of; nothing is said of a type of its own
+-- by what a type is made of; a type of its own has no values
 abbrev pub Of_head : Head → (FlatValues → Type 0) → (ℕ → FlatFields → Type 0) → FlatValue → Type 0
-Of_head (head.Scalar s) P Q v = Is_data (λ h. h ≡ Scalar_shape s) v
+Of_head (head.Scalar s) P Q v = Is_scalar s v
 Of_head head.Tuple P Q v = On_tuple P v
 Of_head (head.Record n) P Q v = On_record (Q n) v
-Of_head (head.Abstract n d) P Q v = Unit {0}
+Of_head (head.Abstract n d) P Q v = ⊥
 Of_head head.Array P Q v = ⊥
 Of_head head.Fun P Q v = ⊥
 Of_head (head.Rigid n k) P Q v = ⊥
 
--- where a function called with a value means this, and type variables stand for these shapes
-module _ (N : Names) (τ : Variable → Shape) (calls : FlatValue → FlatValue → Rel FlatValue) where
+-- it is a function, and what it tells of its results is right, where they are data that name nothing that is met
+abbrev pub Tells_right : Names → Meant → Sizing → Worth → Frames → ℕ → Size → Size → FlatValue → Type 0
+Tells_right N τ Z m φ k p r f = (is_function f ≡ true) × (Data r → Each (Of_positions (λ i. i < k)) 1 r → (F : ℕ → ℕ) (h : Shape) → Has_shape N τ m (push F φ) p h → Has_shape N τ m (push F φ) r (tells Z f (h ∷ [])))
+
+-- where a function called with a value means this, a sizing tells this, and type variables stand for these data
+module _ (N : Names) (τ : Meant) (Z : Sizing) (calls : FlatValue → FlatValue → Rel FlatValue) where
   unfoldable mutual
     pub Fits : Worth → Frames → Size → FlatValue → Type 0
-    Fits m φ (Hole v) w = Is_data (Has_shape N τ m φ (Hole v)) w
+    Fits m φ (Hole v) w = Is_data (Has_datum N τ m φ (Hole v)) w
     Fits m φ (Open n v u) w = ⊥
-    Fits m φ (Level d t) w = Is_data (Has_shape N τ m φ (Level d t)) w
+    Fits m φ (Level d t) w = Is_data (Has_datum N τ m φ (Level d t)) w
     Fits m φ (Built h ts) w = Of_head h (All_fit m φ ts) (λ n. Named_fit m φ n 0 ts) w
-    Fits m φ (Fun k p r) f = (F : ℕ → ℕ) (v : FlatValue) → F k ≡ word v → Fits m (push F φ) p v
-        → Gives (λ w. (F' : ℕ → ℕ) × ((i : ℕ) → i ≤ k → F' i ≡ F i) × Fits m (push F' φ) r w) (calls f v)
+    Fits m φ (Fun k p r) f = Tells_right N τ Z m φ k p r f × ((F : ℕ → ℕ) (v : FlatValue) → F k ≡ word v → Fits m (push F φ) p v
+        → Gives (λ w. (F' : ℕ → ℕ) × ((i : ℕ) → i ≤ k → F' i ≡ F i) × Fits m (push F' φ) r w) (calls f v))
 
     pub All_fit : Worth → Frames → Sizes → FlatValues → Type 0
     All_fit m φ no_size vs = No_value vs

@@ -1,93 +1,203 @@
--- Each value that a sized term may give is of its sized type. It is said here of the terms that use names, make tuples and
--- functions, apply them and bind names by lets.
-use Rattle.std.specs.Prelude.{◌≡◌, ℕ, ◌+◌, Bool, [], Some, None}
+-- Each value that a sized term may give is of its sized type. It is said here of the terms that use names, `map`, `reduce`,
+-- `scan`, `tabulate`, `iota` and `length`, reckon with scalars, make arrays and take their elements, make tuples and functions, say
+-- types, apply functions, bind names by lets and choose by conditions.
+use Rattle.std.specs.Prelude.{◌≡◌, ℕ, ◌+◌, Bool, true, false, List, [], ◌∷◌, Some, None, ℤ}
+use Rattle.fut_scalar.specs.declared.scalar.IntType.{IntType}
+use Rattle.fut_types.specs.declared.Head.TheVariants as head
+use Rattle.fut_flat.specs.declared.act.Part.{Part}
+use Rattle.fut_flat.specs.declared.act.Part.TheVariants as part
+use Rattle.fut_flat.specs.declared.prim.Primitive.{Primitive}
+use Rattle.fut_flat.specs.declared.prim.Primitive.TheVariants as prim
 use Rattle.fut_flat.specs.declared.prim.Ref.TheVariants as ref
-use Rattle.fut_flat.specs.Numbers.{numbers}
-use Rattle.fut_flat.specs.Terms.{Bound_pattern, Wild_pattern, Patterns, no_pattern, pattern_and, Tuple_of, Use, Strict, Lambda, Apply, Let, Terms, no_term, term_and}
-use Rattle.fut_flat.specs.Erased.{FlatTerm, FlatPattern}
-use Rattle.fut_types.specs.Types.{Sub}
-use Rattle.fut_typing.specs.Names.{Names}
+use Rattle.fut_flat.specs.Numbers.{pattern_numbers, all_pattern_numbers, own_numbers, numbers}
+use Rattle.fut_flat.specs.Terms.{Operation, Bound_pattern, Wild_pattern, Typed_pattern, Patterns, no_pattern, pattern_and, Type_use, Array_type, Unique_type, Tuple_type, Type_terms, no_type, type_and, Tuple_of, Array_of, Index, Ascribe, Declared, Use, Strict, Lambda, Apply, Let, If, Terms, no_term, term_and}
+use Rattle.fut_flat.specs.Erased.{FlatTerm, FlatPattern, FlatType}
+use Rattle.fut_types.specs.Types.{Ty, Sub}
+use Rattle.fut_typing.specs.Names.{Names, AreNames}
+use Rattle.fut_typing.specs.Typing.{term_types}
 use Rattle.fut_value.specs.Data.{Shape}
+use Rattle.fut_meaning.specs.Accessors.{count_of}
 use Rattle.fut_meaning.specs.Flats.{FlatValue, FlatEnv, FlatTops, flat_look, flat_names}
-use Rattle.fut_meaning.specs.Found.{Told}
+use Rattle.fut_meaning.specs.Found.{Told, Sizing}
+use Rattle.fut_meaning.specs.Telling.{found}
 use Rattle.fut_meaning.specs.Meaning.{plain, Ever}
 use Rattle.fut_meaning.specs.Outcomes.{Val, Rel}
 use Rattle.fut_meaning.specs.Values.{Task, Evaluate, Call}
-use Rattle.sized_types.specs.Sizes.{Free, Name, Variable, Size}
+use Rattle.sized_types.specs.Standing.{is_known}
+use Rattle.sized_types.specs.Sizes.{Free, Const, Name, At, Variable, Size, Level, Built, Fun, erased}
 use Rattle.fut_sizes.specs.Scoping.{Context}
+use Rattle.fut_sizes.specs.Suiting.{Data}
 use Rattle.fut_sizes.specs.Rules.{Outside, Inside, Away, Sized}
 use Rattle.fut_scalar.specs.declared.place.BindId.{BindId}
 use Rattle.fut_flat.specs.declared.prim.Ref.{Ref}
-use Rattle.sized_meaning.specs.Worth.{Worth, no_frames}
+use Rattle.sized_meaning.specs.Worth.{Worth, free, no_frames}
+use Rattle.sized_meaning.specs.Shapes.{Meant, exactly}
+use Rattle.sized_meaning.specs.Finding.{Fields_are, One_shape_each, Well_formed}
+use Rattle.sized_meaning.specs.Typed.{Scalar_rule}
 use Rattle.sized_meaning.specs.Fits.{Gives, word, Fits}
 
--- ---- terms of these forms
+-- ---- a sizing of a program: the fields of its records are those of the program's names, and its sized types have a form and are,
+-- without their sizes, the types of a typing
 
--- a pattern that is a name or none
-abbrev pub Simple : FlatPattern → Type 0
-Simple (Bound_pattern b) = Unit {0}
-Simple Wild_pattern = Unit {0}
-Simple p = ⊥
+pub record Sound (N : Names) (types : Sub) (Z : Sizing) : Type 0 where
+  pub names : AreNames N
+  pub fields : Fields_are N Z.fields
+  pub formed : (n : ℕ) → Well_formed Z.fields (Z.size_at n)
+  pub typed : (n : ℕ) → erased (Z.size_at n) ≡ types n
 
-abbrev pub All_simple : Patterns Ref BindId → Type 0
-All_simple no_pattern = Unit {0}
-All_simple (pattern_and p ps) = Simple p × All_simple ps
+-- ---- the meaning in which terms are evaluated: under these definitions, where a typing tells the types of integers, and a sizing
+-- sized types
 
-abbrev pub Named : FlatPattern → Type 0
-Named (Bound_pattern b) = Unit {0}
-Named p = ⊥
+pub record World : Type 0 where
+  pub integer_at : ℕ → IntType
+  pub sizing : Sizing
+  pub tops : FlatTops
+  pub tight : Bool
+  pub budget : ℕ
+
+-- whether a value of this sized type may be a number
+abbrev pub may_be_number : Size → Bool
+may_be_number (Level d t) = false
+may_be_number (Fun k p r) = false
+may_be_number (Built head.Tuple ts) = false
+may_be_number (Built (head.Record n) ts) = false
+may_be_number t = true
 
 -- no lambda, whose name could be general
 abbrev pub No_lambda : FlatTerm → Type 0
 No_lambda (Lambda ps e) = ⊥
 No_lambda e = Unit {0}
 
+-- ---- terms of these forms, whose nodes have the numbers from a number on
+
+module _ (Z : Sizing) where
+  -- a pattern that is a name or none, with a written type or without; where its value may be a number, the node is the home of no other name
+  abbrev pub Simple : FlatPattern → ℕ → Type 0
+  Simple (Bound_pattern b) q = (c : ℕ) → Z.home c ≡ q → may_be_number (Z.size_at q) ≡ true → c ≡ b.0
+  Simple Wild_pattern q = (c : ℕ) → Z.home c ≡ q → may_be_number (Z.size_at q) ≡ true → ⊥
+  Simple (Typed_pattern p t) q = Simple p q
+  Simple p q = ⊥
+
+  abbrev pub All_simple : Patterns Ref BindId → ℕ → Type 0
+  All_simple no_pattern q = Unit {0}
+  All_simple (pattern_and p ps) q = Simple p q × All_simple ps (q + pattern_numbers p)
+
+  abbrev pub Named : FlatPattern → ℕ → Type 0
+  Named (Bound_pattern b) q = Simple (Bound_pattern b) q
+  Named (Typed_pattern p t) q = Named p q
+  Named p q = ⊥
+
+-- a primitive of these
+abbrev pub Plain_primitive : Primitive → Type 0
+Plain_primitive prim.Map = Unit {0}
+Plain_primitive prim.Reduce = Unit {0}
+Plain_primitive prim.Scan = Unit {0}
+Plain_primitive prim.Tabulate = Unit {0}
+Plain_primitive prim.Iota = Unit {0}
+Plain_primitive prim.Length = Unit {0}
+Plain_primitive p = ⊥
+
+-- a written type of data, without records
 abbrev mutual
-  pub Plain_term : FlatTerm → Type 0
-  Plain_term (Use (ref.Bound b) at k) = Unit {0}
-  Plain_term (Strict Tuple_of mark ts) = Plain_terms ts
-  Plain_term (Lambda (pattern_and p ps) e) = Simple p × All_simple ps × Plain_term e
-  Plain_term (Apply f e) = Plain_term f × Plain_term e
-  Plain_term (Let b v e) = Named b.pattern × (b.sizes ≡ []) × No_lambda v × Plain_term v × Plain_term e
-  Plain_term e = ⊥
+  pub Written_data : FlatType → Type 0
+  Written_data (Type_use p args) = Unit {0}
+  Written_data (Array_type s e) = Written_data e
+  Written_data (Unique_type e) = Written_data e
+  Written_data (Tuple_type es) = All_written_data es
+  Written_data e = ⊥
 
-  pub Plain_terms : Terms Ref BindId → Type 0
-  Plain_terms no_term = Unit {0}
-  Plain_terms (term_and t ts) = Plain_term t × Plain_terms ts
+  pub All_written_data : Type_terms Ref BindId → Type 0
+  All_written_data no_type = Unit {0}
+  All_written_data (type_and e es) = Written_data e × All_written_data es
 
--- ---- the meaning in which they are evaluated: under these definitions, where a typing and a sizing tell this
+-- an index for each of the first levels of a type
+abbrev pub Indices : List Part → Terms Ref BindId → Size → Type 0
+Indices [] es t = Unit {0}
+Indices (part.At ∷ ps) (term_and e es) (Level d t) = Indices ps es t
+Indices ps es t = ⊥
 
-pub record World : Type 0 where
-  pub told : Told
-  pub tops : FlatTops
-  pub tight : Bool
-  pub budget : ℕ
+module _ (N : Names) (types : Sub) (W : World) where
+  -- elements of an array: data, all of one type
+  abbrev pub Elements : Ty → Terms Ref BindId → ℕ → Type 0
+  Elements t no_term at = Unit {0}
+  Elements t (term_and e es) at = Data (W.sizing.size_at at) × (types at ≡ t) × Elements t es (at + numbers e)
+
+  -- without elements their type says all that there is to be known
+  abbrev pub Array_parts : ℕ → Terms Ref BindId → ℕ → Type 0
+  Array_parts lo no_term at = (t : Size) × (W.sizing.size_at lo ≡ Level (At (Const 0)) t) × (is_known t ≡ true)
+  Array_parts lo (term_and e es) at = Elements (types at) (term_and e es) at
+
+  abbrev pub Indexed_parts : List Part → Terms Ref BindId → ℕ → Type 0
+  Indexed_parts ps no_term at = ⊥
+  Indexed_parts ps (term_and e es) at = Data (W.sizing.size_at at) × Indices ps es (W.sizing.size_at at)
+
+  -- what is declared to be data of a type, and mentions nothing that the node meets
+  abbrev pub Declared_part : FlatType → ℕ → Terms Ref BindId → ℕ → Type 0
+  Declared_part e lo (term_and x no_term) at = Written_data e × Data (W.sizing.size_at at) × Away N types W.sizing.size_at W.sizing.home lo (1 + lo) (W.sizing.size_at at)
+  Declared_part e lo ts at = ⊥
+
+  -- an operation of these, whose parts' nodes stand behind those of its own
+  abbrev pub Plain_operation : Operation Ref BindId → ℕ → Terms Ref BindId → Type 0
+  Plain_operation Tuple_of lo ts = Unit {0}
+  Plain_operation Array_of lo ts = Array_parts lo ts (lo + 1)
+  Plain_operation (Index ps) lo ts = Indexed_parts ps ts (lo + 1)
+  Plain_operation (Declared e) lo ts = Declared_part e lo ts (lo + 1)
+  Plain_operation (Ascribe e) lo (term_and x no_term) = Unit {0}
+  Plain_operation o lo ts = Scalar_rule (W.integer_at lo) o (types lo) (term_types types ts (lo + own_numbers o))
+
+  abbrev mutual
+    pub Plain_term : FlatTerm → ℕ → Type 0
+    Plain_term (Use (ref.Bound b) at k) lo = Unit {0}
+    Plain_term (Use (ref.Prim p) at k) lo = Plain_primitive p
+    Plain_term (Strict o mark ts) lo = Plain_operation o lo ts × Plain_terms ts (lo + own_numbers o)
+    Plain_term (Lambda (pattern_and p ps) e) lo = Simple W.sizing p (1 + lo) × All_simple W.sizing ps (1 + lo + pattern_numbers p) × Plain_term e (1 + lo + (pattern_numbers p + all_pattern_numbers ps))
+    Plain_term (Apply f e) lo = Plain_term f (1 + lo) × Plain_term e (1 + lo + numbers f)
+    Plain_term (Let b v e) lo = Named W.sizing b.pattern (1 + lo) × (b.sizes ≡ []) × No_lambda v × Plain_term v (1 + lo + pattern_numbers b.pattern) × Plain_term e (1 + lo + pattern_numbers b.pattern + numbers v)
+    Plain_term (If c a b) lo = Plain_term c (1 + lo) × Plain_term a (1 + lo + numbers c) × Plain_term b (1 + lo + numbers c + numbers a)
+    Plain_term e lo = ⊥
+
+    pub Plain_terms : Terms Ref BindId → ℕ → Type 0
+    Plain_terms no_term lo = Unit {0}
+    Plain_terms (term_and t ts) lo = Plain_term t lo × Plain_terms ts (lo + numbers t)
+
+abbrev pub told : World → Told
+told W = record { integer_at = W.integer_at; sizes = Some W.sizing }
 
 abbrev pub FlatTask : Type 0
 FlatTask = Task Ref BindId (Unit {0})
 
 abbrev pub means : World → FlatTask → Rel FlatValue
-means W t = Ever ((flat_names W.told).lang W.tops) (plain W.tight) W.budget t
+means W t = Ever ((flat_names (told W)).lang W.tops) (plain W.tight) W.budget t
 
 abbrev pub calls : World → FlatValue → FlatValue → Rel FlatValue
 calls W f v = means W (Call f v)
 
-module _ (N : Names) (types : Sub) (s : ℕ → Size) (home : ℕ → ℕ) (τ : Variable → Shape) (W : World) where
+module _ (N : Names) (types : Sub) (τ : Meant) (W : World) where
+  -- made or bound at none of these nodes
+  abbrev pub Beyond : ℕ → ℕ → Free → Type 0
+  Beyond lo hi d = Outside N types W.sizing.size_at W.sizing.home lo hi d
+
   -- the names in scope have values of their sized types, which no node from lo up to hi makes
   pub record Env_fits (lo hi : ℕ) (m : Worth) (G : Context) (env : FlatEnv) : Type 0 where
-    pub found : (b : ℕ) (t : Size) → G.sizes b ≡ Some t → (v : FlatValue) → flat_look W.tops env b ≡ Val v → Fits N τ (calls W) m no_frames t v × (word v ≡ m (Name b))
-    pub away : (b : ℕ) (t : Size) → G.sizes b ≡ Some t → Away N types s home lo hi t × Outside N types s home lo hi (Name b)
+    pub values : (b : ℕ) (t : Size) → G.sizes b ≡ Some t → (v : FlatValue) → flat_look W.tops env b ≡ Val v → Fits N τ W.sizing (calls W) m no_frames t v × (word v ≡ m (Name b))
+    pub away : (b : ℕ) (t : Size) → G.sizes b ≡ Some t → Away N types W.sizing.size_at W.sizing.home lo hi t × Beyond lo hi (Name b)
     pub none_general : (b : ℕ) → G.schemes b ≡ None
     -- what these nodes bind has no value yet
-    pub fresh : (b : ℕ) (v : FlatValue) → Inside N types s home lo hi (Name b) → flat_look W.tops env b ≡ Val v → ⊥
+    pub fresh : (b : ℕ) (v : FlatValue) → Inside N types W.sizing.size_at W.sizing.home lo hi (Name b) → flat_look W.tops env b ≡ Val v → ⊥
+    -- what is found under the names is right, and made before
+    pub sizes_right : (d : Free) (n : ℤ) → (found W.sizing env).size d ≡ Some n → (count_of n ≡ free m d) × Beyond lo hi d
+    pub types_right : (v : Variable) (h : Shape) → (found W.sizing env).type v ≡ Some h → (τ v).shape h
+    -- and all is found that is known to be
+    pub finds : (d : Free) → G.finds d ≡ true → (n : ℤ) × ((found W.sizing env).size d ≡ Some n)
+    pub finds_types : (v : Variable) → G.finds_types v ≡ true → (h : Shape) × ((found W.sizing env).type v ≡ Some h)
 
   -- the value is of this sized type, with what was met at these nodes
   pub record Result (lo hi : ℕ) (m : Worth) (t : Size) (v : FlatValue) : Type 0 where
     pub now : Worth
-    pub old : (d : Free) → Outside N types s home lo hi d → now d ≡ m d
-    pub fits : Fits N τ (calls W) now no_frames t v
+    pub old : (d : Free) → Beyond lo hi d → now d ≡ m d
+    pub fits : Fits N τ W.sizing (calls W) now no_frames t v
 
 abbrev pub ValuesHaveTheirSizes : Type 0
-ValuesHaveTheirSizes = (N : Names) (types : Sub) (s : ℕ → Size) (home : ℕ → ℕ) (τ : Variable → Shape) (W : World) (t : FlatTerm) (lo : ℕ) (G : Context) (env : FlatEnv) (m : Worth)
-    → Plain_term t → Sized N types s home t lo G → Env_fits N types s home τ W lo (lo + numbers t) m G env
-    → Gives (Result N types s home τ W lo (lo + numbers t) m (s lo)) (means W (Evaluate env lo t))
+ValuesHaveTheirSizes = (N : Names) (types : Sub) (τ : Variable → Shape) (W : World) (t : FlatTerm) (lo : ℕ) (G : Context) (env : FlatEnv) (m : Worth)
+    → Sound N types W.sizing → One_shape_each τ → Plain_term N types W t lo → Sized N types W.sizing.size_at W.sizing.home t lo G → Env_fits N types (exactly τ) W lo (lo + numbers t) m G env
+    → Gives (Result N types (exactly τ) W lo (lo + numbers t) m (W.sizing.size_at lo)) (means W (Evaluate env lo t))

@@ -4,4 +4,5 @@ pub mod Fits
 pub mod Claims
 pub mod Law
 pub mod Finding
+pub mod Typed
 pub mod Entered

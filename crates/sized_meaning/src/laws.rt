@@ -10,7 +10,9 @@ pub fn suiting_values_fit()
     ensures { SuitingValuesFit }
 {}
 
-/// Each value that a sized term of names, tuples, functions, applications and lets of names may give is of its sized type.
+/// Each value that a sized term may give is of its sized type, for terms of names, scalars, array literals, elements of arrays,
+/// `map`, `reduce`, `scan`, `tabulate`, `iota`, `length`, tuples, functions and what they declare, applications, lets of names
+/// and branches.
 #[tactic(auto, using(crate::proofs::Law::values_have_their_sizes))]
 pub fn values_have_their_sizes()
     ensures { ValuesHaveTheirSizes }

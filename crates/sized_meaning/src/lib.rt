@@ -1,10 +1,12 @@
 //! Which values are of a sized type, and that the sizes which the meaning finds are right.
 //!
 //! The definitions (`specs/`) speak of values of flat programs and of sized types. `specs/Fits.antt` says which values are of
-//! a sized type: data of that shape, and functions that take values of what they take to values of what they give. Two laws
-//! on them: where one sized type suits another, a value of the one is of the other; and each value that a sized term may give
-//! is of its sized type, for terms of names, tuples, functions, applications and lets of names (`specs/Law.antt`). Of other
-//! terms nothing is claimed there: primitives, literals, indices, branches, loops, general names, patterns with parts.
+//! a sized type: data of that type, and functions that take values of what they take to values of what they give and tell
+//! their results' shapes right. Two laws on them: where one sized type suits another, a value of the one is of the other; and
+//! each value that a sized term may give is of its sized type (`specs/Law.antt`), for terms of names, scalars, array literals,
+//! elements of arrays, `map`, `reduce`, `scan`, `tabulate`, `iota`, `length`, tuples, functions and what they declare,
+//! applications, lets of names and branches. Of other terms nothing is claimed there: other primitives, slices, loops, general
+//! names, patterns with parts, records, `:>`.
 //!
 //! The other laws are on what the meaning finds of sizes that no value shows. `specs/Finding.antt`: in the shape of data of a
 //! sized type. `specs/Entered.antt`: under names, where what was entered is right; so an array literal without elements has

@@ -1,0 +1,152 @@
+-- What operations give is of the sized type that their rules say.
+use Rattle.std.proofs.Common.{◌≡◌, ℕ, ◌+◌, List, [], ◌∷◌, false, Some, None, Ok, refl, sym, ap, ◌∙◌, subst, suc, true}
+use Rattle.fut_arithmetic.specs.Types.{result_type}
+use Rattle.fut_scalar.specs.declared.place.BindId.{BindId}
+use Rattle.fut_scalar.specs.declared.place.Place.{Place}
+use Rattle.fut_scalar.specs.declared.scalar.ScalarType.{ScalarType}
+use Rattle.fut_scalar.specs.declared.scalar.ScalarType.TheVariants as sort
+use Rattle.fut_flat.specs.declared.prim.Ref.{Ref}
+use Rattle.fut_flat.specs.Numbers.{numbers, own_numbers}
+use Rattle.fut_flat.specs.Terms.{Operation, Integer, Truth, Tuple_of, Array_of, Index, Declared, Binary, Negate, Complement, Assert, Terms, no_term, term_and, Ascribe}
+use Rattle.fut_types.specs.declared.Head.TheVariants as head
+use Rattle.fut_types.specs.Types.{Made, none, Sub, scalar_ty}
+use Rattle.fut_typing.specs.Names.{Names}
+use Rattle.fut_meaning.specs.Flats.{FlatValue, FlatEnv, flat_names}
+use Rattle.fut_meaning.specs.Meaning.{row_told, fits_type, Of_literal}
+use Rattle.fut_meaning.specs.Operations.{operated, operate, coerced}
+use Rattle.fut_meaning.specs.Outcomes.{Out, Val}
+use Rattle.fut_meaning.specs.Values.{Tuple_value, values}
+use Rattle.sized_types.specs.Sizes.{Inferred, Written, Size, Hole, Open, Level, Built, Fun, Sizes, no_size, size_and, erased, all_erased, At, Bound, Unknown}
+use Rattle.fut_sizes.specs.Agreeing.{no_size_of, of_type, of_types}
+use Rattle.fut_sizes.specs.Operations.{operation}
+use Rattle.fut_sizes.specs.Rules.{part_sizes}
+use Rattle.sized_meaning.specs.Worth.{Worth, no_frames}
+use Rattle.sized_meaning.specs.Shapes.{Meant}
+use Rattle.sized_meaning.specs.Finding.{One_kind_each}
+use Rattle.sized_meaning.specs.Fits.{Out_fits, Gives, Is_scalar, Fits, All_fit}
+use Rattle.sized_meaning.specs.Law.{Beyond, Sound, World, told, calls, Plain_operation, Result as Res}
+use Rattle.sized_meaning.proofs.Ways.{out_as}
+use Rattle.sized_meaning.proofs.Outcomes.{gives_exact}
+use Rattle.sized_meaning.proofs.Suiting.{same_ok, at_node}
+use Rattle.sized_meaning.proofs.Environments.{beyond_node}
+use Rattle.fut_sizes.specs.WrittenSizes.{has_sizes, with_sizes, declared, ascribed}
+use Rattle.sized_meaning.proofs.Alike.{alike_fits}
+use Rattle.sized_meaning.proofs.Branches.{all_of}
+use Rattle.sized_meaning.proofs.Declared.{declared_as}
+use Rattle.sized_meaning.proofs.Elements.{then_ok, array_fits}
+use Rattle.sized_meaning.proofs.Indexing.{index_fits}
+use Rattle.sized_meaning.proofs.Scalars.{binary_gives, negated_gives, turned_gives, asserted_gives}
+
+module _ (N : Names) (types : Sub) (τ : Meant) (W : World) (S : Sound N types W.sizing) (one : One_kind_each τ) where
+  abbrev s : ℕ → Size
+  s n = W.sizing.size_at n
+
+  abbrev Of : Worth → Size → FlatValue → Type 0
+  Of m t v = Fits N τ W.sizing (calls W) m no_frames t v
+
+  abbrev parts : Terms Ref BindId → ℕ → Sizes
+  parts ts at = part_sizes N types W.sizing.size_at W.sizing.home ts at
+
+  -- a value of a scalar type is a scalar
+  scalar_part : (m : Worth) (t : Size) (c : ScalarType) (v : FlatValue) → erased t ≡ scalar_ty c → Of m t v → Is_scalar c v
+  unfolding Fits erased all_erased
+  scalar_part m (Built (head.Scalar x) ts) c v e h = let z : x ≡ c = (let y : Made (head.Scalar x) (all_erased ts) ≡ Made (head.Scalar c) none = e in cc) in subst (λ y. Is_scalar y v) z h
+  scalar_part m (Hole (Inferred a)) c v e h = absurd (let z = e in cc)
+  scalar_part m (Hole (Written b k)) c v e h = absurd (let z = e in cc)
+  scalar_part m (Open n a u) c v e h = absurd h
+  scalar_part m (Level d t) c v e h = absurd (let z = e in cc)
+  scalar_part m (Fun k p r) c v e h = absurd (let z = e in cc)
+  scalar_part m (Built head.Tuple ts) c v e h = absurd (let z = e in cc)
+  scalar_part m (Built (head.Record n) ts) c v e h = absurd (let z = e in cc)
+  scalar_part m (Built (head.Abstract n k) ts) c v e h = absurd h
+  scalar_part m (Built head.Array ts) c v e h = absurd h
+  scalar_part m (Built head.Fun ts) c v e h = absurd h
+  scalar_part m (Built (head.Rigid n k) ts) c v e h = absurd h
+
+  part_is : (m : Worth) (n : ℕ) (c : ScalarType) (v : FlatValue) → types n ≡ scalar_ty c → Of m (s n) v → Is_scalar c v
+  part_is m n c v e h = scalar_part m (s n) c v (S.typed n ∙ e) h
+
+  -- a scalar is of the type of a node that is no array
+  scalar_fits : (lo : ℕ) (m : Worth) (c : ScalarType) (v : FlatValue) → types lo ≡ scalar_ty c → of_type (no_size_of lo) 0 (types lo) ≡ s lo → Is_scalar c v → Res N types τ W lo (1 + lo) m (s lo) v
+  unfolding Fits of_type of_types
+  scalar_fits lo m c v e q h = record {
+    now = m;
+    old = λ d o. refl;
+    fits = subst (λ u. Of m u v) (ap (of_type (no_size_of lo) 0) (sym e) ∙ q) h;
+  }
+
+  -- so many parts have so many values
+  no_parts : (m : Worth) (vs : List FlatValue) → All_fit N τ W.sizing (calls W) m no_frames no_size (values vs) → vs ≡ []
+  unfolding All_fit
+  no_parts m [] h = refl
+  no_parts m (v ∷ vs) h = absurd h
+
+  record One_part (m : Worth) (t : Size) (vs : List FlatValue) : Type 0 where
+    first : FlatValue
+    all : vs ≡ first ∷ []
+    first_fits : Of m t first
+
+  one_part : (m : Worth) (t : Size) (vs : List FlatValue) → All_fit N τ W.sizing (calls W) m no_frames (size_and t no_size) (values vs) → One_part m t vs
+  unfolding All_fit
+  one_part m t [] h = absurd h
+  one_part m t (v ∷ []) h = record { first = v; all = refl; first_fits = h.0 }
+  one_part m t (v ∷ w ∷ vs) h = absurd h.1
+
+  record Two_parts (m : Worth) (t u : Size) (vs : List FlatValue) : Type 0 where
+    first : FlatValue
+    second : FlatValue
+    all : vs ≡ first ∷ second ∷ []
+    first_fits : Of m t first
+    second_fits : Of m u second
+
+  two_parts : (m : Worth) (t u : Size) (vs : List FlatValue) → All_fit N τ W.sizing (calls W) m no_frames (size_and t (size_and u no_size)) (values vs) → Two_parts m t u vs
+  unfolding All_fit
+  two_parts m t u [] h = absurd h
+  two_parts m t u (v ∷ []) h = absurd h.1
+  two_parts m t u (v ∷ w ∷ []) h = record { first = v; second = w; all = refl; first_fits = h.0; second_fits = h.1.0 }
+  two_parts m t u (v ∷ w ∷ x ∷ vs) h = absurd h.1.1
+
+  abbrev Gives_node : Operation Ref BindId → Place → ℕ → FlatEnv → Worth → List FlatValue → Type 0
+  Gives_node o mark lo env m vs = Gives (Res N types τ W lo (1 + lo) m (s lo)) (operated false (row_told ((flat_names (told W)).lang W.tops) (Of_literal env lo)) (fits_type ((flat_names (told W)).lang W.tops) env lo) (W.integer_at lo) o mark vs)
+
+  -- an outcome that is a scalar
+  scalar_out : (lo : ℕ) (m : Worth) (c : ScalarType) (o : Out FlatValue) → types lo ≡ scalar_ty c → of_type (no_size_of lo) 0 (types lo) ≡ s lo → Out_fits (Is_scalar c) o → Out_fits (Res N types τ W lo (1 + lo) m (s lo)) o
+  scalar_out lo m c o e q h = out_as (Is_scalar c) (Res N types τ W lo (1 + lo) m (s lo)) o (λ v x. scalar_fits lo m c v e q x) h
+
+  pub operation_fits : (o : Operation Ref BindId) (mark : Place) (ts : Terms Ref BindId) (lo : ℕ) (env : FlatEnv) (m : Worth) (vs : List FlatValue) → Plain_operation N types W o lo ts → All_fit N τ W.sizing (calls W) m no_frames (parts ts (lo + own_numbers o)) (values vs)
+      → operation N types o lo (lo + own_numbers o) ts (parts ts (lo + own_numbers o)) ≡ Ok (s lo) → Gives_node o mark lo env m vs
+  unfolding Fits All_fit operate coerced operation declared ascribed
+  operation_fits Tuple_of mark ts lo env m vs p h e = gives_exact _ 0 (Val (Tuple_value (values vs))) (record { now = m; old = λ d o. refl; fits = subst (λ u. Of m u (Tuple_value (values vs))) (same_ok (Built head.Tuple (parts ts (lo + 1))) (s lo) e) h })
+  operation_fits Array_of mark ts lo env m vs p h e = array_fits N types τ W S one m mark ts lo env vs p h e
+  operation_fits (Index ps) mark (term_and x es) lo env m vs p h e = index_fits N types τ W S one m ps mark x es lo env vs p h e
+  operation_fits (Declared e) mark (term_and x no_term) lo env m vs p h q =
+      let v = one_part m (s (lo + 1)) vs h in
+      let r = then_ok (has_sizes N true (lo + 1) e (s (lo + 1))) (λ z. Ok (with_sizes N (Some (λ k i d. Bound 0 (suc k + i))) (λ i d. At (Unknown lo i)) 0 e (s (lo + 1)))) (s lo) q in
+      subst (Gives_node (Declared e) mark lo env m) (sym v.all) (gives_exact _ 0 (Val v.first) (record {
+        now = at_node lo (all_of m (s (lo + 1))) m;
+        old = λ d o. beyond_node N types τ W lo (all_of m (s (lo + 1))) m d o;
+        fits = subst (λ u. Of (at_node lo (all_of m (s (lo + 1))) m) u v.first) (same_ok _ (s lo) r.2)
+            ((alike_fits N τ m (at_node lo (all_of m (s (lo + 1))) m) W.sizing (calls W)
+            (declared_as N (Some (λ k i d. Bound 0 (suc k + i))) (Beyond N types τ W lo (1 + lo)) lo (lo + 1) m e (s (lo + 1)) r.0 (λ d o. beyond_node N types τ W lo (all_of m (s (lo + 1))) m d o) p.0 p.1 p.2 r.1) v.first).0 v.first_fits);
+      }))
+  operation_fits (Ascribe e) mark (term_and x no_term) lo env m vs p h q =
+      let v = one_part m (s (lo + 1)) vs h in
+      let r = then_ok (has_sizes N true (lo + 1) e (s (lo + 1))) (λ z. Ok (s (lo + 1))) (s lo) q in
+      subst (Gives_node (Ascribe e) mark lo env m) (sym v.all) (gives_exact _ 0 (Val v.first) (record { now = m; old = λ d o. refl; fits = subst (λ u. Of m u v.first) (same_ok (s (lo + 1)) (s lo) r.2) v.first_fits }))
+  operation_fits (Integer n None) mark no_term lo env m vs p h e = subst (Gives_node (Integer n None) mark lo env m) (sym (no_parts m vs h)) (gives_exact _ 0 _ (scalar_fits lo m (sort.Int (W.integer_at lo)) _ p (same_ok _ (s lo) e) refl))
+  operation_fits (Integer n (Some j)) mark no_term lo env m vs p h e = subst (Gives_node (Integer n (Some j)) mark lo env m) (sym (no_parts m vs h)) (gives_exact _ 0 _ (scalar_fits lo m (sort.Int j) _ p (same_ok _ (s lo) e) refl))
+  operation_fits (Truth b) mark no_term lo env m vs p h e = subst (Gives_node (Truth b) mark lo env m) (sym (no_parts m vs h)) (gives_exact _ 0 _ (scalar_fits lo m sort.Bool _ p (same_ok _ (s lo) e) refl))
+  operation_fits (Binary o) mark (term_and x (term_and y no_term)) lo env m vs p h e =
+      let q = two_parts m (s (lo + 2)) (s (lo + 2 + numbers x)) vs h in
+      subst (Gives_node (Binary o) mark lo env m) (sym q.all) (gives_exact _ 0 _ (scalar_out lo m (result_type o p.0) _ p.1 (same_ok _ (s lo) e)
+      (binary_gives o mark p.0 q.first q.second (types (lo + 2)) (λ z. part_is m (lo + 2) p.0 q.first z q.first_fits) p.2)))
+  operation_fits Negate mark (term_and x no_term) lo env m vs p h e =
+      let q = one_part m (s (lo + 1)) vs h in
+      subst (Gives_node Negate mark lo env m) (sym q.all) (gives_exact _ 0 _ (scalar_out lo m p.0 _ p.1 (same_ok _ (s lo) e) (negated_gives p.0 q.first (part_is m (lo + 1) p.0 q.first p.2 q.first_fits))))
+  operation_fits Complement mark (term_and x no_term) lo env m vs p h e =
+      let q = one_part m (s (lo + 1)) vs h in
+      subst (Gives_node Complement mark lo env m) (sym q.all) (gives_exact _ 0 _ (scalar_out lo m p.0 _ p.1 (same_ok _ (s lo) e) (turned_gives p.0 q.first (part_is m (lo + 1) p.0 q.first p.2 q.first_fits))))
+  operation_fits Assert mark (term_and x no_term) lo env m vs p h e =
+      let q = one_part m (s (lo + 1)) vs h in
+      subst (Gives_node Assert mark lo env m) (sym q.all) (gives_exact _ 0 _ (scalar_out lo m sort.Bool _ p.0 (same_ok _ (s lo) e) (asserted_gives mark q.first (part_is m (lo + 1) sort.Bool q.first p.1 q.first_fits))))
+  operation_fits o mark ts lo env m vs p h e = absurd p

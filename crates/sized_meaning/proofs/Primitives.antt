@@ -1,0 +1,195 @@
+-- The primitives are of their sized types.
+use Rattle.std.specs.Prelude.{ℤ, pos, negsuc, nat_le}
+use Rattle.std.proofs.Common.{◌≡◌, ◌⊎◌, ℕ, zero, suc, [], ◌∷◌, length, Bool, true, false, refl, sym, ap, ◌∙◌, subst, arith, inl, inr, List, ◌≤◌}
+use Rattle.fut_scalar.specs.Integers.{integer_of}
+use Rattle.fut_scalar.specs.declared.place.Place.{Place}
+use Rattle.fut_scalar.specs.declared.report.FailKind.TheVariants as kind
+use Rattle.fut_scalar.specs.declared.scalar.IntType.TheVariants.{I64}
+use Rattle.fut_scalar.specs.declared.scalar.Scalar.TheVariants as scalar
+use Rattle.fut_scalar.specs.declared.scalar.ScalarType.TheVariants as sort
+use Rattle.fut_flat.specs.declared.prim.Primitive.{Primitive}
+use Rattle.fut_flat.specs.declared.prim.Primitive.TheVariants as prim
+use Rattle.fut_scalar.specs.declared.place.BindId.{BindId}
+use Rattle.fut_flat.specs.declared.prim.Ref.{Ref}
+use Rattle.fut_types.specs.Types.{Sub}
+use Rattle.fut_typing.specs.Names.{Names}
+use Rattle.fut_value.specs.Data.{Datum, Scalar_datum, Array_datum, datums, Shape, Scalar_shape}
+use Rattle.fut_meaning.specs.Accessors.{count_of}
+use Rattle.fut_meaning.specs.Arrays.{checked, most_words, fresh, array}
+use Rattle.fut_meaning.specs.Datums.{as_value, datum_of}
+use Rattle.fut_meaning.specs.Flats.{FlatValue, flat_names}
+use Rattle.fut_meaning.specs.Jobs.{Job, Done, done, sized, i64_shape, numbers_from, job, Apply_each, alone, array_of_indices, finished}
+use Rattle.fut_meaning.specs.Meaning.{plain, no_function, job_of, row_told, Of_function, called_on}
+use Rattle.fut_meaning.specs.Operations.{primitive_use}
+use Rattle.fut_meaning.specs.Outcomes.{Out, Val, the, Then, and_then}
+use Rattle.fut_meaning.specs.Values.{Scalar_value, Primitive_value, no_value, Call, value_and}
+use Rattle.fut_meaning.proofs.Safe.{Every}
+use Rattle.sized_types.specs.Sizes.{Inferred, Bound, Variable, Size, Level, Fun}
+use Rattle.fut_sizes.specs.Scopes.{i64_size}
+use Rattle.fut_sizes.specs.Primitives.{prim_size, sized_type}
+use Rattle.fut_sizes.specs.Suiting.{Each, Scoped, Suits, Data}
+use Rattle.fut_sizes.specs.Rules.{For_each_choice, Filled_use, Any_free, filled, all_filled}
+use Rattle.sized_meaning.specs.Worth.{Worth, Frames, no_frames, push, number}
+use Rattle.sized_meaning.specs.Shapes.{Meant, Has_shape, Has_datum}
+use Rattle.sized_meaning.specs.Finding.{One_kind_each}
+use Rattle.sized_meaning.specs.Fits.{Out_fits, Gives, Is_scalar, word, Fits}
+use Rattle.sized_meaning.specs.Law.{Sound, Plain_primitive, World, told, means, calls}
+use Rattle.sized_meaning.proofs.Scalars.{out_then}
+use Rattle.sized_meaning.proofs.Ways.{gives_as}
+use Rattle.sized_meaning.proofs.Outcomes.{gives_exact, gives_then}
+use Rattle.sized_meaning.proofs.Suiting.{at_node, suits_fits, instance_fits}
+use Rattle.fut_meaning.proofs.Data.{datum_of_as}
+use Rattle.fut_meaning.specs.Telling.{tells, primitive_tells}
+use Rattle.sized_meaning.proofs.Datas.{datum_fits}
+use Rattle.sized_meaning.proofs.Applications.{evaluates}
+use Rattle.sized_meaning.proofs.Reducing.{reduce_fits, scan_fits}
+use Rattle.sized_meaning.proofs.Mapping.{array_of_rows, array_value, map_fits, One_of, alone_every, alone_long, gives_each, on_row, row_is_told, array_gives}
+
+many_numbers : (k i : ℕ) → length (numbers_from k i) ≡ k
+many_numbers zero i = refl
+many_numbers (suc k) i = ap suc (many_numbers k (suc i))
+
+module _ (N : Names) (types : Sub) (τ : Meant) (W : World) (S : Sound N types W.sizing) (one : One_kind_each τ) (m : Worth) where
+  -- ---- what a primitive without a function gives at once
+
+  abbrev Done_with : (Datum → Type 0) → Job → Type 0
+  Done_with P (Done r) = P r.1
+  Done_with P j = ⊥
+
+  done_gives : (P : Datum → Type 0) (Q : FlatValue → Type 0) (k : ℕ) (f : FlatValue) (o : Out Job) → Out_fits (Done_with P) o → ((x : Datum) → P x → Q (as_value x)) → Gives Q (Then (the o) (job_of ((flat_names (told W)).lang W.tops) (plain W.tight) W.budget (means W) k f))
+  unfolding plain
+  done_gives P Q k f o h go = gives_then (Done_with P) Q (the o) _ (gives_exact (Done_with P) 0 o h) result
+    where
+      result : (j : Job) → Done_with P j → Gives Q (job_of ((flat_names (told W)).lang W.tops) (plain W.tight) W.budget (means W) k f j)
+      result (Done r) x = gives_then P Q _ _ (gives_exact P r.0 (Val r.1) x) (λ d y. gives_exact Q 0 (Val (as_value d)) (go d y))
+      result j x = absurd x
+
+  -- ---- iota
+
+  module _ (at : Place) where
+    abbrev Counted_out : Frames → Datum → Type 0
+    Counted_out φ d = Has_datum N τ m φ (Level (Bound 0 0) i64_size) d
+
+    numbers_are : (φ : Frames) (k i : ℕ) → Every (Has_datum N τ m φ i64_size) (numbers_from k i)
+    unfolding Has_datum
+    numbers_are φ zero i = tt
+    numbers_are φ (suc k) i = (refl, numbers_are φ k (suc i))
+
+    counted : (φ : Frames) (z : ℤ) → count_of z ≡ number m φ (Bound 0 0) → Out_fits (Done_with (Counted_out φ)) (sized at z (λ k. done (checked (nat_le k most_words) kind.TooLarge at (fresh (Array_datum i64_shape (datums (numbers_from k 0)))))))
+    unfolding Has_shape
+    counted φ (negsuc n) e = tt
+    counted φ (pos k) e = tested (nat_le k most_words)
+      where
+        tested : (c : Bool) → Out_fits (Done_with (Counted_out φ)) (done (checked c kind.TooLarge at (fresh (Array_datum i64_shape (datums (numbers_from k 0))))))
+        tested true = array_of_rows N types τ W S one m φ (Bound 0 0) i64_size i64_shape (numbers_from k 0) (many_numbers k 0 ∙ e) refl (numbers_are φ k 0)
+        tested false = tt
+
+    iota_gives : (F : ℕ → ℕ) (v : FlatValue) → F 0 ≡ word v → Is_scalar (sort.Int I64) v → Gives (Fits N τ W.sizing (calls W) m (push F no_frames) (Level (Bound 0 0) i64_size)) (means W (Call (Primitive_value prim.Iota at no_value) v))
+    unfolding plain job word push datum_of
+    iota_gives F (Scalar_value (scalar.Int t n)) e h = evaluates N types τ W S one (Fits N τ W.sizing (calls W) m (push F no_frames) (Level (Bound 0 0) i64_size)) (Call (Primitive_value prim.Iota at no_value) (Scalar_value (scalar.Int t n)))
+        (gives_then (λ ds. ds ≡ Scalar_datum (scalar.Int t n) ∷ []) (Fits N τ W.sizing (calls W) m (push F no_frames) (Level (Bound 0 0) i64_size)) _ _
+        (gives_exact _ 0 (Val (Scalar_datum (scalar.Int t n) ∷ [])) refl)
+        (λ ds q. subst (λ z. Gives (Fits N τ W.sizing (calls W) m (push F no_frames) (Level (Bound 0 0) i64_size)) (Then (the (job false (row_told ((flat_names (told W)).lang W.tops) (Of_function prim.Iota no_function z)) prim.Iota at z)) (job_of ((flat_names (told W)).lang W.tops) (plain W.tight) W.budget (means W) 0 no_function))) (sym q)
+        (done_gives (Counted_out (push F no_frames)) (Fits N τ W.sizing (calls W) m (push F no_frames) (Level (Bound 0 0) i64_size)) 0 no_function _ (counted (push F no_frames) (integer_of t n) (sym e)) (λ x y. array_value N types τ W S one m (push F no_frames) (Bound 0 0) i64_size x y))))
+    iota_gives F (Scalar_value (scalar.Bool b)) e h = absurd (let z : sort.Bool ≡ sort.Int I64 = h in cc)
+    iota_gives F v e h = absurd h
+
+    iota_fits : Fits N τ W.sizing (calls W) m no_frames (Fun 0 i64_size (Level (Bound 0 0) i64_size)) (Primitive_value prim.Iota at no_value)
+    unfolding Fits Each
+    iota_fits = ((refl, λ dr low. absurd (let l = low.0 refl in omega (arith, l))), λ F v eF hv. gives_as _ _ _ (iota_gives F v eF hv) (λ w x. (F, (λ i l. refl), x)))
+
+  -- ---- tabulate
+
+  module _ (a : Size) (data_a : Data a) (closed_a : Each (Scoped Any_free) 0 a) (at : Place) (φ : Frames) (f : FlatValue) (hf : Fits N τ W.sizing (calls W) m φ (Fun 0 i64_size a) f) where
+    abbrev Tabled : FlatValue → Type 0
+    Tabled w = Fits N τ W.sizing (calls W) m φ (Level (Bound 1 0) a) w
+
+    index_data : Data i64_size
+    unfolding Data
+    index_data = tt
+
+    index_closed : Each (Scoped Any_free) 0 i64_size
+    unfolding Each
+    index_closed = tt
+
+    tabled_rows : (k : ℕ) (row : Shape) (ys : List Datum) → length ys ≡ number m φ (Bound 1 0) → Has_shape N τ m φ a row → Every (Has_datum N τ m φ a) ys → Gives (Has_datum N τ m φ (Level (Bound 1 0) a)) (finished (array_of_indices false row at k) ys)
+    tabled_rows k row ys l h e = gives_then (λ r. Has_datum N τ m φ (Level (Bound 1 0) a) r.1) (Has_datum N τ m φ (Level (Bound 1 0) a)) _ _
+        (gives_exact (λ r. Has_datum N τ m φ (Level (Bound 1 0) a) r.1) 0 (array_of_indices false row at k ys) (out_then (Has_datum N τ m φ (Level (Bound 1 0) a)) (λ r. Has_datum N τ m φ (Level (Bound 1 0) a) r.1) (array false at row ys) _ (array_gives N types τ W S one m φ (Bound 1 0) a at row ys l h e) (λ d x. x)))
+        (λ r x. gives_exact (Has_datum N τ m φ (Level (Bound 1 0) a)) r.0 (Val r.1) x)
+
+    tabled_job : (z : ℤ) (row : Shape) → count_of z ≡ number m φ (Bound 1 0) → Has_shape N τ m φ a row
+        → Gives Tabled (Then (the (sized at z (λ k. Val (Apply_each (alone (numbers_from k 0)) (array_of_indices false row at k))))) (job_of ((flat_names (told W)).lang W.tops) (plain W.tight) W.budget (means W) 1 f))
+    unfolding plain
+    tabled_job (negsuc n) row e h = gives_then (λ j. ⊥) Tabled _ _ (gives_exact (λ j. ⊥) 0 _ tt) (λ j x. absurd x)
+    tabled_job (pos k) row e h =
+        let rows : List Datum = numbers_from k 0 in
+        gives_then (λ j. j ≡ Apply_each (alone rows) (array_of_indices false row at k)) Tabled _ _
+        (gives_exact _ 0 (Val (Apply_each (alone rows) (array_of_indices false row at k))) refl)
+        (λ j q. subst (λ z. Gives Tabled (job_of ((flat_names (told W)).lang W.tops) (plain W.tight) W.budget (means W) 1 f z)) (sym q)
+        (gives_then (Has_datum N τ m φ (Level (Bound 1 0) a)) Tabled _ _
+        (gives_then (λ ys. Every (Has_datum N τ m φ a) ys × (length ys ≡ length (alone rows))) (Has_datum N τ m φ (Level (Bound 1 0) a)) _ _
+        (gives_each (One_of (Has_datum N τ m φ i64_size)) (Has_datum N τ m φ a) (called_on 1 (means W) f) (λ r x. on_row N types τ W S one m i64_size a index_data data_a index_closed closed_a at φ f hf φ φ r x) (alone rows) (alone_every (Has_datum N τ m φ i64_size) rows (numbers_are at φ k 0)))
+        (λ ys y. tabled_rows k row ys (y.1 ∙ alone_long rows ∙ many_numbers k 0 ∙ e) h y.0))
+        (λ x y. gives_exact Tabled 0 (Val (as_value x)) (array_value N types τ W S one m φ (Bound 1 0) a x y))))
+
+    tabled_gives : (v : FlatValue) → word v ≡ number m φ (Bound 1 0) → Is_scalar (sort.Int I64) v → Gives Tabled (means W (Call (Primitive_value prim.Tabulate at (value_and v no_value)) f))
+    unfolding plain job word datum_of row_told Has_shape flat_names
+    tabled_gives (Scalar_value (scalar.Int t n)) e h = evaluates N types τ W S one Tabled (Call (Primitive_value prim.Tabulate at (value_and (Scalar_value (scalar.Int t n)) no_value)) f)
+        (gives_then (λ ds. ds ≡ Scalar_datum (scalar.Int t n) ∷ []) Tabled _ _
+        (gives_exact _ 0 (Val (Scalar_datum (scalar.Int t n) ∷ [])) refl)
+        (λ ds q. subst (λ z. Gives Tabled (Then (the (job false (row_told ((flat_names (told W)).lang W.tops) (Of_function prim.Tabulate f z)) prim.Tabulate at z)) (job_of ((flat_names (told W)).lang W.tops) (plain W.tight) W.budget (means W) 1 f))) (sym q)
+        (tabled_job (integer_of t n) (tells W.sizing f (Scalar_shape (sort.Int I64) ∷ [])) e (row_is_told N types τ W S one m i64_size a index_data data_a index_closed closed_a at φ f hf φ φ (Scalar_shape (sort.Int I64)) refl))))
+    tabled_gives (Scalar_value (scalar.Bool b)) e h = absurd (let z : sort.Bool ≡ sort.Int I64 = h in cc)
+    tabled_gives v e h = absurd h
+
+  tabulate_fits : (a : Size) → Data a → Each (Scoped Any_free) 0 a → (at : Place) → Fits N τ W.sizing (calls W) m no_frames (Fun 0 i64_size (Fun 0 (Fun 0 i64_size a) (Level (Bound 1 0) a))) (Primitive_value prim.Tabulate at no_value)
+  unfolding Fits Data Has_shape push
+  tabulate_fits a d c at = (
+    (refl, λ dr. absurd dr),
+    λ F v eF hv. evaluates N types τ W S one _ (Call (Primitive_value prim.Tabulate at no_value) v)
+        (gives_exact (λ w. (F' : ℕ → ℕ) × ((i : ℕ) → i ≤ 0 → F' i ≡ F i) × Fits N τ W.sizing (calls W) m (push F' no_frames) (Fun 0 (Fun 0 i64_size a) (Level (Bound 1 0) a)) w) 0 (Val (Primitive_value prim.Tabulate at (value_and v no_value)))
+        (F, (λ i l. refl), ((refl, λ dr low G h hx. absurd hx), λ G f eG hf. gives_as (Tabled a d c at (push G (push F no_frames)) f hf) _ _ (tabled_gives a d c at (push G (push F no_frames)) f hf v (sym eF) hv) (λ w x. (G, (λ i l. refl), x))))),
+  )
+
+  -- ---- length
+
+  module _ (a : Size) (at : Place) where
+    length_job : (φ : Frames) (d : Datum) → Has_datum N τ m φ (Level (Bound 0 0) a) d
+        → Gives (Fits N τ W.sizing (calls W) m φ i64_size) (Then (the (job false (row_told ((flat_names (told W)).lang W.tops) (Of_function prim.Length no_function (d ∷ []))) prim.Length at (d ∷ []))) (job_of ((flat_names (told W)).lang W.tops) (plain W.tight) W.budget (means W) 0 no_function))
+    unfolding Has_datum job Data
+    length_job φ (Array_datum row ds) h = done_gives (Has_datum N τ m φ i64_size) (Fits N τ W.sizing (calls W) m φ i64_size) 0 no_function _ refl (λ x y. datum_fits N τ W.sizing (calls W) m φ i64_size tt (as_value x) x (datum_of_as Ref BindId (Unit {0}) x) y)
+    length_job φ d h = absurd h
+
+    length_gives : (φ : Frames) (v : FlatValue) → Fits N τ W.sizing (calls W) m φ (Level (Bound 0 0) a) v → Gives (Fits N τ W.sizing (calls W) m φ i64_size) (means W (Call (Primitive_value prim.Length at no_value) v))
+    unfolding Fits plain
+    length_gives φ v hv = evaluates N types τ W S one (Fits N τ W.sizing (calls W) m φ i64_size) (Call (Primitive_value prim.Length at no_value) v)
+        (gives_then (λ ds. ds ≡ hv.datum ∷ []) (Fits N τ W.sizing (calls W) m φ i64_size) _ _
+        (gives_exact _ 0 _ (subst (λ o. Out_fits (λ ds. ds ≡ hv.datum ∷ []) (and_then o (λ d. and_then (Val []) (λ ds. Val (d ∷ ds))))) (sym hv.is_datum) refl))
+        (λ ds q. subst (λ z. Gives (Fits N τ W.sizing (calls W) m φ i64_size) (Then (the (job false (row_told ((flat_names (told W)).lang W.tops) (Of_function prim.Length no_function z)) prim.Length at z)) (job_of ((flat_names (told W)).lang W.tops) (plain W.tight) W.budget (means W) 0 no_function))) (sym q) (length_job φ hv.datum hv.fits)))
+
+    length_fits : Fits N τ W.sizing (calls W) m no_frames (Fun 1 (Level (Bound 0 0) a) i64_size) (Primitive_value prim.Length at no_value)
+    unfolding Fits Has_shape tells primitive_tells
+    length_fits = ((refl, λ dr low F h hx. refl), λ F v eF hv. gives_as _ _ _ (length_gives (push F no_frames) v hv) (λ w x. (F, (λ i l. refl), x)))
+
+  -- ---- a use of a primitive, whose type variables are these types of data
+
+  filled_fits : (p : Primitive) (at : Place) (u : Size) → Plain_primitive p → Filled_use (λ v. true) (prim_size p) u → (q : (v : Variable) → Size) → ((v : Variable) → Data (q v)) → ((v : Variable) → Each (Scoped Any_free) 0 (q v)) → Fits N τ W.sizing (calls W) m no_frames (filled q (prim_size p)) (primitive_use p at)
+  unfolding filled all_filled prim_size sized_type
+  filled_fits prim.Map at u pl U q d c = map_fits N types τ W S one m (q (Inferred 0)) (q (Inferred 1)) (d (Inferred 0)) (d (Inferred 1)) (c (Inferred 0)) (c (Inferred 1)) at
+  filled_fits prim.Reduce at u pl U q d c = reduce_fits N types τ W S one m (q (Inferred 0)) (d (Inferred 0)) (c (Inferred 0)) at
+  filled_fits prim.Scan at u pl U q d c = scan_fits N types τ W S one m (q (Inferred 0)) (d (Inferred 0)) (c (Inferred 0)) at
+  filled_fits prim.Tabulate at u pl U q d c = tabulate_fits (q (Inferred 0)) (d (Inferred 0)) (c (Inferred 0)) at
+  filled_fits prim.Length at u pl U q d c = length_fits (q (Inferred 0)) at
+  filled_fits prim.Iota at u pl U q d c = iota_fits at
+  filled_fits p at u pl U q d c = absurd pl
+
+module _ (N : Names) (types : Sub) (τ : Meant) (W : World) (S : Sound N types W.sizing) (one : One_kind_each τ) where
+  pub primitive_fits : (p : Primitive) (at : Place) (u : Size) → Plain_primitive p → Filled_use (λ v. true) (prim_size p) u → (m : Worth) → Fits N τ W.sizing (calls W) m no_frames u (primitive_use p at)
+  primitive_fits p at u pl U m = by_use U.used
+    where
+      by_use : Suits (filled U.types (prim_size p)) u ⊎ For_each_choice (filled U.types (prim_size p)) u → Fits N τ W.sizing (calls W) m no_frames u (primitive_use p at)
+      by_use (inl q) = suits_fits N τ W.sizing (calls W) q m (primitive_use p at) (filled_fits N types τ W S one m p at u pl U U.types U.data_types U.closed)
+      by_use (inr C) = subst (λ x. Fits N τ W.sizing (calls W) m no_frames x (primitive_use p at)) (sym C.wanted)
+          (instance_fits N τ W.sizing (calls W) C.chosen C.from C.to C.wanted_chosen C.wanted_from C.wanted_to C.n C.m C.δ C.ρ C.at_choice C.parameter C.result
+          (λ m v x. suits_fits N τ W.sizing (calls W) C.parameter m v x) (λ m v x. suits_fits N τ W.sizing (calls W) C.result m v x) m (primitive_use p at)
+          (λ F. subst (λ x. Fits N τ W.sizing (calls W) (at_node C.n F m) no_frames x (primitive_use p at)) C.is_function (filled_fits N types τ W S one (at_node C.n F m) p at u pl U U.types U.data_types U.closed)))

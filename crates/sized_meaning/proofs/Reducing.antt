@@ -1,0 +1,241 @@
+-- Reductions and scans are of their sized types: by an operator that takes two values of a type to one of it, each tree over such elements
+-- gives one.
+use Rattle.std.proofs.Common.{◌≡◌, ℕ, ◌≤◌, List, [], ◌∷◌, None, Bool, true, false, cond, refl, sym, subst, length, ◌++◌, ap, ◌∙◌, suc}
+use Rattle.fut_scalar.specs.declared.place.BindId.{BindId}
+use Rattle.fut_scalar.specs.declared.place.Place.{Place}
+use Rattle.fut_flat.specs.declared.prim.Primitive.TheVariants as prim
+use Rattle.fut_flat.specs.declared.prim.Ref.{Ref}
+use Rattle.fut_types.specs.declared.Head.TheVariants as head
+use Rattle.fut_types.specs.Types.{Sub}
+use Rattle.fut_typing.specs.Names.{Names}
+use Rattle.fut_value.specs.Data.{Datum, Array_datum, listed, Shape}
+use Rattle.fut_meaning.specs.Arrays.{fresh, all_fresh, array}
+use Rattle.fut_meaning.specs.Datums.{as_value, datum_of}
+use Rattle.fut_meaning.specs.Flats.{FlatValue, flat_names}
+use Rattle.fut_meaning.specs.Jobs.{Reduce_each, Reduces, reduces, In_order, Reordered, order_kept, order_on, order_swapped, order_then, all_of, two_of, part_at, finished, job, prefixes_on}
+use Rattle.fut_meaning.specs.Meaning.{plain, called, called_on, job_of, row_told, Of_function}
+use Rattle.fut_meaning.specs.Outcomes.{Val, Wrong, and_then, Rel, the, Then, Both, both, stops_left, stops_right, sticks_left, sticks_right, Tree, element, neutral, node, elements, tree_gives, bracket}
+use Rattle.fut_meaning.specs.Telling.{by_function, worth_of, value_shape, is_function, data_told, tells, function_tells, primitive_tells}
+use Rattle.fut_meaning.specs.Values.{Scalar_value, Tuple_value, Record_value, Array_value, Primitive_value, no_value, value_and, Call}
+use Rattle.fut_meaning.proofs.Data.{datum_of_as}
+use Rattle.fut_meaning.proofs.Safe.{Every, every_left, every_right}
+use Rattle.sized_types.specs.Sizes.{Bound, Size, Hole, Open, Level, Built, Fun}
+use Rattle.fut_sizes.specs.Suiting.{Each, Scoped, Data}
+use Rattle.fut_sizes.specs.Rules.{Any_free}
+use Rattle.sized_meaning.specs.Worth.{Worth, Frames, no_frames, push, number}
+use Rattle.sized_meaning.specs.Shapes.{Meant, Has_shape, Has_datum}
+use Rattle.sized_meaning.specs.Finding.{One_kind_each}
+use Rattle.sized_meaning.specs.Fits.{Out_fits, Gives, word, Tells_right, Fits}
+use Rattle.sized_meaning.specs.Law.{Sound, World, told, means, calls}
+use Rattle.sized_meaning.proofs.Ways.{gives_as}
+use Rattle.sized_meaning.proofs.Outcomes.{gives_exact, gives_then, out_of}
+use Rattle.sized_meaning.proofs.Scalars.{out_then}
+use Rattle.sized_meaning.proofs.Datas.{datum_fits, fits_datum}
+use Rattle.sized_meaning.proofs.Entered.{value_shaped}
+use Rattle.sized_meaning.proofs.Applications.{evaluates}
+use Rattle.sized_meaning.proofs.Mapping.{every_listed, shape_anywhere, datum_anywhere, applied_to, array_gives, array_value}
+
+-- ---- choices keep a property
+
+pub gives_both : {A B C : Type 0} (P : A → Type 0) (Q : B → Type 0) (R : C → Type 0) (m : Rel A) (m' : Rel B) (k : A → B → Rel C) → Gives P m → Gives Q m' → ((a : A) (b : B) → P a → Q b → Gives R (k a b)) → Gives R (Both m m' k)
+gives_both P Q R m m' k first second go _ _ (both {a} {b} {o} {f} {g} {h} x y z) = go a b (first (Val a) f x) (second (Val b) g y) o h z
+gives_both P Q R m m' k h g go _ _ (stops_left x) = tt
+gives_both P Q R m m' k h g go _ _ (stops_right x) = tt
+gives_both P Q R m m' k h g go _ _ (sticks_left x) = tt
+gives_both P Q R m m' k h g go _ _ (sticks_right x) = tt
+
+gives_all_of : {A B : Type 0} (P : A → Type 0) (Q : B → Type 0) (g : A → Rel B) → ((a : A) → P a → Gives Q (g a)) → (xs : List A) → Every P xs → Gives (λ ys. Every Q ys × (length ys ≡ length xs)) (all_of g xs)
+gives_all_of P Q g h [] e = gives_exact (λ ys. Every Q ys × (length ys ≡ 0)) 0 (Val []) (tt, refl)
+gives_all_of P Q g h (x ∷ xs) e = gives_both Q (λ ys. Every Q ys × (length ys ≡ length xs)) (λ ys. Every Q ys × (length ys ≡ length (x ∷ xs))) (g x) (all_of g xs) _ (h x e.0) (gives_all_of P Q g h xs e.1)
+    (λ y ys q qs. gives_exact (λ ys. Every Q ys × (length ys ≡ length (x ∷ xs))) 0 (Val (y ∷ ys)) ((q, qs.0), ap suc qs.1))
+
+gives_tree : {A : Type 0} (P : A → Type 0) (op : A → A → Rel A) (ne : A) → P ne → ((a b : A) → P a → P b → Gives P (op a b)) → (t : Tree A) → Every P (elements t) → Gives P (tree_gives op ne t)
+gives_tree P op ne n h (element a) e = gives_exact P 0 (Val a) e.0
+gives_tree P op ne n h neutral e = gives_exact P 0 (Val ne) n
+gives_tree P op ne n h (node s t) e = gives_both P P P (tree_gives op ne s) (tree_gives op ne t) op (gives_tree P op ne n h s (every_left P (elements s) (elements t) e)) (gives_tree P op ne n h t (every_right P (elements s) (elements t) e)) h
+
+every_reordered : {A : Type 0} (P : A → Type 0) {xs ys : List A} → Reordered xs ys → Every P xs → Every P ys
+every_reordered P order_kept e = e
+every_reordered P (order_on q) e = (e.0, every_reordered P q e.1)
+every_reordered P order_swapped e = (e.1.0, (e.0, e.1.1))
+every_reordered P (order_then q r) e = every_reordered P r (every_reordered P q e)
+
+every_in_order : {A : Type 0} (P : A → Type 0) (any : Bool) (xs ys : List A) → In_order any xs ys → Every P xs → Every P ys
+every_in_order P true xs ys q e = every_reordered P q e
+every_in_order P false xs ys q e = subst (Every P) q e
+
+gives_reduced : (P : Datum → Type 0) (tight any : Bool) (F : Datum → List Datum → Type 0) (f : List Datum → Rel Datum) (ne : Datum) → P ne → ((a b : Datum) → P a → P b → Gives P (two_of f a b)) → (xs : List Datum) → Every P xs → Gives P (Reduces tight any F f ne xs)
+gives_reduced P tight any F f ne given h xs e _ _ (reduces {ys} {o} {n = count} fits order (bracket t q w x)) = gives_tree P (two_of f) ne given h t (subst (Every P) (sym q) (every_in_order P any xs ys order e)) o count x
+
+every_both : {A : Type 0} (P : A → Type 0) (xs ys : List A) → Every P xs → Every P ys → Every P (xs ++ ys)
+every_both P [] ys e f = f
+every_both P (x ∷ xs) ys e f = (e.0, every_both P xs ys e.1 f)
+
+every_prefix : (P : Datum → Type 0) (front ds : List Datum) → Every P front → Every P ds → Every (Every P) (prefixes_on front ds)
+every_prefix P front [] e f = tt
+every_prefix P front (d ∷ ds) e f = let z = every_both P front (d ∷ []) e (f.0, tt) in (z, every_prefix P (front ++ d ∷ []) ds z f.1)
+
+many_prefixes : (front ds : List Datum) → length (prefixes_on front ds) ≡ length ds
+many_prefixes front [] = refl
+many_prefixes front (d ∷ ds) = ap suc (many_prefixes (front ++ d ∷ []) ds)
+
+module _ (N : Names) (types : Sub) (τ : Meant) (W : World) (S : Sound N types W.sizing) (one : One_kind_each τ) (m : Worth) where
+  -- data is no function
+  not_function : (φ : Frames) (t : Size) (v : FlatValue) → Data t → Fits N τ W.sizing (calls W) m φ t v → is_function v ≡ false
+  unfolding Fits Data datum_of
+  not_function φ t (Scalar_value c) d h = refl
+  not_function φ t (Tuple_value vs) d h = refl
+  not_function φ t (Record_value fs) d h = refl
+  not_function φ t (Array_value row ds) d h = refl
+  not_function φ (Hole a) v d h = absurd (let z = h.is_datum in cc)
+  not_function φ (Level x t) v d h = absurd (let z = h.is_datum in cc)
+  not_function φ (Open n a u) v d h = absurd d
+  not_function φ (Fun k p r) v d h = absurd d
+  not_function φ (Built (head.Scalar c) ts) v d h = absurd h
+  not_function φ (Built head.Tuple ts) v d h = absurd h
+  not_function φ (Built (head.Record n) ts) v d h = absurd h
+  not_function φ (Built (head.Abstract n k) ts) v d h = absurd h
+  not_function φ (Built head.Array ts) v d h = absurd h
+  not_function φ (Built head.Fun ts) v d h = absurd h
+  not_function φ (Built (head.Rigid n k) ts) v d h = absurd h
+
+  module _ (a : Size) (data_a : Data a) (closed_a : Each (Scoped Any_free) 0 a) (at : Place) (φ : Frames) (f : FlatValue) (hf : Fits N τ W.sizing (calls W) m φ (Fun 0 a (Fun 0 a a)) f) where
+    -- the operator on two elements
+    combines : (ψ : Frames) (d e : Datum) → Has_datum N τ m ψ a d → Has_datum N τ m ψ a e → Gives (Has_datum N τ m ψ a) (called (means W) f (d ∷ e ∷ []))
+    unfolding Fits
+    combines ψ d e hd he =
+        let F : ℕ → ℕ = λ i. word (as_value d) in
+        gives_then (λ w. (F' : ℕ → ℕ) × ((i : ℕ) → i ≤ 0 → F' i ≡ word (as_value d)) × Fits N τ W.sizing (calls W) m (push F' φ) (Fun 0 a a) w) (Has_datum N τ m ψ a) (means W (Call f (as_value d))) (λ g. called (means W) g (e ∷ []))
+        (hf.1 F (as_value d) refl (datum_fits N τ W.sizing (calls W) m (push F φ) a data_a (as_value d) d (datum_of_as Ref BindId (Unit {0}) d) (datum_anywhere N types τ W S one m a closed_a ψ (push F φ) d hd)))
+        (λ w q. applied_to N types τ W S one m a a data_a data_a closed_a closed_a at (push q.0 φ) w q.2 ψ ψ e he)
+
+    first_given : (ψ : Frames) (ys : List Datum) → Every (Has_datum N τ m ψ a) ys → Gives (Has_datum N τ m ψ a) (finished (λ ds. and_then (part_at 0 ds) fresh) ys)
+    first_given ψ [] e = gives_then (λ r. Has_datum N τ m ψ a r.1) (Has_datum N τ m ψ a) _ _ (gives_exact (λ r. Has_datum N τ m ψ a r.1) 0 Wrong tt) (λ r x. gives_exact (Has_datum N τ m ψ a) r.0 (Val r.1) x)
+    first_given ψ (y ∷ ys) e = gives_then (λ r. Has_datum N τ m ψ a r.1) (Has_datum N τ m ψ a) _ _ (gives_exact (λ r. Has_datum N τ m ψ a r.1) 0 (fresh y) e.0) (λ r x. gives_exact (Has_datum N τ m ψ a) r.0 (Val r.1) x)
+
+    abbrev Reduced : Frames → FlatValue → Type 0
+    Reduced ψ w = Fits N τ W.sizing (calls W) m ψ a w
+
+    reduce_job : (ψ : Frames) (ne d : Datum) → Has_datum N τ m ψ a ne → Has_datum N τ m ψ (Level (Bound 0 0) a) d
+        → Gives (Reduced ψ) (Then (the (job false (row_told ((flat_names (told W)).lang W.tops) (Of_function prim.Reduce f (ne ∷ d ∷ []))) prim.Reduce at (ne ∷ d ∷ []))) (job_of ((flat_names (told W)).lang W.tops) (plain W.tight) W.budget (means W) 2 f))
+    unfolding Has_datum job plain
+    reduce_job ψ ne (Array_datum row ds) hn h =
+        let rows : List Datum = listed ds in
+        gives_then (λ j. j ≡ Reduce_each false ne (rows ∷ []) (λ ds. and_then (part_at 0 ds) fresh)) (Reduced ψ) _ _
+        (gives_exact _ 0 (Val (Reduce_each false ne (rows ∷ []) (λ ds. and_then (part_at 0 ds) fresh))) refl)
+        (λ j q. subst (λ z. Gives (Reduced ψ) (job_of ((flat_names (told W)).lang W.tops) (plain W.tight) W.budget (means W) 2 f z)) (sym q)
+        (gives_then (Has_datum N τ m ψ a) (Reduced ψ) _ _
+        (gives_then (λ ys. Every (Has_datum N τ m ψ a) ys × (length ys ≡ length (rows ∷ []))) (Has_datum N τ m ψ a) _ _
+        (gives_all_of (Every (Has_datum N τ m ψ a)) (Has_datum N τ m ψ a) (Reduces W.tight false ((plain W.tight).operator_fits ((flat_names (told W)).lang W.tops) W.budget 2 f false) (called_on 2 (means W) f) ne) (λ xs e. gives_reduced (Has_datum N τ m ψ a) W.tight false ((plain W.tight).operator_fits ((flat_names (told W)).lang W.tops) W.budget 2 f false) (called_on 2 (means W) f) ne hn (λ x y p q. combines ψ x y p q) xs e) (rows ∷ []) (every_listed (Has_datum N τ m ψ a) ds h.2, tt))
+        (λ ys e. first_given ψ ys e.0))
+        (λ x k. gives_exact (Reduced ψ) 0 (Val (as_value x)) (datum_fits N τ W.sizing (calls W) m ψ a data_a (as_value x) x (datum_of_as Ref BindId (Unit {0}) x) k))))
+    reduce_job ψ ne d hn h = absurd h
+
+    module _ (ψ' : Frames) (ne : FlatValue) (hn : Fits N τ W.sizing (calls W) m ψ' a ne) where
+      reduce_gives : (ψ : Frames) (xs : FlatValue) → Fits N τ W.sizing (calls W) m ψ (Level (Bound 0 0) a) xs → Gives (Reduced ψ) (means W (Call (Primitive_value prim.Reduce at (value_and f (value_and ne no_value))) xs))
+      unfolding Fits plain
+      reduce_gives ψ xs hx =
+          evaluates N types τ W S one (Reduced ψ) (Call (Primitive_value prim.Reduce at (value_and f (value_and ne no_value))) xs)
+          (gives_then (λ ds. (d : Datum) × Has_datum N τ m ψ a d × (ds ≡ d ∷ hx.datum ∷ [])) (Reduced ψ) _ _
+          (gives_exact _ 0 _ (out_then (Has_datum N τ m ψ a) (λ ds. (d : Datum) × Has_datum N τ m ψ a d × (ds ≡ d ∷ hx.datum ∷ [])) (datum_of ne) _
+          (out_of (Has_datum N τ m ψ a) (datum_of ne) (λ d e. datum_anywhere N types τ W S one m a closed_a ψ' ψ d (fits_datum N τ W.sizing (calls W) m ψ' a data_a ne d e hn)))
+          (λ d x. subst (λ o. Out_fits (λ ds. (d : Datum) × Has_datum N τ m ψ a d × (ds ≡ d ∷ hx.datum ∷ [])) (and_then (and_then o (λ e. and_then (Val []) (λ ds. Val (e ∷ ds)))) (λ ds. Val (d ∷ ds)))) (sym hx.is_datum) (d, x, refl))))
+          (λ ds q. subst (λ z. Gives (Reduced ψ) (Then (the (job false (row_told ((flat_names (told W)).lang W.tops) (Of_function prim.Reduce f z)) prim.Reduce at z)) (job_of ((flat_names (told W)).lang W.tops) (plain W.tight) W.budget (means W) 2 f))) (sym q.2) (reduce_job ψ q.0 hx.datum q.1 hx.fits)))
+
+      -- it tells the shape of the neutral element
+      reduce_tells : (ψ : Frames) → Tells_right N τ W.sizing m ψ 1 (Level (Bound 0 0) a) a (Primitive_value prim.Reduce at (value_and f (value_and ne no_value)))
+      unfolding Fits tells data_told primitive_tells
+      reduce_tells ψ = (
+        refl,
+        λ dr low G h hx. subst (λ c. Has_shape N τ m (push G ψ) a (by_function (function_tells W.sizing (value_and f (value_and ne no_value))) (primitive_tells prim.Reduce (cond c (cond (is_function ne) ((h, None) ∷ []) ((value_shape ne, worth_of ne) ∷ (h, None) ∷ [])) ((value_shape f, worth_of f) ∷ cond (is_function ne) ((h, None) ∷ []) ((value_shape ne, worth_of ne) ∷ (h, None) ∷ [])))))) (sym hf.0.0)
+            (subst (λ c. Has_shape N τ m (push G ψ) a (by_function (function_tells W.sizing (value_and f (value_and ne no_value))) (primitive_tells prim.Reduce (cond c ((h, None) ∷ []) ((value_shape ne, worth_of ne) ∷ (h, None) ∷ []))))) (sym (not_function ψ' a ne data_a hn))
+            (shape_anywhere N types τ W S one m a closed_a ψ' (push G ψ) (value_shape ne) (value_shaped N τ W.sizing (calls W) m ψ' a data_a ne hn))),
+      )
+
+      reduce_waits : (ψ : Frames) → Fits N τ W.sizing (calls W) m ψ (Fun 1 (Level (Bound 0 0) a) a) (Primitive_value prim.Reduce at (value_and f (value_and ne no_value)))
+      unfolding Fits
+      reduce_waits ψ = (reduce_tells ψ, λ G xs eG hx. gives_as (Reduced (push G ψ)) (λ w. (G' : ℕ → ℕ) × ((i : ℕ) → i ≤ 1 → G' i ≡ G i) × Fits N τ W.sizing (calls W) m (push G' ψ) a w) _ (reduce_gives (push G ψ) xs hx) (λ w x. (G, (λ i l. refl), x)))
+
+    reduce_starts : (ψ : Frames) → Fits N τ W.sizing (calls W) m ψ (Fun 0 a (Fun 1 (Level (Bound 0 0) a) a)) (Primitive_value prim.Reduce at (value_and f no_value))
+    unfolding Fits Data
+    reduce_starts ψ = (
+      (refl, λ dr. absurd dr),
+      λ G ne eG hn. evaluates N types τ W S one _ (Call (Primitive_value prim.Reduce at (value_and f no_value)) ne)
+          (gives_exact (λ w. (G' : ℕ → ℕ) × ((i : ℕ) → i ≤ 0 → G' i ≡ G i) × Fits N τ W.sizing (calls W) m (push G' ψ) (Fun 1 (Level (Bound 0 0) a) a) w) 0 (Val (Primitive_value prim.Reduce at (value_and f (value_and ne no_value)))) (G, (λ i l. refl), reduce_waits (push G ψ) ne hn (push G ψ))),
+    )
+
+    -- ---- scan
+
+    abbrev Scanned : Frames → FlatValue → Type 0
+    Scanned ψ w = Fits N τ W.sizing (calls W) m ψ (Level (Bound 0 0) a) w
+
+    all_given : (ψ : Frames) (row : Shape) (ys : List Datum) → length ys ≡ number m ψ (Bound 0 0) → Has_shape N τ m ψ a row → Every (Has_datum N τ m ψ a) ys → Gives (Has_datum N τ m ψ (Level (Bound 0 0) a)) (finished (λ ds. all_fresh (array false at row ds)) ys)
+    all_given ψ row ys l h e = gives_then (λ r. Has_datum N τ m ψ (Level (Bound 0 0) a) r.1) (Has_datum N τ m ψ (Level (Bound 0 0) a)) _ _
+        (gives_exact (λ r. Has_datum N τ m ψ (Level (Bound 0 0) a) r.1) 0 (all_fresh (array false at row ys)) (out_then (Has_datum N τ m ψ (Level (Bound 0 0) a)) (λ r. Has_datum N τ m ψ (Level (Bound 0 0) a) r.1) (array false at row ys) fresh (array_gives N types τ W S one m ψ (Bound 0 0) a at row ys l h e) (λ d x. x)))
+        (λ r x. gives_exact (Has_datum N τ m ψ (Level (Bound 0 0) a)) r.0 (Val r.1) x)
+
+    scan_job : (ψ : Frames) (ne d : Datum) → Has_datum N τ m ψ a ne → Has_datum N τ m ψ (Level (Bound 0 0) a) d
+        → Gives (Scanned ψ) (Then (the (job false (row_told ((flat_names (told W)).lang W.tops) (Of_function prim.Scan f (ne ∷ d ∷ []))) prim.Scan at (ne ∷ d ∷ []))) (job_of ((flat_names (told W)).lang W.tops) (plain W.tight) W.budget (means W) 2 f))
+    unfolding Has_datum job plain
+    scan_job ψ ne (Array_datum row ds) hn h =
+        let rows : List Datum = listed ds in
+        gives_then (λ j. j ≡ Reduce_each false ne (prefixes_on [] rows) (λ ds. all_fresh (array false at row ds))) (Scanned ψ) _ _
+        (gives_exact _ 0 (Val (Reduce_each false ne (prefixes_on [] rows) (λ ds. all_fresh (array false at row ds)))) refl)
+        (λ j q. subst (λ z. Gives (Scanned ψ) (job_of ((flat_names (told W)).lang W.tops) (plain W.tight) W.budget (means W) 2 f z)) (sym q)
+        (gives_then (Has_datum N τ m ψ (Level (Bound 0 0) a)) (Scanned ψ) _ _
+        (gives_then (λ ys. Every (Has_datum N τ m ψ a) ys × (length ys ≡ length (prefixes_on [] rows))) (Has_datum N τ m ψ (Level (Bound 0 0) a)) _ _
+        (gives_all_of (Every (Has_datum N τ m ψ a)) (Has_datum N τ m ψ a) (Reduces W.tight false ((plain W.tight).operator_fits ((flat_names (told W)).lang W.tops) W.budget 2 f false) (called_on 2 (means W) f) ne)
+        (λ xs e. gives_reduced (Has_datum N τ m ψ a) W.tight false ((plain W.tight).operator_fits ((flat_names (told W)).lang W.tops) W.budget 2 f false) (called_on 2 (means W) f) ne hn (λ x y p q. combines ψ x y p q) xs e) (prefixes_on [] rows)
+        (every_prefix (Has_datum N τ m ψ a) [] rows tt (every_listed (Has_datum N τ m ψ a) ds h.2)))
+        (λ ys e. all_given ψ row ys (e.1 ∙ many_prefixes [] rows ∙ h.0) h.1 e.0))
+        (λ x k. gives_exact (Scanned ψ) 0 (Val (as_value x)) (array_value N types τ W S one m ψ (Bound 0 0) a x k))))
+    scan_job ψ ne d hn h = absurd h
+
+    module _ (ψ' : Frames) (ne : FlatValue) (hn : Fits N τ W.sizing (calls W) m ψ' a ne) where
+      scan_gives : (ψ : Frames) (xs : FlatValue) → Fits N τ W.sizing (calls W) m ψ (Level (Bound 0 0) a) xs → Gives (Scanned ψ) (means W (Call (Primitive_value prim.Scan at (value_and f (value_and ne no_value))) xs))
+      unfolding Fits plain
+      scan_gives ψ xs hx =
+          evaluates N types τ W S one (Scanned ψ) (Call (Primitive_value prim.Scan at (value_and f (value_and ne no_value))) xs)
+          (gives_then (λ ds. (d : Datum) × Has_datum N τ m ψ a d × (ds ≡ d ∷ hx.datum ∷ [])) (Scanned ψ) _ _
+          (gives_exact _ 0 _ (out_then (Has_datum N τ m ψ a) (λ ds. (d : Datum) × Has_datum N τ m ψ a d × (ds ≡ d ∷ hx.datum ∷ [])) (datum_of ne) _
+          (out_of (Has_datum N τ m ψ a) (datum_of ne) (λ d e. datum_anywhere N types τ W S one m a closed_a ψ' ψ d (fits_datum N τ W.sizing (calls W) m ψ' a data_a ne d e hn)))
+          (λ d x. subst (λ o. Out_fits (λ ds. (d : Datum) × Has_datum N τ m ψ a d × (ds ≡ d ∷ hx.datum ∷ [])) (and_then (and_then o (λ e. and_then (Val []) (λ ds. Val (e ∷ ds)))) (λ ds. Val (d ∷ ds)))) (sym hx.is_datum) (d, x, refl))))
+          (λ ds q. subst (λ z. Gives (Scanned ψ) (Then (the (job false (row_told ((flat_names (told W)).lang W.tops) (Of_function prim.Scan f z)) prim.Scan at z)) (job_of ((flat_names (told W)).lang W.tops) (plain W.tight) W.budget (means W) 2 f))) (sym q.2) (scan_job ψ q.0 hx.datum q.1 hx.fits)))
+
+      -- it tells the shape of the array
+      scan_tells : (ψ : Frames) → Tells_right N τ W.sizing m ψ 1 (Level (Bound 0 0) a) (Level (Bound 0 0) a) (Primitive_value prim.Scan at (value_and f (value_and ne no_value)))
+      unfolding Fits tells data_told primitive_tells
+      scan_tells ψ = (
+        refl,
+        λ dr low G h hx. subst (λ c. Has_shape N τ m (push G ψ) (Level (Bound 0 0) a) (by_function (function_tells W.sizing (value_and f (value_and ne no_value))) (primitive_tells prim.Scan (cond c (cond (is_function ne) ((h, None) ∷ []) ((value_shape ne, worth_of ne) ∷ (h, None) ∷ [])) ((value_shape f, worth_of f) ∷ cond (is_function ne) ((h, None) ∷ []) ((value_shape ne, worth_of ne) ∷ (h, None) ∷ [])))))) (sym hf.0.0)
+            (subst (λ c. Has_shape N τ m (push G ψ) (Level (Bound 0 0) a) (by_function (function_tells W.sizing (value_and f (value_and ne no_value))) (primitive_tells prim.Scan (cond c ((h, None) ∷ []) ((value_shape ne, worth_of ne) ∷ (h, None) ∷ []))))) (sym (not_function ψ' a ne data_a hn))
+            hx),
+      )
+
+      scan_waits : (ψ : Frames) → Fits N τ W.sizing (calls W) m ψ (Fun 1 (Level (Bound 0 0) a) (Level (Bound 0 0) a)) (Primitive_value prim.Scan at (value_and f (value_and ne no_value)))
+      unfolding Fits
+      scan_waits ψ = (scan_tells ψ, λ G xs eG hx. gives_as (Scanned (push G ψ)) (λ w. (G' : ℕ → ℕ) × ((i : ℕ) → i ≤ 1 → G' i ≡ G i) × Fits N τ W.sizing (calls W) m (push G' ψ) (Level (Bound 0 0) a) w) _ (scan_gives (push G ψ) xs hx) (λ w x. (G, (λ i l. refl), x)))
+
+    scan_starts : (ψ : Frames) → Fits N τ W.sizing (calls W) m ψ (Fun 0 a (Fun 1 (Level (Bound 0 0) a) (Level (Bound 0 0) a))) (Primitive_value prim.Scan at (value_and f no_value))
+    unfolding Fits Data
+    scan_starts ψ = (
+      (refl, λ dr. absurd dr),
+      λ G ne eG hn. evaluates N types τ W S one _ (Call (Primitive_value prim.Scan at (value_and f no_value)) ne)
+          (gives_exact (λ w. (G' : ℕ → ℕ) × ((i : ℕ) → i ≤ 0 → G' i ≡ G i) × Fits N τ W.sizing (calls W) m (push G' ψ) (Fun 1 (Level (Bound 0 0) a) (Level (Bound 0 0) a)) w) 0 (Val (Primitive_value prim.Scan at (value_and f (value_and ne no_value)))) (G, (λ i l. refl), scan_waits (push G ψ) ne hn (push G ψ))),
+    )
+
+  pub reduce_fits : (a : Size) → Data a → Each (Scoped Any_free) 0 a → (at : Place) → Fits N τ W.sizing (calls W) m no_frames (Fun 0 (Fun 0 a (Fun 0 a a)) (Fun 0 a (Fun 1 (Level (Bound 0 0) a) a))) (Primitive_value prim.Reduce at no_value)
+  unfolding Fits Data
+  reduce_fits a d c at = (
+    (refl, λ dr. absurd dr),
+    λ F f eF hf. evaluates N types τ W S one _ (Call (Primitive_value prim.Reduce at no_value) f)
+        (gives_exact (λ w. (F' : ℕ → ℕ) × ((i : ℕ) → i ≤ 0 → F' i ≡ F i) × Fits N τ W.sizing (calls W) m (push F' no_frames) (Fun 0 a (Fun 1 (Level (Bound 0 0) a) a)) w) 0 (Val (Primitive_value prim.Reduce at (value_and f no_value))) (F, (λ i l. refl), reduce_starts a d c at (push F no_frames) f hf (push F no_frames))),
+  )
+
+  pub scan_fits : (a : Size) → Data a → Each (Scoped Any_free) 0 a → (at : Place) → Fits N τ W.sizing (calls W) m no_frames (Fun 0 (Fun 0 a (Fun 0 a a)) (Fun 0 a (Fun 1 (Level (Bound 0 0) a) (Level (Bound 0 0) a)))) (Primitive_value prim.Scan at no_value)
+  unfolding Fits Data
+  scan_fits a d c at = (
+    (refl, λ dr. absurd dr),
+    λ F f eF hf. evaluates N types τ W S one _ (Call (Primitive_value prim.Scan at no_value) f)
+        (gives_exact (λ w. (F' : ℕ → ℕ) × ((i : ℕ) → i ≤ 0 → F' i ≡ F i) × Fits N τ W.sizing (calls W) m (push F' no_frames) (Fun 0 a (Fun 1 (Level (Bound 0 0) a) (Level (Bound 0 0) a))) w) 0 (Val (Primitive_value prim.Scan at (value_and f no_value))) (F, (λ i l. refl), scan_starts a d c at (push F no_frames) f hf (push F no_frames))),
+  )
