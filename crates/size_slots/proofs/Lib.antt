@@ -3,3 +3,5 @@ pub mod HeldLaws
 pub mod MeetLaws
 pub mod ChoiceLaws
 pub mod ReadLaws
+pub mod FillForms
+pub mod TakeLaws

@@ -166,7 +166,7 @@ pub ruleset sizes_meet = (both_slots, left_slot, right_slot, one_size, two_sizes
 
 -- ---- levels
 
-fixed_by : (s : List slots.Slot) (σ : matching.Found) → Follows s σ → (d : Free) → found_size σ (found_size σ d) ≡ found_size σ d
+pub fixed_by : (s : List slots.Slot) (σ : matching.Found) → Follows s σ → (d : Free) → found_size σ (found_size σ d) ≡ found_size σ d
 fixed_by s σ f (Const c) = refl
 fixed_by s σ f (Name b) = refl
 fixed_by s σ f (Own n k) = refl

@@ -1,11 +1,11 @@
 -- What the tables of an application hold of the definition's substitution.
-use Rattle.std.specs.Prelude.{◌≡◌, ℕ, ◌<◌, cond, List, [], ◌∷◌, Option, Some, None, Result, Ok, Err, slice_index_or}
+use Rattle.std.specs.Prelude.{◌≡◌, ◌&&◌, ℕ, ◌<◌, Bool, cond, List, [], ◌∷◌, Option, Some, None, Result, Ok, Err, slice_index_or}
 use Rattle.std.specs.Borrow.{Bor}
 use Rattle.fut_types.specs.Types.{Ty}
-use Rattle.sized_types.specs.Sizes.{Free, Slot, Variable, Size, Open, renamed}
-use Rattle.fut_sizes.specs.Agreeing.{Answer}
+use Rattle.sized_types.specs.Sizes.{Free, Slot, Variable, Size, Open, renamed, has}
+use Rattle.fut_sizes.specs.Agreeing.{Answer, Irregular}
 use Rattle.fut_sizes.specs.Matching as matching
-use Rattle.fut_sizes.specs.Matching.{found_size, is_open}
+use Rattle.fut_sizes.specs.Matching.{found_size, is_open, is_unknown, type_found, with_any_sizes}
 use Rattle.size_arena.specs.declared.agreeing.Refusal.{Refusal}
 use Rattle.size_arena.specs.declared.agreeing.SizeErr.{SizeErr}
 use Rattle.size_arena.specs.declared.agreeing.SizeErr.TheVariants as size_err
@@ -50,9 +50,17 @@ pub data Is_slot (d : Free) : Option ℕ → Type 0 where
 
 -- ---- open variables
 
+-- what a variable of the use at n took, and if it took nothing this
+abbrev pub chosen_or : List Chosen → ℕ → Variable → Size → Size
+chosen_or [] n v t = t
+chosen_or (c ∷ cs) n v t = cond (is_open c.node (variable_of c.variable) n v) (size_of c.size.now) (chosen_or cs n v t)
+
 abbrev pub chosen_size : List Chosen → ℕ → Variable → Ty → Size
-chosen_size [] n v u = Open n v u
-chosen_size (c ∷ cs) n v u = cond (is_open c.node (variable_of c.variable) n v) (size_of c.size.now) (chosen_size cs n v u)
+chosen_size cs n v u = chosen_or cs n v (Open n v u)
+
+-- all that is taken is changed, and what is taken for nothing
+abbrev pub Filled : List Chosen → (Size → Size) → List Chosen → Type 0
+Filled cs fill ds = (n : ℕ) (v : Variable) (t : Size) → chosen_or ds n v (fill t) ≡ fill (chosen_or cs n v t)
 
 -- what an open variable of the use at n took, if it took something
 pub data Choice (cs : List Chosen) (n : ℕ) (v : Variable) : Option (Bor SizeTree) → Type 0 where
@@ -67,8 +75,16 @@ pub record Holds (f : Found) (σ : matching.Found) : Type 0 where
   pub types : (n : ℕ) (v : Variable) (u : Ty) → σ.type n v u ≡ renamed (found_size σ) (chosen_size f.chosen n v u)
   pub next : σ.next ≡ f.next
 
+-- a table that holds some substitution
+abbrev pub Held : Found → Type 0
+Held f = (σ : matching.Found) × Holds f σ
+
 -- what is found behind a step of matching, or its refusal; memory may run out
 pub data Met (a : Answer matching.Found) (new : Found) : Result (Unit {0}) SizeErr → Type 0 where
   met : (σ : matching.Found) → a ≡ Ok σ → Holds new σ → Met a new (Ok tt)
   unmet : {e : Refusal} → a ≡ Err (refusal_of e) → Met a new (Err (size_err.Refused e))
   no_memory_met : Met a new (Err size_err.Memory)
+
+-- what an open variable makes of a sized type that is no variable
+abbrev pub takes_formed : Bool → matching.Way → ℕ → ℕ → Variable → Size → matching.Found → Answer matching.Found
+takes_formed wanted w at n v t σ = cond (wanted && (w.in_result && has is_unknown t)) (Err (Irregular at)) (Ok (type_found n v (with_any_sizes σ t) σ))

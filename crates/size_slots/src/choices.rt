@@ -9,7 +9,7 @@ use crate::slots::Chosen;
 use size_arena::{SizeTree, Variable};
 
 /// Whether two variables are one.
-fn same_variable(left: Variable, right: Variable) -> bool
+pub(crate) fn same_variable(left: Variable, right: Variable) -> bool
     ensures { result ≡ is_variable (variable_of left) (variable_of right) }
 {
     match left {

@@ -1,0 +1,4 @@
+pub mod Makings
+pub mod Uses
+pub mod Letters
+pub mod Placing
