@@ -1,0 +1,5 @@
+mod Slices
+mod Bytes
+mod Trees
+mod Indexes
+mod Ways
