@@ -1,0 +1,5 @@
+pub mod Frames
+pub mod Storing
+mod ScalarWords
+mod Reading
+mod Operations

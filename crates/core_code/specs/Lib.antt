@@ -1,0 +1,3 @@
+pub mod Registers
+pub mod Answers
+pub mod Runs
