@@ -1,0 +1,4 @@
+mod Steps
+mod Acts
+mod Loops
+mod Programs

@@ -1,0 +1,39 @@
+use Rattle.std.proofs.Common.{◌+◌, ◌*◌, max}
+use Rattle.core_ir.specs.declared.block.Op.{size-Op}
+use Rattle.core_ir.specs.declared.block.Block.{size-Block}
+use Rattle.core_ir.specs.declared.block.Step.{size-Step}
+use Rattle.core_ir.specs.Plain.{body_of}
+use Rattle.core_code.specs.Registers.{state}
+use Rattle.exec.proofs.Loops.{For_goes, While_goes}
+use Rattle.exec.proofs.Steps.{Block_goes}
+use Rattle.exec.proofs.blocks.+blocks.Given as goal
+
+abbrev pub decreases-run_block : goal.decreases-run_block
+decreases-run_block l = 6 * size-Block l.block.now + 2
+
+abbrev pub decreases-run_step : goal.decreases-run_step
+decreases-run_step l = 6 * size-Step l.step.now + 1
+
+abbrev pub decreases-run_op : goal.decreases-run_op
+decreases-run_op l = 6 * size-Op l.op.now
+
+abbrev pub decreases-run_for : goal.decreases-run_for
+decreases-run_for l = 6 * size-Block l.body.now + 4
+
+abbrev pub decreases-run_turn : goal.decreases-run_turn
+decreases-run_turn l = 6 * size-Block l.body.now + 3
+
+abbrev pub decreases-run_test : goal.decreases-run_test
+decreases-run_test l = 6 * size-Block l.test.now + 3
+
+abbrev pub decreases-run_while : goal.decreases-run_while
+decreases-run_while l = 6 * max (size-Block l.test.now) (size-Block l.body.now) + 4
+
+abbrev pub invariant-run_block-loop-step : goal.invariant-run_block-loop-step
+invariant-run_block-loop-step l = Block_goes l.turns l.block l.step-index (state l.initial.arrays l.initial.table l.initial.stack.items) (state l.arrays l.table l.stack.items)
+
+abbrev pub invariant-run_for-loop-turn : goal.invariant-run_for-loop-turn
+invariant-run_for-loop-turn l = For_goes l.turns (body_of l.body) l.params l.index l.ty l.count l.mark l.turn (state l.initial.arrays l.initial.table l.initial.stack.items) (state l.arrays l.table l.stack.items)
+
+abbrev pub invariant-run_while-loop : goal.invariant-run_while-loop
+invariant-run_while-loop l = While_goes l.turns l.counter (body_of l.test) (body_of l.body) l.params l.place l.mark (state l.initial.arrays l.initial.table l.initial.stack.items) (state l.arrays l.table l.stack.items)
