@@ -1,0 +1,7 @@
+use Rattle.std.proofs.Common.{◌≡◌, drop}
+use Rattle.fut_aliases.specs.Calls.{first_broken, starred_argument}
+use Rattle.alias_applications.specs.Givens.{givens_of}
+use Rattle.alias_applications.proofs.rules.first_starred.Given as goal
+
+abbrev pub invariant-loop-i : goal.invariant-loop-i
+invariant-loop-i l = first_broken (starred_argument l.called) (givens_of l.all) ≡ first_broken (starred_argument l.called) (givens_of (drop l.i l.all))

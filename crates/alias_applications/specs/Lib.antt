@@ -1,0 +1,4 @@
+pub mod Shown
+pub mod Givens
+pub mod Rules
+pub mod Results

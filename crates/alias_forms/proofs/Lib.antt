@@ -1,0 +1,11 @@
+pub mod Binding
+pub mod SeenForms
+pub mod WalkForms
+pub mod RowForms
+pub mod LoopForms
+pub mod PartForms
+pub mod RowWalks
+pub mod BranchForms
+pub mod LoopWalks
+pub mod NameForms
+pub mod FunctionForms

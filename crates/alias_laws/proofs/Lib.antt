@@ -1,0 +1,16 @@
+pub mod Sets
+pub mod Worlds
+pub mod Values
+pub mod Naming
+pub mod Losing
+pub mod Since
+pub mod Stepping
+pub mod Calling
+pub mod Finishing
+pub mod Binding
+pub mod Operating
+pub mod Captured
+pub mod Parameters
+pub mod Forms
+pub mod Walk
+pub mod Law

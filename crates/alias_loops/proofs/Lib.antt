@@ -1,0 +1,11 @@
+pub mod Dropping
+pub mod Least
+pub mod LowestForms
+pub mod SharingForms
+pub mod CarriedForms
+pub mod TurnForms
+pub mod ValueForms
+pub mod WrittenForms
+pub mod StepForms
+pub mod LabelForms
+pub mod StartForms

@@ -1,0 +1,3 @@
+pub mod Operating
+pub mod Recording
+pub mod Paths

@@ -1,0 +1,9 @@
+pub mod BindForms
+pub mod Fields
+pub mod FitForms
+pub mod HeadForms
+pub mod KeepForms
+pub mod OwnForms
+pub mod PlaceForms
+pub mod StarForms
+pub mod WrittenForms

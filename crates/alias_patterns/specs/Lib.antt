@@ -1,0 +1,5 @@
+pub mod Wanted
+pub mod Fields
+pub mod Heads
+pub mod Placing
+pub mod Ruled

@@ -1,0 +1,4 @@
+pub mod Walking
+pub mod Answers
+pub mod Ends
+pub mod Loops

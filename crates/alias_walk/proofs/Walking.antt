@@ -1,0 +1,4 @@
+-- What search finds by itself.
+use Rattle.uniqueness.specs.Answers.{no_memory}
+
+pub ruleset nothing = (no_memory)
