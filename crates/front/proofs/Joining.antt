@@ -19,8 +19,10 @@ use Rattle.typed_programs.specs.Mistyped.{Some_numbering}
 use Rattle.typed_programs.specs.declared.typed.Accepted.{Accepted}
 use Rattle.typed_programs.specs.declared.typed.TypeErr.TheVariants as types
 use Rattle.typed_programs.proofs.Numbered.{numbered}
+use Rattle.unique_programs.specs.Rules.{Breaks_none}
+use Rattle.unique_programs.specs.declared.misuse.Misuse.TheVariants as misuse
 use Rattle.front.specs.Acceptance.{IsBuiltProgram, IsParsed, IsPrelude, IsResolved, IsUntyped, Resolves, Typable, definitions_of, defined_of}
-use Rattle.front.specs.Stages.{Is_accepted, Explains, IsMisnamed, Misnames, Untyped}
+use Rattle.front.specs.Stages.{Is_accepted, Explains, IsMisnamed, Misnames, Overwrites, Untyped}
 use Rattle.front.specs.declared.refusals.NameErr.TheVariants as names
 use Rattle.front.specs.declared.refusals.Refused.{Refused}
 use Rattle.front.specs.declared.refusals.Refused.TheVariants as why
@@ -49,6 +51,7 @@ refused_so prelude program ps (why.Names (names.Unbound name at)) is same m = re
 refused_so prelude program ps (why.Names (names.Twice name at)) is same m = record { prelude = prelude; is_prelude = is; resolved = ap resolve_program (sym same) ∙ m }
 refused_so prelude program ps (why.Names (names.NoMember name at)) is same m = record { prelude = prelude; is_prelude = is; resolved = ap resolve_program (sym same) ∙ m }
 refused_so prelude program ps (why.Types err) is same m = m
+refused_so prelude program ps (why.Misused err) is same m = m
 refused_so prelude program ps why.Memory is same m = tt
 
 -- ---- the whole
@@ -57,11 +60,15 @@ module _ (tokens : List Token) (program : Program) (spelled : IsBuiltProgram tok
   pub named : (answer : Result FlatProgram Refusal) → Resolves program answer → IsResolved tokens answer
   named answer resolves = record { program = program; spelled = spelled; resolves = resolves }
 
-  pub accepted : (flat : Flat) (a : Accepted) → Resolves program (Ok (flat_of flat)) → Knows flat a → Is_accepted tokens a
-  accepted flat a resolves knows = record {
+  here : (flat : Flat) (a : Accepted) → Resolves program (Ok (flat_of flat)) → Knows flat a → IsResolved tokens (Ok (flat_of a.flat))
+  here flat a resolves knows = named (Ok (flat_of a.flat)) (subst (λ f. Resolves program (Ok (flat_of f))) (sym knows.is) resolves)
+
+  pub accepted : (flat : Flat) (a : Accepted) → Resolves program (Ok (flat_of flat)) → Knows flat a → Some_numbering (Breaks_none (typing_of a.flat)) → Is_accepted tokens a
+  accepted flat a resolves knows unbroken = record {
     acceptable = record {
-      resolved = named (Ok (flat_of a.flat)) (subst (λ f. Resolves program (Ok (flat_of f))) (sym knows.is) resolves);
+      resolved = here flat a resolves knows;
       typed = subst (λ ds. Some_numbering (λ N. Typable N ds)) (sym (same_definitions a.flat)) (typable (typing_of a.flat) a.inference knows.known.infers);
+      unbroken = subst (λ ds. Some_numbering (Breaks_none ds)) (sym (same_definitions a.flat)) unbroken;
     };
     known = knows.known;
   }
@@ -74,6 +81,7 @@ module _ (tokens : List Token) (program : Program) (spelled : IsBuiltProgram tok
   misnamed (why.Names (names.Twice name at)) m = named _ m
   misnamed (why.Names (names.NoMember name at)) m = named _ m
   misnamed (why.Types err) m = absurd m
+  misnamed (why.Misused err) m = absurd m
   misnamed why.Memory m = tt
 
   untyped : (Lacks : Names → List Defined → Type 0) (flat : Flat) → Resolves program (Ok (flat_of flat)) → Some_numbering (λ N. Lacks N (typing_of flat)) → IsUntyped tokens Lacks
@@ -92,12 +100,26 @@ module _ (tokens : List Token) (program : Program) (spelled : IsBuiltProgram tok
   mistyped flat (why.Types (types.FunctionPlace at)) resolves m = untyped FunctionPlace flat resolves m
   mistyped flat (why.Types (types.Ambiguous at)) resolves m = untyped Ambiguous flat resolves m
   mistyped flat (why.Types types.Memory) resolves m = absurd m
+  mistyped flat (why.Misused err) resolves m = absurd m
   mistyped flat why.Memory resolves m = tt
+
+  -- a rule of aliases and consumption is broken
+  pub misused : (flat : Flat) (a : Accepted) (refused : Refused) → Resolves program (Ok (flat_of flat)) → Knows flat a → Overwrites a.flat refused → Explains tokens refused
+  misused flat a (why.Parse err) resolves knows m = absurd m
+  misused flat a (why.NotBuilt at) resolves knows m = absurd m
+  misused flat a (why.Names err) resolves knows m = absurd m
+  misused flat a (why.Types err) resolves knows m = absurd m
+  misused flat a (why.Misused (misuse.Consumed name at used)) resolves knows m = record { flat = a.flat; resolved = here flat a resolves knows; breaks = m }
+  misused flat a (why.Misused (misuse.NotConsumable name at)) resolves knows m = record { flat = a.flat; resolved = here flat a resolves knows; breaks = m }
+  misused flat a (why.Misused (misuse.Captured name at)) resolves knows m = record { flat = a.flat; resolved = here flat a resolves knows; breaks = m }
+  misused flat a (why.Misused (misuse.ResultAliases name at)) resolves knows m = record { flat = a.flat; resolved = here flat a resolves knows; breaks = m }
+  misused flat a (why.Misused misuse.Memory) resolves knows m = absurd m
+  misused flat a why.Memory resolves knows m = tt
 
 -- ---- as the stages answer
 
 module _ (tokens : List Token) (program : Program) (parsed : IsParsed tokens program) (built : first_unbuilt tokens ≡ None) where
-  pub accepts : (flat : Flat) (a : Accepted) → Resolves program (Ok (flat_of flat)) → Knows flat a → Is_accepted tokens a
+  pub accepts : (flat : Flat) (a : Accepted) → Resolves program (Ok (flat_of flat)) → Knows flat a → Some_numbering (Breaks_none (typing_of a.flat)) → Is_accepted tokens a
   accepts = accepted tokens program (record { parsed = parsed; built = built })
 
   pub misnames : (refused : Refused) → IsMisnamed program refused → Explains tokens refused
@@ -106,4 +128,7 @@ module _ (tokens : List Token) (program : Program) (parsed : IsParsed tokens pro
   pub mistypes : (flat : Flat) (refused : Refused) → Resolves program (Ok (flat_of flat)) → Untyped (typing_of flat) refused → Explains tokens refused
   mistypes = mistyped tokens program (record { parsed = parsed; built = built })
 
-pub ruleset joining = (accepts, misnames, mistypes)
+  pub misuses : (flat : Flat) (a : Accepted) (refused : Refused) → Resolves program (Ok (flat_of flat)) → Knows flat a → Overwrites a.flat refused → Explains tokens refused
+  misuses = misused tokens program (record { parsed = parsed; built = built })
+
+pub ruleset joining = (accepts, misnames, mistypes, misuses)

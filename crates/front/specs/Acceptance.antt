@@ -10,17 +10,25 @@ use Rattle.fut_ast.specs.declared.module.Program.{Program}
 use Rattle.fut_parser.specs.Places.{Ends, place_of}
 use Rattle.fut_parser.specs.declared.programs.ParseErr.{ParseErr}
 use Rattle.fut_parser.specs.declared.programs.ParseErr.TheVariants as parse
+use Rattle.fut_flat.specs.Erased.{texts}
 use Rattle.fut_flat.specs.Terms.{Bound_pattern}
+use Rattle.fut_flat.specs.declared.program.Flat.{Flat}
+use Rattle.flat_numbers.specs.Places.{program_places}
 use Rattle.fut_types.specs.Types.{Sub}
 use Rattle.fut_typing.specs.Names.{Names}
-use Rattle.fut_typing.specs.Program.{Defined}
+use Rattle.fut_typing.specs.Program.{Defined, program_of as typing_of}
 use Rattle.fut_typing.specs.Answers.{Typing_is, NoType, FunctionPlace, Ambiguous}
 use Rattle.elab_scopes.specs.Names.{Refusal}
 use Rattle.elab_scopes.specs.Names as refusal
 use Rattle.elab_scopes.specs.Programs.{FlatDefinition, FlatProgram, resolve_program}
+use Rattle.module_elab.specs.Elaborated.{program_of as flat_of}
 use Rattle.module_elab.specs.declared.prelude.TheConstants.{PRELUDE}
 use Rattle.unbuilt_tokens.specs.Unbuilt.{first_unbuilt}
 use Rattle.typed_programs.specs.Mistyped.{Some_numbering}
+use Rattle.unique_programs.specs.Rules.{Breaks_none}
+use Rattle.unique_programs.specs.Misuses.{Misused}
+use Rattle.unique_programs.specs.declared.misuse.Misuse.{Misuse}
+use Rattle.unique_programs.specs.declared.misuse.Misuse.TheVariants as misuse
 use Rattle.front.specs.declared.refusals.NameErr.TheVariants as names
 use Rattle.typed_programs.specs.declared.typed.TypeErr.TheVariants as types
 use Rattle.front.specs.declared.refusals.Refused.{Refused}
@@ -105,10 +113,11 @@ pub record IsResolved (tokens : List Token) (answer : Result FlatProgram Refusal
   pub resolves : Resolves program answer
 
 -- The tokens are accepted: behind the prelude they are this flat program, and names and records can be numbered so that it
--- has a typing.
+-- has a typing, by which it breaks no rule of aliases and consumption.
 pub record IsAcceptable (tokens : List Token) (flat : FlatProgram) : Type 0 where
   pub resolved : IsResolved tokens (Ok flat)
   pub typed : Some_numbering (λ N. Typable N (definitions_of flat))
+  pub unbroken : Some_numbering (Breaks_none (definitions_of flat))
 
 -- ---- what is not accepted, and why
 
@@ -124,6 +133,13 @@ pub record IsUnbuilt (tokens : List Token) (at : Place) : Type 0 where
   pub parsed : IsParsed tokens program
   pub unbuilt : first_unbuilt tokens ≡ Some at
 
+-- Their flat program has a typing by which it breaks a rule of aliases and consumption, the first of them as the refusal tells it:
+-- with its names, and the places of its nodes as they stand in a tree of the program.
+pub record IsMisused (tokens : List Token) (refusal : Misuse) : Type 0 where
+  pub flat : Flat
+  pub resolved : IsResolved tokens (Ok (flat_of flat))
+  pub breaks : Misused (typing_of flat) (texts flat.names.now) (program_places flat.definitions.now) refusal
+
 -- why the tokens are not accepted. Want of memory says nothing of them.
 abbrev pub Unaccepted : List Token → Refused → Type 0
 Unaccepted tokens (why.Parse err) = Unspelled tokens err
@@ -135,4 +151,11 @@ Unaccepted tokens (why.Types (types.NoType at)) = IsUntyped tokens NoType
 Unaccepted tokens (why.Types (types.FunctionPlace at)) = IsUntyped tokens FunctionPlace
 Unaccepted tokens (why.Types (types.Ambiguous at)) = IsUntyped tokens Ambiguous
 Unaccepted tokens (why.Types types.Memory) = ⊥
+Unaccepted tokens (why.Misused misuse.Memory) = ⊥
+Unaccepted tokens (why.Misused err) = IsMisused tokens err
 Unaccepted tokens why.Memory = ⊥
+
+-- a rule of aliases and consumption is broken
+abbrev pub IsMisuse : Refused → Type 0
+IsMisuse (why.Misused err) = Unit {0}
+IsMisuse refused = ⊥

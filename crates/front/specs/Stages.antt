@@ -1,10 +1,13 @@
 -- What the stages of the front answer.
 use Rattle.std.specs.Prelude.{◌≡◌, List, Result, Err}
 use Rattle.fut_token.specs.declared.token.Token.{Token}
+use Rattle.flat_numbers.specs.Places.{program_places}
 use Rattle.fut_ast.specs.declared.module.Program.{Program}
+use Rattle.fut_flat.specs.Erased.{texts}
+use Rattle.fut_flat.specs.declared.program.Flat.{Flat}
 use Rattle.fut_parser.specs.declared.programs.ParseErr.{ParseErr}
 use Rattle.fut_parser.specs.declared.programs.ParseErr.TheVariants as parse
-use Rattle.fut_typing.specs.Program.{Defined}
+use Rattle.fut_typing.specs.Program.{Defined, program_of as typing_of}
 use Rattle.elab_scopes.specs.Names.{Refusal}
 use Rattle.elab_scopes.specs.Names as refusal
 use Rattle.elab_scopes.specs.Programs.{FlatProgram}
@@ -13,6 +16,8 @@ use Rattle.typed_programs.specs.Known.{Is_known}
 use Rattle.typed_programs.specs.Mistyped.{Mistyped}
 use Rattle.typed_programs.specs.declared.typed.Accepted.{Accepted}
 use Rattle.typed_programs.specs.declared.typed.TypeErr.TheVariants as types
+use Rattle.unique_programs.specs.Misuses.{Misused}
+use Rattle.unique_programs.specs.declared.misuse.Misuse.TheVariants as misuse
 use Rattle.front.specs.Acceptance.{IsAcceptable, Resolves, Unaccepted, Unspelled}
 use Rattle.front.specs.declared.refusals.NameErr.TheVariants as names
 use Rattle.front.specs.declared.refusals.Refused.{Refused}
@@ -36,6 +41,7 @@ Misnames answer (why.Names (names.Unbound name at)) = answer ≡ Err (refusal.Un
 Misnames answer (why.Names (names.Twice name at)) = answer ≡ Err (refusal.Twice name at)
 Misnames answer (why.Names (names.NoMember name at)) = answer ≡ Err (refusal.NoMember name at)
 Misnames answer (why.Types err) = ⊥
+Misnames answer (why.Misused err) = ⊥
 Misnames answer why.Memory = Unit {0}
 
 -- memory ran out, or the names of a program are refused so
@@ -46,6 +52,7 @@ IsMisnamed program (why.Names (names.Unbound name at)) = Resolves program (Err (
 IsMisnamed program (why.Names (names.Twice name at)) = Resolves program (Err (refusal.Twice name at))
 IsMisnamed program (why.Names (names.NoMember name at)) = Resolves program (Err (refusal.NoMember name at))
 IsMisnamed program (why.Types err) = ⊥
+IsMisnamed program (why.Misused err) = ⊥
 IsMisnamed program why.Memory = Unit {0}
 
 -- memory ran out, or these definitions have no typing to go on with
@@ -55,7 +62,18 @@ Untyped ds (why.NotBuilt at) = ⊥
 Untyped ds (why.Names err) = ⊥
 Untyped ds (why.Types types.Memory) = ⊥
 Untyped ds (why.Types err) = Mistyped ds err
+Untyped ds (why.Misused err) = ⊥
 Untyped ds why.Memory = Unit {0}
+
+-- memory ran out, or the program breaks a rule of aliases and consumption
+abbrev pub Overwrites : Flat → Refused → Type 0
+Overwrites flat (why.Parse err) = ⊥
+Overwrites flat (why.NotBuilt at) = ⊥
+Overwrites flat (why.Names err) = ⊥
+Overwrites flat (why.Types err) = ⊥
+Overwrites flat (why.Misused misuse.Memory) = ⊥
+Overwrites flat (why.Misused err) = Misused (typing_of flat) (texts flat.names.now) (program_places flat.definitions.now) err
+Overwrites flat why.Memory = Unit {0}
 
 -- memory ran out, or the tokens are not accepted for this reason
 abbrev pub Explains : List Token → Refused → Type 0

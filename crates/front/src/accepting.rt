@@ -1,13 +1,15 @@
 // From tokens to an accepted program.
-ghost use Rattle.std.specs.Prelude.{◌≡◌, [], ◌∷◌, IfOk, IfErr, Ok, Result};
+ghost use Rattle.std.specs.Prelude.{◌≡◌, [], ◌∷◌, IfOk, IfErr, Ok, OnOk, Result};
 ghost use Rattle.elab_scopes.specs.Names.{Refusal};
 ghost use Rattle.elab_scopes.specs.Programs.{FlatProgram};
 ghost use Rattle.fut_tree.specs.Names.{all};
 ghost use Rattle.fut_typing.specs.Program.{program_of as typing_of};
 ghost use Rattle.module_elab.specs.Elaborated.{program_of as flat_of, Tells};
 ghost use Rattle.front.specs.Acceptance.{IsParsed, IsPreludeText, Resolves};
-ghost use Rattle.typed_programs.specs.Known.{Knows};
-ghost use Rattle.front.specs.Stages.{Explains, Is_accepted, IsMisnamed, Misnames, Misspells, Untyped};
+ghost use Rattle.typed_programs.specs.Known.{Is_known, Knows};
+ghost use Rattle.typed_programs.specs.Mistyped.{Some_numbering};
+ghost use Rattle.unique_programs.specs.Rules.{Breaks_none};
+ghost use Rattle.front.specs.Stages.{Explains, Is_accepted, IsMisnamed, Misnames, Misspells, Overwrites, Untyped};
 
 use crate::reading::{Prelude, prelude_tree};
 use crate::refusals::{NameErr, Refused};
@@ -21,6 +23,7 @@ use module_elab::{ModErr, PRELUDE_PATH, SourceSet, elaborate};
 use std::alloc::Global;
 use typed_programs::{Accepted, TypeErr, typed_program};
 use unbuilt_tokens::first_unbuilt;
+use unique_programs::{Misuse, unique_program};
 
 /// The number of the named file: the first in load order.
 const NAMED_FILE: u32 = 1;
@@ -110,30 +113,56 @@ fn resolved<'a>(
     }
 }
 
-/// The types of a flat program.
-fn typed<'a>(alloc: Global, flat: Flat<'a>) -> Result<Accepted<'a>, Refused>
-    ensures ok { IfOk result (Knows flat.entry) }
+/// A typed program, held by the arena.
+fn kept<'a>(bump: &'a Bump, accepted: Accepted<'a>) -> Result<&'a Accepted<'a>, NoMemory>
+    ensures { IfOk result (λ at. at.now ≡ accepted.entry) }
+{
+    match bump.try_alloc(accepted) {
+        Ok(at) => Ok(at),
+        Err(_failed) => Err(NoMemory),
+    }
+}
+
+/// The types of a flat program, held by the arena.
+fn typed<'a>(alloc: Global, bump: &'a Bump, flat: Flat<'a>) -> Result<&'a Accepted<'a>, Refused>
+    ensures ok { IfOk result (λ accepted. Knows flat.entry accepted.now) }
     ensures err { IfErr result (Untyped (typing_of flat.entry)) }
 {
     match typed_program(alloc, flat) {
-        Ok(accepted) => Ok(accepted),
+        Ok(accepted) => match kept(bump, accepted) {
+            Ok(at) => Ok(at),
+            Err(_) => Err(Refused::Memory),
+        },
         Err(TypeErr::Memory) => Err(Refused::Memory),
         Err(err) => Err(Refused::Types(err)),
     }
 }
 
-/// The program that the tokens of a file spell behind the prelude, or why it is not accepted. Its trees lie in the arena.
+/// Whether a typed program breaks no rule of aliases and consumption.
+fn unbroken<'a>(alloc: Global, bump: &'a Bump, accepted: &'a Accepted<'a>) -> Result<(), Refused>
+    requires known { Is_known accepted.now }
+    ensures ok { OnOk result (Some_numbering (Breaks_none (typing_of accepted.now.flat))) }
+    ensures err { IfErr result (Overwrites accepted.now.flat) }
+{
+    match unique_program(alloc, bump, accepted) {
+        Ok(()) => Ok(()),
+        Err(Misuse::Memory) => Err(Refused::Memory),
+        Err(err) => Err(Refused::Misused(err)),
+    }
+}
+
+/// The program that the tokens of a file spell behind the prelude, or why it is not accepted. It lies in the arena with its trees.
 ///
-/// The cost is linear in the tokens, but for what types cost.
+/// The cost is linear in the tokens, but for what types and the sets of aliases cost.
 #[tactic(auto, using(crate::proofs::Joining::joining))]
 pub fn accept<'a>(
     alloc: Global,
     bump: &'a Bump,
     prelude: &'a Prelude,
     tokens: &'a [Token],
-) -> Result<Accepted<'a>, Refused>
+) -> Result<&'a Accepted<'a>, Refused>
     requires prelude { IsPreludeText prelude.now.tokens }
-    ensures accepted { IfOk result (Is_accepted tokens.now) }
+    ensures accepted { IfOk result (λ accepted. Is_accepted tokens.now accepted.now) }
     ensures refused { IfErr result (Explains tokens.now) }
 {
     let program = match parsed(bump, tokens) {
@@ -150,8 +179,12 @@ pub fn accept<'a>(
         Ok(flat) => flat,
         Err(refused) => return Err(refused),
     };
-    match typed(alloc, flat) {
-        Ok(accepted) => Ok(accepted),
+    let accepted = match typed(alloc, bump, flat) {
+        Ok(accepted) => accepted,
+        Err(refused) => return Err(refused),
+    };
+    match unbroken(alloc, bump, accepted) {
+        Ok(()) => Ok(accepted),
         Err(refused) => Err(refused),
     }
 }

@@ -2,6 +2,7 @@
 use fut_parser::ParseErr;
 use fut_scalar::{Name, Place};
 use typed_programs::TypeErr;
+use unique_programs::Misuse;
 
 /// Why the names of a program are refused, and where.
 #[derive(Debug, Drop)]
@@ -22,6 +23,7 @@ pub enum Refused {
     NotBuilt { at: Place },
     Names(NameErr),
     Types(TypeErr),
+    Misused(Misuse),
     /// Memory ran out.
     ///
     /// It is answered too where the prelude does not parse, and where a form comes that is not built though no token told

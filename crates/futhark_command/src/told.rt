@@ -15,8 +15,8 @@ usage: futhark run FILE [--entry NAME] [--turns NUMBER]
 writes its result on standard output, a tuple with a line for each part. The
 entry point is `main`, or the declaration `entry` of this name. Each `while`
 may take 1073741824 turns, or as many as are given.
-`check` writes `accepted` on standard output where the names of FILE are bound
-and it has a type, and reads no input.
+`check` writes `accepted` on standard output where the names of FILE are bound,
+it has a type, and it overwrites only arrays that are its own, and reads no input.
 
 With `def main (x: i64) (y: i64): i64 = x * x + y * y` in the file t.fut,
     echo '3 4' | futhark run t.fut
@@ -29,6 +29,7 @@ The exit status, and for each but 0 a line on standard error:
    3  FILE is no program, or one of a part of Futhark that is not built yet
    4  a name of the program is not bound, bound twice, or no member of a module
    5  the program has no type
+   7  the program overwrites an array that it may not, or uses one behind that
    8  there is no such entry point, or it takes or gives other than scalars and their arrays
    9  FILE has over 4194304 bytes or nests over 200 deep, its functions unfolded
       have over 1048576 nodes or nest over 1000 deep, or the input has over

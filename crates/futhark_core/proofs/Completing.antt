@@ -17,6 +17,7 @@ use Rattle.elab_scopes.specs.Programs.{FlatProgram, resolve_program}
 use Rattle.module_elab.specs.Elaborated.{program_of as flat_of}
 use Rattle.typed_programs.specs.declared.typed.TypeErr.{TypeErr}
 use Rattle.typed_programs.specs.declared.typed.TypeErr.TheVariants as types
+use Rattle.unique_programs.specs.declared.misuse.Misuse.{Misuse}
 use Rattle.front.specs.Acceptance.{IsResolved, IsUntyped, Unaccepted, Unspelled}
 use Rattle.front.specs.Entries.{HasEntry, HasNoEntry}
 use Rattle.front.specs.declared.refusals.NameErr.{NameErr}
@@ -35,15 +36,16 @@ use Rattle.futhark_status.specs.declared.status.LimitKind.TheVariants as limit
 use Rattle.futhark_status.specs.declared.status.Why.{Why}
 use Rattle.futhark_status.specs.declared.status.Why.TheVariants as why
 use Rattle.futhark_status.specs.declared.status.Status.{Status}
-use Rattle.futhark_status.specs.declared.status.Status.TheVariants.{Done, Usage, LoadFault, Text, Names, Types, Entry, Limit, ReadFault, Input, Failure, Turns, WriteFault, Memory}
+use Rattle.futhark_status.specs.declared.status.Status.TheVariants.{Done, Usage, LoadFault, Text, Names, Types, Unique, Entry, Limit, ReadFault, Input, Failure, Turns, WriteFault, Memory}
 use Rattle.futhark_core.specs.Acceptance.{Source, Unlexed, UnacceptedTokens, LexedUnaccepted}
 use Rattle.futhark_core.specs.Entering.{NotEntered}
 use Rattle.futhark_core.specs.Inputs.{wanted}
 use Rattle.futhark_core.specs.Meaning.{Entered, IsEntered, Allows, Lawfully_allows, Alone, Answers}
-use Rattle.futhark_core.specs.Row.{Outside, Streams, RunRow, TextRow, NamesRow, TypesRow, LoadRow, FrontRow, Started, InputRow, ActionRow, ProgramRow, CheckRow, status_for}
-use Rattle.futhark_core.specs.Comes.{Accepted, Acted, Agrees, AskedRun, Done_with, Argued, Built, Comes, Commanded, Complete, Came, Ending, Entering, FileHeld, IsLimit, Lacks, Named, NoFault, Onward, Parsed, ParserRefusal, Ran, Tells, Then, Told, Tokenized, Typed, Unread, refusal_of}
+use Rattle.futhark_core.specs.Row.{Outside, Streams, RunRow, TextRow, NamesRow, TypesRow, UniqueRow, LoadRow, FrontRow, Started, InputRow, ActionRow, ProgramRow, CheckRow, status_for}
+use Rattle.futhark_core.specs.Comes.{Accepted, Acted, Agrees, AskedRun, Done_with, Argued, Built, Comes, Commanded, Complete, Came, Ending, Entering, FileHeld, IsLimit, Lacks, Named, NoFault, Onward, Parsed, ParserRefusal, Ran, Stage, Tells, Then, Told, Tokenized, Typed, Unbroken, Unread, refusal_of}
+use Rattle.futhark_core.proofs.Misusing.{breaks, typable}
 use Rattle.futhark_core.proofs.Reading.{types_of_reading}
-use Rattle.futhark_core.proofs.Settling.{EndsAs, Holds, Settles, TypesRefusal, built_err, built_ok, commanded_err, commanded_ok, held_err, held_ok, named_err, named_ok, parsed_none, parsed_ok, then_ends, then_err, then_ok, tokenized_err, tokenized_ok, typed_err, typed_ok}
+use Rattle.futhark_core.proofs.Settling.{EndsAs, Holds, Settles, TypesRefusal, UniqueRefusal, built_err, built_ok, commanded_err, commanded_ok, held_err, held_ok, named_err, named_ok, parsed_none, parsed_ok, then_ends, then_err, then_ok, tokenized_err, tokenized_ok, typed_err, typed_ok, unbroken_err, unbroken_ok}
 
 -- ---- entries
 
@@ -188,7 +190,15 @@ module _ (words : List (List ℕ)) (old new : Outside) (quiet : NoFault old new)
       where
         go : (a : Result Ending Status) → EndsAs (TypesRefusal asked.file err) a → Agrees (status_for (why.Types err) asked.file) a
         go (Ok end) p = absurd p
-        go (Err status) p = inr (inr (asked.file, err, p.0, p.1, refl, p.2))
+        go (Err status) p = inr (inr (inl (asked.file, err, p.0, p.1, refl, p.2)))
+
+    -- a rule of aliases and consumption is broken
+    overwrites : (err : Misuse) → Holds (Accepted files asked.file) (EndsAs (UniqueRefusal asked.file)) → Ends (status_for (why.Unique err) asked.file)
+    overwrites err ends a comes = go a (onward (EndsAs (UniqueRefusal asked.file)) (then_ends (Accepted files asked.file) _ (UniqueRefusal asked.file) ends) a comes)
+      where
+        go : (a : Result Ending Status) → EndsAs (UniqueRefusal asked.file) a → Agrees (status_for (why.Unique err) asked.file) a
+        go (Ok end) p = absurd p
+        go (Err status) p = inr (inr (inr (asked.file, err, p.0, refl, p.1)))
 
     file_too_long : Settles (FileHeld files asked.file) (Err (Limit limit.FileBytes)) → Ends (Limit limit.FileBytes)
     file_too_long settles = refused_with (Limit limit.FileBytes) (then_err (FileHeld files asked.file) _ (Limit limit.FileBytes) settles)
@@ -207,9 +217,13 @@ module _ (words : List (List ℕ)) (old new : Outside) (quiet : NoFault old new)
       lexed (lex.Float place) h = text_refused (status_for (why.Lex (lex.Float place)) asked.file) (tokenized_err asked.file body (lex.Float place) h)
 
       module _ (tokens : List Token) (spelled : Settles (Tokenized asked.file body) (Ok tokens)) where
+        -- what comes behind the names
+        abbrev Typed_apart : FlatProgram → Stage FlatProgram
+        Typed_apart flat = Then (Typed asked.file flat) (λ typed. Unbroken asked.file typed)
+
         -- of what the tokens come to this holds, so of the file
         from_tokens : (P : Result FlatProgram Status → Type 0)
-            → Holds (Then (Parsed asked.file tokens) (λ parsed. Then (Built asked.file tokens parsed) (λ built. Then (Named asked.file built) (λ flat. Typed asked.file flat)))) P
+            → Holds (Then (Parsed asked.file tokens) (λ parsed. Then (Built asked.file tokens parsed) (λ built. Then (Named asked.file built) Typed_apart))) P
             → Holds (Accepted files asked.file) P
         from_tokens P h = then_ok (FileHeld files asked.file) _ P body held (then_ok (Tokenized asked.file body) _ P tokens spelled h)
 
@@ -231,7 +245,7 @@ module _ (words : List (List ℕ)) (old new : Outside) (quiet : NoFault old new)
 
         -- of what its names come to this holds, so of the file
         from_names : (answer : Result FlatProgram Refusal) (r : IsResolved tokens answer) (P : Result FlatProgram Status → Type 0)
-            → Holds (Then (Named asked.file r.program) (λ flat. Typed asked.file flat)) P → Holds (Accepted files asked.file) P
+            → Holds (Then (Named asked.file r.program) Typed_apart) P → Holds (Accepted files asked.file) P
         from_names answer r P h = from_tokens P
             (then_ok (Parsed asked.file tokens) _ P r.program (parsed_ok asked.file tokens r.program r.spelled.parsed)
             (then_ok (Built asked.file tokens r.program) _ P r.program (built_ok asked.file tokens r.program r.spelled.built) h))
@@ -248,13 +262,22 @@ module _ (words : List (List ℕ)) (old new : Outside) (quiet : NoFault old new)
             let t = untyped_so tokens err u in
             untyped err (from_names (Ok t.flat) t.resolved (EndsAs (TypesRefusal asked.file err))
             (then_ok (Named asked.file t.resolved.program) _ (EndsAs (TypesRefusal asked.file err)) t.flat (named_ok asked.file t.resolved.program t.flat t.resolved.resolves)
-            (typed_err asked.file t.flat err t.lacks)))
+            (then_ends (Typed asked.file t.flat) _ (TypesRefusal asked.file err) (typed_err asked.file t.flat err t.lacks))))
+
+        unique_so : (err : Misuse) → Unaccepted tokens (refused.Misused err) → Ends (status_for (why.Unique err) asked.file)
+        unique_so err u =
+            let b = breaks tokens err u in
+            overwrites err (from_names (Ok b.flat) b.resolved (EndsAs (UniqueRefusal asked.file))
+            (then_ok (Named asked.file b.resolved.program) _ (EndsAs (UniqueRefusal asked.file)) b.flat (named_ok asked.file b.resolved.program b.flat b.resolved.resolves)
+            (then_ok (Typed asked.file b.flat) _ (EndsAs (UniqueRefusal asked.file)) b.flat (typed_ok asked.file b.flat (typable b.flat b.N b.are b.rule b.first))
+            (unbroken_err asked.file b.flat b.N b.are b.rule b.first))))
 
         explained : (reason : Why) → UnacceptedTokens tokens reason → Ends (status_for reason asked.file)
         explained (why.Parse err) u = parsed err u
         explained (why.NotBuilt place) u = not_built place u
         explained (why.Names err) u = named_so err u
         explained (why.Types err) u = typed_so err u
+        explained (why.Unique err) u = unique_so err u
         explained why.Load u = absurd u
         explained (why.Lex err) u = absurd u
         explained why.FileBytes u = absurd u
@@ -291,6 +314,7 @@ module _ (words : List (List ℕ)) (old new : Outside) (quiet : NoFault old new)
   refused_text (why.NotBuilt place) path row = front_built place path row
   refused_text (why.Names err) path row = absurd row
   refused_text (why.Types err) path row = absurd row
+  refused_text (why.Unique err) path row = absurd row
   refused_text why.Load path row = absurd row
   refused_text why.FileBytes path row = absurd row
   refused_text why.Memory path row = absurd row
@@ -303,6 +327,7 @@ module _ (words : List (List ℕ)) (old new : Outside) (quiet : NoFault old new)
   refused_names (why.Parse err) path row = absurd row
   refused_names (why.NotBuilt place) path row = absurd row
   refused_names (why.Types err) path row = absurd row
+  refused_names (why.Unique err) path row = absurd row
   refused_names why.Load path row = absurd row
   refused_names why.FileBytes path row = absurd row
   refused_names why.Memory path row = absurd row
@@ -315,9 +340,23 @@ module _ (words : List (List ℕ)) (old new : Outside) (quiet : NoFault old new)
   refused_types (why.Parse err) path row = absurd row
   refused_types (why.NotBuilt place) path row = absurd row
   refused_types (why.Names err) path row = absurd row
+  refused_types (why.Unique err) path row = absurd row
   refused_types why.Load path row = absurd row
   refused_types why.FileBytes path row = absurd row
   refused_types why.Memory path row = absurd row
+
+  refused_unique : (reason : Why) (path : List ℕ) → UniqueRow reason words old new path → Ends (Unique (record { why = reason; path = path }))
+  refused_unique (why.Unique err) path row =
+      let u = rw row.path_is at row.unaccepted in
+      of_path row.asked path (why.Unique err) row.path_is (of_tokens row.asked row.command u.text u.loaded (why.Unique err) u.unaccepted)
+  refused_unique (why.Lex err) path row = absurd row
+  refused_unique (why.Parse err) path row = absurd row
+  refused_unique (why.NotBuilt place) path row = absurd row
+  refused_unique (why.Names err) path row = absurd row
+  refused_unique (why.Types err) path row = absurd row
+  refused_unique why.Load path row = absurd row
+  refused_unique why.FileBytes path row = absurd row
+  refused_unique why.Memory path row = absurd row
 
   no_load : (reason : Why) (path : List ℕ) (status : Status) → LoadRow reason words old new path → Ends status
   no_load why.Load path status row = absurd (quiet.loader row.unaccepted.faults)
@@ -326,6 +365,7 @@ module _ (words : List (List ℕ)) (old new : Outside) (quiet : NoFault old new)
   no_load (why.NotBuilt place) path status row = absurd row
   no_load (why.Names err) path status row = absurd row
   no_load (why.Types err) path status row = absurd row
+  no_load (why.Unique err) path status row = absurd row
   no_load why.FileBytes path status row = absurd row
   no_load why.Memory path status row = absurd row
 
@@ -343,7 +383,8 @@ module _ (words : List (List ℕ)) (old new : Outside) (quiet : NoFault old new)
         let a = s.accepted in let t = a.accepted in let p = t.accepted.acceptable in
         from_names asked s.command a.text a.loaded t.tokens (tokenized_ok asked.file a.text t.tokens t.lexed) (Ok (flat_of source.flat)) p.resolved (λ end. end ≡ Ok (flat_of source.flat))
         (then_ok (Named asked.file p.resolved.program) _ (λ end. end ≡ Ok (flat_of source.flat)) (flat_of source.flat) (named_ok asked.file p.resolved.program (flat_of source.flat) p.resolved.resolves)
-        (typed_ok asked.file (flat_of source.flat) p.typed))
+        (then_ok (Typed asked.file (flat_of source.flat)) _ (λ end. end ≡ Ok (flat_of source.flat)) (flat_of source.flat) (typed_ok asked.file (flat_of source.flat) p.typed)
+        (unbroken_ok asked.file (flat_of source.flat) p.unbroken)))
 
     acted : (status : Status) → Holds (Acted asked old.input.left (flat_of source.flat)) (Agrees status) → Ends status
     acted status h = onward asked s.command (Agrees status) (then_ok (Accepted files asked.file) _ (Agrees status) (flat_of source.flat) accepted h)
@@ -393,6 +434,7 @@ module _ (words : List (List ℕ)) (old new : Outside) (quiet : NoFault old new)
       ran (Text refused) row = absurd row
       ran (Names refused) row = absurd row
       ran (Types refused) row = absurd row
+      ran (Unique refused) row = absurd row
       ran (Limit limit.FileBytes) row = absurd row
       ran (Limit limit.Nesting) row = absurd row
 
@@ -412,6 +454,7 @@ module _ (words : List (List ℕ)) (old new : Outside) (quiet : NoFault old new)
   ends (Text refused) row = inl (refused_text refused.why refused.path row)
   ends (Names refused) row = inl (refused_names refused.why refused.path row)
   ends (Types refused) row = inl (refused_types refused.why refused.path row)
+  ends (Unique refused) row = inl (refused_unique refused.why refused.path row)
   ends (Limit limit.FileBytes) row =
       let f = row.row in let u = rw f.path_is at f.unaccepted in inl (file_too_long f.asked f.command (held_err files f.asked.file u.long))
   ends (Limit limit.Nesting) row = inl (front_parse (parse.TooDeep row.place) row.path row.row)

@@ -3,6 +3,7 @@ pub mod Ready
 pub mod Rows
 pub mod RowLaws
 pub mod Settling
+pub mod Misusing
 pub mod Reading
 pub mod Completing
 pub mod Opening

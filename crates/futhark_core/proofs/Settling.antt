@@ -19,6 +19,9 @@ use Rattle.elab_scopes.specs.Names.{Refusal}
 use Rattle.elab_scopes.specs.Names as refusal
 use Rattle.elab_scopes.specs.Programs.{FlatProgram}
 use Rattle.unbuilt_tokens.specs.Unbuilt.{first_unbuilt}
+use Rattle.fut_aliases.specs.declared.refusals.Broken.{Broken}
+use Rattle.unique_programs.specs.Rules.{Breaks_none, First_broken}
+use Rattle.unique_programs.specs.declared.misuse.Misuse.{Misuse}
 use Rattle.typed_programs.specs.Mistyped.{Some_numbering}
 use Rattle.typed_programs.specs.declared.typed.TypeErr.{TypeErr}
 use Rattle.typed_programs.specs.declared.typed.TypeErr.TheVariants as types
@@ -32,7 +35,7 @@ use Rattle.futhark_status.specs.declared.status.Why.TheVariants as why
 use Rattle.futhark_status.specs.declared.status.Status.{Status}
 use Rattle.futhark_status.specs.declared.status.Status.TheVariants.{Usage, Limit}
 use Rattle.futhark_core.specs.Row.{status_for}
-use Rattle.futhark_core.specs.Comes.{AlikeTypes, Built, Commanded, FileHeld, Lacks, Named, Onward, Parsed, ParserRefusal, Stage, Then, Tokenized, Typed, refusal_of}
+use Rattle.futhark_core.specs.Comes.{AlikeTypes, Built, Commanded, FileHeld, Lacks, Named, Onward, Parsed, ParserRefusal, Stage, Then, Tokenized, Typed, Unbroken, refusal_of}
 
 -- of all that the stage comes to this holds
 abbrev pub Holds : {A : Type 0} → Stage A → (Result A Status → Type 0) → Type 0
@@ -193,3 +196,18 @@ module _ (file : List ℕ) (flat : FlatProgram) where
   pub typed_err : (err : TypeErr) → Some_numbering (λ N. Lacks err N (definitions_of flat)) → Holds (Typed file flat) (EndsAs (TypesRefusal file err))
   typed_err err some (Ok same) p = let w = typing_is_one p.0.0 some.0 p.0.1 some.1 (definitions_of flat) p.0.2.0 p.0.2.1 in absurd (lacks_or_typing some.0 some.1 (definitions_of flat) err some.2 (w.0, w.1))
   typed_err err some (Err status) p = (p.0, alike p.1.0 p.1.1 (definitions_of flat) err p.0 (lacks_is_one err some.0 p.1.0 some.1 p.1.1 (definitions_of flat) some.2) p.1.2, p.2)
+
+-- ---- rules of aliases and consumption
+
+-- a refusal because of one
+abbrev pub UniqueRefusal : List ℕ → Status → Type 0
+UniqueRefusal file status = (err : Misuse) × (status ≡ status_for (why.Unique err) file)
+
+module _ (file : List ℕ) (flat : FlatProgram) where
+  pub unbroken_ok : Some_numbering (Breaks_none (definitions_of flat)) → Settles (Unbroken file flat) (Ok flat)
+  unbroken_ok some (Ok same) p = ap Ok p.1
+  unbroken_ok some (Err status) p = let broken = p.1 some.0 some.1 None some.2 in let is = broken.1 in absurd cc
+
+  pub unbroken_err : (N : Numbering) → AreNames N → (rule : Broken) → First_broken (definitions_of flat) (Some rule) N → Holds (Unbroken file flat) (EndsAs (UniqueRefusal file))
+  unbroken_err N are rule first (Ok same) p = let none = p.0 N are (Some rule) first in absurd cc
+  unbroken_err N are rule first (Err status) p = (p.0, p.2)

@@ -16,7 +16,7 @@ use Rattle.fut_ast.specs.Grammar.{Derives}
 use Rattle.fut_ast.specs.Sorts.{Text as Name}
 use Rattle.fut_ast.specs.declared.module.Program.{Program}
 use Rattle.fut_parser.specs.declared.programs.ParseErr.{ParseErr}
-use Rattle.fut_typing.specs.Names.{Names as Numbering}
+use Rattle.fut_typing.specs.Names.{Names as Numbering, AreNames}
 use Rattle.fut_typing.specs.Program.{Defined}
 use Rattle.fut_typing.specs.Answers.{NoType, FunctionPlace, Ambiguous}
 use Rattle.elab_scopes.specs.Names as refusal
@@ -30,6 +30,9 @@ use Rattle.front.specs.declared.refusals.NameErr.TheVariants as names
 use Rattle.typed_programs.specs.Mistyped.{Some_numbering}
 use Rattle.typed_programs.specs.declared.typed.TypeErr.{TypeErr}
 use Rattle.typed_programs.specs.declared.typed.TypeErr.TheVariants as types
+use Rattle.fut_aliases.specs.declared.refusals.Broken.{Broken}
+use Rattle.unique_programs.specs.Rules.{First_broken}
+use Rattle.unique_programs.specs.declared.misuse.Misuse.{Misuse}
 use Rattle.command_words.specs.CommandLine.{Command, command_of}
 use Rattle.command_words.specs.declared.words.Action.{Action}
 use Rattle.command_words.specs.declared.words.Action.TheVariants.{Run, Check}
@@ -114,6 +117,15 @@ abbrev pub Typed : Name → FlatProgram → Stage FlatProgram
 Typed file flat (Ok same) = Some_numbering (λ N. Typable N (definitions_of flat)) × (same ≡ flat)
 Typed file flat (Err status) = (err : TypeErr) × Some_numbering (λ N. Lacks err N (definitions_of flat)) × (status ≡ status_for (why.Types err) file)
 
+-- this holds of the first rule of aliases and consumption that the definitions break, if they break one, by each typing of theirs
+abbrev pub By_each_typing : List Defined → (Option Broken → Type 0) → Type 0
+By_each_typing ds P = (N : Numbering) → AreNames N → (first : Option Broken) → First_broken ds first N → P first
+
+-- by no typing the flat program breaks a rule of aliases and consumption, or by each one
+abbrev pub Unbroken : Name → FlatProgram → Stage FlatProgram
+Unbroken file flat (Ok same) = By_each_typing (definitions_of flat) (λ first. first ≡ None) × (same ≡ flat)
+Unbroken file flat (Err status) = (err : Misuse) × By_each_typing (definitions_of flat) (λ first. (rule : Broken) × (first ≡ Some rule)) × (status ≡ status_for (why.Unique err) file)
+
 -- the file's text is accepted
 abbrev pub Accepted : Option (List (List ℕ × List ℕ)) → Name → Stage FlatProgram
 Accepted files file =
@@ -121,7 +133,8 @@ Accepted files file =
     Then (Tokenized file text) (λ tokens.
     Then (Parsed file tokens) (λ parsed.
     Then (Built file tokens parsed) (λ built.
-    Then (Named file built) (λ flat. Typed file flat)))))
+    Then (Named file built) (λ flat.
+    Then (Typed file flat) (λ typed. Unbroken file typed))))))
 
 -- ---- what is done with it
 
@@ -215,10 +228,11 @@ AlikeTypes (types.FunctionPlace at) (types.FunctionPlace place) = Unit {0}
 AlikeTypes (types.Ambiguous at) (types.Ambiguous place) = Unit {0}
 AlikeTypes err other = ⊥
 
--- both are refusals of one file by the parser, or because of its types
+-- both are refusals of one file by the parser, because of its types, or because of a rule of aliases and consumption
 abbrev pub Alike : Status → Status → Type 0
 Alike status end = ((file : Name) × ParserRefusal file status × ParserRefusal file end)
-    ⊎ ((file : Name) × (err : TypeErr) × (other : TypeErr) × AlikeTypes err other × (status ≡ status_for (why.Types err) file) × (end ≡ status_for (why.Types other) file))
+    ⊎ (((file : Name) × (err : TypeErr) × (other : TypeErr) × AlikeTypes err other × (status ≡ status_for (why.Types err) file) × (end ≡ status_for (why.Types other) file))
+    ⊎ ((file : Name) × (err : Misuse) × (other : Misuse) × (status ≡ status_for (why.Unique err) file) × (end ≡ status_for (why.Unique other) file)))
 
 abbrev pub Agrees : Status → Result Ending Status → Type 0
 Agrees status (Ok Told) = status ≡ Done

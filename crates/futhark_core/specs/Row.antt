@@ -28,7 +28,7 @@ use Rattle.futhark_status.specs.declared.status.LimitKind.TheVariants as limit
 use Rattle.futhark_status.specs.declared.status.Why.{Why}
 use Rattle.futhark_status.specs.declared.status.Why.TheVariants as why
 use Rattle.futhark_status.specs.declared.status.Status.{Status}
-use Rattle.futhark_status.specs.declared.status.Status.TheVariants.{Done, Usage, LoadFault, Text, Names, Types, Entry, Limit, ReadFault, Input, Failure, Turns, WriteFault, Memory}
+use Rattle.futhark_status.specs.declared.status.Status.TheVariants.{Done, Usage, LoadFault, Text, Names, Types, Unique, Entry, Limit, ReadFault, Input, Failure, Turns, WriteFault, Memory}
 use Rattle.futhark_core.specs.Acceptance.{Source, AcceptedFile, UnacceptedFile}
 use Rattle.futhark_core.specs.Entering.{NotEntered}
 use Rattle.futhark_core.specs.Inputs.{wanted}
@@ -89,6 +89,10 @@ NamesRow reason words old new path = ⊥
 abbrev pub TypesRow : Why → List (List ℕ) → Outside → Outside → List ℕ → Type 0
 TypesRow (why.Types err) words old new path = FrontRow (why.Types err) words old new path
 TypesRow reason words old new path = ⊥
+
+abbrev pub UniqueRow : Why → List (List ℕ) → Outside → Outside → List ℕ → Type 0
+UniqueRow (why.Unique err) words old new path = FrontRow (why.Unique err) words old new path
+UniqueRow reason words old new path = ⊥
 
 -- the words ask for something to be done with a file, whose source is accepted
 pub record Started (words : List (List ℕ)) (old new : Outside) (asked : Command) (source : Source) : Type 0 where
@@ -263,6 +267,7 @@ status_for (why.Parse err) path = Text (record { why = why.Parse err; path = pat
 status_for (why.NotBuilt place) path = Text (record { why = why.NotBuilt place; path = path })
 status_for (why.Names err) path = Names (record { why = why.Names err; path = path })
 status_for (why.Types err) path = Types (record { why = why.Types err; path = path })
+status_for (why.Unique err) path = Unique (record { why = why.Unique err; path = path })
 status_for why.Memory path = Memory
 
 -- each status comes only where its row holds
@@ -272,6 +277,7 @@ RunRow (LoadFault refused) words old new = LoadRow refused.why words old new ref
 RunRow (Text refused) words old new = TextRow refused.why words old new refused.path
 RunRow (Names refused) words old new = NamesRow refused.why words old new refused.path
 RunRow (Types refused) words old new = TypesRow refused.why words old new refused.path
+RunRow (Unique refused) words old new = UniqueRow refused.why words old new refused.path
 RunRow (Limit limit.FileBytes) words old new = FileBytesRow words old new
 RunRow (Limit limit.Nesting) words old new = NestingRow words old new
 RunRow Memory words old new = MemoryRow words old new

@@ -13,6 +13,8 @@ use Rattle.front.specs.declared.refusals.NameErr.{NameErr}
 use Rattle.front.specs.declared.refusals.NameErr.TheVariants as names
 use Rattle.typed_programs.specs.declared.typed.TypeErr.{TypeErr}
 use Rattle.typed_programs.specs.declared.typed.TypeErr.TheVariants as types
+use Rattle.unique_programs.specs.declared.misuse.Misuse.{Misuse}
+use Rattle.unique_programs.specs.declared.misuse.Misuse.TheVariants as misuse
 use Rattle.futhark_status.specs.declared.status.EntryErr.{EntryErr}
 use Rattle.futhark_status.specs.declared.status.EntryErr.TheVariants as entry
 use Rattle.value_text.specs.declared.reading.TextErr.{TextErr}
@@ -22,7 +24,7 @@ use Rattle.futhark_status.specs.declared.status.Why.TheVariants as why
 use Rattle.futhark_status.specs.declared.status.LimitKind.{LimitKind}
 use Rattle.futhark_status.specs.declared.status.LimitKind.TheVariants as limit
 use Rattle.futhark_status.specs.declared.status.Status.{Status}
-use Rattle.futhark_status.specs.declared.status.Status.TheVariants.{Done, Usage, LoadFault, Text, Names, Types, Entry, Limit, ReadFault, Input, Failure, Turns, WriteFault, Memory}
+use Rattle.futhark_status.specs.declared.status.Status.TheVariants.{Done, Usage, LoadFault, Text, Names, Types, Unique, Entry, Limit, ReadFault, Input, Failure, Turns, WriteFault, Memory}
 
 abbrev pub code_of : Status → ℕ
 code_of Done = 0
@@ -31,6 +33,7 @@ code_of (LoadFault refused) = 2
 code_of (Text refused) = 3
 code_of (Names refused) = 4
 code_of (Types refused) = 5
+code_of (Unique refused) = 7
 code_of (Entry err name) = 8
 code_of (Limit what) = 9
 code_of ReadFault = 10
@@ -53,6 +56,8 @@ pub data Line : Type 0 where
   Named : List ℕ → List ℕ → List ℕ → Line
   -- what is said of a place of a file, with a name inside
   Placed : List ℕ → Place → List ℕ → List ℕ → List ℕ → Line
+  -- what is said of a name at a place of a file, with another place of it behind
+  PlacedTwice : (path : List ℕ) → Place → (name said : List ℕ) → Place → Line
 
 -- parts one after another
 unfoldable pub joined : List (List ℕ) → List ℕ
@@ -77,6 +82,8 @@ bytes_of (Clashing param have want) =
 bytes_of (Named before name behind) = joined (beginning ∷ before ∷ name ∷ behind ∷ newline ∷ [])
 bytes_of (Placed path place before name behind) =
     joined (beginning ∷ path_at place path ∷ codes ":" ∷ decimal place.line ∷ codes ":" ∷ decimal place.column ∷ codes ": " ∷ before ∷ name ∷ behind ∷ newline ∷ [])
+bytes_of (PlacedTwice path place name said other) =
+    joined (beginning ∷ path_at place path ∷ codes ":" ∷ decimal place.line ∷ codes ":" ∷ decimal place.column ∷ codes ": " ∷ name ∷ said ∷ decimal other.line ∷ codes ":" ∷ decimal other.column ∷ newline ∷ [])
 
 -- without a name
 abbrev pub at_place : List ℕ → Place → List ℕ → Line
@@ -105,6 +112,13 @@ types_line (types.FunctionPlace place) path = at_place path place (codes "a func
 types_line (types.Ambiguous place) path = at_place path place (codes "ambiguous type")
 types_line types.Memory path = Nothing
 
+abbrev pub misuse_line : Misuse → List ℕ → Line
+misuse_line (misuse.Consumed name place used) path = PlacedTwice path used name (codes " is used after it was consumed at ") place
+misuse_line (misuse.NotConsumable name place) path = Placed path place [] name (codes " may not be consumed")
+misuse_line (misuse.ResultAliases name place) path = Placed path place (codes "a value here aliases ") name []
+misuse_line (misuse.Captured name place) path = Placed path place [] name (codes " is captured and may not be consumed")
+misuse_line misuse.Memory path = Nothing
+
 abbrev pub why_line : Why → List ℕ → Line
 why_line why.Load path = Named (codes "cannot load ") path []
 why_line (why.Lex err) path = lex_line err path
@@ -112,6 +126,7 @@ why_line (why.Parse err) path = parse_line err path
 why_line (why.NotBuilt place) path = at_place path place (codes "not built yet")
 why_line (why.Names err) path = names_line err path
 why_line (why.Types err) path = types_line err path
+why_line (why.Unique err) path = misuse_line err path
 why_line why.FileBytes path = Nothing
 why_line why.Memory path = Nothing
 
@@ -155,6 +170,7 @@ line_form (LoadFault refused) = why_line refused.why refused.path
 line_form (Text refused) = why_line refused.why refused.path
 line_form (Names refused) = why_line refused.why refused.path
 line_form (Types refused) = why_line refused.why refused.path
+line_form (Unique refused) = why_line refused.why refused.path
 line_form (Entry err name) = entry_line err name
 line_form (Limit what) = limit_line what
 line_form ReadFault = Said (codes "read failed")

@@ -1,11 +1,11 @@
 // The line of a status on err.
 ghost use Rattle.std.specs.Prelude.{◌≡◌, [], codes};
 ghost use Rattle.futhark_status.specs.Report.{line_in, Reported, Told};
-ghost use Rattle.futhark_status.specs.Status.{entry_line, input_line, kind_text, lex_line, limit_line, line_form, line_of, names_line, parse_line, Placed, types_line, why_line};
+ghost use Rattle.futhark_status.specs.Status.{entry_line, input_line, kind_text, lex_line, limit_line, line_form, line_of, misuse_line, names_line, parse_line, Placed, types_line, why_line};
 
 use crate::pieces::write_line;
 use crate::status::{EntryErr, LimitKind, Refused, Status, Why};
-use front::{NameErr, TypeErr};
+use front::{Misuse, NameErr, TypeErr};
 use fut_ast::form_name;
 use fut_io::Sink;
 use fut_lexer::LexErr;
@@ -27,6 +27,8 @@ pub enum Line<'a> {
     Named(&'a [u8], &'a [u8], &'a [u8]),
     /// What is said of a place of a file, with a name inside.
     Placed(&'a [u8], Place, &'a [u8], &'a [u8], &'a [u8]),
+    /// What is said of a name at a place of a file, with another place of it behind.
+    PlacedTwice(&'a [u8], Place, &'a [u8], &'a [u8], Place),
 }
 
 fn lex_line(reason: LexErr, path: &[u8]) -> Line<'_>
@@ -83,6 +85,52 @@ fn types_line(reason: TypeErr, path: &[u8]) -> Line<'_>
     }
 }
 
+fn misuse_line<'a>(reason: &'a Misuse, path: &'a [u8]) -> Line<'a>
+    ensures { line_in result ≡ misuse_line reason.now path.now }
+{
+    match reason {
+        Misuse::Consumed { name, at, used } => {
+            let name = name.as_str().as_bytes();
+            Line::PlacedTwice(
+                path,
+                *used,
+                name,
+                b" is used after it was consumed at ",
+                *at,
+            )
+        }
+        Misuse::NotConsumable { name, at } => {
+            Line::Placed(
+                path,
+                *at,
+                b"",
+                name.as_str().as_bytes(),
+                b" may not be consumed",
+            )
+        }
+        Misuse::ResultAliases { name, at } => {
+            Line::Placed(
+                path,
+                *at,
+                b"a value here aliases ",
+                name.as_str().as_bytes(),
+                b"",
+            )
+        }
+        Misuse::Captured { name, at } => {
+            let name = name.as_str().as_bytes();
+            Line::Placed(
+                path,
+                *at,
+                b"",
+                name,
+                b" is captured and may not be consumed",
+            )
+        }
+        Misuse::Memory => Line::Nothing,
+    }
+}
+
 fn why_line(refused: &Refused) -> Line<'_>
     ensures { line_in result ≡ why_line refused.now.why refused.now.path }
 {
@@ -94,6 +142,7 @@ fn why_line(refused: &Refused) -> Line<'_>
         Why::NotBuilt { at } => Line::Placed(path, *at, b"not built yet", b"", b""),
         Why::Names(reason) => names_line(reason, path),
         Why::Types(reason) => types_line(*reason, path),
+        Why::Unique(reason) => misuse_line(reason, path),
         Why::FileBytes => Line::Nothing,
         Why::Memory => Line::Nothing,
     }
@@ -177,6 +226,7 @@ fn line_form(status: &Status) -> Line<'_>
         Status::Text(refused) => why_line(refused),
         Status::Names(refused) => why_line(refused),
         Status::Types(refused) => why_line(refused),
+        Status::Unique(refused) => why_line(refused),
         Status::Entry(reason, name) => entry_line(*reason, name),
         Status::Limit { what } => limit_line(*what),
         Status::ReadFault => Line::Said(b"read failed"),

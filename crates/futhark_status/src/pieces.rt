@@ -3,7 +3,7 @@ ghost use Rattle.std.specs.Prelude.{flat_map, map, OnOk, OnErr};
 ghost use Rattle.fut_io.specs.Outside.{Took, TookPart};
 ghost use Rattle.futhark_status.specs.Report.{line_in, piece_bytes};
 ghost use Rattle.std.specs.Prelude.{◌∷◌, ◌≡◌, [], codes, decimal};
-ghost use Rattle.futhark_status.specs.Status.{beginning, bytes_of, joined, newline, path_at, Placed};
+ghost use Rattle.futhark_status.specs.Status.{beginning, bytes_of, joined, newline, path_at, Placed, PlacedTwice};
 
 use crate::line::Line;
 use fut_io::{Failed, Sink, write_all};
@@ -93,6 +93,38 @@ fn write_placed<'a, E: Sink>(
     )
 }
 
+/// Writes what is said of a name at a place of a file, with another place of it behind.
+fn write_placed_twice<'a, E: Sink>(
+    err: &mut E,
+    path: &'a [u8],
+    place: Place,
+    name: &'a [u8],
+    said: &'a [u8],
+    other: Place,
+) -> Result<(), Failed>
+    ensures ok { OnOk result (Took (E.seen err.old) (E.seen err.new) (bytes_of (PlacedTwice path.now place name.now said.now other))) }
+    ensures failed { OnErr result (TookPart (E.seen err.old) (E.seen err.new) (bytes_of (PlacedTwice path.now place name.now said.now other))) }
+{
+    write_pieces(
+        err,
+        &[
+            Piece::Text(b"futhark: "),
+            Piece::Text(path_at(place, path)),
+            Piece::Text(b":"),
+            Piece::Number(u64::from(place.line)),
+            Piece::Text(b":"),
+            Piece::Number(u64::from(place.column)),
+            Piece::Text(b": "),
+            Piece::Text(name),
+            Piece::Text(said),
+            Piece::Number(u64::from(other.line)),
+            Piece::Text(b":"),
+            Piece::Number(u64::from(other.column)),
+            Piece::Text(b"\n"),
+        ],
+    )
+}
+
 /// Writes texts around one piece.
 fn write_around<'a, E: Sink>(
     err: &mut E,
@@ -162,6 +194,9 @@ pub fn write_line<'a, E: Sink>(err: &mut E, line: Line<'a>) -> Result<(), Failed
         Line::Named(before, name, behind) => write_around(err, before, Piece::Text(name), behind),
         Line::Placed(path, place, before, name, behind) => {
             write_placed(err, path, place, before, name, behind)
+        }
+        Line::PlacedTwice(path, place, name, said, other) => {
+            write_placed_twice(err, path, place, name, said, other)
         }
     }
 }

@@ -2,7 +2,7 @@
 ghost use Rattle.std.specs.Prelude.{◌≡◌};
 ghost use Rattle.futhark_status.specs.Status.{code_of};
 
-use front::{NameErr, TypeErr};
+use front::{Misuse, NameErr, TypeErr};
 use fut_lexer::LexErr;
 use fut_parser::ParseErr;
 use fut_scalar::{Name, Place, Report};
@@ -18,6 +18,8 @@ pub enum Why {
     NotBuilt { at: Place },
     Names(NameErr),
     Types(TypeErr),
+    /// The program breaks a rule of aliases and consumption.
+    Unique(Misuse),
     /// The file has more than 4,194,304 bytes.
     FileBytes,
     Memory,
@@ -62,6 +64,7 @@ pub enum Status {
     Text(Refused),
     Names(Refused),
     Types(Refused),
+    Unique(Refused),
     /// The program has no entry of this name, or one of another form.
     Entry(EntryErr, Name),
     Limit { what: LimitKind },
@@ -87,6 +90,7 @@ pub fn code(status: &Status) -> u8
         Status::Text(_) => 3,
         Status::Names(_) => 4,
         Status::Types(_) => 5,
+        Status::Unique(_) => 7,
         Status::Entry(_, _) => 8,
         Status::Limit { what: _ } => 9,
         Status::ReadFault => 10,

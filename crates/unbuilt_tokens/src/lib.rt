@@ -1,18 +1,18 @@
-//! The tokens of forms that are not built yet: sizes, updates and uniqueness, modules.
+//! The tokens of forms that are not built yet: sizes and modules.
 //!
-//! One pass over the tokens of a file finds the first. Most are told by themselves; a bracket, a `*` and a size by what they
-//! stand in (`specs/Unbuilt.antt`).
+//! One pass over the tokens of a file finds the first. Most are told by themselves; a bracket and a size by what they stand in
+//! (`specs/Unbuilt.antt`).
 #![tactic(auto)]
 
 ghost use Rattle.std.specs.Prelude.{◌≡◌, IfOk};
 ghost use Rattle.unbuilt_tokens.specs.Unbuilt.{first_unbuilt};
 
 mod steps;
-mod words;
 
-use crate::steps::{Reading, sign_of};
+use crate::steps::Reading;
 use fut_scalar::{List, NoMemory, Place};
 use fut_token::Token;
+use parse_nodes::exp_tokens::begins_update;
 use std::alloc::Global;
 
 /// The place of the first token of a form that is not built.
@@ -21,14 +21,16 @@ pub fn first_unbuilt(alloc: Global, tokens: &[Token]) -> Result<Option<Place>, N
 {
     let mut reading = Reading::new();
     let mut brackets = List::new(alloc);
-    for token in tokens {
-        if reading.is_unbuilt(&token.kind) {
+    let mut left = tokens;
+    while let [token, rest @ ..] = left {
+        let sign = reading.sign(brackets.as_slice(), &token.kind);
+        if reading.is_unbuilt(sign) {
             return Ok(Some(token.place));
         }
-        let sign = sign_of(&token.kind);
-        let behind = reading.behind(brackets.as_slice(), sign);
+        let behind = reading.behind(brackets.as_slice(), begins_update(left), sign);
         reading.open_brackets(&mut brackets, token.tight, sign)?;
         reading = behind;
+        left = rest;
     }
     Ok(None)
 }

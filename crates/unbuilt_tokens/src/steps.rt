@@ -1,9 +1,8 @@
 // What the tokens that were read say of the next one.
 ghost use Rattle.std.specs.Prelude.{◌≡◌, OnOk};
 ghost use Rattle.fut_token.specs.declared.token.TokenKind.TheVariants as token;
-ghost use Rattle.unbuilt_tokens.specs.Unbuilt.{before_behind, begins_index, begins_size, behind, behind_begun, behind_head, behind_named, behind_term, behind_type, closes, innermost, is_in_index, is_size, is_type, is_unbuilt, is_unbuilt_sign, is_unbuilt_word, opened, opens, outer, sign_of, start, within_behind, within_of};
+ghost use Rattle.unbuilt_tokens.specs.Unbuilt.{before_behind, begins_size, behind, behind_begun, behind_binding, behind_head, behind_named, behind_term, behind_type, closes, innermost, is_head, is_in_index, is_row, is_size, is_type, is_unbuilt, is_unbuilt_sign, kind_of, let_sign, opened, opens, outer, resumed, sign_at, sign_in, sign_of, square_kind, start, within_behind, within_of};
 
-use crate::words::is_unbuilt_name;
 use fut_scalar::{List, NoMemory};
 use fut_token::{Fixed, TokenKind};
 
@@ -12,8 +11,10 @@ use fut_token::{Fixed, TokenKind};
 pub enum Within {
     /// An expression, or a part of a declaration that is none of the following.
     Term,
-    /// Directly behind the word that begins a declaration, a binding, an update or a loop.
+    /// Directly behind the word that begins a declaration or a loop.
     Begun,
+    /// Directly behind the `let` of an expression.
+    Binding,
     /// Directly behind the name of a declaration or a binding, and its type variables.
     Named,
     /// The head of a lambda, between its `\` and its `->`, outside brackets.
@@ -38,8 +39,18 @@ pub enum Before {
 pub enum Sign {
     /// A token of a form that is not built, whatever it stands in.
     Unbuilt,
-    /// A word that begins a declaration, a binding, an update or a loop.
+    /// A word that begins a declaration or a loop.
     Binder,
+    /// A `let`, of which nothing else is known.
+    Let,
+    /// A `let` that begins a row of them.
+    FirstLet,
+    /// Another one of a row.
+    NextLet,
+    For,
+    In,
+    /// `<`
+    Less,
     Star,
     Colon,
     Backslash,
@@ -59,13 +70,24 @@ pub enum Sign {
     Other,
 }
 
-/// A bracket that is brackets.
+/// What a bracket is.
+#[derive(Clone, Copy)]
+pub enum BracketKind {
+    /// That of an index, in which a `:` stands between the ends of a slice.
+    Index,
+    /// A row of `let`s, up to its `in`.
+    Row,
+    /// What a `for` begins, up to its `<` or `in`.
+    ForHead,
+    Other,
+}
+
+/// A bracket that is open.
 #[derive(Clone, Copy)]
 pub struct Bracket {
     /// What is gone on with behind it.
     pub within: Within,
-    /// Whether it is that of an index, in which a `:` stands between the ends of a slice.
-    pub is_index: bool,
+    pub kind: BracketKind,
 }
 
 /// What the tokens that were read say of the next one, the brackets that are open aside.
@@ -89,9 +111,11 @@ fn fixed_sign(fixed: Fixed) -> Sign
         | Fixed::KeyImport
         | Fixed::KeyType
         | Fixed::KeyVal => Sign::Unbuilt,
-        Fixed::KeyDef | Fixed::KeyLet | Fixed::KeyEntry | Fixed::KeyLoop | Fixed::KeyWith => {
-            Sign::Binder
-        }
+        Fixed::KeyDef | Fixed::KeyEntry | Fixed::KeyLoop => Sign::Binder,
+        Fixed::KeyLet => Sign::Let,
+        Fixed::KeyFor => Sign::For,
+        Fixed::KeyIn => Sign::In,
+        Fixed::Less => Sign::Less,
         Fixed::Star => Sign::Star,
         Fixed::Colon => Sign::Colon,
         Fixed::Backslash => Sign::Backslash,
@@ -106,8 +130,8 @@ fn fixed_sign(fixed: Fixed) -> Sign
     }
 }
 
-/// What a kind of token is to what it stands in.
-pub fn sign_of(kind: &TokenKind) -> Sign
+/// What a kind of token is to what it stands in, but that it tells no `let` from another.
+fn sign_of(kind: &TokenKind) -> Sign
     ensures { result ≡ sign_of kind.now }
 {
     match kind {
@@ -119,11 +143,44 @@ pub fn sign_of(kind: &TokenKind) -> Sign
     }
 }
 
+fn is_row(kind: BracketKind) -> bool
+    ensures { result ≡ is_row kind }
+{
+    matches!(kind, BracketKind::Row)
+}
+
+/// What a `let` is.
+fn let_sign(before: Before, brackets: &[Bracket]) -> Sign
+    ensures { result ≡ let_sign before (innermost brackets.now) }
+{
+    match (before, brackets.last()) {
+        (Before::Atom, Some(bracket)) => {
+            if is_row(bracket.kind) {
+                Sign::NextLet
+            } else {
+                Sign::Binder
+            }
+        }
+        (Before::Atom, None) => Sign::Binder,
+        _ => Sign::FirstLet,
+    }
+}
+
+fn sign_in(before: Before, brackets: &[Bracket], sign: Sign) -> Sign
+    ensures { result ≡ sign_in before (innermost brackets.now) sign }
+{
+    match sign {
+        Sign::Let => let_sign(before, brackets),
+        sign => sign,
+    }
+}
+
 fn behind_term(in_index: bool, sign: Sign) -> Within
     ensures { result ≡ behind_term in_index sign }
 {
     match (in_index, sign) {
         (_, Sign::Binder) => Within::Begun,
+        (_, Sign::FirstLet | Sign::NextLet) => Within::Binding,
         (false, Sign::Colon) => Within::Typed,
         (_, Sign::Backslash) => Within::Head,
         _ => Within::Term,
@@ -136,6 +193,16 @@ fn behind_begun(in_index: bool, sign: Sign) -> Within
     match sign {
         Sign::Name => Within::Named,
         sign => behind_term(in_index, sign),
+    }
+}
+
+fn behind_binding(updates: bool, in_index: bool, sign: Sign) -> Within
+    ensures { result ≡ behind_binding updates in_index sign }
+{
+    match (updates, sign) {
+        (true, Sign::Name) => Within::Term,
+        (false, Sign::Name) => Within::Named,
+        (_, sign) => behind_term(in_index, sign),
     }
 }
 
@@ -174,12 +241,13 @@ fn behind_type(in_index: bool, sign: Sign) -> Within
     }
 }
 
-fn within_behind(within: Within, in_index: bool, sign: Sign) -> Within
-    ensures { result ≡ within_behind within in_index sign }
+fn within_behind(within: Within, updates: bool, in_index: bool, sign: Sign) -> Within
+    ensures { result ≡ within_behind within updates in_index sign }
 {
     match within {
         Within::Term => behind_term(in_index, sign),
         Within::Begun => behind_begun(in_index, sign),
+        Within::Binding => behind_binding(updates, in_index, sign),
         Within::Named => behind_named(in_index, sign),
         Within::Head => behind_head(sign),
         Within::Typed => behind_type(in_index, sign),
@@ -197,29 +265,51 @@ fn opens(within: Within, sign: Sign) -> bool
     ensures { result ≡ opens within sign }
 {
     match sign {
-        Sign::Open => true,
+        Sign::Open | Sign::FirstLet | Sign::For => true,
         Sign::OpenBracket => !is_type(within),
         _ => false,
     }
 }
 
-fn closes(in_size: bool, sign: Sign) -> bool
-    ensures { result ≡ closes in_size sign }
+/// Whether the innermost bracket is what a `for` begins.
+fn is_head(brackets: &[Bracket]) -> bool
+    ensures { result ≡ is_head (innermost brackets.now) }
+{
+    match brackets.last() {
+        Some(bracket) => matches!(bracket.kind, BracketKind::ForHead),
+        None => false,
+    }
+}
+
+fn closes(in_size: bool, brackets: &[Bracket], sign: Sign) -> bool
+    ensures { result ≡ closes in_size (innermost brackets.now) sign }
 {
     match sign {
-        Sign::Close => true,
+        Sign::Close | Sign::In => true,
         Sign::CloseBracket => !in_size,
+        Sign::Less => is_head(brackets),
         _ => false,
     }
 }
 
-fn begins_index(before: Before, tight: bool, sign: Sign) -> bool
-    ensures { result ≡ begins_index before tight sign }
+/// Of a square bracket that is none of a type.
+fn square_kind(before: Before, tight: bool) -> BracketKind
+    ensures { result ≡ square_kind before tight }
 {
-    match (before, sign) {
-        (Before::Atom, Sign::OpenBracket) => tight,
-        (Before::Point, Sign::OpenBracket) => true,
-        _ => false,
+    match (before, tight) {
+        (Before::Atom, true) | (Before::Point, _) => BracketKind::Index,
+        _ => BracketKind::Other,
+    }
+}
+
+fn kind_of(before: Before, tight: bool, sign: Sign) -> BracketKind
+    ensures { result ≡ kind_of before tight sign }
+{
+    match sign {
+        Sign::OpenBracket => square_kind(before, tight),
+        Sign::FirstLet => BracketKind::Row,
+        Sign::For => BracketKind::ForHead,
+        _ => BracketKind::Other,
     }
 }
 
@@ -236,8 +326,17 @@ fn outer(within: Within) -> Within
     ensures { result ≡ outer within }
 {
     match within {
-        Within::Begun | Within::Named => Within::Term,
+        Within::Begun | Within::Binding | Within::Named => Within::Term,
         within => within,
+    }
+}
+
+fn resumed(within: Within, sign: Sign) -> Within
+    ensures { result ≡ resumed within sign }
+{
+    match sign {
+        Sign::FirstLet | Sign::For => Within::Term,
+        _ => outer(within),
     }
 }
 
@@ -256,8 +355,7 @@ fn is_unbuilt_sign(within: Within, sign: Sign) -> bool
 {
     match (within, sign) {
         (_, Sign::Unbuilt) => true,
-        (Within::Begun | Within::Named, Sign::OpenBracket) => true,
-        (Within::Head | Within::Typed | Within::Inner, Sign::Star) => true,
+        (Within::Begun | Within::Binding | Within::Named, Sign::OpenBracket) => true,
         _ => false,
     }
 }
@@ -271,20 +369,11 @@ fn is_size(in_size: bool, sign: Sign) -> bool
     }
 }
 
-fn is_unbuilt_word(kind: &TokenKind) -> bool
-    ensures { result ≡ is_unbuilt_word kind.now }
-{
-    match kind {
-        TokenKind::Name(name) => is_unbuilt_name(name.as_str()),
-        _ => false,
-    }
-}
-
 fn is_in_index(brackets: &[Bracket]) -> bool
     ensures { result ≡ is_in_index (innermost brackets.now) }
 {
     match brackets.last() {
-        Some(bracket) => bracket.is_index,
+        Some(bracket) => matches!(bracket.kind, BracketKind::Index),
         None => false,
     }
 }
@@ -299,35 +388,42 @@ fn within_of(brackets: &[Bracket]) -> Within
 }
 
 impl Reading {
-    /// Nothing is read yet.
+    /// Nothing is read yet: a declaration may stand next.
     pub fn new() -> Reading
         ensures { result ≡ start }
     {
         Reading {
             within: Within::Term,
-            before: Before::Other,
+            before: Before::Atom,
             in_size: false,
         }
     }
 
+    /// What a kind of token is that stands next.
+    #[tactic(auto, unfolding(crate::specs::Unbuilt::sign_at))]
+    pub fn sign(self, brackets: &[Bracket], kind: &TokenKind) -> Sign
+        ensures { result ≡ sign_at self brackets.now kind.now }
+    {
+        sign_in(self.before, brackets, sign_of(kind))
+    }
+
     /// Whether a token that stands next is one of a form that is not built.
     #[tactic(auto, unfolding(crate::specs::Unbuilt::is_unbuilt))]
-    pub fn is_unbuilt(self, kind: &TokenKind) -> bool
-        ensures { result ≡ is_unbuilt self kind.now }
+    pub fn is_unbuilt(self, sign: Sign) -> bool
+        ensures { result ≡ is_unbuilt self sign }
     {
-        let sign = sign_of(kind);
-        is_size(self.in_size, sign) || is_unbuilt_sign(self.within, sign) || is_unbuilt_word(kind)
+        is_size(self.in_size, sign) || is_unbuilt_sign(self.within, sign)
     }
 
     /// Behind a token.
     #[tactic(auto, unfolding(crate::specs::Unbuilt::behind))]
-    pub fn behind(self, brackets: &[Bracket], sign: Sign) -> Reading
-        ensures { result ≡ behind self brackets.now sign }
+    pub fn behind(self, brackets: &[Bracket], updates: bool, sign: Sign) -> Reading
+        ensures { result ≡ behind self brackets.now updates sign }
     {
-        let within = if closes(self.in_size, sign) {
+        let within = if closes(self.in_size, brackets, sign) {
             within_of(brackets)
         } else {
-            within_behind(self.within, is_in_index(brackets), sign)
+            within_behind(self.within, updates, is_in_index(brackets), sign)
         };
         Reading {
             within,
@@ -348,11 +444,11 @@ impl Reading {
     {
         if opens(self.within, sign) {
             return brackets.push(Bracket {
-                within: outer(self.within),
-                is_index: begins_index(self.before, tight, sign),
+                within: resumed(self.within, sign),
+                kind: kind_of(self.before, tight, sign),
             });
         }
-        if closes(self.in_size, sign) {
+        if closes(self.in_size, brackets.as_slice(), sign) {
             brackets.truncate(brackets.len().saturating_sub(1));
         }
         Ok(())

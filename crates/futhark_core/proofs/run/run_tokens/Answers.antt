@@ -12,9 +12,9 @@ returns-in-Ok-accept g c =
     let acceptable = c.in-Ok-accept.ensures.accepted.acceptable in
     let files = acceptable.resolved.resolves.prelude ∷ acceptable.resolved.program ∷ [] in
     inl (record {
-      source = record { files = files; flat = c.in-Ok-accept.accepted.flat };
+      source = record { files = files; flat = c.in-Ok-accept.accepted.now.flat };
       accepted = record { acceptable = acceptable; files = refl };
-      ended = c.act.ensures (record { files = files; flat = c.in-Ok-accept.accepted.flat }) refl acceptable.resolved.resolves.resolved;
+      ended = c.act.ensures (record { files = files; flat = c.in-Ok-accept.accepted.now.flat }) refl acceptable.resolved.resolves.resolved;
     })
 
 pub returns : goal.returns
