@@ -89,6 +89,35 @@ static int64_t matrix(int64_t n) {
     return trace;
 }
 
+static int64_t sort(int64_t n) {
+    int64_t *a = numbers(n), sum = 0;
+    for (int64_t i = 0; i < n; i++) a[i] = (i * 7919 + 13) % 10007;
+    for (int64_t i = 0; i < n; i++) {
+        int64_t x = a[i], at = i;
+        for (; at > 0 && a[at - 1] > x; at--) a[at] = a[at - 1];
+        a[at] = x;
+    }
+    for (int64_t i = 0; i < n; i++) sum += a[i] * i;
+    free(a);
+    return sum;
+}
+
+static int32_t in_place(int64_t n) {
+    int32_t *a = calloc((size_t)(n ? n : 1), sizeof *a), seen;
+    if (!a) exit(1);
+    for (int64_t i = 0; i < 1000; i++) a[i * 97 % n] = (int32_t)i;
+    seen = a[97];
+    free(a);
+    return seen;
+}
+
+static void counts(int64_t n) {
+    int64_t count[10] = {0};
+    for (int64_t i = 0; i < n; i++) count[(i * 37 + 5) % 10]++;
+    for (int64_t d = 0; d < 10; d++) printf("%s%" PRId64 "i64", d ? ", " : "[", count[d]);
+    printf("]\n");
+}
+
 /* Reads `[1, 2, ..]` and prints each with one more. */
 static void words(void) {
     int64_t x, count = 0;
@@ -111,6 +140,9 @@ int main(int count, char **word) {
     else if (!strcmp(name, "histogram")) histogram(n);
     else if (!strcmp(name, "life")) printf("%" PRId32 "i32\n", life(n, turns));
     else if (!strcmp(name, "matrix")) printf("%" PRId64 "i64\n", matrix(n));
+    else if (!strcmp(name, "sort")) printf("%" PRId64 "i64\n", sort(n));
+    else if (!strcmp(name, "in_place")) printf("%" PRId32 "i32\n", in_place(n));
+    else if (!strcmp(name, "counts")) counts(n);
     else if (!strcmp(name, "words")) words();
     else return 1;
     return 0;

@@ -51,8 +51,7 @@ pub record Is_broken (ds : List Defined) (names : List Text) (places : List Plac
   pub told : Tells names places rule refusal
 
 -- Why a program of these definitions, whose names have these texts and whose nodes stand at these places, is refused. How names
--- and records are numbered decides which of two fields of a record comes first, and no more. Want of memory says nothing of the
--- program.
+-- and records are numbered decides which of two fields of a record comes first. Want of memory says nothing of the program.
 abbrev pub Misused : List Defined → List Text → List Place → Misuse → Type 0
 Misused ds names places misuse.Memory = Unit {0}
 Misused ds names places refusal = Some_numbering (Is_broken ds names places refusal)

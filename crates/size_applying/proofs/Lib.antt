@@ -1,0 +1,10 @@
+pub mod EachLaws
+pub mod ArgumentForms
+pub mod ApplyLaws
+pub mod WayLaws
+pub mod FunctionLaws
+pub mod ComposedForms
+pub mod GoingForms
+pub mod MatchingForms
+pub mod NotingForms
+pub mod Examples

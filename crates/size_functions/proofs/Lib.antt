@@ -1,0 +1,4 @@
+pub mod TakingForms
+pub mod ChoosingForms
+pub mod ArrowForms
+pub mod FunctionForms

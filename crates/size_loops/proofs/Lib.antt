@@ -1,0 +1,2 @@
+pub mod LackForms
+pub mod DifferForms

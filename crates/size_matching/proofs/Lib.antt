@@ -1,0 +1,4 @@
+pub mod Steps
+pub mod CompareForms
+pub mod MatchForms
+pub mod Examples

@@ -1,0 +1,11 @@
+pub mod ValueForms
+pub mod AnswerForms
+pub mod TermForms
+pub mod ElementForms
+pub mod RangeForms
+pub mod IndexForms
+pub mod UpdateForms
+pub mod ArrayForms
+pub mod OperationForms
+pub mod SingleForms
+pub mod RecordForms

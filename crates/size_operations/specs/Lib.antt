@@ -1,0 +1,7 @@
+pub mod Values
+pub mod Answers
+pub mod Elements
+pub mod Indexing
+pub mod Ranges
+pub mod Records
+pub mod Plain

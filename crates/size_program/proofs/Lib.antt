@@ -1,0 +1,5 @@
+pub mod Types
+pub mod MapForms
+pub mod StepLaws
+pub mod ScopeForms
+pub mod NoteForms

@@ -1,0 +1,4 @@
+pub mod Program
+pub mod Maps
+pub mod Tables
+pub mod Answers

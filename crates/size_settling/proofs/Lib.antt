@@ -1,0 +1,4 @@
+pub mod SettleForms
+pub mod SettleLaws
+pub mod ChoosingForms
+pub mod OpenLaws
