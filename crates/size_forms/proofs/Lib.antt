@@ -1,0 +1,14 @@
+pub mod StepForms
+pub mod WalkLaws
+pub mod LetLaws
+pub mod ComposeLaws
+pub mod LoopLaws
+pub mod OpenedLaws
+pub mod NameForms
+pub mod UseForms
+pub mod SplitForms
+pub mod CloseForms
+pub mod LetForms
+pub mod ComposeForms
+pub mod LoopForms
+pub mod TurnForms

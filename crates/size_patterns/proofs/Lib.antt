@@ -1,0 +1,16 @@
+pub mod RowForms
+pub mod OpenForms
+pub mod ChangeForms
+pub mod PatternForms
+pub mod NameForms
+pub mod Results
+pub mod Chains
+pub mod HeadForms
+pub mod TakeForms
+pub mod WrittenForms
+pub mod BindForms
+pub mod ParameterForms
+pub mod NoteForms
+pub mod ArrowForms
+pub mod EnterForms
+pub mod Examples
