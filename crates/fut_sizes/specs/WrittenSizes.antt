@@ -71,6 +71,11 @@ argument_place k b d = None
 abbrev pub same_dim : ℕ → Dim → Dim
 same_dim i d = d
 
+-- how many levels a part has, if it is there
+abbrev pub levels_there : Option Size → ℕ
+levels_there (Some t) = levels t
+levels_there None = 0
+
 -- ---- what is found at a node has the sizes that are written, everywhere or inside function types alone
 
 abbrev pub if_there : Option Size → (Size → Answer (Unit {0})) → Answer (Unit {0})
@@ -96,7 +101,8 @@ module _ (N : Names) where
     fields_have_sizes everywhere at fs es t = Ok tt
 
   -- ---- a sized type with the sizes that are written; where none is, the one that `blank` gives for a level and its own size.
-  -- Function types take them too where it is told what is given for a level of their results.
+  -- Function types take them too where it is told what is given for a level of their results. Each level has a number of its
+  -- own: those of a record are counted in the order in which its fields are written.
 
   unfoldable mutual
     pub with_sizes : Option (ℕ → ℕ → Dim → Dim) → (ℕ → Dim → Dim) → ℕ → FlatType → Size → Size
@@ -112,7 +118,7 @@ module _ (N : Names) where
     all_with_sizes results blank i es ts = ts
 
     pub fields_with_sizes : Option (ℕ → ℕ → Dim → Dim) → (ℕ → Dim → Dim) → ℕ → List Text → Type_terms Ref BindId → Size → Size
-    fields_with_sizes results blank i (f ∷ fs) (type_and e es) t = fields_with_sizes results blank (levels t + i) fs es (changed_part N f (with_sizes results blank i e) t)
+    fields_with_sizes results blank i (f ∷ fs) (type_and e es) t = fields_with_sizes results blank (levels_there (part_of N f t) + i) fs es (changed_part N f (with_sizes results blank i e) t)
     fields_with_sizes results blank i fs es t = t
 
   -- `e : t` keeps the sizes of e

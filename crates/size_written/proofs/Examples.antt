@@ -1,16 +1,19 @@
 -- What is made of small types, as the definition gives it. The name n has the number 7, m has 6.
-use Rattle.std.proofs.Common.{◌≡◌, ℕ, Some, None, Ok, Err, refl}
+use Rattle.std.proofs.Common.{◌≡◌, ℕ, [], ◌∷◌, Some, None, Ok, Err, refl}
+use Rattle.fut_ast.specs.Sorts.{Text}
 use Rattle.fut_scalar.specs.declared.place.BindId.{BindId}
 use Rattle.fut_scalar.specs.declared.scalar.ScalarType.TheVariants as scalar
 use Rattle.fut_scalar.specs.declared.scalar.IntType.TheVariants as int
 use Rattle.fut_flat.specs.declared.prim.Ref.TheVariants as ref
-use Rattle.fut_flat.specs.Terms.{Size_use, Size_const, Size_blank, Type_use, Array_type, Arrow_type, Tuple_type, no_type, type_and, no_arg}
+use Rattle.fut_flat.specs.Terms.{Size_use, Size_const, Size_blank, Type_use, Array_type, Arrow_type, Tuple_type, Record_type, no_type, type_and, no_arg}
 use Rattle.fut_flat.specs.Erased.{FlatType}
+use Rattle.fut_types.specs.declared.Head.TheVariants as head
+use Rattle.fut_types.specs.Shapes.{place}
 use Rattle.fut_typing.specs.Names.{Names}
-use Rattle.sized_types.specs.Sizes.{Const, Name, Unknown, Dim, At, Bound, Size, Level, Fun, levels, all_levels, replaced, all_replaced, is_dim, is_free}
+use Rattle.sized_types.specs.Sizes.{Const, Name, Unknown, Dim, At, Bound, Size, Level, Built, Fun, no_size, size_and, levels, all_levels, replaced, all_replaced, is_dim, is_free}
 use Rattle.fut_sizes.specs.Agreeing.{Mismatch}
 use Rattle.fut_sizes.specs.Primitives.{scalar_size, pair_size}
-use Rattle.fut_sizes.specs.WrittenSizes.{all_have_sizes, all_with_sizes, ascribed, coerced, coercion, declared, has_sizes, parameter_size, same_dim, with_sizes}
+use Rattle.fut_sizes.specs.WrittenSizes.{all_have_sizes, all_with_sizes, ascribed, changed_part, coerced, coercion, declared, fields_have_sizes, fields_with_sizes, has_sizes, parameter_size, part_of, same_dim, with_sizes}
 
 -- ---- written types
 
@@ -83,3 +86,13 @@ module _ (N : Names) where
   result_is_met : declared N 9 3 (Arrow_type None integer open_array) (Fun 0 i64 (array (Bound 0 0))) ≡ Ok (Fun 0 i64 (array (Bound 0 1)))
   unfolding declared has_sizes with_sizes replaced all_replaced
   result_is_met = refl
+
+  -- in a declared ({x: []i64, y: []i64}, []i64) each array has an unknown of its own
+  module _ (x y : Text) (first : place N.shapes (N.label x) (head.Record 0) ≡ Some 0) (second : place N.shapes (N.label y) (head.Record 0) ≡ Some 1) where
+    abbrev row : Dim → Dim → Size
+    row d e = Built (head.Record 0) (size_and (array d) (size_and (array e) no_size))
+
+    no_unknown_is_shared : declared N 9 3 (Tuple_type (type_and (Record_type (x ∷ y ∷ []) (type_and open_array (type_and open_array no_type))) (type_and open_array no_type))) (pair_size (row n n) (array n))
+        ≡ Ok (pair_size (row (At (Unknown 9 0)) (At (Unknown 9 1))) (array (At (Unknown 9 2))))
+    unfolding declared has_sizes all_have_sizes fields_have_sizes with_sizes all_with_sizes fields_with_sizes part_of changed_part levels all_levels
+    no_unknown_is_shared = rw (first, second, first) refl

@@ -1,5 +1,5 @@
 -- Sized types with the sizes that are written, form by form.
-use Rattle.std.proofs.Common.{◌≡◌, ℕ, zero, suc, ◌+◌, ◌<◌, ◌≤◌, List, [], ◌∷◌, ◌++◌, map, length, get_or, drop, false, Option, Some, None, Result, Ok, Err, refl, sym, ap, ◌∙◌, add-one, arith}
+use Rattle.std.proofs.Common.{◌≡◌, ℕ, suc, ◌+◌, ◌<◌, ◌≤◌, List, [], ◌∷◌, ◌++◌, map, length, get_or, drop, false, Option, Some, None, Result, Ok, Err, refl, sym, ap, ◌∙◌, add-one, arith}
 use Rattle.std.specs.Prelude.{IfOk}
 use Rattle.std.specs.Borrow.{Bor}
 use Rattle.fut_ast.specs.Sorts.{Text}
@@ -17,8 +17,8 @@ use Rattle.fut_flat.proofs.ErasedPatterns.{type_use, type_array, type_unique, ty
 use Rattle.fut_types.specs.declared.Head.{Head}
 use Rattle.fut_types.specs.Shapes.{place}
 use Rattle.fut_typing.specs.Names.{Names}
-use Rattle.sized_types.specs.Sizes.{Dim, Size, Hole, Open, Level, Built, Fun, Sizes, no_size, size_and, levels, all_levels, bound}
-use Rattle.fut_sizes.specs.WrittenSizes.{all_with_sizes, argument_place, changed_part, dim_or, fields_with_sizes, same_dim, part, with_part, with_sizes, written_dim}
+use Rattle.sized_types.specs.Sizes.{Dim, Size, Hole, Open, Level, Built, Fun, Sizes, size_and, levels, bound}
+use Rattle.fut_sizes.specs.WrittenSizes.{all_with_sizes, argument_place, changed_part, dim_or, fields_with_sizes, levels_there, part, part_of, same_dim, with_part, with_sizes, written_dim}
 use Rattle.size_arena.specs.declared.trees.SizeTree.{SizeTree}
 use Rattle.size_arena.specs.Trees.{dim_of, size_of, sizes_of}
 use Rattle.size_arena.proofs.Parts.{before, before_more, before_none, parts_at, parts_end}
@@ -44,58 +44,7 @@ pub if_made : (r : Result (Bor SizeTree) NoMemory) (a : Size) (P : Size → Type
 if_made (Ok made) a P is h = h (size_of made.now) is
 if_made (Err e) a P is h = tt
 
--- ---- no level is lost
-
-part_levels : (p : Option ℕ) (g : Size → Size) (ts : Sizes) → ((t : Size) → levels (g t) ≡ levels t) → all_levels (with_part p g ts) ≡ all_levels ts
-unfolding levels all_levels
-part_levels None g ts same = refl
-part_levels (Some i) g no_size same = refl
-part_levels (Some zero) g (size_and t ts) same = ap (λ z. z + all_levels ts) (same t)
-part_levels (Some (suc i)) g (size_and t ts) same = ap (λ z. levels t + z) (part_levels (Some i) g ts same)
-
 module _ (N : Names) where
-  changed_levels : (f : Text) (g : Size → Size) (t : Size) → ((u : Size) → levels (g u) ≡ levels u) → levels (changed_part N f g t) ≡ levels t
-  unfolding changed_part levels all_levels
-  changed_levels f g (Hole v) same = refl
-  changed_levels f g (Open n v u) same = refl
-  changed_levels f g (Level d t) same = refl
-  changed_levels f g (Built h ts) same = part_levels (place N.shapes (N.label f) h) g ts same
-  changed_levels f g (Fun k p r) same = refl
-
-  mutual
-    unfolding with_sizes all_with_sizes fields_with_sizes levels all_levels
-
-    pub levels_kept : (F : Results) (B : Blanks) (i : ℕ) (e : FlatType) (t : Size) → levels (with_sizes N F B i e t) ≡ levels t
-    levels_kept F B i (Type_use x given) t = refl
-    levels_kept F B i (Array_type s e) (Hole v) = refl
-    levels_kept F B i (Array_type s e) (Open n v u) = refl
-    levels_kept F B i (Array_type s e) (Level d t) = ap (λ z. 1 + z) (levels_kept F B (suc i) e t)
-    levels_kept F B i (Array_type s e) (Built h ts) = refl
-    levels_kept F B i (Array_type s e) (Fun k p r) = refl
-    levels_kept F B i (Unique_type e) t = levels_kept F B i e t
-    levels_kept None B i (Arrow_type x e f) t = refl
-    levels_kept (Some g) B i (Arrow_type x e f) (Hole v) = refl
-    levels_kept (Some g) B i (Arrow_type x e f) (Open n v u) = refl
-    levels_kept (Some g) B i (Arrow_type x e f) (Level d t) = refl
-    levels_kept (Some g) B i (Arrow_type x e f) (Built h ts) = refl
-    levels_kept (Some g) B i (Arrow_type x e f) (Fun k p r) = refl
-    levels_kept F B i (Tuple_type es) (Hole v) = refl
-    levels_kept F B i (Tuple_type es) (Open n v u) = refl
-    levels_kept F B i (Tuple_type es) (Level d t) = refl
-    levels_kept F B i (Tuple_type es) (Built h ts) = all_levels_kept F B i es ts
-    levels_kept F B i (Tuple_type es) (Fun k p r) = refl
-    levels_kept F B i (Record_type fs es) t = fields_levels_kept F B i fs es t
-
-    all_levels_kept : (F : Results) (B : Blanks) (i : ℕ) (es : Type_terms Ref BindId) (ts : Sizes) → all_levels (all_with_sizes N F B i es ts) ≡ all_levels ts
-    all_levels_kept F B i no_type ts = refl
-    all_levels_kept F B i (type_and e es) no_size = refl
-    all_levels_kept F B i (type_and e es) (size_and t ts) = ap (λ z. z + all_levels (all_with_sizes N F B (levels t + i) es ts)) (levels_kept F B i e t) ∙ ap (λ z. levels t + z) (all_levels_kept F B (levels t + i) es ts)
-
-    fields_levels_kept : (F : Results) (B : Blanks) (i : ℕ) (fs : List Text) (es : Type_terms Ref BindId) (t : Size) → levels (fields_with_sizes N F B i fs es t) ≡ levels t
-    fields_levels_kept F B i [] es t = refl
-    fields_levels_kept F B i (f ∷ fs) no_type t = refl
-    fields_levels_kept F B i (f ∷ fs) (type_and e es) t = fields_levels_kept F B (levels t + i) fs es (changed_part N f (with_sizes N F B i e) t) ∙ changed_levels f (with_sizes N F B i e) t (λ u. levels_kept F B i e u)
-
   -- ---- one written type
 
   module _ (F : Results) (B : Blanks) (i : ℕ) where
@@ -154,14 +103,14 @@ module _ (N : Names) where
   no_arrow (Some g) B i x e f (Fun k p r) off = cc
 
   no_built : (F : Results) (B : Blanks) (i : ℕ) (fs : List Text) (es : Type_terms Ref BindId) (t : Size) → is_built t ≡ false → t ≡ fields_with_sizes N F B i fs es t
-  unfolding fields_with_sizes changed_part
+  unfolding fields_with_sizes changed_part part_of
   no_built F B i [] es t off = refl
   no_built F B i (f ∷ fs) no_type t off = refl
-  no_built F B i (f ∷ fs) (type_and e es) (Hole v) off = no_built F B (levels (Hole v) + i) fs es (Hole v) off
-  no_built F B i (f ∷ fs) (type_and e es) (Open n v u) off = no_built F B (levels (Open n v u) + i) fs es (Open n v u) off
-  no_built F B i (f ∷ fs) (type_and e es) (Level d t) off = no_built F B (levels (Level d t) + i) fs es (Level d t) off
+  no_built F B i (f ∷ fs) (type_and e es) (Hole v) off = no_built F B (levels_there (part_of N f (Hole v)) + i) fs es (Hole v) off
+  no_built F B i (f ∷ fs) (type_and e es) (Open n v u) off = no_built F B (levels_there (part_of N f (Open n v u)) + i) fs es (Open n v u) off
+  no_built F B i (f ∷ fs) (type_and e es) (Level d t) off = no_built F B (levels_there (part_of N f (Level d t)) + i) fs es (Level d t) off
   no_built F B i (f ∷ fs) (type_and e es) (Built h ts) off = cc
-  no_built F B i (f ∷ fs) (type_and e es) (Fun k p r) off = no_built F B (levels (Fun k p r) + i) fs es (Fun k p r) off
+  no_built F B i (f ∷ fs) (type_and e es) (Fun k p r) off = no_built F B (levels_there (part_of N f (Fun k p r)) + i) fs es (Fun k p r) off
 
   -- ---- of a tree
 
@@ -278,20 +227,20 @@ module _ (N : Names) where
       abbrev pub Fields_made : ℕ → ℕ → List SizeTree → Type 0
       Fields_made i n row = fields_with_sizes N F B first (type_names fs) (field_types fs) (Built h (sizes_of old)) ≡ fields_with_sizes N F B n (type_names (drop i fs)) (field_types (drop i fs)) (Built h (sizes_of row))
 
-      module _ (i n count : ℕ) (row : List SizeTree) (made : Fields_made i n row) (counted : count ≡ all_levels (sizes_of row)) where
-        module _ (f : TypeField) (next : List SizeTree) (l : i < length fs) (put : sizes_of next ≡ with_part (place N.shapes (N.label (get_or fs i f).name.now) h) (with_sizes N F B n (type_of (get_or fs i f).ty)) (sizes_of row)) where
-          pub fields_next : (m : ℕ) → m ≡ count + n → Fields_made (i + 1) m next
-          unfolding with_sizes fields_with_sizes changed_part levels all_levels
-          fields_next m e =
-              made ∙ ap (λ z. fields_with_sizes N F B n z (field_types (drop i fs)) (Built h (sizes_of row))) (names_at fs i (λ (f : TypeField). f.name.now) f l)
-              ∙ ap (λ z. fields_with_sizes N F B n ((get_or fs i f).name.now ∷ type_names (drop (i + 1) fs)) z (Built h (sizes_of row))) (written_at fs i (λ (f : TypeField). type_of f.ty) f l)
-              ∙ ap (λ z. fields_with_sizes N F B (all_levels (sizes_of row) + n) (type_names (drop (i + 1) fs)) (field_types (drop (i + 1) fs)) (Built h z)) (sym put)
-              ∙ ap (λ z. fields_with_sizes N F B z (type_names (drop (i + 1) fs)) (field_types (drop (i + 1) fs)) (Built h (sizes_of next))) (ap (λ z. z + n) (sym counted) ∙ sym e)
-
-          pub count_next : count ≡ all_levels (sizes_of next)
-          count_next = counted ∙ sym (ap all_levels put ∙ part_levels (place N.shapes (N.label (get_or fs i f).name.now) h) (with_sizes N F B n (type_of (get_or fs i f).ty)) (sizes_of row) (λ u. levels_kept F B n (type_of (get_or fs i f).ty) u))
-
       module _ (i n : ℕ) (row : List SizeTree) (made : Fields_made i n row) where
+        pub fields_next : (f : TypeField) (next : List SizeTree) (m : ℕ) → i < length fs → sizes_of next ≡ with_part (place N.shapes (N.label (get_or fs i f).name.now) h) (with_sizes N F B n (type_of (get_or fs i f).ty)) (sizes_of row)
+            → m ≡ n + levels_there (part (place N.shapes (N.label (get_or fs i f).name.now) h) (sizes_of row)) → Fields_made (i + 1) m next
+        unfolding with_sizes fields_with_sizes changed_part part_of
+        fields_next f next m l put e =
+            let there : ℕ = levels_there (part (place N.shapes (N.label (get_or fs i f).name.now) h) (sizes_of row)) in
+            made ∙ ap (λ z. fields_with_sizes N F B n z (field_types (drop i fs)) (Built h (sizes_of row))) (names_at fs i (λ (f : TypeField). f.name.now) f l)
+            ∙ ap (λ z. fields_with_sizes N F B n ((get_or fs i f).name.now ∷ type_names (drop (i + 1) fs)) z (Built h (sizes_of row))) (written_at fs i (λ (f : TypeField). type_of f.ty) f l)
+            ∙ ap (λ z. fields_with_sizes N F B (there + n) (type_names (drop (i + 1) fs)) (field_types (drop (i + 1) fs)) (Built h z)) (sym put)
+            ∙ ap (λ z. fields_with_sizes N F B z (type_names (drop (i + 1) fs)) (field_types (drop (i + 1) fs)) (Built h (sizes_of next))) (swapped there n m e)
+          where
+            swapped : (x j k : ℕ) → k ≡ j + x → x + j ≡ k
+            swapped x j k a = omega (arith, a)
+
         pub fields_end : length fs ≤ i → Fields_with row
         unfolding fields_with_sizes
         fields_end l = sym (made ∙ ap (λ z. fields_with_sizes N F B n z (field_types (drop i fs)) (Built h (sizes_of row))) (names_end fs i (λ (f : TypeField). f.name.now) l) ∙ no_field (field_types (drop i fs)))
@@ -299,9 +248,3 @@ module _ (N : Names) where
             no_field : (es : Type_terms Ref BindId) → fields_with_sizes N F B n [] es (Built h (sizes_of row)) ≡ Built h (sizes_of row)
             no_field no_type = refl
             no_field (type_and e es) = refl
-
--- ---- how many levels a record has
-
-pub row_levels : (u : SizeTree) (w : Row) (all : List SizeTree) (count : ℕ) → Row_of (size_of u) (Some w) → all ≡ w.parts.now → count ≡ 0 + levels (size_of u) → count ≡ all_levels (sizes_of all)
-unfolding levels all_levels
-row_levels u w all count of same is = let h : levels (size_of u) ≡ all_levels (sizes_of all) = ap levels of ∙ sym (ap (λ z. all_levels (sizes_of z)) same) in omega (arith, h, is)

@@ -54,7 +54,7 @@ pub(crate) fn next_of(number: u32) -> Result<u32, NoMemory>
     }
 }
 
-pub(crate) fn sum_of(left: u32, right: u32) -> Result<u32, NoMemory>
+fn sum_of(left: u32, right: u32) -> Result<u32, NoMemory>
     ensures { IfOk result (λ sum. sum ≡ left + right) }
 {
     match left.checked_add(right) {

@@ -1,8 +1,8 @@
 // Sized types with the sizes that are written.
-ghost use Rattle.std.specs.Prelude.{◌≡◌, ℕ, map, Option, IfOk, OnOk};
-ghost use Rattle.sized_types.specs.Sizes.{Built, Fun, Level, all_levels, bound};
+ghost use Rattle.std.specs.Prelude.{◌≡◌, ◌+◌, ℕ, map, Option, IfOk, OnOk};
+ghost use Rattle.sized_types.specs.Sizes.{Built, Fun, Level, bound};
 ghost use Rattle.fut_flat.specs.Erased.{size_of as size_written, type_of, types};
-ghost use Rattle.fut_sizes.specs.WrittenSizes.{all_with_sizes, argument_place, dim_or, fields_with_sizes, with_part, with_sizes, written_dim};
+ghost use Rattle.fut_sizes.specs.WrittenSizes.{all_with_sizes, argument_place, dim_or, fields_with_sizes, levels_there, part, with_part, with_sizes, written_dim};
 ghost use Rattle.fut_types.specs.Shapes.{IsTable, Tells_position};
 ghost use Rattle.fut_typing.specs.Names.{Names};
 ghost use Rattle.alias_parts.specs.Known.{Knows};
@@ -10,7 +10,7 @@ ghost use Rattle.size_arena.specs.Trees.{dim_of, size_of, sizes_of};
 ghost use Rattle.size_written.specs.Fields.{field_types, type_names};
 ghost use Rattle.size_written.specs.Blanks.{blank_of, results_of};
 
-use crate::blanks::{Purpose, next_of, purposes_inside, size_or_blank, sum_of};
+use crate::blanks::{Purpose, next_of, purposes_inside, size_or_blank};
 use crate::heads::{array_parts, function_parts, row_of};
 use crate::parts::{part_copy, put_part, row_copy};
 use alias_parts::{PartNames, place_named};
@@ -140,43 +140,37 @@ fn record_with_sizes<'a>(
 {
     match row_of(tree) {
         Some(row) => {
-            let levels = past(tree, 0)?;
             let mut all = row_copy(bump, row.parts)?;
-            fields_with_sizes(
-                bump, names, purpose, first, levels, fields, row.head, &mut all,
-            )?;
+            fields_with_sizes(bump, names, purpose, first, fields, row.head, &mut all)?;
             built(bump, row.head, into_bump_slice(all))
         }
         None => Ok(tree),
     }
 }
 
-// The parts of a record of so many levels, each with the sizes of its field; each field begins behind as many levels more.
+// The parts of a record, each with the sizes of its field; each field begins behind the levels of those before it.
 #[cycle(with_sizes)]
 fn fields_with_sizes<'a>(
     bump: &'a Bump,
     names: &PartNames<'_>,
     purpose: Purpose,
     first: u32,
-    levels: u32,
     fields: &[TypeField<'_>],
     head: Head,
     row: &mut Vec<SizeTree<'a>, &'a Bump>,
 ) -> Result<(), NoMemory>
     requires table { IsTable names.now.table.now }
-    requires counted { levels ≡ all_levels (sizes_of row.old.items) }
     ensures { (N : Names) → Knows names.now N → OnOk result (Built head (sizes_of row.new.items) ≡ fields_with_sizes N (results_of purpose) (blank_of purpose) first (type_names fields.now) (field_types fields.now) (Built head (sizes_of row.old.items))) }
 {
     let mut number = first;
     for field in fields {
         let place = place_named(names, head, field.name)?;
-        field_with_sizes(bump, names, purpose, number, field, place, row)?;
-        number = sum_of(levels, number)?;
+        number = field_with_sizes(bump, names, purpose, number, field, place, row)?;
     }
     Ok(())
 }
 
-// The part of a field at a place, if it has one there.
+// The part of a field at a place, if it has one there. `Ok`: the number behind its levels.
 #[cycle(with_sizes)]
 fn field_with_sizes<'a>(
     bump: &'a Bump,
@@ -186,16 +180,18 @@ fn field_with_sizes<'a>(
     field: &TypeField<'_>,
     place: Option<u32>,
     row: &mut Vec<SizeTree<'a>, &'a Bump>,
-) -> Result<(), NoMemory>
+) -> Result<u32, NoMemory>
     requires table { IsTable names.now.table.now }
-    ensures { (N : Names) → Knows names.now N → (p : Option ℕ) → Tells_position place p → OnOk result (sizes_of row.new.items ≡ with_part p (with_sizes N (results_of purpose) (blank_of purpose) number (type_of field.now.ty)) (sizes_of row.old.items)) }
+    ensures made { (N : Names) → Knows names.now N → (p : Option ℕ) → Tells_position place p → OnOk result (sizes_of row.new.items ≡ with_part p (with_sizes N (results_of purpose) (blank_of purpose) number (type_of field.now.ty)) (sizes_of row.old.items)) }
+    ensures next { (p : Option ℕ) → Tells_position place p → IfOk result (λ next. next ≡ number + levels_there (part p (sizes_of row.old.items))) }
 {
     match part_copy(bump, place, row)? {
         Some(part) => {
             let made = with_sizes(bump, names, purpose, number, &field.ty, part)?;
             put_part(place, made, row)?;
-            Ok(())
+            let next = past(part, number)?;
+            Ok(next)
         }
-        None => Ok(()),
+        None => Ok(number),
     }
 }

@@ -1,10 +1,10 @@
-use Rattle.std.proofs.Common.{arith, refl, ap, sym, ◌∙◌, rules}
+use Rattle.std.proofs.Common.{◌+◌, arith, refl, ap, sym, ◌∙◌}
 use Rattle.sized_types.specs.Sizes.{Built}
-use Rattle.fut_sizes.specs.WrittenSizes.{part}
+use Rattle.fut_sizes.specs.WrittenSizes.{levels_there, part}
 use Rattle.size_arena.specs.Trees.{size_of, sizes_of}
 use Rattle.size_written.specs.Answers.{held}
 use Rattle.size_written.specs.Blanks.{blank_of, results_of}
-use Rattle.size_written.proofs.WithForms.{Is_record, Is_with, use_with, array_with, no_array_with, unique_with, arrow_with, alone_with, no_arrow_with, tuple_with, no_tuple_with, record_with, row_with, no_row_with, row_levels, if_made, all_next, all_end, field_put, field_left, fields_next, count_next, fields_end}
+use Rattle.size_written.proofs.WithForms.{Is_record, Is_with, use_with, array_with, no_array_with, unique_with, arrow_with, alone_with, no_arrow_with, tuple_with, no_tuple_with, record_with, row_with, no_row_with, if_made, all_next, all_end, field_put, field_left, fields_next, fields_end}
 use Rattle.size_written.proofs.filling.+with_sizes.Goals as goal
 
 -- ---- one written type
@@ -61,9 +61,6 @@ all_with_sizes-returns t c = λ N k. all_end N (results_of c.args.purpose) (blan
 
 -- ---- records
 
-pub record_with_sizes-fields_with_sizes-requires : goal.record_with_sizes-fields_with_sizes-requires
-record_with_sizes-fields_with_sizes-requires t c = (search (rules, arith), (c.requires.table, row_levels c.args.tree.now c.in-Some.row c.in_ok-all-in-Some.all.items c.in_ok-levels-in-Some.levels c.in-Some.ensures c.in_ok-all-in-Some.ensures c.in_ok-levels-in-Some.ensures))
-
 pub record_with_sizes-returns-in_ok-fields_with_sizes-in-Some : goal.record_with_sizes-returns-in_ok-fields_with_sizes-in-Some
 record_with_sizes-returns-in_ok-fields_with_sizes-in-Some t c = λ N k. if_made c.built.result _ (Is_record N (results_of c.args.purpose) (blank_of c.args.purpose) c.args.first c.args.fields.now c.args.tree.now) c.built.ensures
     (λ made m. row_with N (results_of c.args.purpose) (blank_of c.args.purpose) c.args.first c.args.fields.now c.args.tree.now c.in-Some.row c.in_ok-all-in-Some.all.items c.fields_with_sizes.new.row.items made c.in-Some.ensures c.in_ok-all-in-Some.ensures
@@ -73,22 +70,25 @@ pub record_with_sizes-returns-in-None : goal.record_with_sizes-returns-in-None
 record_with_sizes-returns-in-None t c = λ N k. no_row_with N (results_of c.args.purpose) (blank_of c.args.purpose) c.args.first c.args.fields.now c.args.tree.now c.in-None.ensures
 
 pub fields_with_sizes-loop-field-init : goal.fields_with_sizes-loop-field-init
-fields_with_sizes-loop-field-init t c = λ N k. (refl, c.requires.counted)
+fields_with_sizes-loop-field-init t c = λ N k. refl
 
 pub fields_with_sizes-loop-field-preserved : goal.fields_with_sizes-loop-field-preserved
-fields_with_sizes-loop-field-preserved t c = λ N k.
-    let h = c.loop-field.invariant N k in
-    let put = c.in_ok-field_with_sizes.ensures N k _ (c.in_ok-place.ensures N k) in (
-      fields_next N (results_of c.args.purpose) (blank_of c.args.purpose) c.args.first c.args.fields.now c.args.head c.args.row.now.items c.loop-field.field-index c.loop-field.number c.args.levels c.loop-field.row.items h.0 h.1 _ c.field_with_sizes.new.row.items c.loop-field-test.true put c.in_ok-number.number c.in_ok-number.ensures,
-      count_next N (results_of c.args.purpose) (blank_of c.args.purpose) c.args.first c.args.fields.now c.args.head c.args.row.now.items c.loop-field.field-index c.loop-field.number c.args.levels c.loop-field.row.items h.0 h.1 _ c.field_with_sizes.new.row.items c.loop-field-test.true put,
-    )
+fields_with_sizes-loop-field-preserved t c = λ N k. fields_next N (results_of c.args.purpose) (blank_of c.args.purpose) c.args.first c.args.fields.now c.args.head c.args.row.now.items c.loop-field.field-index c.loop-field.number c.loop-field.row.items (c.loop-field.invariant N k)
+    _ c.field_with_sizes.new.row.items c.in_ok-number.number c.loop-field-test.true (c.in_ok-number.ensures.made N k _ (c.in_ok-place.ensures N k)) (c.in_ok-number.ensures.next _ (c.in_ok-place.ensures N k))
 
 pub fields_with_sizes-returns : goal.fields_with_sizes-returns
-fields_with_sizes-returns t c = λ N k. fields_end N (results_of c.args.purpose) (blank_of c.args.purpose) c.args.first c.args.fields.now c.args.head c.args.row.now.items c.loop-field.field-index c.loop-field.number c.loop-field.row.items (c.loop-field.invariant N k).0 c.loop-field-test.false
+fields_with_sizes-returns t c = λ N k. fields_end N (results_of c.args.purpose) (blank_of c.args.purpose) c.args.first c.args.fields.now c.args.head c.args.row.now.items c.loop-field.field-index c.loop-field.number c.loop-field.row.items (c.loop-field.invariant N k) c.loop-field-test.false
 
-pub field_with_sizes-returns-in_ok-put_part-in-Some : goal.field_with_sizes-returns-in_ok-put_part-in-Some
-field_with_sizes-returns-in_ok-put_part-in-Some t c = λ N k p told. field_put N (results_of c.args.purpose) (blank_of c.args.purpose) c.args.number c.args.field.now p c.args.row.now.items c.put_part.new.row.items (size_of c.in-Some.part.now) (size_of c.in_ok-made-in-Some.made.now)
+pub field_with_sizes-returns-in_ok-next-in-Some-clause-made : goal.field_with_sizes-returns-in_ok-next-in-Some-clause-made
+field_with_sizes-returns-in_ok-next-in-Some-clause-made t c = λ N k p told. field_put N (results_of c.args.purpose) (blank_of c.args.purpose) c.args.number c.args.field.now p c.args.row.now.items c.put_part.new.row.items (size_of c.in-Some.part.now) (size_of c.in_ok-made-in-Some.made.now)
     (ap held (sym c.in-Some.is) ∙ c.in_ok-part.ensures p told ∙ ap (λ z. part p (sizes_of z)) c.deref.ensures.value) (c.in_ok-made-in-Some.ensures N k) (c.in_ok-put_part-in-Some.ensures p told)
 
-pub field_with_sizes-returns-in-None : goal.field_with_sizes-returns-in-None
-field_with_sizes-returns-in-None t c = λ N k p told. field_left N (results_of c.args.purpose) (blank_of c.args.purpose) c.args.number c.args.field.now p c.args.row.now.items c.args.row.now.items (ap held (sym c.in-None.is) ∙ c.in_ok-part.ensures p told ∙ ap (λ z. part p (sizes_of z)) c.deref.ensures.value) refl
+pub field_with_sizes-returns-in_ok-next-in-Some-clause-next : goal.field_with_sizes-returns-in_ok-next-in-Some-clause-next
+field_with_sizes-returns-in_ok-next-in-Some-clause-next t c = λ p told. c.in_ok-next-in-Some.ensures ∙ ap (λ z. c.args.number + levels_there z) (ap held (sym c.in-Some.is) ∙ c.in_ok-part.ensures p told ∙ ap (λ z. part p (sizes_of z)) c.deref.ensures.value)
+
+pub field_with_sizes-returns-in-None-clause-made : goal.field_with_sizes-returns-in-None-clause-made
+field_with_sizes-returns-in-None-clause-made t c = λ N k p told. field_left N (results_of c.args.purpose) (blank_of c.args.purpose) c.args.number c.args.field.now p c.args.row.now.items c.args.row.now.items
+    (ap held (sym c.in-None.is) ∙ c.in_ok-part.ensures p told ∙ ap (λ z. part p (sizes_of z)) c.deref.ensures.value) refl
+
+pub field_with_sizes-returns-in-None-clause-next : goal.field_with_sizes-returns-in-None-clause-next
+field_with_sizes-returns-in-None-clause-next t c = λ p told. omega arith ∙ ap (λ z. c.args.number + levels_there z) (ap held (sym c.in-None.is) ∙ c.in_ok-part.ensures p told ∙ ap (λ z. part p (sizes_of z)) c.deref.ensures.value)

@@ -1,8 +1,5 @@
-use Rattle.std.proofs.Common.{◌≡◌}
 use Rattle.fut_typing.specs.Names.{Names}
-use Rattle.sized_types.specs.Sizes.{all_levels}
 use Rattle.alias_parts.specs.Known.{Knows}
-use Rattle.size_arena.specs.Trees.{sizes_of}
 use Rattle.size_written.specs.Blanks.{blank_of, results_of}
 use Rattle.size_written.proofs.WithForms.{All_made, Fields_made}
 use Rattle.size_written.proofs.filling.+with_sizes.Given as goal
@@ -12,4 +9,4 @@ invariant-all_with_sizes-loop-i l = (N : Names) → Knows l.names N → All_made
 
 abbrev pub invariant-fields_with_sizes-loop-field : goal.invariant-fields_with_sizes-loop-field
 invariant-fields_with_sizes-loop-field l =
-    (N : Names) → Knows l.names N → Fields_made N (results_of l.purpose) (blank_of l.purpose) l.first l.fields l.head l.fn.row.items l.field-index l.number l.row.items × (l.levels ≡ all_levels (sizes_of l.row.items))
+    (N : Names) → Knows l.names N → Fields_made N (results_of l.purpose) (blank_of l.purpose) l.first l.fields l.head l.fn.row.items l.field-index l.number l.row.items
