@@ -1,0 +1,4 @@
+pub mod Checking
+pub mod DefinitionLaws
+pub mod ProgramLaws
+pub mod TableForms

@@ -1,0 +1,17 @@
+pub mod Joining
+pub mod Leading
+pub mod LambdaLaws
+pub mod PartLaws
+pub mod SpineLaws
+pub mod FormLaws
+pub mod RowLaws
+pub mod TurnLaws
+pub mod ComposedLaws
+pub mod SpineForms
+pub mod PartForms
+pub mod LambdaForms
+pub mod Walking
+pub mod MeetLaws
+pub mod ApplyingLaws
+pub mod TakingLaws
+pub mod BottomLaws
