@@ -1,5 +1,5 @@
 -- A lawful answer of files is the only one.
-use Rattle.std.proofs.Common.{sym, ℕ, List, Bool, true}
+use Rattle.std.proofs.Common.{sym, true}
 use Rattle.fut_ast.specs.declared.node.Label.{Label}
 use Rattle.fut_flat.specs.Sources.{Spelled}
 use Rattle.fut_meaning.specs.Answers.{out_of}

@@ -2,9 +2,11 @@ pub mod Readings
 pub mod Downs
 pub mod Grown
 pub mod Told
+pub mod OwnSizes
 pub mod Terms
 pub mod Sizes
 pub mod Programs
+pub mod Uses
 pub mod Answers
 pub mod Filled
 pub mod Parts

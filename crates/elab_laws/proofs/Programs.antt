@@ -13,26 +13,28 @@ use Rattle.fut_flat.specs.Numbers.{numbers}
 use Rattle.fut_flat.specs.Sources.{SourceTerm, source_parameters}
 use Rattle.elab_scopes.specs.Names.{Refusal}
 use Rattle.elab_scopes.specs.Scopes.{a_value, Scope, value_in, world_of, enter}
-use Rattle.elab_scopes.specs.Resolve.{Numbered, next, with_text}
+use Rattle.elab_scopes.specs.Resolve.{Numbered, next, with_text, number_heads}
 use Rattle.elab_scopes.specs.Programs.{FlatDefinition, define, definition_term, is_entry_named, has_text, DecLayer, Seen, Defined, behind, resolve_dec_form, resolve_dec, resolve_decs, new_file, resolve_files, FlatProgram, program_of, resolve_program}
 use Rattle.fut_meaning.specs.Flats.{flat_tops}
-use Rattle.fut_meaning.specs.Resolved.{Resolved, Definitions_resolved, no_definition, definition_and}
+use Rattle.fut_meaning.specs.Found.{Sizing}
+use Rattle.fut_meaning.specs.Sources.{Outside}
+use Rattle.fut_meaning.specs.Uses.{Parameter_sizes}
+use Rattle.fut_meaning.specs.Resolved.{Locals, Resolved, Sizes_hide, Definitions_resolved, no_definition, definition_and}
 use Rattle.fut_meaning.proofs.SameNumbers.{numbers_same}
 use Rattle.fut_meaning.proofs.SamePrograms.{program_sim}
 use Rattle.fut_meaning.proofs.Sims.{go_back, go_forth}
-use Rattle.elab_laws.specs.Sizeless.{Sizeless, Definitions_sizeless}
+use Rattle.elab_laws.specs.Sized.{Sizes_are_told}
 use Rattle.elab_laws.proofs.Told.{Told, definition_told}
-use Rattle.elab_laws.proofs.Sizes.{no_head, term_plain}
-use Rattle.elab_laws.specs.Sourced.{outside_of, No_sizes, Plain, Written, Plain_written, source_tops, written_form, written_decs, written, binds, named_values}
+use Rattle.elab_laws.proofs.OwnSizes.{reads_hiding, sees_hiding, sizes_hide}
+use Rattle.elab_laws.specs.Sourced.{outside_of, hiding, Written, source_tops, written_form, written_decs, written, binds, named_values}
 use Rattle.fut_meaning.proofs.SameData.{all_datums_same, source_allows, source_reports, flat_allows, flat_reports}
 use Rattle.elab_laws.specs.Claims.{ElaboratedAddsNothing, ElaboratedLosesNothing, SameReports, SameResults}
-use Rattle.elab_laws.proofs.Readings.{World_under, Reads, reads_outside, sees_below}
-use Rattle.elab_laws.proofs.Downs.{down}
+use Rattle.elab_laws.proofs.Readings.{World_under, Reads, reads_outside, entered, reads_entered, sees_below}
 use Rattle.elab_laws.proofs.Grown.{went, ok_part, ok_rest, More, more_text}
-use Rattle.elab_laws.proofs.Terms.{term_so, heads_more, heads_read}
+use Rattle.elab_laws.proofs.Terms.{term_so, heads_more, heads_local}
 
 -- definitions resolved one after the other
-data Run : Scope → List Text → List Written → List FlatDefinition → Scope → List Text → Type 0 where
+pub data Run : Scope → List Text → List Written → List FlatDefinition → Scope → List Text → Type 0 where
   run_none : {sc : Scope} {made : List Text} → Run sc made [] [] sc made
   run_more : {sc sc' : Scope} {made m made' : List Text} {ws : List Written} {d : FlatDefinition} {fs : List FlatDefinition} (file : ℕ) (is_entry : Bool) (x : Text) (heads : List Head) (value : SourceTerm) → Told value → define file is_entry x heads value sc made ≡ Ok (d, m) → Run (a_value x d.bind ∷ sc) m ws fs sc' made' → Run sc made (record { name = x; parameters = source_parameters heads; value = value } ∷ ws) (d ∷ fs) sc' made'
 
@@ -74,33 +76,41 @@ unfolding resolve_decs
 decs_go file [] s s' fs e = goes_end s run_none e
 decs_go file (d ∷ ds) s s' fs e = went _ _ _ e (λ a m h g. went _ _ _ g (λ as' n i q. goes_end s (run-append (dec_goes file d s m a h) (decs_go file ds m n as' i)) q))
 
-files_go : (file : ℕ) (ps : List Program) (s s' : Seen) (fs : List FlatDefinition) → resolve_files file ps s ≡ Ok (fs, s') → Goes s (written ps) fs s'
+pub files_go : (file : ℕ) (ps : List Program) (s s' : Seen) (fs : List FlatDefinition) → resolve_files file ps s ≡ Ok (fs, s') → Goes s (written ps) fs s'
 unfolding resolve_files
 files_go file [] s s' fs e = goes_end s run_none e
 files_go file (p ∷ ps) s s' fs e = went _ _ _ e (λ a m h g. went _ _ _ g (λ b n i q. goes_end s (run-append (decs_go file p.decs (new_file s) m a h) (files_go (suc file) ps m n b i)) q))
 
 -- ---- each definition
 
-pub record Defined_so (sc : Scope) (made m : List Text) (d : FlatDefinition) (value : SourceTerm) : Type 0 where
+pub record Defined_so (z : Option Sizing) (outside : Outside) (made m : List Text) (d : FlatDefinition) (value : SourceTerm) : Type 0 where
   pub bind : d.bind.0 ≡ length made
   pub more : suc (length made) ≤ length m
-  pub resolved : Resolved (suc (length made)) [] (outside_of sc) value d.value
+  pub upto : ℕ
+  pub locals : Locals
+  pub hide : Sizes_hide z (suc (length made)) outside locals upto
+  pub resolved : Resolved upto locals outside value d.value
 
-pub define_so : (file : ℕ) (is_entry : Bool) (x : Text) (heads : List Head) (value : SourceTerm) (sc : Scope) (made m : List Text) (d : FlatDefinition) (n : ℕ) → World_under n (world_of sc) → No_sizes (source_parameters heads) → Plain value → define file is_entry x heads value sc made ≡ Ok (d, m) → Defined_so sc made m d value
+pub define_so : (z : Option Sizing) (file : ℕ) (is_entry : Bool) (x : Text) (heads : List Head) (value : SourceTerm) (sc : Scope) (made m : List Text) (d : FlatDefinition) (n : ℕ) → World_under n (world_of sc) → Parameter_sizes z d.parameters → Told value → define file is_entry x heads value sc made ≡ Ok (d, m) → Defined_so z (hiding (source_parameters heads) (outside_of sc)) made m d value
 unfolding define
-define_so file is_entry x heads value sc made m d k u n p e =
+define_so z file is_entry x heads value sc made m d k u s p e =
     went _ _ _ e (λ h o i g. went _ _ _ g (λ v l j q.
-    let le : More (with_text made x) o = subst (λ z. More (with_text made x) z) (ok_rest i) (heads_more (source_parameters heads) (with_text made x) n) in
-    let rd = subst (λ z. Reads (enter z.1 sc) [] (outside_of sc)) (ok_part i) (heads_read (source_parameters heads) (with_text made x) n (reads_outside k sc u)) in
-    let y = term_so value (enter h.1 sc) o l v [] (outside_of sc) p rd j in
-    subst (λ z. Defined_so sc made m z value) (ok_part q)
-    (subst (λ z. Defined_so sc made z (record { bind = next made; parameters = h.0; value = v; is_entry = is_entry; file = file }) value) (ok_rest q)
-    (record { bind = refl; more = omega (arith, more_text made x, le, y.more); resolved = down (omega (arith, more_text made x, le)) y.resolved }))))
+    let hs = source_parameters heads in
+    let numbered = number_heads hs (with_text made x) in
+    let same : numbered.0 ≡ h = ok_part i in
+    let le : More (with_text made x) o = subst (λ z. More (with_text made x) z) (ok_rest i) (heads_more hs (with_text made x)) in
+    let rd : Reads (enter h.1 sc) (entered numbered.0.1 []) (hiding hs (outside_of sc)) = subst (λ z. Reads (enter z.1 sc) (entered numbered.0.1 []) (hiding hs (outside_of sc))) same (reads_hiding hs (with_text made x) (reads_entered numbered.0.1 (heads_local hs (with_text made x)) (reads_outside k sc u))) in
+    let y = term_so value (enter h.1 sc) o l v (entered numbered.0.1 []) (hiding hs (outside_of sc)) p rd j in
+    let sized : Parameter_sizes z numbered.0.0 = subst (Parameter_sizes z) (sym (ap (λ w. w.0) same ∙ ap (λ w. w.parameters) (ok_part q))) s in
+    let hidden : Sizes_hide z (suc (length made)) (hiding hs (outside_of sc)) (entered numbered.0.1 []) (length o) = subst (λ w. Sizes_hide z (suc (length made)) (hiding hs (outside_of sc)) (entered numbered.0.1 []) (length w)) (ok_rest i) (sizes_hide hs (with_text made x) (outside_of sc) (omega (arith, more_text made x)) sized) in
+    subst (λ w. Defined_so z (hiding hs (outside_of sc)) made m w value) (ok_part q)
+    (subst (λ w. Defined_so z (hiding hs (outside_of sc)) made w (record { bind = next made; parameters = h.0; value = v; is_entry = is_entry; file = file }) value) (ok_rest q)
+    (record { bind = refl; more = omega (arith, more_text made x, le, y.more); upto = length o; locals = entered numbered.0.1 []; hide = hidden; resolved = y.resolved }))))
 
 -- the values of a scope have numbers below n, in the world too
-record Below (n : ℕ) (sc : Scope) : Type 0 where
-  below : (x : Text) (b : BindId) → value_in sc x ≡ Some b → b.0 < n
-  outer : (k : ℕ) → World_under k (world_of sc)
+pub record Below (n : ℕ) (sc : Scope) : Type 0 where
+  pub below : (x : Text) (b : BindId) → value_in sc x ≡ Some b → b.0 < n
+  pub outer : (k : ℕ) → World_under k (world_of sc)
 
 below_value : {n m : ℕ} {sc : Scope} (x : Text) (b : BindId) → n ≤ m → b.0 < m → Below n sc → Below m (a_value x b ∷ sc)
 unfolding value_in world_of
@@ -113,64 +123,54 @@ below_value {n} {m} {sc} x b le lt r = record { outer = r.outer; below = λ y c 
     either true o c e k = subst (λ z. z.0 < m) (some_is c e) lt
     either false o c e k = k e
 
-tops_resolved : {sc sc' : Scope} {made made' : List Text} {ws : List Written} {fs : List FlatDefinition} (lo : ℕ) → Run sc made ws fs sc' made' → Below (length made) sc → Plain_written ws → Definitions_resolved (length made) (source_tops lo sc ws (binds fs)) (flat_tops lo (named_values fs))
+tops_resolved : {z : Option Sizing} {sc sc' : Scope} {made made' : List Text} {ws : List Written} {fs : List FlatDefinition} (lo : ℕ) → Run sc made ws fs sc' made' → Below (length made) sc → Sizes_are_told z lo fs → Definitions_resolved z (length made) (source_tops lo sc ws (binds fs)) (flat_tops lo (named_values fs))
 unfolding flat_tops
 tops_resolved lo run_none b p = no_definition
-tops_resolved {sc} {made = made} lo (run_more {m = m} {ws = ws} {d} {fs} file is_entry x heads value t e r) b p =
-    let y = define_so file is_entry x heads value sc made m d 0 (b.outer 0) p.0 p.1 e in
+tops_resolved {z} {sc} {made = made} lo (run_more {m = m} {ws = ws} {d} {fs} file is_entry x heads value t e r) b p =
+    let hs = source_parameters heads in
+    let y = define_so z file is_entry x heads value sc made m d 0 (b.outer 0) p.0 t e in
     let le : length made ≤ length m = omega (arith, y.more) in
     let lt : d.bind.0 < length m = omega (arith, y.bind, y.more) in
-    let rest = tops_resolved (lo + (1 + numbers value)) r (below_value x d.bind le lt b) p.2 in
+    let many : numbers value ≡ numbers d.value = numbers_same y.resolved in
+    let rest = tops_resolved {z = z} (lo + (1 + numbers value)) r (below_value x d.bind le lt b) (subst (λ k. Sizes_are_told z (lo + (1 + k)) fs) (sym many) p.2) in
     definition_and refl refl (omega (arith, y.bind)) lt
-    (sees_below (suc d.bind.0) sc (λ z c h. omega (arith, b.below z c h, y.bind)) (b.outer (suc d.bind.0)))
-    (down (omega (arith, y.bind)) y.resolved)
-    (subst (λ z. Definitions_resolved (length m) (source_tops (lo + (1 + numbers value)) (a_value x d.bind ∷ sc) ws (binds fs)) (flat_tops (lo + (1 + z)) (named_values fs))) (numbers_same y.resolved) rest)
+    (sees_hiding hs (sees_below (suc d.bind.0) sc (λ z c h. omega (arith, b.below z c h, y.bind)) (b.outer (suc d.bind.0))))
+    (subst (λ k. Sizes_hide z (suc k) (hiding hs (outside_of sc)) y.locals y.upto) (sym y.bind) y.hide)
+    y.resolved
+    p.1
+    (subst (λ k. Definitions_resolved z (length m) (source_tops (lo + (1 + numbers value)) (a_value x d.bind ∷ sc) ws (binds fs)) (flat_tops (lo + (1 + k)) (named_values fs))) many rest)
 
 -- ---- programs
 
-program_is : {C : Type 0} (r : Defined (List FlatDefinition)) (flat : FlatProgram) → program_of r ≡ Ok flat → ((s : Seen) → r ≡ Ok (flat.definitions, s) → C) → C
+pub program_is : {C : Type 0} (r : Defined (List FlatDefinition)) (flat : FlatProgram) → program_of r ≡ Ok flat → ((s : Seen) → r ≡ Ok (flat.definitions, s) → C) → C
 program_is (Ok (ds, s)) flat e k = k s (ap (λ z. Ok (z.definitions, s)) (same_program e))
   where
     same_program : {a b : FlatProgram} → ◌≡◌ {A = Result FlatProgram Refusal} (Ok a) (Ok b) → a ≡ b
     same_program h = cc
 program_is (Err w) flat e k = not_refused w flat e
 
-nothing_below : {n : ℕ} → Below n []
+pub nothing_below : {n : ℕ} → Below n []
 unfolding value_in world_of
 nothing_below = record { below = λ x b e. absurd (let z : None ≡ Some b = e in cc); outer = λ k. record { names = tt; modules = tt } }
 
-pub definition_plain : (file : ℕ) (is_entry : Bool) (x : Text) (heads : List Head) (value : SourceTerm) (sc : Scope) (made m : List Text) (d : FlatDefinition) → Told value → No_sizes d.parameters → Sizeless d.value → define file is_entry x heads value sc made ≡ Ok (d, m) → No_sizes (source_parameters heads) × Plain value
-unfolding define
-definition_plain file is_entry x heads value sc made m d t n z e =
-    went _ _ _ e (λ h k i g. went _ _ _ g (λ v l j q. (
-      no_head (source_parameters heads) (with_text made x) (subst No_sizes (ap (λ w. w.parameters) (sym (ok_part q)) ∙ ap (λ w. w.0) (sym (ok_part i))) n),
-      term_plain value (enter h.1 sc) k l v t (subst Sizeless (ap (λ w. w.value) (sym (ok_part q))) z) j,
-    )))
-
-plain_tops : {sc sc' : Scope} {made made' : List Text} {ws : List Written} {fs : List FlatDefinition} → Run sc made ws fs sc' made' → Definitions_sizeless fs → Plain_written ws
-plain_tops run_none z = tt
-plain_tops {sc} {made = made} (run_more {m = m} {d = d} file is_entry x heads value t e r) z =
-    let y = definition_plain file is_entry x heads value sc made m d t z.0 z.1 e in
-    (y.0, y.1, plain_tops r z.2)
-
-pub elaborated : (ps : List Program) (flat : FlatProgram) → resolve_program ps ≡ Ok flat → Definitions_sizeless flat.definitions → Definitions_resolved 0 (source_tops 0 [] (written ps) (binds flat.definitions)) (flat_tops 0 (named_values flat.definitions))
+pub elaborated : (ps : List Program) (flat : FlatProgram) (z : Option Sizing) → resolve_program ps ≡ Ok flat → Sizes_are_told z 0 flat.definitions → Definitions_resolved z 0 (source_tops 0 [] (written ps) (binds flat.definitions)) (flat_tops 0 (named_values flat.definitions))
 unfolding resolve_program
-elaborated ps flat e z = program_is _ flat e (λ s h. let r = files_go 0 ps (record { own = []; scope = []; made = [] }) s flat.definitions h in tops_resolved 0 r nothing_below (plain_tops r z))
+elaborated ps flat z e p = program_is _ flat e (λ s h. let r = files_go 0 ps (record { own = []; scope = []; made = [] }) s flat.definitions h in tops_resolved 0 r nothing_below p)
 
 pub elaborated_adds_nothing : ElaboratedAddsNothing
-elaborated_adds_nothing ps flat e p told tight budget entry vs ws s o f x = go_back (program_sim told tight budget entry true (elaborated ps flat e p) s) o f x
+elaborated_adds_nothing ps flat e told p tight budget entry vs ws s o f x = go_back (program_sim told tight budget entry true (elaborated ps flat told.sizes e p) s) o f x
 
 pub elaborated_loses_nothing : ElaboratedLosesNothing
-elaborated_loses_nothing ps flat e p told tight budget entry vs ws s o f x = go_forth (program_sim told tight budget entry false (elaborated ps flat e p) s) o f x
+elaborated_loses_nothing ps flat e told p tight budget entry vs ws s o f x = go_forth (program_sim told tight budget entry false (elaborated ps flat told.sizes e p) s) o f x
 
 pub same_results : SameResults
-same_results ps flat e p told tight budget entry arguments result words = (
-  λ x. source_allows _ result words (elaborated_adds_nothing ps flat e p told tight budget entry _ _ (all_datums_same arguments) _ words x),
-  λ x. flat_allows _ result words (elaborated_loses_nothing ps flat e p told tight budget entry _ _ (all_datums_same arguments) _ words x),
+same_results ps flat e told p tight budget entry arguments result words = (
+  λ x. source_allows _ result words (elaborated_adds_nothing ps flat e told p tight budget entry _ _ (all_datums_same arguments) _ words x),
+  λ x. flat_allows _ result words (elaborated_loses_nothing ps flat e told p tight budget entry _ _ (all_datums_same arguments) _ words x),
 )
 
 pub same_reports : SameReports
-same_reports ps flat e p told tight budget entry arguments report words = (
-  λ x. source_reports _ report words (elaborated_adds_nothing ps flat e p told tight budget entry _ _ (all_datums_same arguments) _ words x),
-  λ x. flat_reports _ report words (elaborated_loses_nothing ps flat e p told tight budget entry _ _ (all_datums_same arguments) _ words x),
+same_reports ps flat e told p tight budget entry arguments report words = (
+  λ x. source_reports _ report words (elaborated_adds_nothing ps flat e told p tight budget entry _ _ (all_datums_same arguments) _ words x),
+  λ x. flat_reports _ report words (elaborated_loses_nothing ps flat e told p tight budget entry _ _ (all_datums_same arguments) _ words x),
 )

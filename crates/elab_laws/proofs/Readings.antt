@@ -116,7 +116,7 @@ in_module_below n cs (scalar_module t) x u = prim_below (member_of t x)
 -- ---- what is found of a path
 
 -- it is a value of this kind, and has as many names before its last as the path
-data Finds (B : BindId → Type 0) (p : Path) : Result Found Refusal → Type 0 where
+pub data Finds (B : BindId → Type 0) (p : Path) : Result Found Refusal → Type 0 where
   finds_bound : (b : BindId) (k : ℕ) (fs : Path) → B b → k + length fs ≡ names_before p → Finds B p (found (ref.Bound b) k fs)
   finds_primitive : (q : Primitive) (k : ℕ) (fs : Path) → k + length fs ≡ names_before p → Finds B p (found (ref.Prim q) k fs)
   finds_none : (e : Refusal) → Finds B p (Err e)
@@ -152,7 +152,7 @@ finds_by_primitive : (n : ℕ) (w : World) (at : Place) (x : Text) (rest : Path)
 finds_by_primitive n w at x rest (Some p) u = finds_primitive p 0 rest (omega (arith, before_is x rest))
 finds_by_primitive n w at x rest None u = finds_module n w.modules at x rest (module_named w x) u.modules
 
-finds_outside : (n : ℕ) (w : World) (at : Place) (x : Text) (rest : Path) (o : Option Ref) → Option_below n o → World_under n w → Finds (λ b. b.0 < n) (x ∷ rest) (by_member w at x rest o)
+pub finds_outside : (n : ℕ) (w : World) (at : Place) (x : Text) (rest : Path) (o : Option Ref) → Option_below n o → World_under n w → Finds (λ b. b.0 < n) (x ∷ rest) (by_member w at x rest o)
 finds_outside n w at x rest (Some r) b u = finds_ref n (x ∷ rest) r 0 rest b (omega (arith, before_is x rest))
 finds_outside n w at x rest None b u = finds_by_primitive n w at x rest (primitive_of x) u
 

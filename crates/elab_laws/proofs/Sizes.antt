@@ -1,78 +1,51 @@
--- A term whose flat term binds no size is one that the meaning knows.
-use Rattle.std.proofs.Common.{◌≡◌, List, [], ◌∷◌, Ok, refl, sym, ap, ◌∙◌, subst}
+-- Where there is no sizing, it is right about terms that bind no size.
+use Rattle.std.proofs.Common.{◌≡◌, ℕ, ◌+◌, List, [], ◌∷◌, None, true, false, refl, sym, subst}
 use Rattle.fut_scalar.specs.declared.place.BindId.{BindId}
-use Rattle.fut_ast.specs.Sorts.{Text}
-use Rattle.fut_ast.specs.declared.node.Label.{Label}
 use Rattle.fut_flat.specs.declared.prim.Ref.{Ref}
+use Rattle.fut_flat.specs.declared.prim.Ref.TheVariants as ref
 use Rattle.fut_flat.specs.Erased.{FlatTerm, FlatTurns}
-use Rattle.fut_flat.specs.Sources.{Spelled, SourceTerm, SourceTurns}
+use Rattle.fut_flat.specs.Numbers.{pattern_numbers, all_pattern_numbers, own_numbers, numbers, turn_numbers}
 use Rattle.fut_flat.specs.Terms.{Parameter, Size_parameter, Type_parameter, Use, Strict, Lambda, Apply, Let, If, Loop, Terms, no_term, term_and, Counted, Over, While}
-use Rattle.elab_scopes.specs.Scopes.{Scope}
-use Rattle.elab_scopes.specs.Resolve.{Bound, with_text, number_sizes, number_heads, resolve, resolve_all, resolve_turns, is_declared, section_name, stands_behind}
-use Rattle.elab_laws.specs.Sourced.{No_sizes, Plain, All_plain, Plain_turns}
-use Rattle.elab_laws.specs.Sizeless.{Sizeless, All_sizeless, Turns_sizeless}
-use Rattle.elab_laws.proofs.Grown.{went, led_so, ok_part}
-use Rattle.elab_laws.proofs.Terms.{either_order}
-use Rattle.elab_laws.proofs.Told.{Told, All_told, Turns_told}
+use Rattle.fut_meaning.specs.Uses.{All_sizes, Parameter_sizes, Sizes_told, All_sizes_told, Turns_told}
+use Rattle.elab_scopes.specs.Programs.{FlatDefinition}
+use Rattle.elab_laws.specs.Sourced.{No_sizes}
+use Rattle.elab_laws.specs.Sizeless.{Sizeless, All_sizeless, Turns_sizeless, Definitions_sizeless}
+use Rattle.elab_laws.specs.Sized.{Sizes_are_told}
 
-no_size : (xs : List Label) (made : List Text) → (number_sizes xs made).0.0 ≡ [] → xs ≡ []
-unfolding number_sizes
-no_size [] made e = refl
-no_size (x ∷ xs) made e = absurd cc
+no_sizes : (bs : List BindId) → bs ≡ [] → All_sizes None bs
+no_sizes bs e = subst (All_sizes None) (sym e) tt
 
-pub no_head : (hs : List (Parameter Label)) (made : List Text) → No_sizes (number_heads hs made).0.0 → No_sizes hs
-unfolding number_heads
-no_head [] made n = tt
-no_head (Size_parameter x ∷ hs) made n = absurd n
-no_head (Type_parameter x lifted ∷ hs) made n = no_head hs (with_text made x.name) n
+no_parameters : (hs : List (Parameter BindId)) → No_sizes hs → Parameter_sizes None hs
+no_parameters [] n = tt
+no_parameters (Size_parameter x ∷ hs) n = absurd n
+no_parameters (Type_parameter x lifted ∷ hs) n = no_parameters hs n
 
 mutual
-  unfolding resolve resolve_all resolve_turns
+  term_sizeless : (lo : ℕ) (t : FlatTerm) → Sizeless t → Sizes_told None lo t
+  term_sizeless lo (Use (ref.Bound b) at k) s = (refl, λ e. absurd (let z : false ≡ true = e in cc))
+  term_sizeless lo (Use (ref.Prim p) at k) s = refl
+  term_sizeless lo (Use (ref.Scalar t) at k) s = refl
+  term_sizeless lo (Strict o mark ts) s = terms_sizeless (lo + own_numbers o) ts s
+  term_sizeless lo (Lambda ps e) s = term_sizeless (1 + lo + all_pattern_numbers ps) e s
+  term_sizeless lo (Apply f e) s = (term_sizeless (1 + lo) f s.0, term_sizeless (1 + lo + numbers f) e s.1)
+  term_sizeless lo (Let b v e) s = (no_sizes b.sizes s.0, no_parameters b.parameters s.1, term_sizeless (1 + lo + pattern_numbers b.pattern) v s.2, term_sizeless (1 + lo + pattern_numbers b.pattern + numbers v) e s.3)
+  term_sizeless lo (If c a b) s = (term_sizeless (1 + lo) c s.0, term_sizeless (1 + lo + numbers c) a s.1, term_sizeless (1 + lo + numbers c + numbers a) b s.2)
+  term_sizeless lo (Loop mark sizes p first turns body) s = (
+    no_sizes sizes s.0,
+    term_sizeless (1 + lo + pattern_numbers p) first s.1,
+    turns_sizeless (1 + lo + pattern_numbers p + numbers first) turns s.2,
+    term_sizeless (1 + lo + pattern_numbers p + numbers first + turn_numbers turns) body s.3,
+  )
 
-  pub term_plain : (t : SourceTerm) (sc : Scope) (made made' : List Text) (u : FlatTerm) → Told t → Sizeless u → resolve t sc made ≡ Ok (u, made') → Plain t
-  term_plain (Use p at k) sc made made' u n z e = n
-  term_plain (Strict o mark ts) sc made made' u n z e =
-      either_order (is_declared o) e
-      (λ g. went _ _ _ g (λ a m h w. went _ _ _ w (λ us l i q. all_plain ts sc m l us n (subst Sizeless (sym (ok_part q)) z) i)))
-      (λ g. went _ _ _ g (λ us m h w. went _ _ _ w (λ a l i q. all_plain ts sc made m us n (subst Sizeless (sym (ok_part q)) z) h)))
-  term_plain (Lambda ps body) sc made made' u n z e =
-      went _ _ _ e (λ a m h g. went _ _ _ g (λ b l i q. term_plain body a.1 m l b n (subst Sizeless (sym (ok_part q)) z) i))
-  term_plain (Apply f a) sc made made' u n z e =
-      either_order (stands_behind f) e
-      (λ g. went _ _ _ g (λ b m h w. went _ _ _ w (λ c l i q. let y = subst Sizeless (sym (ok_part q)) z in (term_plain f sc m l c n.0 y.0 i, term_plain a sc made m b n.1 y.1 h))))
-      (λ g. went _ _ _ g (λ b m h w. went _ _ _ w (λ c l i q. let y = subst Sizeless (sym (ok_part q)) z in (term_plain f sc made m b n.0 y.0 h, term_plain a sc m l c n.1 y.1 i))))
-  term_plain (Let b v body) sc made made' u n z e =
-      led_so (section_name body) sc _ _ e (λ g0. went _ _ _ g0 (λ s m1 h1 g1. went _ _ _ g1 (λ p m2 h2 g2. went _ _ _ g2 (λ hs m3 h3 g3. went _ _ _ g3 (λ v' m4 h4 g4. went _ _ _ g4 (λ e' m5 h5 q.
-      let y = subst Sizeless (sym (ok_part q)) z in (
-        no_size b.sizes made (ap (λ w. w.0) (ok_part h1) ∙ y.0),
-        no_head b.parameters m2 (subst No_sizes (ap (λ w. w.0) (sym (ok_part h3))) y.1),
-        term_plain v _ m3 m4 v' n.0 y.2 h4,
-        term_plain body _ m4 m5 e' n.1 y.3 h5,
-      )))))))
-  term_plain (If c a b) sc made made' u n z e =
-      went _ _ _ e (λ c' m h w. went _ _ _ w (λ a' l i w'. went _ _ _ w' (λ b' k j q.
-      let y = subst Sizeless (sym (ok_part q)) z in
-      (term_plain c sc made m c' n.0 y.0 h, term_plain a sc m l a' n.1 y.1 i, term_plain b sc l k b' n.2 y.2 j))))
-  term_plain (Loop mark sizes p first turns body) sc made made' u n z e =
-      went _ _ _ e (λ s m1 h1 g1. went _ _ _ g1 (λ p' m2 h2 g2. went _ _ _ g2 (λ f m3 h3 g3. went _ _ _ g3 (λ t m4 h4 g4. went _ _ _ g4 (λ b m5 h5 q.
-      let y = subst Sizeless (sym (ok_part q)) z in (
-        no_size sizes made (ap (λ w. w.0) (ok_part h1) ∙ y.0),
-        term_plain first sc m2 m3 f n.0 y.1 h3,
-        turns_plain turns _ _ m3 m4 t n.1 y.2 h4,
-        term_plain body _ m4 m5 b n.2 y.3 h5,
-      ))))))
+  terms_sizeless : (lo : ℕ) (ts : Terms Ref BindId) → All_sizeless ts → All_sizes_told None lo ts
+  terms_sizeless lo no_term s = tt
+  terms_sizeless lo (term_and t ts) s = (term_sizeless lo t s.0, terms_sizeless (lo + numbers t) ts s.1)
 
-  all_plain : (ts : Terms Spelled Label) (sc : Scope) (made made' : List Text) (us : Terms Ref BindId) → All_told ts → All_sizeless us → resolve_all ts sc made ≡ Ok (us, made') → All_plain ts
-  all_plain no_term sc made made' us n z e = tt
-  all_plain (term_and t ts) sc made made' us n z e =
-      went _ _ _ e (λ a m h w. went _ _ _ w (λ b l i q.
-      let y = subst All_sizeless (sym (ok_part q)) z in
-      (term_plain t sc made m a n.0 y.0 h, all_plain ts sc m l b n.1 y.1 i)))
+  turns_sizeless : (lo : ℕ) (ts : FlatTurns) → Turns_sizeless ts → Turns_told None lo ts
+  turns_sizeless lo (Counted i n) s = term_sizeless (1 + lo) n s
+  turns_sizeless lo (Over p e) s = term_sizeless (lo + pattern_numbers p) e s
+  turns_sizeless lo (While c) s = term_sizeless lo c s
 
-  turns_plain : (ts : SourceTurns) (out inner : Scope) (made made' : List Text) (b : Bound FlatTurns) → Turns_told ts → Turns_sizeless b.0 → resolve_turns ts out inner made ≡ Ok (b, made') → Plain_turns ts
-  turns_plain (Counted x n) out inner made made' b k z e =
-      went _ _ _ e (λ a m h q. term_plain n out (with_text made x.name) m a k (subst (λ (w : Bound FlatTurns). Turns_sizeless w.0) (sym (ok_part q)) z) h)
-  turns_plain (Over p a) out inner made made' b k z e =
-      went _ _ _ e (λ p' m h w. went _ _ _ w (λ a' l i q. term_plain a out m l a' k (subst (λ (w : Bound FlatTurns). Turns_sizeless w.0) (sym (ok_part q)) z) i))
-  turns_plain (While c) out inner made made' b k z e =
-      went _ _ _ e (λ a m h q. term_plain c inner made m a k (subst (λ (w : Bound FlatTurns). Turns_sizeless w.0) (sym (ok_part q)) z) h)
+pub sizeless_told : (lo : ℕ) (ds : List FlatDefinition) → Definitions_sizeless ds → Sizes_are_told None lo ds
+sizeless_told lo [] s = tt
+sizeless_told lo (d ∷ ds) s = (no_parameters d.parameters s.0, term_sizeless (1 + lo) d.value s.1, sizeless_told (lo + (1 + numbers d.value)) ds s.2)

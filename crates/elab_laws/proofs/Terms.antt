@@ -12,10 +12,10 @@ use Rattle.elab_scopes.specs.Names.{Refusal, Twice}
 use Rattle.elab_scopes.specs.Scopes.{Entry, a_value, a_type, a_world, Scope, enter, value_of}
 use Rattle.elab_scopes.specs.Resolve.{Numbered, next, with_text, Naming, Bound, has, name_pattern, name_patterns, whole, resolve_pattern, resolve_parameters, number_sizes, number_heads, resolve_operation, is_declared, section_name, use_found, resolve, resolve_all, resolve_turns, stands_behind}
 use Rattle.fut_meaning.specs.Sources.{Outside}
-use Rattle.fut_meaning.specs.Resolved.{Locals, flat_use, Pattern_resolved, p_bound, p_wild, p_tuple, p_record, p_typed, Patterns_resolved, p_none, p_and, Same_operation, o_integer, o_truth, o_tuple, o_record, o_array, o_binary, o_negate, o_complement, o_index, o_project, o_update, o_replace, o_ascribe, o_coerce, o_declared, o_assert, o_range, Resolved, r_use, r_strict, r_lambda, r_apply, r_let, r_if, r_loop, All_resolved, r_none, r_more, Turns_resolved, r_counted, r_over, r_while}
-use Rattle.elab_laws.specs.Sourced.{No_sizes, Plain, All_plain, Plain_turns}
-use Rattle.elab_laws.proofs.Readings.{Reads, reads_type, entered, No_world, reads_entered, use_is}
-use Rattle.elab_laws.proofs.Downs.{pattern_up, down, all_down, turns_down}
+use Rattle.fut_meaning.specs.Resolved.{Locals, flat_use, Pattern_resolved, p_bound, p_wild, p_tuple, p_record, p_typed, Patterns_resolved, p_none, p_and, Same_operation, o_integer, o_truth, o_tuple, o_record, o_array, o_binary, o_negate, o_complement, o_index, o_project, o_update, o_replace, o_ascribe, o_coerce, o_declared, o_assert, o_range, Resolved, r_use, r_strict, r_lambda, r_apply, r_let, r_if, r_loop, All_resolved, r_none, r_more, Turns_resolved, r_counted, r_over, r_while, Sizes_resolved, z_none, z_and, Parameters_resolved, g_none, g_size, g_type}
+use Rattle.elab_laws.proofs.Told.{Told, All_told, Turns_told}
+use Rattle.elab_laws.proofs.Readings.{Reads, entered, No_world, reads_entered, use_is}
+use Rattle.elab_laws.proofs.Downs.{pattern_up, parameters_down, down, all_down, turns_down}
 use Rattle.elab_laws.proofs.Grown.{went, led_so, beside_is, ok_part, ok_rest, More, more_same, more_text, type_more, Named_so, pattern_so}
 
 mutual
@@ -70,7 +70,7 @@ mutual
   patterns_local (pattern_and p ps) sc s s' qs e n = went _ _ _ e (λ a m h g. went _ _ _ g (λ b k i w.
       subst (λ z. No_world z.bound) (ok_rest w) (patterns_local ps sc m k b i (pattern_local p sc s m a h n))))
 
-whole_local : (p : SourcePattern) (sc : Scope) (made made' : List Text) (b : Bound FlatPattern) → resolve_pattern p sc made ≡ Ok (b, made') → No_world b.1
+pub whole_local : (p : SourcePattern) (sc : Scope) (made made' : List Text) (b : Bound FlatPattern) → resolve_pattern p sc made ≡ Ok (b, made') → No_world b.1
 unfolding resolve_pattern
 whole_local p sc made made' b e = whole_is _ b made' e (λ s h g i. subst No_world g (pattern_local p sc (record { bound = []; made = made }) s b.0 h tt))
 
@@ -91,23 +91,57 @@ parameters_so (pattern_and p ps) sc made made' r ls outside rd e =
     (subst (λ z. Parameters_so ls outside made z (pattern_and p ps) (pattern_and b.0 qs.0) qs.1) (ok_rest w)
     (record { inner = rest.inner; patterns = p_and (whole_so p sc made m b ls h) rest.patterns; reads = rest.reads }))))
 
--- ---- heads and sizes
+-- ---- sizes, and size and type parameters
 
-pub heads_more : (hs : List (Parameter Label)) (made : List Text) → No_sizes hs → More made (number_heads hs made).1
-unfolding number_heads
-heads_more [] made n = omega arith
-heads_more (Size_parameter x ∷ hs) made n = absurd n
-heads_more (Type_parameter x lifted ∷ hs) made n = omega (arith, more_text made x.name, heads_more hs (with_text made x.name) n)
+sizes_le : {n m : ℕ} {ls inner : Locals} {xs : List Label} {ys : List BindId} → Sizes_resolved n ls xs ys m inner → n ≤ m
+sizes_le (z_none a) = a
+sizes_le (z_and a b r) = omega (arith, a, b, sizes_le r)
 
-pub heads_read : (hs : List (Parameter Label)) (made : List Text) → No_sizes hs → {sc : Scope} {ls : Locals} {outside : Outside} → Reads sc ls outside → Reads (enter (number_heads hs made).0.1 sc) ls outside
-unfolding number_heads enter
-heads_read [] made n r = r
-heads_read (Size_parameter x ∷ hs) made n r = absurd n
-heads_read (Type_parameter x lifted ∷ hs) made n r = heads_read hs (with_text made x.name) n (reads_type x.name (next made) r)
+parameters_le : {n m : ℕ} {ls inner : Locals} {hs : List (Parameter Label)} {gs : List (Parameter BindId)} → Parameters_resolved n ls hs gs m inner → n ≤ m
+parameters_le (g_none a) = a
+parameters_le (g_size a b r) = omega (arith, a, b, parameters_le r)
+parameters_le (g_type r) = parameters_le r
 
-sizes_none : (xs : List Label) (made : List Text) → xs ≡ [] → number_sizes xs made ≡ (([], []), made)
+sizes_so : (xs : List Label) (made : List Text) (ls : Locals) → Sizes_resolved (length made) ls xs (number_sizes xs made).0.0 (length (number_sizes xs made).1) (entered (number_sizes xs made).0.1 ls)
+unfolding number_sizes entered
+sizes_so [] made ls = z_none (omega arith)
+sizes_so (x ∷ xs) made ls = z_and (omega arith) (omega (arith, more_text made x.name)) (sizes_so xs (with_text made x.name) ((x.name, length made) ∷ ls))
+
+pub sizes_local : (xs : List Label) (made : List Text) → No_world (number_sizes xs made).0.1
 unfolding number_sizes
-sizes_none xs made e = ap (λ z. number_sizes z made) e
+sizes_local [] made = tt
+sizes_local (x ∷ xs) made = sizes_local xs (with_text made x.name)
+
+heads_so : (hs : List (Parameter Label)) (made : List Text) (ls : Locals) → Parameters_resolved (length made) ls hs (number_heads hs made).0.0 (length (number_heads hs made).1) (entered (number_heads hs made).0.1 ls)
+unfolding number_heads entered
+heads_so [] made ls = g_none (omega arith)
+heads_so (Size_parameter x ∷ hs) made ls = g_size (omega arith) (omega (arith, more_text made x.name)) (heads_so hs (with_text made x.name) ((x.name, length made) ∷ ls))
+heads_so (Type_parameter x lifted ∷ hs) made ls = g_type (parameters_down (omega (arith, more_text made x.name)) (heads_so hs (with_text made x.name) ls))
+
+pub heads_local : (hs : List (Parameter Label)) (made : List Text) → No_world (number_heads hs made).0.1
+unfolding number_heads
+heads_local [] made = tt
+heads_local (Size_parameter x ∷ hs) made = heads_local hs (with_text made x.name)
+heads_local (Type_parameter x lifted ∷ hs) made = heads_local hs (with_text made x.name)
+
+record Sizes_are (made m : List Text) (ls : Locals) (xs : List Label) (s : Bound (List BindId)) : Type 0 where
+  resolved : Sizes_resolved (length made) ls xs s.0 (length m) (entered s.1 ls)
+  local : No_world s.1
+
+sizes_are : (xs : List Label) (made m : List Text) (s : Bound (List BindId)) (ls : Locals) → ◌≡◌ {A = Numbered (Bound (List BindId))} (Ok (number_sizes xs made)) (Ok (s, m)) → Sizes_are made m ls xs s
+sizes_are xs made m s ls e =
+    subst (λ z. Sizes_are made m ls xs z) (ok_part e) (subst (λ z. Sizes_are made z ls xs (number_sizes xs made).0) (ok_rest e) (record { resolved = sizes_so xs made ls; local = sizes_local xs made }))
+
+record Heads_are (made m : List Text) (ls : Locals) (hs : List (Parameter Label)) (g : Bound (List (Parameter BindId))) : Type 0 where
+  resolved : Parameters_resolved (length made) ls hs g.0 (length m) (entered g.1 ls)
+  local : No_world g.1
+
+heads_are : (hs : List (Parameter Label)) (made m : List Text) (g : Bound (List (Parameter BindId))) (ls : Locals) → ◌≡◌ {A = Numbered (Bound (List (Parameter BindId)))} (Ok (number_heads hs made)) (Ok (g, m)) → Heads_are made m ls hs g
+heads_are hs made m g ls e =
+    subst (λ z. Heads_are made m ls hs z) (ok_part e) (subst (λ z. Heads_are made z ls hs (number_heads hs made).0) (ok_rest e) (record { resolved = heads_so hs made ls; local = heads_local hs made }))
+
+pub heads_more : (hs : List (Parameter Label)) (made : List Text) → More made (number_heads hs made).1
+heads_more hs made = parameters_le (heads_so hs made [])
 
 -- ---- operations
 
@@ -168,11 +202,7 @@ use_so : (sc : Scope) (p : Spelled) (at : Place) (k : ℕ) (made made' : List Te
 unfolding value_of
 use_so sc p at k made made' u ls outside n r e =
     let i = use_is r.upto sc p.place at p.path made made' u r.under e in
-    record { more = more_same i.same; resolved = r_use i.modules (ap (flat_use at i.modules) (sym (r.reads p.place p.path)) ∙ i.is) (i.many ∙ ap (λ z. 1 + (z + z)) (sym n)) }
-
-no_entries : {sc : Scope} {ls : Locals} {outside : Outside} → Reads sc ls outside → Reads (enter [] sc) ls outside
-unfolding enter
-no_entries r = r
+    record { more = more_same i.same; resolved = r_use i.modules (ap (flat_use at i.modules) (sym (r.reads p.place p.path)) ∙ i.is) n (i.many ∙ ap (λ z. 1 + (z + z)) (sym n)) }
 
 pub either_order : {C A E : Type 0} (t : Bool) {x y : Result A E} {z : A} → cond t x y ≡ Ok z → (x ≡ Ok z → C) → (y ≡ Ok z → C) → C
 either_order true e f g = f e
@@ -190,7 +220,7 @@ while_so c made m a ls inside outside y = record { more = y.more; upto = length 
 mutual
   unfolding resolve resolve_all resolve_turns
 
-  pub term_so : (t : SourceTerm) (sc : Scope) (made made' : List Text) (u : FlatTerm) (ls : Locals) (outside : Outside) → Plain t → Reads sc ls outside → resolve t sc made ≡ Ok (u, made') → Term_so made made' ls outside t u
+  pub term_so : (t : SourceTerm) (sc : Scope) (made made' : List Text) (u : FlatTerm) (ls : Locals) (outside : Outside) → Told t → Reads sc ls outside → resolve t sc made ≡ Ok (u, made') → Term_so made made' ls outside t u
   term_so (Use p at k) sc made made' u ls outside n r e = use_so sc p at k made made' u ls outside n r e
   term_so (Strict o mark ts) sc made made' u ls outside n r e =
       either_order (is_declared o) e
@@ -219,16 +249,14 @@ mutual
       term_ends (r_apply x.resolved (down x.more y.resolved)) (omega (arith, x.more, y.more)) q)))
   term_so (Let b v body) sc made made' u ls outside n r e =
       led_so (section_name body) sc _ _ e (λ g0. went _ _ _ g0 (λ s m1 h1 g1. went _ _ _ g1 (λ p m2 h2 g2. went _ _ _ g2 (λ hs m3 h3 g3. went _ _ _ g3 (λ v' m4 h4 g4. went _ _ _ g4 (λ e' m5 h5 q.
-      let none = sizes_none b.sizes made n.0 in
-      let no_entry : s.1 ≡ [] = ap (λ z. z.1) (sym (ok_part h1)) ∙ ap (λ z. z.0.1) none in
-      let same_made : m1 ≡ made = sym (ok_rest h1) ∙ ap (λ z. z.1) none in
-      let inner : Reads (enter s.1 sc) ls outside = subst (λ z. Reads (enter z sc) ls outside) (sym no_entry) (no_entries r) in
-      let x : Pattern_resolved (length made) ls b.pattern p.0 (length m2) (entered p.1 ls) = subst (λ z. Pattern_resolved (length z) ls b.pattern p.0 (length m2) (entered p.1 ls)) same_made (whole_so b.pattern (enter s.1 sc) m1 m2 p ls h2) in
-      let heads : Reads (enter hs.1 sc) ls outside = subst (λ z. Reads (enter z.1 sc) ls outside) (ok_part h3) (heads_read b.parameters m2 n.1 r) in
-      let le : More m2 m3 = subst (λ z. More m2 z) (ok_rest h3) (heads_more b.parameters m2 n.1) in
-      let y = term_so v (enter hs.1 sc) m3 m4 v' ls outside n.2 heads h4 in
-      let w = term_so body (enter p.1 (enter s.1 sc)) m4 m5 e' (entered p.1 ls) outside n.3 (reads_entered p.1 (whole_local b.pattern (enter s.1 sc) m1 m2 p h2) inner) h5 in
-      term_ends (r_let x (down (omega (arith, pattern_le x, le)) y.resolved) (down (omega (arith, le, y.more)) w.resolved)) (omega (arith, pattern_le x, le, y.more, w.more)) q))))))
+      let z = sizes_are b.sizes made m1 s ls h1 in
+      let inner = reads_entered s.1 z.local r in
+      let x = whole_so b.pattern (enter s.1 sc) m1 m2 p (entered s.1 ls) h2 in
+      let g = heads_are b.parameters m2 m3 hs ls h3 in
+      let y = term_so v (enter hs.1 sc) m3 m4 v' (entered hs.1 ls) outside n.0 (reads_entered hs.1 g.local r) h4 in
+      let w = term_so body (enter p.1 (enter s.1 sc)) m4 m5 e' (entered p.1 (entered s.1 ls)) outside n.1 (reads_entered p.1 (whole_local b.pattern (enter s.1 sc) m1 m2 p h2) inner) h5 in
+      term_ends (r_let z.resolved x (parameters_down (omega (arith, sizes_le z.resolved, pattern_le x)) g.resolved) y.resolved (down (omega (arith, parameters_le g.resolved, y.more)) w.resolved))
+      (omega (arith, sizes_le z.resolved, pattern_le x, parameters_le g.resolved, y.more, w.more)) q))))))
   term_so (If c a b) sc made made' u ls outside n r e =
       went _ _ _ e (λ c' m h w. went _ _ _ w (λ a' l i w'. went _ _ _ w' (λ b' k j q.
       let x = term_so c sc made m c' ls outside n.0 r h in
@@ -237,17 +265,16 @@ mutual
       term_ends (r_if x.resolved (down x.more y.resolved) (down (omega (arith, x.more, y.more)) z.resolved)) (omega (arith, x.more, y.more, z.more)) q)))
   term_so (Loop mark sizes p first turns body) sc made made' u ls outside n r e =
       went _ _ _ e (λ s m1 h1 g1. went _ _ _ g1 (λ p' m2 h2 g2. went _ _ _ g2 (λ f m3 h3 g3. went _ _ _ g3 (λ t m4 h4 g4. went _ _ _ g4 (λ b m5 h5 q.
-      let none = sizes_none sizes made n.0 in
-      let no_entry : s.1 ≡ [] = ap (λ z. z.1) (sym (ok_part h1)) ∙ ap (λ z. z.0.1) none in
-      let same_made : m1 ≡ made = sym (ok_rest h1) ∙ ap (λ z. z.1) none in
-      let inner : Reads (enter s.1 sc) ls outside = subst (λ z. Reads (enter z sc) ls outside) (sym no_entry) (no_entries r) in
-      let x : Pattern_resolved (length made) ls p p'.0 (length m2) (entered p'.1 ls) = subst (λ z. Pattern_resolved (length z) ls p p'.0 (length m2) (entered p'.1 ls)) same_made (whole_so p (enter s.1 sc) m1 m2 p' ls h2) in
-      let y = term_so first sc m2 m3 f ls outside n.1 r h3 in
-      let w = turns_so turns sc (enter p'.1 (enter s.1 sc)) m3 m4 t ls (entered p'.1 ls) outside n.2 r (reads_entered p'.1 (whole_local p (enter s.1 sc) m1 m2 p' h2) inner) h4 in
-      let v = term_so body (enter t.1 (enter p'.1 (enter s.1 sc))) m4 m5 b (entered t.1 (entered p'.1 ls)) outside n.3 (reads_entered t.1 w.local (reads_entered p'.1 (whole_local p (enter s.1 sc) m1 m2 p' h2) inner)) h5 in
-      term_ends (r_loop (down (pattern_le x) y.resolved) (pattern_up y.more x) (turns_down (omega (arith, pattern_le x, y.more)) w.resolved) (down w.within v.resolved)) (omega (arith, pattern_le x, y.more, w.more, v.more)) q)))))
+      let z = sizes_are sizes made m1 s ls h1 in
+      let x = whole_so p (enter s.1 sc) m1 m2 p' (entered s.1 ls) h2 in
+      let inner = reads_entered p'.1 (whole_local p (enter s.1 sc) m1 m2 p' h2) (reads_entered s.1 z.local r) in
+      let y = term_so first sc m2 m3 f ls outside n.0 r h3 in
+      let w = turns_so turns sc (enter p'.1 (enter s.1 sc)) m3 m4 t ls (entered p'.1 (entered s.1 ls)) outside n.1 r inner h4 in
+      let v = term_so body (enter t.1 (enter p'.1 (enter s.1 sc))) m4 m5 b (entered t.1 (entered p'.1 (entered s.1 ls))) outside n.2 (reads_entered t.1 w.local inner) h5 in
+      term_ends (r_loop (down (omega (arith, sizes_le z.resolved, pattern_le x)) y.resolved) z.resolved (pattern_up y.more x) (turns_down (omega (arith, sizes_le z.resolved, pattern_le x, y.more)) w.resolved) (down w.within v.resolved))
+      (omega (arith, sizes_le z.resolved, pattern_le x, y.more, w.more, v.more)) q)))))
 
-  all_so : (ts : Terms Spelled Label) (sc : Scope) (made made' : List Text) (us : Terms Ref BindId) (ls : Locals) (outside : Outside) → All_plain ts → Reads sc ls outside → resolve_all ts sc made ≡ Ok (us, made') → All_so made made' ls outside ts us
+  all_so : (ts : Terms Spelled Label) (sc : Scope) (made made' : List Text) (us : Terms Ref BindId) (ls : Locals) (outside : Outside) → All_told ts → Reads sc ls outside → resolve_all ts sc made ≡ Ok (us, made') → All_so made made' ls outside ts us
   all_so no_term sc made made' us ls outside n r e = all_ends r_none (omega arith) e
   all_so (term_and t ts) sc made made' us ls outside n r e =
       went _ _ _ e (λ a m h w. went _ _ _ w (λ b l i q.
@@ -255,7 +282,7 @@ mutual
       let y = all_so ts sc m l b ls outside n.1 r i in
       all_ends (r_more x.resolved (all_down x.more y.resolved)) (omega (arith, x.more, y.more)) q))
 
-  turns_so : (ts : SourceTurns) (out inner : Scope) (made made' : List Text) (b : Bound FlatTurns) (ls inside : Locals) (outside : Outside) → Plain_turns ts → Reads out ls outside → Reads inner inside outside → resolve_turns ts out inner made ≡ Ok (b, made') → Turns_so made made' ls inside outside ts b.0 b.1
+  turns_so : (ts : SourceTurns) (out inner : Scope) (made made' : List Text) (b : Bound FlatTurns) (ls inside : Locals) (outside : Outside) → Turns_told ts → Reads out ls outside → Reads inner inside outside → resolve_turns ts out inner made ≡ Ok (b, made') → Turns_so made made' ls inside outside ts b.0 b.1
   turns_so (Counted x n) out inner made made' b ls inside outside pl r ri e =
       went _ _ _ e (λ a m h q.
       let y = term_so n out (with_text made x.name) m a ls outside pl r h in

@@ -2,7 +2,7 @@
 use Rattle.std.proofs.Common.{◌≡◌, ◌++◌, List, [], ◌∷◌, Bool, map, refl, sym, ap, ◌∙◌, subst}
 use Rattle.std.specs.Prelude.{Option, Some, None}
 use Rattle.fut_scalar.specs.declared.place.Place.{Place}
-use Rattle.fut_ast.specs.Sorts.{Text, Path, SourcePat, SourceType, SourceExp}
+use Rattle.fut_ast.specs.Sorts.{Text, SourcePat, SourceType, SourceExp}
 use Rattle.fut_ast.specs.declared.node.Label.{Label}
 use Rattle.fut_ast.specs.declared.node.Oper.{Oper}
 use Rattle.fut_ast.specs.declared.node.Oper.TheVariants as oper

@@ -1,5 +1,7 @@
 pub mod Sourced
 pub mod Sizeless
+pub mod Sized
+pub mod Used
 pub mod Claims
 pub mod Answers
 pub mod Binders

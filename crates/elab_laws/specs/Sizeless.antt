@@ -1,4 +1,4 @@
--- Flat terms that bind no name of a size: the values of sizes come with arrays.
+-- Flat terms that bind no name of a size.
 use Rattle.std.specs.Prelude.{◌≡◌, List, [], ◌∷◌}
 use Rattle.fut_scalar.specs.declared.place.BindId.{BindId}
 use Rattle.fut_flat.specs.declared.prim.Ref.{Ref}

@@ -4,7 +4,8 @@
 //! `specs/Sourced.antt` says which definitions files have, each with what it sees. The theorem is the contract of
 //! [`elaborated_gives_the_same`]: the flat program and the files by their names allow the same results and the same reports,
 //! for each entry, arguments and budget. [`elaborated_means_the_same`] says it of arguments and results that may hold
-//! functions (`specs/Claims.antt`).
+//! functions (`specs/Claims.antt`). They ask that the sizing, where there is one, is right about the sizes of the flat program
+//! (`specs/Sized.antt`), as it is where it tells the size of each use ([`uses_are_told`]; `specs/Used.antt`).
 //!
 //! `specs/Answers.antt` says what files answer; a lawful answer is the only one ([`lawful_files_have_one_answer`]).
 //!
@@ -16,6 +17,7 @@
 
 ghost use Rattle.elab_laws.specs.Answers.{LawfulFilesHaveOneAnswer, TightFilesAllowNoMore};
 ghost use Rattle.elab_laws.specs.Claims.{ElaboratedAddsNothing, ElaboratedLosesNothing, SameReports, SameResults};
+ghost use Rattle.elab_laws.specs.Used.{UsesAreTold};
 
 mod once_laws;
 
@@ -34,6 +36,13 @@ pub fn elaborated_gives_the_same()
 pub fn elaborated_means_the_same()
     ensures adds_nothing { ElaboratedAddsNothing }
     ensures loses_nothing { ElaboratedLosesNothing }
+{}
+
+/// The law that a sizing is right about the sizes of an elaborated program, where each size that is bound has the number of
+/// one, and it tells of each use of a name the size that stands there, by the numbers of the nodes.
+#[tactic(auto, using(crate::proofs::Uses::uses_are_told))]
+pub fn uses_are_told()
+    ensures { UsesAreTold }
 {}
 
 /// The law that files which lawfully allow an answer, with lawful operators and no place that a scatter names twice, allow no

@@ -1,5 +1,5 @@
 -- Small programs whose results are of sizes that no value shows, by computation: what a function tells without running.
-use Rattle.std.proofs.Common.{ℕ, ◌+◌, [], false, cond, nat_eq, Some, None}
+use Rattle.std.proofs.Common.{ℕ, ◌+◌, [], ◌∷◌, false, cond, nat_eq, Some, None}
 use Rattle.fut_scalar.specs.declared.place.Place.{Place}
 use Rattle.fut_scalar.specs.declared.report.FailKind.TheVariants as kind
 use Rattle.fut_scalar.specs.declared.scalar.IntType.TheVariants.{I64}
@@ -21,10 +21,13 @@ use Rattle.fut_meaning.specs.Datums.{datum_of}
 use Rattle.fut_meaning.specs.Arrays.{made, array}
 use Rattle.fut_meaning.specs.Jobs.{job}
 use Rattle.fut_meaning.specs.Operations.{report, operate, coerced}
-use Rattle.fut_meaning.specs.Found.{unsized, sought, told_shape, result_shape, with_results, has_sizes}
-use Rattle.fut_meaning.specs.Telling.{primitive_tells, value_shape, data_told, closure_tells, found, tells, function_tells}
+use Rattle.fut_meaning.specs.Found.{Told, unsized, sought, told_shape, result_shape, with_results, has_sizes}
+use Rattle.fut_meaning.specs.Telling.{size_value, primitive_tells, value_shape, data_told, closure_tells, found, tells, function_tells}
 use Rattle.fut_meaning.specs.Meaning.{plain, row_told, fits_type, Ever}
+use Rattle.fut_ast.specs.Sorts.{Text}
+use Rattle.fut_flat.specs.Sources.{SourceTerm, label, spelled}
 use Rattle.fut_meaning.specs.Flats.{FlatValue, FlatEnv, flat_names, flat_look}
+use Rattle.fut_meaning.specs.Sources.{Names_nothing, SourceValue, SourceEnv, source_look, source_names}
 use Rattle.fut_meaning.proofs.Ever.{close}
 
 abbrev at : Place
@@ -53,7 +56,7 @@ row = Scalar_shape (sort.Int I64)
 
 -- nothing was met by evaluating under these names, with these sized types of nodes; the name 0 is bound at node 100
 abbrev Gives : (ℕ → Size) → FlatEnv → FlatTerm → Out FlatValue → Type 0
-Gives sizes env e o = Ever ((flat_names (record { integer_at = λ n. I64; sizes = Some (record { size_at = sizes; home = λ b. 100 + b; fields = λ n. [] }) })).lang []) (plain false) 1 (Evaluate env 0 e) o 0
+Gives sizes env e o = Ever ((flat_names (record { integer_at = λ n. I64; sizes = Some (record { size_at = sizes; home = λ b. 100 + b; fields = λ n. []; is_size = λ k. false; used = λ n. None }) })).lang []) (plain false) 1 (Evaluate env 0 e) o 0
 
 -- ---- let g = map in g (\i -> iota m) (iota 0), where m is 2
 
@@ -116,3 +119,61 @@ coercion_passes : Alone (Strict (Coerce any_type) at (term_and (Strict Array_of 
 unfolding flat_names operate coerced plain row_told fits_type made array shape_of words array_words weight heaviest same_sizes
 coercion_passes =
     close _ _ _ _ _ _ (goes_on {f = 0} {g = 0} (goes_on {f = 0} {g = 0} (close _ _ _ _ _ _ (goes_on {f = 0} {g = 0} exact (goes_on {f = 0} {g = 0} exact (goes_on {f = 0} {g = 0} exact exact)))) (goes_on {f = 0} {g = 0} exact exact)) exact)
+
+-- ---- the name of a size as an expression: \xs -> n, where the parameter's type is [n]i64 and n is the name 0
+
+abbrev size_of_rows : FlatTerm
+size_of_rows = Lambda (pattern_and (name 1) no_pattern) (var 0)
+
+-- with these sized types, in which 0 alone is a size, whose use stands at node 3
+abbrev Sized : (ℕ → Size) → Told
+Sized sizes = record { integer_at = λ n. I64; sizes = Some (record { size_at = sizes; home = λ b. 100 + b; fields = λ n. []; is_size = λ k. nat_eq k 0; used = λ n. cond (nat_eq n 3) (Some 0) None }) }
+
+abbrev Sized_gives : (ℕ → Size) → FlatEnv → FlatTerm → Out FlatValue → ℕ → Type 0
+Sized_gives sizes env e o words = Ever ((flat_names (Sized sizes)).lang []) (plain false) 1 (Evaluate env 0 e) o words
+
+abbrev of_parameter : ℕ → Size
+of_parameter n = cond (nat_eq n 2) (Level (At (Name 0)) i64) (Hole (Inferred 0))
+
+size_of_three : Sized_gives of_parameter (base tt) (Apply size_of_rows (Strict Array_of at (term_and (int 7) (term_and (int 8) (term_and (int 9) no_term))))) (Val (long 3)) 3
+unfolding bound flat_look flat_names operate coerced plain row_told made array shape_of words array_words weight heaviest same_sizes sought told_shape with_results value_shape found tells is_dim is_free size_value datum_of
+size_of_three =
+    close _ _ _ _ _ _ (goes_on {f = 0} {g = 3} (close _ _ _ _ _ _ exact) (goes_on {f = 3} {g = 0}
+    (close _ _ _ _ _ _ (goes_on {f = 0} {g = 3}
+    (goes_on {f = 0} {g = 0} (close _ _ _ _ _ _ (goes_on {f = 0} {g = 0} exact exact)) (goes_on {f = 0} {g = 0} (goes_on {f = 0} {g = 0} (close _ _ _ _ _ _ (goes_on {f = 0} {g = 0} exact exact)) (goes_on {f = 0} {g = 0} (goes_on {f = 0} {g = 0} (close _ _ _ _ _ _ (goes_on {f = 0} {g = 0} exact exact)) (goes_on {f = 0} {g = 0} exact exact)) exact)) exact))
+    (goes_on {f = 0} {g = 3} exact (goes_on {f = 0} {g = 3} exact exact))))
+    (close _ _ _ _ _ _ (goes_on {f = 0} {g = 0} exact (close _ _ _ _ _ _ exact)))))
+
+-- the size of rows that are missing, where the parameter's type is [m][n]i64
+abbrev of_rows_of : ℕ → Size
+of_rows_of n = cond (nat_eq n 2) (Level (At (Name 9)) (Level (At (Name 0)) i64)) (Hole (Inferred 0))
+
+abbrev no_row_of_three : FlatEnv
+no_row_of_three = bind (record { 0 = 4 }) (Array_value (Array_shape 3 row) no_datum) (base tt)
+
+size_of_missing_rows : Sized_gives of_rows_of no_row_of_three (Apply size_of_rows (var 4)) (Val (long 3)) 0
+unfolding bound flat_look flat_names plain shape_of sought told_shape with_results value_shape found tells is_dim is_free size_value
+size_of_missing_rows =
+    close _ _ _ _ _ _ (goes_on {f = 0} {g = 0} (close _ _ _ _ _ _ exact) (goes_on {f = 0} {g = 0} (close _ _ _ _ _ _ exact)
+    (close _ _ _ _ _ _ (goes_on {f = 0} {g = 0} exact (close _ _ _ _ _ _ exact)))))
+
+-- ---- the same in a source, where n has no number: what it stands for is told by its node
+
+abbrev Source_gives : (ℕ → Size) → SourceEnv → SourceTerm → Out SourceValue → Type 0
+Source_gives sizes env e o = Ever ((source_names (Sized sizes)).lang []) (plain false) 1 (Evaluate env 0 e) o 0
+
+abbrev letter_x : Text
+letter_x = 120 ∷ []
+
+abbrev letter_n : Text
+letter_n = 110 ∷ []
+
+-- a name n of another value is hidden
+abbrev two_outside : SourceEnv
+two_outside = bind (label letter_x at) (Array_value (Array_shape 3 row) no_datum) (bind (label letter_n at) (Scalar_value (scalar.Int I64 2)) (base (λ p. Names_nothing)))
+
+size_in_a_source : Source_gives of_rows_of two_outside (Apply (Lambda (pattern_and (Bound_pattern (label letter_x at)) no_pattern) (Use (spelled (letter_n ∷ []) at) at 0)) (Use (spelled (letter_x ∷ []) at) at 0)) (Val (Scalar_value (scalar.Int I64 3)))
+unfolding bound source_look source_names plain shape_of sought told_shape with_results value_shape found tells is_dim is_free size_value
+size_in_a_source =
+    close _ _ _ _ _ _ (goes_on {f = 0} {g = 0} (close _ _ _ _ _ _ exact) (goes_on {f = 0} {g = 0} (close _ _ _ _ _ _ exact)
+    (close _ _ _ _ _ _ (goes_on {f = 0} {g = 0} exact (close _ _ _ _ _ _ exact)))))

@@ -20,6 +20,10 @@ pub record Sizing : Type 0 where
   pub home : ℕ → ℕ
   -- the names of the fields of a record type, by its number, in the order of its parts
   pub fields : ℕ → List Text
+  -- whether a number is that of a size's name
+  pub is_size : ℕ → Bool
+  -- the number of the size that the use of a name at a node stands for, where it stands for one: a source's names have no numbers
+  pub used : ℕ → Option ℕ
 
 -- what a typing tells of a program, and a sizing where there is one
 pub record Told : Type 0 where

@@ -1,5 +1,5 @@
 -- The flat definitions of what files declare stand for those of the files, and bind each number once.
-use Rattle.std.proofs.Common.{◌≡◌, ℕ, suc, ◌+◌, ◌≤◌, List, [], ◌∷◌, map, true, false, Some, None, Ok, refl, sym, ◌∙◌, subst, arith, length, flat_map, IsPermutation}
+use Rattle.std.proofs.Common.{◌≡◌, ℕ, suc, ◌+◌, ◌≤◌, List, [], ◌∷◌, map, true, false, Option, Some, None, Ok, refl, sym, ◌∙◌, subst, arith, length, flat_map, IsPermutation}
 use Rattle.std.specs.List.{range_with_len}
 use Rattle.fut_scalar.specs.declared.place.BindId.{BindId}
 use Rattle.fut_ast.specs.Sorts.{Text}
@@ -7,20 +7,22 @@ use Rattle.fut_flat.specs.Numbers.{numbers}
 use Rattle.elab_scopes.specs.Scopes.{Module_ref, World, a_world, value_in, world_of}
 use Rattle.elab_scopes.specs.Imports.{Source_file}
 use Rattle.elab_scopes.specs.Declarations.{Instance, State, declared_by}
+use Rattle.fut_flat.specs.Sources.{source_parameters}
+use Rattle.fut_meaning.specs.Found.{Sizing}
 use Rattle.fut_meaning.specs.Flats.{flat_tops}
-use Rattle.fut_meaning.specs.Resolved.{Resolved, Definitions_resolved, no_definition, definition_and, Sees_below}
+use Rattle.fut_meaning.specs.Resolved.{Resolved, Sizes_hide, Definitions_resolved, no_definition, definition_and, Sees_below}
 use Rattle.fut_meaning.proofs.SameNumbers.{numbers_same}
 use Rattle.fut_meaning.proofs.SamePrograms.{program_sim}
 use Rattle.fut_meaning.proofs.Sims.{go_back, go_forth}
 use Rattle.fut_meaning.proofs.SameData.{all_datums_same, source_allows, source_reports, flat_allows, flat_reports}
 use Rattle.elab_laws.specs.Binders.{definition_binders}
 use Rattle.elab_laws.specs.OnceClaims.{defined_of}
-use Rattle.elab_laws.specs.Sizeless.{Definitions_sizeless}
-use Rattle.elab_laws.specs.Sourced.{outside_of, named_values}
-use Rattle.elab_laws.proofs.Downs.{down}
+use Rattle.elab_laws.specs.Sized.{Sizes_are_told}
+use Rattle.elab_laws.specs.Sourced.{outside_of, hiding, named_values}
+use Rattle.elab_laws.proofs.OwnSizes.{sees_hiding}
 use Rattle.elab_laws.proofs.Filled.{Filled, fill_none, fill_both}
 use Rattle.elab_laws.proofs.OncePrograms.{flat_binders, define_filled}
-use Rattle.elab_laws.proofs.Programs.{define_so, definition_plain}
+use Rattle.elab_laws.proofs.Programs.{define_so}
 use Rattle.elab_laws.proofs.Readings.{World_under, sees_below}
 use Rattle.module_laws.specs.Sourced.{declared_tops, flats, source_of, flat_of}
 use Rattle.module_laws.specs.Claims.{DeclaredAddsNothing, DeclaredLosesNothing, SameReports, SameResults, EachIsDeclaredOnce}
@@ -44,38 +46,41 @@ world_sees n m w le u =
 
 -- ---- all definitions
 
-tops_resolved : {n m : ℕ} {is : List Instance} (lo : ℕ) → Chain n is m → Definitions_sizeless (flats is) → Definitions_resolved n (declared_tops lo is) (flat_tops lo (named_values (flats is)))
+tops_resolved : {z : Option Sizing} {n m : ℕ} {is : List Instance} (lo : ℕ) → Chain n is m → Sizes_are_told z lo (flats is) → Definitions_resolved z n (declared_tops lo is) (flat_tops lo (named_values (flats is)))
 unfolding flat_tops
-tops_resolved lo chain_none z = no_definition
-tops_resolved lo (chain_more {n = n} {k = k} {m = m} {i = i} {is = is} g c) z =
-    let plain = definition_plain g.file g.is_entry g.name i.heads i.value (a_world g.world ∷ []) g.made g.made' i.flat g.told z.0 z.1 g.resolved in
-    let y = define_so g.file g.is_entry g.name i.heads i.value (a_world g.world ∷ []) g.made g.made' i.flat n (at_world n g.world g.under) plain.0 plain.1 g.resolved in
+tops_resolved lo chain_none p = no_definition
+tops_resolved {z} lo (chain_more {n = n} {k = k} {m = m} {i = i} {is = is} g c) p =
+    let hs = source_parameters i.heads in
+    let y = define_so z g.file g.is_entry g.name i.heads i.value (a_world g.world ∷ []) g.made g.made' i.flat n (at_world n g.world g.under) p.0 g.told g.resolved in
     let number : i.flat.bind.0 ≡ n = y.bind ∙ g.first in
-    let rest = tops_resolved (lo + (1 + numbers i.value)) c z.2 in
+    let many : numbers i.value ≡ numbers i.flat.value = numbers_same y.resolved in
+    let rest = tops_resolved {z = z} (lo + (1 + numbers i.value)) c (subst (λ j. Sizes_are_told z (lo + (1 + j)) (flats is)) (sym many) p.2) in
     definition_and refl refl (omega (arith, number)) (omega (arith, number, y.more, g.first, g.last))
-    (subst (λ sc. Sees_below (suc i.flat.bind.0) (outside_of sc)) (sym g.outside) (world_sees n (suc i.flat.bind.0) g.world (omega (arith, number)) g.under))
-    (subst (λ sc. Resolved (suc i.flat.bind.0) [] (outside_of sc) i.value i.flat.value) (sym g.outside) (down (omega (arith, y.bind)) y.resolved))
-    (subst (λ z. Definitions_resolved k (declared_tops (lo + (1 + numbers i.value)) is) (flat_tops (lo + (1 + z)) (named_values (flats is)))) (numbers_same y.resolved) rest)
+    (subst (λ sc. Sees_below (suc i.flat.bind.0) (hiding hs (outside_of sc))) (sym g.outside) (sees_hiding hs (world_sees n (suc i.flat.bind.0) g.world (omega (arith, number)) g.under)))
+    (subst (λ sc. Sizes_hide z (suc i.flat.bind.0) (hiding hs (outside_of sc)) y.locals y.upto) (sym g.outside) (subst (λ j. Sizes_hide z (suc j) (hiding hs (outside_of (a_world g.world ∷ []))) y.locals y.upto) (sym y.bind) y.hide))
+    (subst (λ sc. Resolved y.upto y.locals (hiding hs (outside_of sc)) i.value i.flat.value) (sym g.outside) y.resolved)
+    p.1
+    (subst (λ j. Definitions_resolved z k (declared_tops (lo + (1 + numbers i.value)) is) (flat_tops (lo + (1 + j)) (named_values (flats is)))) many rest)
 
-pub declared : (depth : ℕ) (files : List Source_file) (m : Module_ref) (s : State) → declared_by depth files ≡ Ok (m, s) → Definitions_sizeless (flats s.instances) → Definitions_resolved 0 (source_of s) (flat_of s)
-declared depth files m s e z = tops_resolved 0 (declared_fine depth files m s e).chain z
+pub declared : (depth : ℕ) (files : List Source_file) (m : Module_ref) (s : State) (z : Option Sizing) → declared_by depth files ≡ Ok (m, s) → Sizes_are_told z 0 (flats s.instances) → Definitions_resolved z 0 (source_of s) (flat_of s)
+declared depth files m s z e p = tops_resolved 0 (declared_fine depth files m s e).chain p
 
 pub declared_adds_nothing : DeclaredAddsNothing
-declared_adds_nothing depth files m st e p told tight budget entry vs ws s o f x = go_back (program_sim told tight budget entry true (declared depth files m st e p) s) o f x
+declared_adds_nothing depth files m st e told p tight budget entry vs ws s o f x = go_back (program_sim told tight budget entry true (declared depth files m st told.sizes e p) s) o f x
 
 pub declared_loses_nothing : DeclaredLosesNothing
-declared_loses_nothing depth files m st e p told tight budget entry vs ws s o f x = go_forth (program_sim told tight budget entry false (declared depth files m st e p) s) o f x
+declared_loses_nothing depth files m st e told p tight budget entry vs ws s o f x = go_forth (program_sim told tight budget entry false (declared depth files m st told.sizes e p) s) o f x
 
 pub same_results : SameResults
-same_results depth files m st e p told tight budget entry arguments result words = (
-  λ x. source_allows _ result words (declared_adds_nothing depth files m st e p told tight budget entry _ _ (all_datums_same arguments) _ words x),
-  λ x. flat_allows _ result words (declared_loses_nothing depth files m st e p told tight budget entry _ _ (all_datums_same arguments) _ words x),
+same_results depth files m st e told p tight budget entry arguments result words = (
+  λ x. source_allows _ result words (declared_adds_nothing depth files m st e told p tight budget entry _ _ (all_datums_same arguments) _ words x),
+  λ x. flat_allows _ result words (declared_loses_nothing depth files m st e told p tight budget entry _ _ (all_datums_same arguments) _ words x),
 )
 
 pub same_reports : SameReports
-same_reports depth files m st e p told tight budget entry arguments report words = (
-  λ x. source_reports _ report words (declared_adds_nothing depth files m st e p told tight budget entry _ _ (all_datums_same arguments) _ words x),
-  λ x. flat_reports _ report words (declared_loses_nothing depth files m st e p told tight budget entry _ _ (all_datums_same arguments) _ words x),
+same_reports depth files m st e told p tight budget entry arguments report words = (
+  λ x. source_reports _ report words (declared_adds_nothing depth files m st e told p tight budget entry _ _ (all_datums_same arguments) _ words x),
+  λ x. flat_reports _ report words (declared_loses_nothing depth files m st e told p tight budget entry _ _ (all_datums_same arguments) _ words x),
 )
 
 -- ---- numbers

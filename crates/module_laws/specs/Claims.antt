@@ -1,4 +1,5 @@
--- What is proved of what files declare: their flat definitions mean what the files mean by their names.
+-- What is proved of what files declare: their flat definitions mean what the files mean by their names, where a sizing is right
+-- about the sizes of the flat definitions.
 use Rattle.std.specs.Prelude.{◌≡◌, ◌↔◌, ℕ, zero, suc, length, List, map, flat_map, IsPermutation, Bool, Ok, Err}
 use Rattle.std.specs.List.{range_with_len}
 use mathlib.Core.Logic.{◌⊎◌}
@@ -19,37 +20,37 @@ use Rattle.elab_scopes.specs.Imports.{Source_file}
 use Rattle.elab_scopes.specs.Declarations.{State, scalar_members, declared_by}
 use Rattle.elab_laws.specs.Binders.{definition_binders}
 use Rattle.elab_laws.specs.OnceClaims.{defined_of}
-use Rattle.elab_laws.specs.Sizeless.{Definitions_sizeless}
+use Rattle.elab_laws.specs.Sized.{Sizes_are_told}
 use Rattle.module_laws.specs.Sourced.{flats, source_of, flat_of}
 
 -- what the flat definitions allow, the files allow for the same arguments, with the same count
 abbrev pub DeclaredAddsNothing : Type 0
 DeclaredAddsNothing =
-    (depth : ℕ) (files : List Source_file) (m : Module_ref) (s : State) → declared_by depth files ≡ Ok (m, s) → Definitions_sizeless (flats s.instances)
-    → (told : Told) (tight : Bool) (budget entry : ℕ) (vs : List SourceValue) (ws : List FlatValue) → All_same Same vs ws
-    → (o : Out FlatValue) (f : ℕ) → Program_means (flat_names told) (plain tight) budget (flat_of s) entry ws o f → Left Same (Source_means told (plain tight) budget (source_of s) entry vs) o f
+    (depth : ℕ) (files : List Source_file) (m : Module_ref) (s : State) → declared_by depth files ≡ Ok (m, s) → (told : Told) → Sizes_are_told told.sizes 0 (flats s.instances)
+    → (tight : Bool) (budget entry : ℕ) (vs : List SourceValue) (ws : List FlatValue) → All_same (Same told.sizes) vs ws
+    → (o : Out FlatValue) (f : ℕ) → Program_means (flat_names told) (plain tight) budget (flat_of s) entry ws o f → Left (Same told.sizes) (Source_means told (plain tight) budget (source_of s) entry vs) o f
 
 -- and what the files allow, the flat definitions do
 abbrev pub DeclaredLosesNothing : Type 0
 DeclaredLosesNothing =
-    (depth : ℕ) (files : List Source_file) (m : Module_ref) (s : State) → declared_by depth files ≡ Ok (m, s) → Definitions_sizeless (flats s.instances)
-    → (told : Told) (tight : Bool) (budget entry : ℕ) (vs : List SourceValue) (ws : List FlatValue) → All_same Same vs ws
-    → (o : Out SourceValue) (f : ℕ) → Source_means told (plain tight) budget (source_of s) entry vs o f → Right Same (Program_means (flat_names told) (plain tight) budget (flat_of s) entry ws) o f
+    (depth : ℕ) (files : List Source_file) (m : Module_ref) (s : State) → declared_by depth files ≡ Ok (m, s) → (told : Told) → Sizes_are_told told.sizes 0 (flats s.instances)
+    → (tight : Bool) (budget entry : ℕ) (vs : List SourceValue) (ws : List FlatValue) → All_same (Same told.sizes) vs ws
+    → (o : Out SourceValue) (f : ℕ) → Source_means told (plain tight) budget (source_of s) entry vs o f → Right (Same told.sizes) (Program_means (flat_names told) (plain tight) budget (flat_of s) entry ws) o f
 
 -- a result that is data is allowed of the flat definitions where it is allowed of the files, for arguments that are data, with
 -- the same count of words
 abbrev pub SameResults : Type 0
 SameResults =
-    (depth : ℕ) (files : List Source_file) (m : Module_ref) (s : State) → declared_by depth files ≡ Ok (m, s) → Definitions_sizeless (flats s.instances)
-    → (told : Told) (tight : Bool) (budget entry : ℕ) (arguments : List Datum) (result : Datum) (words : ℕ)
+    (depth : ℕ) (files : List Source_file) (m : Module_ref) (s : State) → declared_by depth files ≡ Ok (m, s) → (told : Told) → Sizes_are_told told.sizes 0 (flats s.instances)
+    → (tight : Bool) (budget entry : ℕ) (arguments : List Datum) (result : Datum) (words : ℕ)
     → Program_means (flat_names told) (plain tight) budget (flat_of s) entry (all_values arguments) (Val (as_value result)) words
     ↔ Source_means told (plain tight) budget (source_of s) entry (all_values arguments) (Val (as_value result)) words
 
 -- and so is the report of a failure
 abbrev pub SameReports : Type 0
 SameReports =
-    (depth : ℕ) (files : List Source_file) (m : Module_ref) (s : State) → declared_by depth files ≡ Ok (m, s) → Definitions_sizeless (flats s.instances)
-    → (told : Told) (tight : Bool) (budget entry : ℕ) (arguments : List Datum) (report : Report) (words : ℕ)
+    (depth : ℕ) (files : List Source_file) (m : Module_ref) (s : State) → declared_by depth files ≡ Ok (m, s) → (told : Told) → Sizes_are_told told.sizes 0 (flats s.instances)
+    → (tight : Bool) (budget entry : ℕ) (arguments : List Datum) (report : Report) (words : ℕ)
     → Program_means (flat_names told) (plain tight) budget (flat_of s) entry (all_values arguments) (Fail report) words
     ↔ Source_means told (plain tight) budget (source_of s) entry (all_values arguments) (Fail report) words
 

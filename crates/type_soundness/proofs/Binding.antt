@@ -1,5 +1,5 @@
 -- A pattern binds its names to values of their types.
-use Rattle.std.proofs.Common.{◌≡◌, cond, ℕ, ◌+◌, refl, sym, ap, ◌∙◌, subst, List, [], ◌∷◌, ne_eqb, eq-eqb, Bool}
+use Rattle.std.proofs.Common.{◌≡◌, cond, ℕ, ◌+◌, refl, sym, ap, ◌∙◌, subst, List, [], ◌∷◌, ne_eqb, eq-eqb, Bool, false}
 use native.Mathlib.Decide.{ℕ_discrete}
 use Rattle.fut_scalar.specs.declared.place.BindId.{BindId}
 use Rattle.fut_ast.specs.Sorts.{Text}
@@ -19,8 +19,10 @@ use Rattle.fut_meaning.specs.Values.{Array_value, Scalar_value, Tuple_value, Rec
 use Rattle.fut_meaning.specs.Accessors.{or_wrong, record_parts, bound, all_bound}
 use Rattle.fut_meaning.specs.Flats.{FlatValue, FlatTops, FlatEnv, FlatMode, flat_look}
 use Rattle.fut_meaning.specs.Claims.{HasOut}
+use Rattle.fut_meaning.specs.Uses.{is_size_in}
 use Rattle.type_soundness.specs.Fits.{FlatValues, FlatFields, Fits, All_fit, Fields_fit}
-use Rattle.type_soundness.specs.Environments.{Env_fits}
+use Rattle.type_soundness.specs.Environments.{Name_fits, Env_fits}
+use Rattle.type_soundness.specs.Formed.{Pattern_apart, Patterns_apart}
 use Rattle.type_soundness.proofs.Environments.{env_entered}
 use Rattle.type_soundness.proofs.Fields.{field_fits}
 
@@ -45,12 +47,13 @@ module _ (N : Names) (T : Told) (M : FlatMode) (budget : ℕ) (total : Bool) whe
   each_listed (more t ts) tops (value_and v vs) h = (h.0, each_listed ts tops vs h.1)
 
   module _ (tops : FlatTops) (P : ℕ → Type 0) (K : Kinds) (a : Sub) where
-    pub env_bind : (b : BindId) (v : FlatValue) (u : Uses) (scope : Scope) (env : FlatEnv) → ((t : Ty) → u K a t → Fits N T M budget total t tops v) → Env_fits N T M budget total tops P scope K a env
+    -- a name of a value
+    pub env_bind : (b : BindId) (v : FlatValue) (u : Uses) (scope : Scope) (env : FlatEnv) → is_size_in T.sizes b.0 ≡ false → ((t : Ty) → u K a t → Fits N T M budget total t tops v) → Env_fits N T M budget total tops P scope K a env
         → Env_fits N T M budget total tops P (with_uses b.0 u scope) K a (bind b v env)
     unfolding flat_look
-    env_bind b v u scope env here rest n p t = elim (ℕ_discrete n b.0) as (λ d. (elim d as (λ d. Uses) [ yes e ↦ u | no ne ↦ scope.uses n ]) K a t → (w : FlatValue) × (flat_look tops (bind b v env) n ≡ Val w) × Fits N T M budget total t tops w) [
-      | yes e ↦ λ h. (v, ap (λ c. cond c (Val v) (flat_look tops env n)) (eq-eqb b.0 n (sym e)), here t h)
-      | no ne ↦ λ h. let r = rest n p t h in (r.0, ap (λ c. cond c (Val v) (flat_look tops env n)) (ne_eqb b.0 n (λ e. ne (sym e))) ∙ r.1, r.2)
+    env_bind b v u scope env other here rest n p t = elim (ℕ_discrete n b.0) as (λ d. (elim d as (λ d. Uses) [ yes e ↦ u | no ne ↦ scope.uses n ]) K a t → Name_fits N T M budget total tops t (flat_look tops (bind b v env) n) (is_size_in T.sizes n)) [
+      | yes e ↦ λ h. subst (Name_fits N T M budget total tops t (flat_look tops (bind b v env) n)) (sym (ap (is_size_in T.sizes) e ∙ other)) (v, ap (λ c. cond c (Val v) (flat_look tops env n)) (eq-eqb b.0 n (sym e)), here t h)
+      | no ne ↦ λ h. subst (λ c. Name_fits N T M budget total tops t (cond c (Val v) (flat_look tops env n)) (is_size_in T.sizes n)) (sym (ne_eqb b.0 n (λ e. ne (sym e)))) (rest n p t h)
     ]
 
     module _ (are : AreNames N) where
@@ -93,26 +96,26 @@ module _ (N : Names) (T : Told) (M : FlatMode) (budget : ℕ) (total : Bool) whe
           unfolding bound all_bound
 
           -- the number of a pattern's node does not matter to types
-          pub bound_fits : (q : ℕ) (p : FlatPattern) (lo : ℕ) (inside scope : Scope) (v : FlatValue) (env : FlatEnv) → Pattern_typed N places K a p lo inside → Fits N T M budget total (a lo) tops v → Env_fits N T M budget total tops P scope K a env
+          pub bound_fits : (q : ℕ) (p : FlatPattern) (lo : ℕ) (inside scope : Scope) (v : FlatValue) (env : FlatEnv) → Pattern_typed N places K a p lo inside → Pattern_apart (is_size_in T.sizes) p → Fits N T M budget total (a lo) tops v → Env_fits N T M budget total tops P scope K a env
               → HasOut (Env_fits N T M budget total tops P (with_pattern the_one p lo scope) K a) (bound q p v env)
-          bound_fits q (Bound_pattern b) lo inside scope v env typed h rest = env_bind b v (the_one lo) scope (entered q v env) (λ t e. subst (λ x. Fits N T M budget total x tops v) (sym e) h) (then_entered q v scope env rest)
-          bound_fits q Wild_pattern lo inside scope v env typed h rest = then_entered q v scope env rest
-          bound_fits q (Tuple_pattern ps) lo inside scope v env typed h rest =
+          bound_fits q (Bound_pattern b) lo inside scope v env typed apart h rest = env_bind b v (the_one lo) scope (entered q v env) apart (λ t e. subst (λ x. Fits N T M budget total x tops v) (sym e) h) (then_entered q v scope env rest)
+          bound_fits q Wild_pattern lo inside scope v env typed apart h rest = then_entered q v scope env rest
+          bound_fits q (Tuple_pattern ps) lo inside scope v env typed apart h rest =
               let g = tuple_fits (pattern_types a ps (1 + lo)) v (subst (λ x. Fits N T M budget total x tops v) typed.1 h) in
               subst (λ x. HasOut (Env_fits N T M budget total tops P (with_patterns the_one ps (1 + lo) scope) K a) (bound q (Tuple_pattern ps) x env)) (sym g.1)
-              (all_bound_fits (1 + q) ps (1 + lo) inside scope (listed g.0) (entered q (Tuple_value g.0) env) typed.0 (each_listed (pattern_types a ps (1 + lo)) tops g.0 g.2) (then_entered q (Tuple_value g.0) scope env rest))
-          bound_fits q (Record_pattern fs ps) lo inside scope v env typed h rest =
+              (all_bound_fits (1 + q) ps (1 + lo) inside scope (listed g.0) (entered q (Tuple_value g.0) env) typed.0 apart (each_listed (pattern_types a ps (1 + lo)) tops g.0 g.2) (then_entered q (Tuple_value g.0) scope env rest))
+          bound_fits q (Record_pattern fs ps) lo inside scope v env typed apart h rest =
               let g = record_fits fs (a lo) (pattern_types a ps (1 + lo)) v typed.1 h in
               subst (λ x. HasOut (Env_fits N T M budget total tops P (with_patterns the_one ps (1 + lo) scope) K a) (bound q (Record_pattern fs ps) x env)) (sym g.1)
               (has_then (Each_fits (pattern_types a ps (1 + lo)) tops) (Env_fits N T M budget total tops P (with_patterns the_one ps (1 + lo) scope) K a) (record_parts fs g.0) (λ vs. all_bound (1 + q) ps vs (entered q (Record_value g.0) env)) g.2
-              (λ vs w. all_bound_fits (1 + q) ps (1 + lo) inside scope vs (entered q (Record_value g.0) env) typed.0 w (then_entered q (Record_value g.0) scope env rest)))
-          bound_fits q (Typed_pattern p t) lo inside scope v env typed h rest = bound_fits q p lo inside scope v env typed.0 h rest
+              (λ vs w. all_bound_fits (1 + q) ps (1 + lo) inside scope vs (entered q (Record_value g.0) env) typed.0 apart w (then_entered q (Record_value g.0) scope env rest)))
+          bound_fits q (Typed_pattern p t) lo inside scope v env typed apart h rest = bound_fits q p lo inside scope v env typed.0 apart h rest
 
-          pub all_bound_fits : (q : ℕ) (ps : Patterns Ref BindId) (lo : ℕ) (inside scope : Scope) (vs : List FlatValue) (env : FlatEnv) → Patterns_typed N places K a ps lo inside → Each_fits (pattern_types a ps lo) tops vs → Env_fits N T M budget total tops P scope K a env
+          pub all_bound_fits : (q : ℕ) (ps : Patterns Ref BindId) (lo : ℕ) (inside scope : Scope) (vs : List FlatValue) (env : FlatEnv) → Patterns_typed N places K a ps lo inside → Patterns_apart (is_size_in T.sizes) ps → Each_fits (pattern_types a ps lo) tops vs → Env_fits N T M budget total tops P scope K a env
               → HasOut (Env_fits N T M budget total tops P (with_patterns the_one ps lo scope) K a) (all_bound q ps vs env)
-          all_bound_fits q no_pattern lo inside scope [] env typed h rest = rest
-          all_bound_fits q no_pattern lo inside scope (v ∷ vs) env typed h rest = absurd h
-          all_bound_fits q (pattern_and p ps) lo inside scope [] env typed h rest = absurd h
-          all_bound_fits q (pattern_and p ps) lo inside scope (v ∷ vs) env typed h rest =
+          all_bound_fits q no_pattern lo inside scope [] env typed apart h rest = rest
+          all_bound_fits q no_pattern lo inside scope (v ∷ vs) env typed apart h rest = absurd h
+          all_bound_fits q (pattern_and p ps) lo inside scope [] env typed apart h rest = absurd h
+          all_bound_fits q (pattern_and p ps) lo inside scope (v ∷ vs) env typed apart h rest =
               has_then (Env_fits N T M budget total tops P (with_pattern the_one p lo scope) K a) (Env_fits N T M budget total tops P (with_patterns the_one ps (lo + pattern_numbers p) (with_pattern the_one p lo scope)) K a)
-              (bound q p v env) (λ e. all_bound (q + pattern_numbers p) ps vs e) (bound_fits q p lo inside scope v env typed.0 h.0 rest) (λ e w. all_bound_fits (q + pattern_numbers p) ps (lo + pattern_numbers p) inside (with_pattern the_one p lo scope) vs e typed.1 h.1 w)
+              (bound q p v env) (λ e. all_bound (q + pattern_numbers p) ps vs e) (bound_fits q p lo inside scope v env typed.0 apart.0 h.0 rest) (λ e w. all_bound_fits (q + pattern_numbers p) ps (lo + pattern_numbers p) inside (with_pattern the_one p lo scope) vs e typed.1 apart.1 h.1 w)

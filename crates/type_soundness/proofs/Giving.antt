@@ -1,5 +1,5 @@
 -- Primitives: each takes so many parameters, data or functions of so much data, and gives data.
-use Rattle.std.proofs.Common.{◌≡◌, true, false, ℕ, zero, suc, ◌+◌, ◌≤◌, min, refl, sym, ◌∙◌, arith, List, [], ◌∷◌, length, nat_lt, lt-ltb, le-ltb}
+use Rattle.std.proofs.Common.{◌≡◌, Bool, true, false, ℕ, zero, suc, ◌+◌, ◌≤◌, min, refl, sym, ◌∙◌, arith, List, [], ◌∷◌, length, nat_lt, lt-ltb, le-ltb}
 use Rattle.fut_scalar.specs.declared.scalar.ScalarType.TheVariants as types
 use Rattle.fut_scalar.specs.declared.scalar.IntType.{IntType}
 use Rattle.fut_scalar.specs.declared.scalar.IntType.TheVariants as int
@@ -15,7 +15,7 @@ use Rattle.fut_meaning.specs.Operations.{parameters_of, arity}
 use Rattle.fut_meaning.specs.Knowns.{Known, Data, Known_primitive, Knowns, known_none, known_and, Scope as Seen, known_primitive, count, with_known}
 use Rattle.fut_meaning.specs.Walk.{Runs, r_primitive_waits, r_primitive}
 use Rattle.fut_meaning.specs.Comes.{Inside_run, in_primitive, Inside_given, in_given, in_later, Inside_function, in_applied, in_applied_on, is_function, Stuck_run, no_function, no_given, Stuck_given, stuck_here, stuck_later, Stuck_function, no_data, stuck_run, stuck_on}
-use Rattle.type_soundness.specs.Knows.{Learns, Never_lost, Runs_well, Knows}
+use Rattle.type_soundness.specs.Knows.{Clear, Learns, Never_lost, Runs_well, Knows}
 use Rattle.type_soundness.proofs.Knowing.{learns_self, knows_learn, is_no_data, kind_data, kind_only}
 use Rattle.type_soundness.proofs.Resulting.{scalar_data, array_data}
 
@@ -29,39 +29,39 @@ pub data Asks (K : Kinds) : List ℕ → Ty → Type 0 where
   gives_data : {t : Ty} → HasKind K kind.Data t → Asks K [] t
   asks : {k : ℕ} {ks : List ℕ} {t u : Ty} → Takes K k t → Asks K ks u → Asks K (k ∷ ks) (fun_ty t u)
 
-module _ (N : Names) (K : Kinds) where
+module _ (N : Names) (S : ℕ → Bool) (K : Kinds) where
   -- ---- functions
-  pub function_known : (t u : Ty) (tops : Seen) (h : Known) → is_function h ≡ true → ((tops' : Seen) → Learns tops tops' → (s : Known) → Knows N t tops' s → Runs_well tops' h s (Knows N u tops')) → Knows N (fun_ty t u) tops h
+  pub function_known : (t u : Ty) (tops : Seen) (h : Known) → is_function h ≡ true → ((tops' : Seen) → Learns S tops tops' → (s : Known) → Knows N S t tops' s → Runs_well tops' h s (Knows N S u tops')) → Knows N S (fun_ty t u) tops h
   unfolding Knows
   function_known t u tops h e k = (e, k)
 
-  pub known_function : (t u : Ty) (tops : Seen) (h : Known) → Knows N (fun_ty t u) tops h → (s : Known) → Knows N t tops s → Runs_well tops h s (Knows N u tops)
+  pub known_function : (t u : Ty) (tops : Seen) → Clear S tops → (h : Known) → Knows N S (fun_ty t u) tops h → (s : Known) → Knows N S t tops s → Runs_well tops h s (Knows N S u tops)
   unfolding Knows
-  known_function t u tops h k s d = k.1 tops (learns_self tops) s d
+  known_function t u tops clear h k s d = k.1 tops (learns_self S tops clear) s d
 
   -- ---- a function of data
-  pub never_stuck : (k : ℕ) (t : Ty) (tops : Seen) (s : Known) → Takes K k t → Knows N t tops s → Stuck_function tops k s → ⊥
-  never_stuck zero t tops s (takes_data d) h (no_data e) = is_no_data (kind_only N K t tops s d h) e
-  never_stuck (suc k) _ tops s (takes_function {t = t} {u = u} d q) h (stuck_run r) = (known_function t u tops s h Data (kind_data N K t tops d)).0 r
-  never_stuck (suc k) _ tops s (takes_function {t = t} {u = u} d q) h (stuck_on {s = s'} {m = m} {d = n} r w) = never_stuck k u tops s' q ((known_function t u tops s h Data (kind_data N K t tops d)).2 s' m n r) w
+  pub never_stuck : (k : ℕ) (t : Ty) (tops : Seen) → Clear S tops → (s : Known) → Takes K k t → Knows N S t tops s → Stuck_function tops k s → ⊥
+  never_stuck zero t tops clear s (takes_data d) h (no_data e) = is_no_data (kind_only N S K t tops s d h) e
+  never_stuck (suc k) _ tops clear s (takes_function {t = t} {u = u} d q) h (stuck_run r) = (known_function t u tops clear s h Data (kind_data N S K t tops d)).0 r
+  never_stuck (suc k) _ tops clear s (takes_function {t = t} {u = u} d q) h (stuck_on {s = s'} {m = m} {d = n} r w) = never_stuck k u tops clear s' q ((known_function t u tops clear s h Data (kind_data N S K t tops d)).2 s' m n r) w
 
-  pub function_inside : (k : ℕ) (t : Ty) (tops : Seen) (s : Known) → Takes K k t → Knows N t tops s → (n : ℕ) (sc : Seen) (e : FlatTerm) → Inside_function tops k s n sc e → Never_lost tops sc e
-  function_inside zero t tops s q h n sc e i = elim i [ ]
-  function_inside (suc k) _ tops s (takes_function {t = t} {u = u} d q) h n sc e (in_applied i) = (known_function t u tops s h Data (kind_data N K t tops d)).1 n sc e i
-  function_inside (suc k) _ tops s (takes_function {t = t} {u = u} d q) h _ sc e (in_applied_on {s = s'} {m = m} {d = d'} {n = n} r i) =
-      function_inside k u tops s' q ((known_function t u tops s h Data (kind_data N K t tops d)).2 s' m d' r) n sc e i
+  pub function_inside : (k : ℕ) (t : Ty) (tops : Seen) → Clear S tops → (s : Known) → Takes K k t → Knows N S t tops s → (n : ℕ) (sc : Seen) (e : FlatTerm) → Inside_function tops k s n sc e → Never_lost tops sc e
+  function_inside zero t tops clear s q h n sc e i = elim i [ ]
+  function_inside (suc k) _ tops clear s (takes_function {t = t} {u = u} d q) h n sc e (in_applied i) = (known_function t u tops clear s h Data (kind_data N S K t tops d)).1 n sc e i
+  function_inside (suc k) _ tops clear s (takes_function {t = t} {u = u} d q) h _ sc e (in_applied_on {s = s'} {m = m} {d = d'} {n = n} r i) =
+      function_inside k u tops clear s' q ((known_function t u tops clear s h Data (kind_data N S K t tops d)).2 s' m d' r) n sc e i
 
   -- ---- arguments so far
   -- the arguments that a primitive has are of the types of its first parameters; these are left
   data Given (tops : Seen) : List ℕ → Knowns → List ℕ → Type 0 where
     none_given : {ks : List ℕ} → Given tops ks known_none ks
-    one_given : {k : ℕ} {ks rest : List ℕ} {t : Ty} {s : Known} {ss : Knowns} → Takes K k t → Knows N t tops s → Given tops ks ss rest → Given tops (k ∷ ks) (known_and s ss) rest
+    one_given : {k : ℕ} {ks rest : List ℕ} {t : Ty} {s : Known} {ss : Knowns} → Takes K k t → Knows N S t tops s → Given tops ks ss rest → Given tops (k ∷ ks) (known_and s ss) rest
 
-  given_learn : {tops : Seen} {ks rest : List ℕ} {ss : Knowns} (tops' : Seen) → Learns tops tops' → Given tops ks ss rest → Given tops' ks ss rest
+  given_learn : {tops : Seen} {ks rest : List ℕ} {ss : Knowns} (tops' : Seen) → Learns S tops tops' → Given tops ks ss rest → Given tops' ks ss rest
   given_learn tops' g none_given = none_given
-  given_learn {tops = tops} tops' g (one_given {t = t} {s = s} q h rest) = one_given q (knows_learn N t tops tops' g s h) (given_learn tops' g rest)
+  given_learn {tops = tops} tops' g (one_given {t = t} {s = s} q h rest) = one_given q (knows_learn N S t tops tops' g s h) (given_learn tops' g rest)
 
-  given_one : {tops : Seen} {ks rest : List ℕ} {ss : Knowns} {k : ℕ} (t : Ty) (s : Known) → Takes K k t → Knows N t tops s → Given tops ks ss (k ∷ rest) → Given tops ks (with_known ss s) rest
+  given_one : {tops : Seen} {ks rest : List ℕ} {ss : Knowns} {k : ℕ} (t : Ty) (s : Known) → Takes K k t → Knows N S t tops s → Given tops ks ss (k ∷ rest) → Given tops ks (with_known ss s) rest
   given_one t s q h none_given = one_given q h none_given
   given_one t s q h (one_given q' h' g) = one_given q' h' (given_one t s q h g)
 
@@ -69,32 +69,32 @@ module _ (N : Names) (K : Kinds) where
   given_long none_given = omega arith
   given_long (one_given q h g) = let r = given_long g in omega (arith, r)
 
-  given_stuck : {tops : Seen} {ks : List ℕ} {ss : Knowns} → Given tops ks ss [] → Stuck_given tops ks ss → ⊥
-  given_stuck none_given w = elim w [ ]
-  given_stuck {tops = tops} (one_given {k = k} {t = t} {s = s} q h g) (stuck_here w) = never_stuck k t tops s q h w
-  given_stuck (one_given q h g) (stuck_later f w) = given_stuck g w
+  given_stuck : {tops : Seen} {ks : List ℕ} {ss : Knowns} → Clear S tops → Given tops ks ss [] → Stuck_given tops ks ss → ⊥
+  given_stuck clear none_given w = elim w [ ]
+  given_stuck {tops = tops} clear (one_given {k = k} {t = t} {s = s} q h g) (stuck_here w) = never_stuck k t tops clear s q h w
+  given_stuck clear (one_given q h g) (stuck_later f w) = given_stuck clear g w
 
-  given_inside : {tops sc : Seen} {ks : List ℕ} {ss : Knowns} {n : ℕ} {e : FlatTerm} → Given tops ks ss [] → Inside_given tops ks ss n sc e → Never_lost tops sc e
-  given_inside none_given i = elim i [ ]
-  given_inside {tops = tops} {sc = sc} {e = e} (one_given {k = k} {t = t} {s = s} q h g) (in_given {m = m} i) = function_inside k t tops s q h m sc e i
-  given_inside (one_given q h g) (in_later f i) = given_inside g i
+  given_inside : {tops sc : Seen} {ks : List ℕ} {ss : Knowns} {n : ℕ} {e : FlatTerm} → Clear S tops → Given tops ks ss [] → Inside_given tops ks ss n sc e → Never_lost tops sc e
+  given_inside clear none_given i = elim i [ ]
+  given_inside {tops = tops} {sc = sc} {e = e} clear (one_given {k = k} {t = t} {s = s} q h g) (in_given {m = m} i) = function_inside k t tops clear s q h m sc e i
+  given_inside clear (one_given q h g) (in_later f i) = given_inside clear g i
 
   -- a primitive that waits for the last argument, and one that waits for more
-  last_runs : (p : Primitive) (u : Ty) (tops : Seen) (ss : Knowns) (s : Known) → nat_lt (suc (count ss)) (arity p) ≡ false → Given tops (parameters_of p) (with_known ss s) [] → HasKind K kind.Data u → Runs_well tops (Known_primitive p ss) s (Knows N u tops)
-  last_runs p u tops ss s e g d = ((λ w. stuck w), (λ n sc t i. inside n sc t i), (λ s' m k r. result s' m k r))
+  last_runs : (p : Primitive) (u : Ty) (tops : Seen) → Clear S tops → (ss : Knowns) (s : Known) → nat_lt (suc (count ss)) (arity p) ≡ false → Given tops (parameters_of p) (with_known ss s) [] → HasKind K kind.Data u → Runs_well tops (Known_primitive p ss) s (Knows N S u tops)
+  last_runs p u tops clear ss s e g d = ((λ w. stuck w), (λ n sc t i. inside n sc t i), (λ s' m k r. result s' m k r))
     where
       stuck : Stuck_run tops (Known_primitive p ss) s → ⊥
       stuck (no_function f) = let z : true ≡ false = f in cc
-      stuck (no_given f w) = given_stuck g w
+      stuck (no_given f w) = given_stuck clear g w
 
       inside : (n : ℕ) (sc : Seen) (t : FlatTerm) → Inside_run tops (Known_primitive p ss) s n sc t → Never_lost tops sc t
-      inside n sc t (in_primitive f i) = given_inside g i
+      inside n sc t (in_primitive f i) = given_inside clear g i
 
-      result : (s' : Known) (m k : ℕ) → Runs tops (Known_primitive p ss) s s' m k → Knows N u tops s'
+      result : (s' : Known) (m k : ℕ) → Runs tops (Known_primitive p ss) s s' m k → Knows N S u tops s'
       result _ _ _ (r_primitive_waits f) = absurd (let z : true ≡ false = sym f ∙ e in cc)
-      result _ _ _ (r_primitive f v) = kind_data N K u tops d
+      result _ _ _ (r_primitive f v) = kind_data N S K u tops d
 
-  waits_runs : (p : Primitive) (u : Ty) (tops : Seen) (ss : Knowns) (s : Known) → nat_lt (suc (count ss)) (arity p) ≡ true → Knows N u tops (Known_primitive p (with_known ss s)) → Runs_well tops (Known_primitive p ss) s (Knows N u tops)
+  waits_runs : (p : Primitive) (u : Ty) (tops : Seen) (ss : Knowns) (s : Known) → nat_lt (suc (count ss)) (arity p) ≡ true → Knows N S u tops (Known_primitive p (with_known ss s)) → Runs_well tops (Known_primitive p ss) s (Knows N S u tops)
   waits_runs p u tops ss s e h = ((λ w. stuck w), (λ n sc t i. inside n sc t i), (λ s' m k r. result s' m k r))
     where
       stuck : Stuck_run tops (Known_primitive p ss) s → ⊥
@@ -104,7 +104,7 @@ module _ (N : Names) (K : Kinds) where
       inside : (n : ℕ) (sc : Seen) (t : FlatTerm) → Inside_run tops (Known_primitive p ss) s n sc t → Never_lost tops sc t
       inside n sc t (in_primitive f i) = absurd (let z : true ≡ false = sym e ∙ f in cc)
 
-      result : (s' : Known) (m k : ℕ) → Runs tops (Known_primitive p ss) s s' m k → Knows N u tops s'
+      result : (s' : Known) (m k : ℕ) → Runs tops (Known_primitive p ss) s s' m k → Knows N S u tops s'
       result _ _ _ (r_primitive_waits f) = h
       result _ _ _ (r_primitive f v) = absurd (let z : true ≡ false = sym e ∙ f in cc)
 
@@ -114,9 +114,9 @@ module _ (N : Names) (K : Kinds) where
   is_early : {tops : Seen} (p : Primitive) (ss : Knowns) (k k' : ℕ) (ks : List ℕ) → Given tops (parameters_of p) ss (k ∷ k' ∷ ks) → nat_lt (suc (count ss)) (arity p) ≡ true
   is_early p ss k k' ks g = let r : length (parameters_of p) ≡ count ss + suc (suc (length ks)) = given_long g in lt-ltb (suc (count ss)) (arity p) (omega (arith, r))
 
-  primitive_knows : (p : Primitive) (k : ℕ) (ks : List ℕ) (t : Ty) (tops : Seen) (ss : Knowns) → Asks K (k ∷ ks) t → Given tops (parameters_of p) ss (k ∷ ks) → Knows N t tops (Known_primitive p ss)
+  primitive_knows : (p : Primitive) (k : ℕ) (ks : List ℕ) (t : Ty) (tops : Seen) (ss : Knowns) → Asks K (k ∷ ks) t → Given tops (parameters_of p) ss (k ∷ ks) → Knows N S t tops (Known_primitive p ss)
   primitive_knows p k [] _ tops ss (asks {t = t} {u = u} q (gives_data d)) g =
-      function_known t u tops (Known_primitive p ss) refl (λ tops' l s h. let g' = given_learn tops' l g in last_runs p u tops' ss s (is_last p ss k g') (given_one t s q h g') d)
+      function_known t u tops (Known_primitive p ss) refl (λ tops' l s h. let g' = given_learn tops' l g in last_runs p u tops' l.1 ss s (is_last p ss k g') (given_one t s q h g') d)
   primitive_knows p k (k' ∷ ks) _ tops ss (asks {t = t} {u = u} q w) g =
       function_known t u tops (Known_primitive p ss) refl (λ tops' l s h. let g' = given_learn tops' l g in waits_runs p u tops' ss s (is_early p ss k k' ks g') (primitive_knows p k' ks u tops' (with_known ss s) w (given_one t s q h g')))
 
@@ -172,7 +172,7 @@ module _ (N : Names) (K : Kinds) where
     unzipped3 : HasKind K kind.Data (triple_ty (array_ty (given 0)) (array_ty (given 1)) (array_ty (given 2)))
     unzipped3 = triple_data (array_ty (given 0)) (array_ty (given 1)) (array_ty (given 2)) (r 0) (r 1) (r 2)
 
-    pub prim_known : (p : Primitive) (tops : Seen) → Knows N (applied given (prim_type p)) tops (known_primitive p)
+    pub prim_known : (p : Primitive) (tops : Seen) → Knows N S (applied given (prim_type p)) tops (known_primitive p)
     unfolding applied all_applied
     prim_known prim.Map tops = primitive_knows prim.Map _ _ _ tops known_none (fun_one (h 0) (h 1) (data_one (r 0) (gives_data (r 1)))) none_given
     prim_known prim.Map2 tops = primitive_knows prim.Map2 _ _ _ tops known_none (fun_two (h 0) (h 1) (h 2) (data_one (r 0) (data_one (r 1) (gives_data (r 2))))) none_given
@@ -214,9 +214,9 @@ module _ (N : Names) (K : Kinds) where
     prim_known (prim.Max t) tops = let n = scalar_data K (types.Int t) in primitive_knows (prim.Max t) _ _ _ tops known_none (data_one n (data_one n (gives_data n))) none_given
     prim_known (prim.Abs t) tops = let n = scalar_data K (types.Int t) in primitive_knows (prim.Abs t) _ _ _ tops known_none (data_one n (gives_data n)) none_given
     prim_known (prim.Popc t) tops = primitive_knows (prim.Popc t) _ _ _ tops known_none (data_one (scalar_data K (types.Int t)) (gives_data (scalar_data K (types.Int int.I32)))) none_given
-    prim_known (prim.Lowest t) tops = kind_data N K (scalar_ty (types.Int t)) tops (scalar_data K (types.Int t))
-    prim_known (prim.Highest t) tops = kind_data N K (scalar_ty (types.Int t)) tops (scalar_data K (types.Int t))
-    prim_known (prim.NumBits t) tops = kind_data N K (scalar_ty (types.Int int.I32)) tops (scalar_data K (types.Int int.I32))
+    prim_known (prim.Lowest t) tops = kind_data N S K (scalar_ty (types.Int t)) tops (scalar_data K (types.Int t))
+    prim_known (prim.Highest t) tops = kind_data N S K (scalar_ty (types.Int t)) tops (scalar_data K (types.Int t))
+    prim_known (prim.NumBits t) tops = kind_data N S K (scalar_ty (types.Int int.I32)) tops (scalar_data K (types.Int int.I32))
     prim_known (prim.Fold folding.Sum t) tops = primitive_knows (prim.Fold folding.Sum t) _ _ _ tops known_none (data_one (numbers t) (gives_data (scalar_data K (types.Int t)))) none_given
     prim_known (prim.Fold folding.Product t) tops = primitive_knows (prim.Fold folding.Product t) _ _ _ tops known_none (data_one (numbers t) (gives_data (scalar_data K (types.Int t)))) none_given
     prim_known (prim.Fold folding.Minimum t) tops = primitive_knows (prim.Fold folding.Minimum t) _ _ _ tops known_none (data_one (numbers t) (gives_data (scalar_data K (types.Int t)))) none_given

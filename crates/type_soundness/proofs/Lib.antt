@@ -9,6 +9,7 @@ pub mod Decimals
 pub mod Replacing
 pub mod Operating
 pub mod Environments
+pub mod Sized
 pub mod Using
 pub mod DataFits
 pub mod LikeLaws
@@ -32,3 +33,4 @@ pub mod Giving
 pub mod Walking
 pub mod Sure
 pub mod Unlost
+mod Sized_examples

@@ -36,9 +36,12 @@ use Rattle.fut_meaning.specs.Claims.{HasOut, Safe, Correct}
 use Rattle.fut_meaning.specs.Flats.{FlatValue, FlatTops, FlatEnv, FlatMode, flat_names}
 use Rattle.fut_meaning.proofs.Correct.{correct_exact, correct_then, correct_as, correct_choose, correct_turns, correct_while}
 use Rattle.fut_meaning.proofs.Safe.{Any_truth, Every}
+use Rattle.fut_meaning.specs.Uses.{is_size_in}
 use Rattle.type_soundness.specs.Fits.{Grows, lang, widest, Fits}
-use Rattle.type_soundness.specs.Meant.{how_many, Has_parameter, No_sizes, Meant, All_meant, Turns_meant, Literal_here, Literal, A_literal, Turn_literal, Literals_told}
+use Rattle.type_soundness.specs.Formed.{Pattern_apart, Patterns_apart, Turns_apart, Let_apart}
+use Rattle.type_soundness.specs.Meant.{how_many, Has_parameter, Literal_here, Literal, A_literal, Turn_literal, Literals_told}
 use Rattle.type_soundness.specs.Environments.{Env_fits}
+use Rattle.type_soundness.proofs.Sized.{Sized, All_sized, Turns_sized}
 use Rattle.type_soundness.proofs.Growing.{grows_self, grows_more}
 use Rattle.type_soundness.proofs.Binding.{Each_fits, env_bind, bound_fits}
 use Rattle.type_soundness.proofs.Scalars.{integer_fits, bool_value, scalar_inside, fits_scalar}
@@ -70,6 +73,10 @@ module _ (N : Names) (are : AreNames N) (T : Told) (M : FlatMode) (budget : ℕ)
   abbrev At : FlatTops → Ty → FlatValue → Type 0
   At tops t v = Fits N T M budget total t tops v
 
+  -- the numbers of sizes
+  abbrev S : ℕ → Bool
+  S = is_size_in T.sizes
+
   abbrev In_scope : FlatTops → Scope → Sub → FlatEnv → Type 0
   In_scope tops scope a env = Env_fits N T M budget total tops P scope K a env
 
@@ -95,38 +102,38 @@ module _ (N : Names) (are : AreNames N) (T : Told) (M : FlatMode) (budget : ℕ)
   turns_fit tops t v k h = let r = integer_fits N T M budget total tops K t v k h in subst (λ x. HasOut (Of_type t) (turns_of x)) (sym r.4) (r.1, r.3)
 
   -- ---- functions
-  closure_fits : (ps : Patterns Ref BindId) → Has_parameter ps → (lo at : ℕ) (e : FlatTerm) (inside scope : Scope) (a : Sub) (tops : FlatTops) (env : FlatEnv) → Parameters_typed N places K a ps lo inside
+  closure_fits : (ps : Patterns Ref BindId) → Has_parameter ps → Patterns_apart S ps → (lo at : ℕ) (e : FlatTerm) (inside scope : Scope) (a : Sub) (tops : FlatTops) (env : FlatEnv) → Parameters_typed N places K a ps lo inside
       → ((tops' : FlatTops) → Grows tops tops' → (env' : FlatEnv) → In_scope tops' (with_patterns the_one ps lo scope) a env' → Correct total (At tops' (a at)) (Gives tops' env' at e)) → In_scope tops scope a env
       → At tops (arrows (pattern_types a ps lo) (a at)) (Closure ps e at env)
-  closure_fits no_pattern has lo at e inside scope a tops env typed body h = absurd has
-  closure_fits (pattern_and p no_pattern) has lo at e inside scope a tops env typed body h =
+  closure_fits no_pattern has apart lo at e inside scope a tops env typed body h = absurd has
+  closure_fits (pattern_and p no_pattern) has apart lo at e inside scope a tops env typed body h =
       fits_function N T M budget total K tops (a lo) (a at) (Closure (pattern_and p no_pattern) e at env) (λ tops' g v k.
       opened N T M budget total K tops' (At tops' (a at)) (Call (Closure (pattern_and p no_pattern) e at env) v)
       (correct_then (In_scope tops' (with_pattern the_one p lo scope) a) (At tops' (a at)) (the (bound (first_node (pattern_and p no_pattern) at) p v env)) (λ x. Gives tops' x at e)
-      (correct_exact (In_scope tops' (with_pattern the_one p lo scope) a) 0 (bound (first_node (pattern_and p no_pattern) at) p v env) (bound_fits N T M budget total tops' P K a are places _ p lo inside scope v env typed.0 k (env_grows N T M budget total P K tops tops' g scope a env h)))
+      (correct_exact (In_scope tops' (with_pattern the_one p lo scope) a) 0 (bound (first_node (pattern_and p no_pattern) at) p v env) (bound_fits N T M budget total tops' P K a are places _ p lo inside scope v env typed.0 apart.0 k (env_grows N T M budget total P K tops tops' g scope a env h)))
       (λ x w. body tops' g x w)))
-  closure_fits (pattern_and p (pattern_and q ps)) has lo at e inside scope a tops env typed body h =
+  closure_fits (pattern_and p (pattern_and q ps)) has apart lo at e inside scope a tops env typed body h =
       fits_function N T M budget total K tops (a lo) (arrows (pattern_types a (pattern_and q ps) (lo + pattern_numbers p)) (a at)) (Closure (pattern_and p (pattern_and q ps)) e at env) (λ tops' g v k.
       opened N T M budget total K tops' (At tops' (arrows (pattern_types a (pattern_and q ps) (lo + pattern_numbers p)) (a at))) (Call (Closure (pattern_and p (pattern_and q ps)) e at env) v)
       (correct_then (In_scope tops' (with_pattern the_one p lo scope) a) (At tops' (arrows (pattern_types a (pattern_and q ps) (lo + pattern_numbers p)) (a at))) (the (bound (first_node (pattern_and p (pattern_and q ps)) at) p v env)) (λ x. gives 0 (Closure (pattern_and q ps) e at x))
-      (correct_exact (In_scope tops' (with_pattern the_one p lo scope) a) 0 (bound (first_node (pattern_and p (pattern_and q ps)) at) p v env) (bound_fits N T M budget total tops' P K a are places _ p lo inside scope v env typed.0 k (env_grows N T M budget total P K tops tops' g scope a env h)))
+      (correct_exact (In_scope tops' (with_pattern the_one p lo scope) a) 0 (bound (first_node (pattern_and p (pattern_and q ps)) at) p v env) (bound_fits N T M budget total tops' P K a are places _ p lo inside scope v env typed.0 apart.0 k (env_grows N T M budget total P K tops tops' g scope a env h)))
       (λ x w. correct_exact (At tops' (arrows (pattern_types a (pattern_and q ps) (lo + pattern_numbers p)) (a at))) 0 (Val (Closure (pattern_and q ps) e at x))
-      (closure_fits (pattern_and q ps) tt (lo + pattern_numbers p) at e (with_pattern the_one p lo inside) (with_pattern the_one p lo scope) a tops' x typed.1 (λ tops'' g' env' k'. body tops'' (grows_more tops tops' tops'' g g') env' k') w))))
+      (closure_fits (pattern_and q ps) tt apart.1 (lo + pattern_numbers p) at e (with_pattern the_one p lo inside) (with_pattern the_one p lo scope) a tops' x typed.1 (λ tops'' g' env' k'. body tops'' (grows_more tops tops' tops'' g g') env' k') w))))
 
   -- ---- lets
   -- the name of a function is bound to a value that is of each type of its uses
-  function_bound : (sizes : List BindId) (p : FlatPattern) (s : Scheme) (lo : ℕ) (w : FlatValue) (scope : Scope) (a : Sub) (tops : FlatTops) (env : FlatEnv) → Function_name sizes p → ((t : Ty) → Reused places s lo K a t → At tops t w) → In_scope tops scope a env
+  function_bound : (sizes : List BindId) (p : FlatPattern) (s : Scheme) (lo : ℕ) (w : FlatValue) (scope : Scope) (a : Sub) (tops : FlatTops) (env : FlatEnv) → Function_name sizes p → Pattern_apart S p → ((t : Ty) → Reused places s lo K a t → At tops t w) → In_scope tops scope a env
       → HasOut (In_scope tops (with_pattern (Reused places s) p lo (with_sizes sizes scope)) a) (bound lo p w env)
   unfolding bound
-  function_bound [] (Bound_pattern b) s lo w scope a tops env named each h = env_bind N T M budget total tops P K a b w (Reused places s lo) scope (entered lo w env) each (env_entered N T M budget total P K tops lo w scope a env h)
-  function_bound [] Wild_pattern s lo w scope a tops env named each h = absurd named
-  function_bound [] (Tuple_pattern ps) s lo w scope a tops env named each h = absurd named
-  function_bound [] (Record_pattern fs ps) s lo w scope a tops env named each h = absurd named
-  function_bound [] (Typed_pattern p t) s lo w scope a tops env named each h = absurd named
-  function_bound (b ∷ bs) p s lo w scope a tops env named each h = absurd named
+  function_bound [] (Bound_pattern b) s lo w scope a tops env named apart each h = env_bind N T M budget total tops P K a b w (Reused places s lo) scope (entered lo w env) apart each (env_entered N T M budget total P K tops lo w scope a env h)
+  function_bound [] Wild_pattern s lo w scope a tops env named apart each h = absurd named
+  function_bound [] (Tuple_pattern ps) s lo w scope a tops env named apart each h = absurd named
+  function_bound [] (Record_pattern fs ps) s lo w scope a tops env named apart each h = absurd named
+  function_bound [] (Typed_pattern p t) s lo w scope a tops env named apart each h = absurd named
+  function_bound (b ∷ bs) p s lo w scope a tops env named apart each h = absurd named
 
   abbrev Runs : FlatTerm → Type 1
-  Runs t = (lo : ℕ) (scope : Scope) (a : Sub) (tops : FlatTops) (env : FlatEnv) → AllLocal (λ n. n < lo) scope → Typed N places t lo scope K a → Meant P t → Literals_told T.integer_at a t lo → lo + numbers t < widest → In_scope tops scope a env
+  Runs t = (lo : ℕ) (scope : Scope) (a : Sub) (tops : FlatTops) (env : FlatEnv) → AllLocal (λ n. n < lo) scope → Typed N places t lo scope K a → Sized S P t → Literals_told T.integer_at a t lo → lo + numbers t < widest → In_scope tops scope a env
       → Correct total (At tops (a lo)) (Gives tops env lo t)
 
   -- a value that is bound by a let, where it is of the types of its name
@@ -141,12 +148,12 @@ module _ (N : Names) (are : AreNames N) (T : Told) (M : FlatMode) (budget : ℕ)
     whole = let_scheme N places b v lo scope (Typed N places v (1 + lo + pattern_numbers b.pattern))
 
     -- the value, where these types are chosen for the parameters, in a typing that is as a is outside and where nothing is free
-    value_runs : (c other : Sub) → ((n : ℕ) → n < 1 + lo → other n ≡ a n) → ((m : ℕ) → Literal v begins m → other m ≡ a m) → AllLocal (λ n. n < lo) scope → whole.typed c K other → No_sizes b.sizes b.parameters → Meant P v → Literals_told T.integer_at a v begins
+    value_runs : (c other : Sub) → ((n : ℕ) → n < 1 + lo → other n ≡ a n) → ((m : ℕ) → Literal v begins m → other m ≡ a m) → AllLocal (λ n. n < lo) scope → whole.typed c K other → Let_apart S b → Sized S P v → Literals_told T.integer_at a v begins
         → begins + numbers v < widest → In_scope tops scope a env → Correct total (At tops (other (1 + lo))) (Gives tops env begins v)
     value_runs c other outside literals all typed sizes meant told small h =
         correct_as (At tops (other begins)) (At tops (other (1 + lo))) (Gives tops env begins v)
         (runs begins (with_parameters b.parameters c scope) other tops env (local_parameters (λ n. n < begins) b.parameters c scope (all_local_more (λ n. n < lo) (λ n. n < begins) scope (λ n p. omega (arith, p)) all)) typed.0.1 meant (λ m l. literals m l ∙ told m l) small
-        (env_types N T M budget total P K tops b.sizes b.parameters c scope other env sizes (env_moves N T M budget total P K tops scope lo a other env all (λ n p. outside n (omega (arith, p))) h)))
+        (env_types N T M budget total P K tops b.parameters c scope other env sizes.1 (env_moves N T M budget total P K tops scope lo a other env all (λ n p. outside n (omega (arith, p))) h)))
         (λ w k. fits_as tops (other begins) (other (1 + lo)) w (sym typed.1) k)
 
     -- in a variant of a definition, outside and literals are as they were
@@ -164,7 +171,7 @@ module _ (N : Names) (are : AreNames N) (T : Told) (M : FlatMode) (budget : ℕ)
         not_within : (m : ℕ) → begins ≤ m → is_within (1 + lo) (pattern_numbers b.pattern) m ≡ false
         not_within m le = within_no (1 + lo) (pattern_numbers b.pattern) m (inr (omega (arith, le)))
 
-    let_true : (named : Type 0) → AllLocal (λ n. n < lo) scope → Function_name b.sizes b.pattern → Generalised places whole K a → No_sizes b.sizes b.parameters → Meant P v → Literals_told T.integer_at a v begins → begins + numbers v < widest → In_scope tops scope a env
+    let_true : (named : Type 0) → AllLocal (λ n. n < lo) scope → Function_name b.sizes b.pattern → Generalised places whole K a → Let_apart S b → Sized S P v → Literals_told T.integer_at a v begins → begins + numbers v < widest → In_scope tops scope a env
         → Correct total (λ w. (t : Ty) → Reused places whole (1 + lo) K a t → At tops t w) (Gives tops env begins v)
     let_true named all name g sizes meant lits small h = record { safe = each; some = own.some }
       where
@@ -179,35 +186,35 @@ module _ (N : Names) (are : AreNames N) (T : Told) (M : FlatMode) (budget : ℕ)
         each (Fail r) f y = tt
         each Wrong f y = own.safe Wrong f y
 
-    let_binds : AllLocal (λ n. n < lo) scope → (f : Bool) → b.is_function ≡ f → Let_typed N places b.is_function (Function_name b.sizes b.pattern) whole K a → No_sizes b.sizes b.parameters → Meant P v → Literals_told T.integer_at a v begins → begins + numbers v < widest → In_scope tops scope a env
+    let_binds : AllLocal (λ n. n < lo) scope → (f : Bool) → b.is_function ≡ f → Let_typed N places b.is_function (Function_name b.sizes b.pattern) whole K a → Let_apart S b → Sized S P v → Literals_told T.integer_at a v begins → begins + numbers v < widest → In_scope tops scope a env
         → Correct total (Let_binds b v lo scope a tops env) (Gives tops env begins v)
     let_binds all true e typed sizes meant lits small h =
         let g : Let_typed N places true (Function_name b.sizes b.pattern) whole K a = subst (λ f. Let_typed N places f (Function_name b.sizes b.pattern) whole K a) e typed in
         correct_as (λ w. (t : Ty) → Reused places whole (1 + lo) K a t → At tops t w) (Let_binds b v lo scope a tops env) (Gives tops env begins v) (let_true (Function_name b.sizes b.pattern) all g.0 g.1 sizes meant lits small h)
-        (λ w each. subst (λ f. HasOut (In_scope tops (with_pattern (let_uses N places f whole) b.pattern (1 + lo) (with_sizes b.sizes scope)) a) (bound (1 + lo) b.pattern w env)) (sym e) (function_bound b.sizes b.pattern whole (1 + lo) w scope a tops env g.0 each h))
+        (λ w each. subst (λ f. HasOut (In_scope tops (with_pattern (let_uses N places f whole) b.pattern (1 + lo) (with_sizes b.sizes scope)) a) (bound (1 + lo) b.pattern w env)) (sym e) (function_bound b.sizes b.pattern whole (1 + lo) w scope a tops env g.0 sizes.2 each h))
     let_binds all false e typed sizes meant lits small h =
         let g : whole.typed (own_types places b.parameters) K a = subst (λ f. Let_typed N places f (Function_name b.sizes b.pattern) whole K a) e typed in
         correct_as (At tops (a (1 + lo))) (Let_binds b v lo scope a tops env) (Gives tops env begins v) (value_runs (own_types places b.parameters) a (λ n p. refl) (λ m l. refl) all g sizes meant lits small h)
         (λ w k. subst (λ f. HasOut (In_scope tops (with_pattern (let_uses N places f whole) b.pattern (1 + lo) (with_sizes b.sizes scope)) a) (bound (1 + lo) b.pattern w env)) (sym e)
-        (bound_fits N T M budget total tops P K a are places (1 + lo) b.pattern (1 + lo) (with_sizes b.sizes scope) (with_sizes b.sizes scope) w env g.0.0 k (env_sizes N T M budget total P K tops b.sizes b.parameters scope a env sizes h)))
+        (bound_fits N T M budget total tops P K a are places (1 + lo) b.pattern (1 + lo) (with_sizes b.sizes scope) (with_sizes b.sizes scope) w env g.0.0 sizes.2 k (env_sizes N T M budget total P K tops b.sizes scope a env sizes.0 h)))
 
   -- ---- loops
-  module _ (p : FlatPattern) (inside scope : Scope) (lo : ℕ) (a : Sub) (tops : FlatTops) (env : FlatEnv) (typed : Pattern_typed N places K a p lo inside) (h : In_scope tops scope a env) where
+  module _ (p : FlatPattern) (inside scope : Scope) (lo : ℕ) (a : Sub) (tops : FlatTops) (env : FlatEnv) (typed : Pattern_typed N places K a p lo inside) (apart : Pattern_apart S p) (h : In_scope tops scope a env) where
     -- a task under the names of what a loop carries
     under_runs : (t : Ty) (at : ℕ) (e : FlatTerm) (v : FlatValue) (inner : Scope) (go : FlatEnv → FlatEnv) → At tops (a lo) v → ((x : FlatEnv) → In_scope tops (with_pattern the_one p lo scope) a x → Correct total (At tops t) (Gives tops (go x) at e))
         → Correct total (At tops t) (Then (the (bound lo p v env)) (λ x. Gives tops (go x) at e))
     under_runs t at e v inner go k runs =
         correct_then (In_scope tops (with_pattern the_one p lo scope) a) (At tops t) (the (bound lo p v env)) (λ x. Gives tops (go x) at e)
-        (correct_exact (In_scope tops (with_pattern the_one p lo scope) a) 0 (bound lo p v env) (bound_fits N T M budget total tops P K a are places lo p lo inside scope v env typed k h)) runs
+        (correct_exact (In_scope tops (with_pattern the_one p lo scope) a) 0 (bound lo p v env) (bound_fits N T M budget total tops P K a are places lo p lo inside scope v env typed apart k h)) runs
 
   -- the turns of a loop that counts them
-  counted_turns : (p : FlatPattern) (inside scope : Scope) (lo at mid : ℕ) (i : BindId) (c : IntType × ℕ) (body : FlatTerm) (a : Sub) (tops : FlatTops) (env : FlatEnv) (v : FlatValue) → Pattern_typed N places K a p lo inside → In_scope tops scope a env
+  counted_turns : (p : FlatPattern) (inside scope : Scope) (lo at mid : ℕ) (i : BindId) (c : IntType × ℕ) (body : FlatTerm) (a : Sub) (tops : FlatTops) (env : FlatEnv) (v : FlatValue) → Pattern_typed N places K a p lo inside → Pattern_apart S p → S i.0 ≡ false → In_scope tops scope a env
       → Of_type (a at) c → ((x : FlatEnv) → In_scope tops (with_uses i.0 (the_one at) (with_pattern the_one p lo scope)) a x → Correct total (At tops (a lo)) (Gives tops x mid body)) → At tops (a lo) v
       → Correct total (At tops (a lo)) (turns (λ j w. under (Ever (lang T tops) M budget) lo p w env (λ e. Evaluate (bind i (Scalar_value (scalar.Int c.0 j)) (entered at (Scalar_value (scalar.Int c.0 j)) e)) mid body)) (counts c.1 0) v)
-  counted_turns p inside scope lo at mid i c body a tops env v typed h of runs k =
+  counted_turns p inside scope lo at mid i c body a tops env v typed apart other h of runs k =
       correct_turns (λ j. Unit {0}) (At tops (a lo)) (λ j w. Then (the (bound lo p w env)) (λ x. Gives tops (bind i (Scalar_value (scalar.Int c.0 j)) (entered at (Scalar_value (scalar.Int c.0 j)) x)) mid body))
-      (λ j w any q. under_runs p inside scope lo a tops env typed h (a lo) mid body w scope (λ x. bind i (Scalar_value (scalar.Int c.0 j)) (entered at (Scalar_value (scalar.Int c.0 j)) x)) q
-      (λ x r. runs (bind i (Scalar_value (scalar.Int c.0 j)) (entered at (Scalar_value (scalar.Int c.0 j)) x)) (env_bind N T M budget total tops P K a i (Scalar_value (scalar.Int c.0 j)) (the_one at) (with_pattern the_one p lo scope) (entered at (Scalar_value (scalar.Int c.0 j)) x)
+      (λ j w any q. under_runs p inside scope lo a tops env typed apart h (a lo) mid body w scope (λ x. bind i (Scalar_value (scalar.Int c.0 j)) (entered at (Scalar_value (scalar.Int c.0 j)) x)) q
+      (λ x r. runs (bind i (Scalar_value (scalar.Int c.0 j)) (entered at (Scalar_value (scalar.Int c.0 j)) x)) (env_bind N T M budget total tops P K a i (Scalar_value (scalar.Int c.0 j)) (the_one at) (with_pattern the_one p lo scope) (entered at (Scalar_value (scalar.Int c.0 j)) x) other
       (λ t e. fits_as tops _ t (Scalar_value (scalar.Int c.0 j)) (sym of.1 ∙ sym e) (fits_scalar N T M budget total tops K (types.Int c.0) of.0 (scalar.Int c.0 j) refl)) (env_entered N T M budget total P K tops at (Scalar_value (scalar.Int c.0 j)) (with_pattern the_one p lo scope) a x r))))
       (counts c.1 0) v (any_number (counts c.1 0)) k
 
@@ -217,16 +224,16 @@ module _ (N : Names) (are : AreNames N) (T : Told) (M : FlatMode) (budget : ℕ)
   Turns_run tops (Over q e) at scope inside a env = Correct total (At tops (a (at + pattern_numbers q))) (Gives tops env (at + pattern_numbers q) e)
   Turns_run tops (While c) at scope inside a env = (x : FlatEnv) → In_scope tops inside a x → Correct total (At tops (a at)) (Gives tops x at c)
 
-  loop_runs : (p : FlatPattern) (mark : Place) (turns : FlatTurns) (body : FlatTerm) (outer inside scope : Scope) (lo at : ℕ) (a : Sub) (tops : FlatTops) (env : FlatEnv) (v : FlatValue) → Pattern_typed N places K a p lo inside → In_scope tops scope a env
-      → Turns_meant P turns → Turns_typed N places turns at outer (with_pattern the_one p lo scope) K a → At tops (a lo) v
+  loop_runs : (p : FlatPattern) (mark : Place) (turns : FlatTurns) (body : FlatTerm) (outer inside scope : Scope) (lo at : ℕ) (a : Sub) (tops : FlatTops) (env : FlatEnv) (v : FlatValue) → Pattern_typed N places K a p lo inside → Pattern_apart S p → In_scope tops scope a env
+      → Turns_apart S turns → Turns_typed N places turns at outer (with_pattern the_one p lo scope) K a → At tops (a lo) v
       → Turns_run tops turns at outer (with_pattern the_one p lo scope) a env
       → ((x : FlatEnv) → In_scope tops (with_turns turns at (with_pattern the_one p lo scope)) a x → Correct total (At tops (a lo)) (Gives tops x (at + turn_numbers turns) body))
       → Correct total (At tops (a lo)) (looped budget (Ever (lang T tops) M budget) env lo p mark turns body at (at + turn_numbers turns) v)
-  loop_runs p mark (Counted i n) body outer inside scope lo at a tops env v typed h meant t k runs rest =
+  loop_runs p mark (Counted i n) body outer inside scope lo at a tops env v typed apart h others t k runs rest =
       correct_then (At tops (a (1 + at))) (At tops (a lo)) (Gives tops env (1 + at) n) _ runs
       (λ c r. correct_then (Of_type (a at)) (At tops (a lo)) (the (turns_of c)) _ (correct_exact (Of_type (a at)) 0 (turns_of c) (turns_fit tops (a at) c t.2 (fits_as tops (a (1 + at)) (a at) c (sym t.1) r)))
-      (λ d s. counted_turns p inside scope lo at (at + (1 + numbers n)) i d body a tops env v typed h s rest k))
-  loop_runs p mark (Over q e) body outer inside scope lo at a tops env v typed h meant t k runs rest =
+      (λ d s. counted_turns p inside scope lo at (at + (1 + numbers n)) i d body a tops env v typed apart others h s rest k))
+  loop_runs p mark (Over q e) body outer inside scope lo at a tops env v typed apart h others t k runs rest =
       let x : Ty = a (at + pattern_numbers q) in
       let kx : HasKind K kind.Data x = array_has N are T M budget total tops K places wide x (a at) t.1 in
       correct_then (At tops x) (At tops (a lo)) (Gives tops env (at + pattern_numbers q) e) _ runs
@@ -236,20 +243,20 @@ module _ (N : Names) (are : AreNames N) (T : Told) (M : FlatMode) (budget : ℕ)
       (rows_fit N are T M budget total tops K (a at) d.0 (subst (λ y. Fits N T M budget total y tops (as_value d.0)) t.1.0 (subst (λ y. At tops x y) d.2 r)))))
       (λ rs s. correct_turns (λ y. At tops (a at) (as_value y)) (At tops (a lo)) _
       (λ y w b c. correct_then (In_scope tops (with_pattern the_one p lo scope) a) (At tops (a lo)) (the (bound lo p w env)) _
-      (correct_exact (In_scope tops (with_pattern the_one p lo scope) a) 0 (bound lo p w env) (bound_fits N T M budget total tops P K a are places lo p lo inside scope w env typed c h))
+      (correct_exact (In_scope tops (with_pattern the_one p lo scope) a) 0 (bound lo p w env) (bound_fits N T M budget total tops P K a are places lo p lo inside scope w env typed apart c h))
       (λ z i. correct_then (In_scope tops (with_pattern the_one q at (with_pattern the_one p lo scope)) a) (At tops (a lo)) (the (bound at q (as_value y) z)) _
-      (correct_exact (In_scope tops (with_pattern the_one q at (with_pattern the_one p lo scope)) a) 0 (bound at q (as_value y) z) (bound_fits N T M budget total tops P K a are places at q at (with_pattern the_one p lo scope) (with_pattern the_one p lo scope) (as_value y) z t.0.0 b i))
+      (correct_exact (In_scope tops (with_pattern the_one q at (with_pattern the_one p lo scope)) a) 0 (bound at q (as_value y) z) (bound_fits N T M budget total tops P K a are places at q at (with_pattern the_one p lo scope) (with_pattern the_one p lo scope) (as_value y) z t.0.0 others b i))
       rest))
       rs.1 v (row_data N are T M budget total tops K (a at) rs.0 rs.1 s) k))
-  loop_runs p mark (While c) body outer inside scope lo at a tops env v typed h meant t k runs rest =
+  loop_runs p mark (While c) body outer inside scope lo at a tops env v typed apart h others t k runs rest =
       correct_while (At tops (a lo)) budget _ _ _
-      (λ w q. correct_then (At tops (a at)) Any_truth (Then (the (bound lo p w env)) (λ x. Gives tops x at c)) (λ b. the (truth_of b)) (under_runs p inside scope lo a tops env typed h (a at) at c w scope (λ x. x) q (λ x r. runs x r))
+      (λ w q. correct_then (At tops (a at)) Any_truth (Then (the (bound lo p w env)) (λ x. Gives tops x at c)) (λ b. the (truth_of b)) (under_runs p inside scope lo a tops env typed apart h (a at) at c w scope (λ x. x) q (λ x r. runs x r))
       (λ b r. correct_exact Any_truth 0 (truth_of b) (truth_fits tops (a at) b t.1 r)))
-      (λ w q. under_runs p inside scope lo a tops env typed h (a lo) (at + numbers c) body w scope (λ x. x) q rest)
+      (λ w q. under_runs p inside scope lo a tops env typed apart h (a lo) (at + numbers c) body w scope (λ x. x) q rest)
       v k
 
   abbrev All_run : Terms Ref BindId → Type 1
-  All_run ts = (lo : ℕ) (scope : Scope) (a : Sub) (tops : FlatTops) (env : FlatEnv) → AllLocal (λ n. n < lo) scope → All_typed N places ts lo scope K a → All_meant P ts → ((m : ℕ) → A_literal ts lo m → a m ≡ Made (head.Scalar (types.Int (T.integer_at m))) none) → lo + all_numbers ts < widest → In_scope tops scope a env
+  All_run ts = (lo : ℕ) (scope : Scope) (a : Sub) (tops : FlatTops) (env : FlatEnv) → AllLocal (λ n. n < lo) scope → All_typed N places ts lo scope K a → All_sized S P ts → ((m : ℕ) → A_literal ts lo m → a m ≡ Made (head.Scalar (types.Int (T.integer_at m))) none) → lo + all_numbers ts < widest → In_scope tops scope a env
       → Correct total (Each_fits N T M budget total (term_types a ts lo) tops) (each_of (λ t. Gives tops env t.0 t.1) (placed lo ts))
 
   further : (lo lo' : ℕ) (scope : Scope) → lo ≤ lo' → AllLocal (λ n. n < lo) scope → AllLocal (λ n. n < lo') scope
@@ -269,7 +276,7 @@ module _ (N : Names) (are : AreNames N) (T : Told) (M : FlatMode) (budget : ℕ)
     running (Lambda ps e) = λ lo scope a tops env all typed meant lits small h.
         let at : ℕ = 1 + lo + all_pattern_numbers ps in
         evaluates tops (At tops (a lo)) env lo (Lambda ps e) (correct_exact (At tops (a lo)) 0 (Val (Closure ps e at env)) (fits_as tops _ (a lo) (Closure ps e at env) (sym typed.1)
-        (closure_fits ps meant.0 (1 + lo) at e scope scope a tops env typed.0.0 (λ tops' g env' k.
+        (closure_fits ps meant.0.0 meant.0.1 (1 + lo) at e scope scope a tops env typed.0.0 (λ tops' g env' k.
         running e at (with_patterns the_one ps (1 + lo) scope) a tops' env' (local_all_ones (λ n. n < at) ps (1 + lo) scope (λ n p q. omega (arith, p, q)) (further lo at scope (omega arith) all)) typed.0.1 meant.1 lits (omega (arith, small)) k) h)))
     running (Apply f e) = λ lo scope a tops env all typed meant lits small h.
         evaluates tops (At tops (a lo)) env lo (Apply f e) (correct_then (At tops (a (1 + lo))) (At tops (a lo)) (Gives tops env (1 + lo) f) _
@@ -310,7 +317,7 @@ module _ (N : Names) (are : AreNames N) (T : Told) (M : FlatMode) (budget : ℕ)
         evaluates tops (At tops (a lo)) env lo (Loop mark sizes p first turns body) (correct_then (At tops (a at_f)) (At tops (a lo)) (Gives tops env at_f first) _
         (running first at_f scope a tops env (further lo at_f scope (omega arith) all) typed.0.0.0.0.1 meant.1 (λ m l. lits m (inl l)) (omega (arith, small)) h)
         (λ v k. correct_as (At tops (a (1 + lo))) (At tops (a lo)) _
-        (loop_runs p mark turns body scope (with_sizes sizes scope) (with_sizes sizes scope) (1 + lo) at_t a tops env v typed.0.0.0.0.0 (env_sizes N T M budget total P K tops sizes [] scope a env meant.0 h) meant.2 typed.0.0.1
+        (loop_runs p mark turns body scope (with_sizes sizes scope) (with_sizes sizes scope) (1 + lo) at_t a tops env v typed.0.0.0.0.0 meant.0.1 (env_sizes N T M budget total P K tops sizes scope a env meant.0.0 h) meant.0.2 typed.0.0.1
         (fits_as tops (a at_f) (a (1 + lo)) v (sym typed.0.0.0.1) k)
         (turns_running turns scope carried at_t a tops env (further lo at_t scope (omega arith) all) (local_ones (λ n. n < at_t) p (1 + lo) inside (λ n y z. omega (arith, y, z)) (local_sizes (λ n. n < at_t) sizes scope (further lo at_t scope (omega arith) all))) typed.0.0.1 meant.2 (λ m l. lits m (inr (inl l))) (omega (arith, small)) h)
         (λ x r. correct_as (At tops (a at_b)) (At tops (a (1 + lo))) (Gives tops x at_b body)
@@ -319,7 +326,7 @@ module _ (N : Names) (are : AreNames N) (T : Told) (M : FlatMode) (budget : ℕ)
         (λ y q. fits_as tops (a at_b) (a (1 + lo)) y (sym typed.2 ∙ typed.1) q)))
         (λ y q. fits_as tops (a (1 + lo)) (a lo) y (sym typed.1) q)))
 
-    turns_running : (turns : FlatTurns) (outer inside : Scope) (at : ℕ) (a : Sub) (tops : FlatTops) (env : FlatEnv) → AllLocal (λ n. n < at) outer → AllLocal (λ n. n < at) inside → Turns_typed N places turns at outer inside K a → Turns_meant P turns
+    turns_running : (turns : FlatTurns) (outer inside : Scope) (at : ℕ) (a : Sub) (tops : FlatTops) (env : FlatEnv) → AllLocal (λ n. n < at) outer → AllLocal (λ n. n < at) inside → Turns_typed N places turns at outer inside K a → Turns_sized S P turns
         → ((m : ℕ) → Turn_literal turns at m → a m ≡ Made (head.Scalar (types.Int (T.integer_at m))) none) → at + turn_numbers turns < widest → In_scope tops outer a env → Turns_run tops turns at outer inside a env
     turns_running (Counted i n) outer inside at a tops env all alli typed meant lits small h = running n (1 + at) outer a tops env (further at (1 + at) outer (omega arith) all) typed.0 meant lits (omega (arith, small)) h
     turns_running (Over q e) outer inside at a tops env all alli typed meant lits small h = running e (at + pattern_numbers q) outer a tops env (further at (at + pattern_numbers q) outer (omega arith) all) typed.0.1 meant lits (omega (arith, small)) h

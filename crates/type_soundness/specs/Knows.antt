@@ -1,23 +1,28 @@
 -- What is known of the values of a type where a program is walked through. Of data nothing is known, and a variable, a rigid
 -- and an abstract type stand for data: nothing else of them is ever made. A function is known so that its walk is never lost
 -- for what is known of its parameter's type, and what is known of its results is of its result's type; and so it stays where
--- more definitions are known.
-use Rattle.std.specs.Prelude.{◌≡◌, ◌≢◌, ℕ, ◌<◌, List, [], ◌∷◌, true, false, Some, None}
+-- more definitions are known, none of which has the number of a size.
+use Rattle.std.specs.Prelude.{◌≡◌, ◌≢◌, ℕ, ◌<◌, List, [], ◌∷◌, Bool, true, false, Option, Some, None}
 use Rattle.fut_ast.specs.Sorts.{Text}
 use Rattle.fut_flat.specs.Erased.{FlatTerm}
 use Rattle.fut_types.specs.declared.Head.TheVariants as head
 use Rattle.fut_types.specs.Types.{Ty, Var, Made, Tys, none, more, Sub, Kinds}
 use Rattle.fut_types.specs.Shapes.{HasPart}
 use Rattle.fut_typing.specs.Names.{Names, count}
+use Rattle.fut_typing.specs.Primitives.{i64_ty}
 use Rattle.fut_typing.specs.Scopes.{Scope}
 use Rattle.fut_meaning.specs.Knowns.{Known, Data, Known_tuple, Known_record, Known_function, Known_primitive, Knowns, known_none, known_and, Known_fields, known_no_field, known_field, Scope as Seen, find, or_else, all_data, fields_data, known_field_of}
 use Rattle.fut_meaning.specs.Walk.{Runs}
 use Rattle.fut_meaning.specs.Comes.{Inside_run, Comes, is_function, Stuck_run, Lost}
 use Rattle.type_soundness.specs.Fits.{widest}
 
--- the definitions that are known are among these, with the same values
-abbrev pub Learns : Seen → Seen → Type 0
-Learns tops tops' = (k : ℕ) (s : Known) → find tops k ≡ Some s → find tops' k ≡ Some s
+-- nothing is known of the numbers of sizes
+abbrev pub Clear : (ℕ → Bool) → Seen → Type 0
+Clear S tops = (k : ℕ) → S k ≡ true → find tops k ≡ None
+
+-- the definitions that are known are among these, with the same values, and no size is
+abbrev pub Learns : (ℕ → Bool) → Seen → Seen → Type 0
+Learns S tops tops' = ((k : ℕ) (s : Known) → find tops k ≡ Some s → find tops' k ≡ Some s) × Clear S tops'
 
 -- from a term the walk comes to none where it is lost
 abbrev pub Never_lost : Seen → Seen → FlatTerm → Type 0
@@ -58,7 +63,7 @@ Each_field P (known_field g s fs) = P g s × Each_field P fs
 abbrev pub Has_parts : Names → ℕ → Tys → Known_fields → Type 0
 Has_parts N n ts fs = (g : Text) (u : Ty) → HasPart N.shapes (N.label g) (Made (head.Record n) ts) u → known_field_of g fs ≡ None → ⊥
 
-module _ (N : Names) where
+module _ (N : Names) (S : ℕ → Bool) where
   -- what is known of the values of a type, where this is known of the definitions
   unfoldable mutual
     pub Knows : Ty → Seen → Known → Type 0
@@ -69,7 +74,7 @@ module _ (N : Names) where
     Knows (Made (head.Record n) ts) tops s = On_known_record (Parts_data (N.shapes.fields n) ts tops) (λ fs. Each_field (λ g u. Keyed (N.shapes.fields n) ts tops (N.label g) u) fs × Has_parts N n ts fs) s
     Knows (Made head.Fun none) tops s = ⊥
     Knows (Made head.Fun (more t none)) tops s = ⊥
-    Knows (Made head.Fun (more t (more u none))) tops h = (is_function h ≡ true) × ((tops' : Seen) → Learns tops tops' → (s : Known) → Knows t tops' s → Runs_well tops' h s (Knows u tops'))
+    Knows (Made head.Fun (more t (more u none))) tops h = (is_function h ≡ true) × ((tops' : Seen) → Learns S tops tops' → (s : Known) → Knows t tops' s → Runs_well tops' h s (Knows u tops'))
     Knows (Made head.Fun (more t (more u (more w ts)))) tops s = ⊥
     Knows (Made (head.Rigid n k) ts) tops s = s ≡ Data
     Knows (Made (head.Abstract n d) ts) tops s = s ≡ Data
@@ -94,6 +99,14 @@ module _ (N : Names) where
     Keyed (l ∷ ls) none tops g s = ⊥
     Keyed (l ∷ ls) (more t ts) tops g s = (l ≡ g → Knows t tops s) × (l ≢ g → Keyed ls ts tops g s)
 
--- each name of P is known, at each type at which it may be used: a local one, or else a definition
-abbrev pub Names_known : Names → Seen → (ℕ → Type 0) → Scope → Kinds → Sub → Seen → Type 0
-Names_known N tops P scope K a sc = (b : ℕ) → P b → (t : Ty) → scope.uses b K a t → (s : Known) × (or_else (find sc b) (find tops b) ≡ Some s) × Knows N t tops s
+-- a size has the type i64; of another name something is known, that is known by this type
+abbrev pub Name_known : Names → (ℕ → Bool) → Seen → Ty → Option Known → Bool → Type 0
+Name_known N S tops t o true = t ≡ i64_ty
+Name_known N S tops t o false = (s : Known) × (o ≡ Some s) × Knows N S t tops s
+
+-- Nothing binds the numbers of sizes. Each name of P is known, at each type at which it may be used: a local one, or else a
+-- definition.
+pub record Names_known (N : Names) (S : ℕ → Bool) (tops : Seen) (P : ℕ → Type 0) (scope : Scope) (K : Kinds) (a : Sub) (sc : Seen) : Type 0 where
+  pub definitions_clear : Clear S tops
+  pub locals_clear : Clear S sc
+  pub known : (b : ℕ) → P b → (t : Ty) → scope.uses b K a t → Name_known N S tops t (or_else (find sc b) (find tops b)) (S b)

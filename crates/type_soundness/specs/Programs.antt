@@ -18,8 +18,10 @@ use Rattle.fut_meaning.specs.Found.{Told}
 use Rattle.fut_meaning.specs.Flats.{FlatValue, FlatTops, FlatMode, named_terms, Flat_means}
 use Rattle.fut_meaning.specs.Meaning.{plain}
 use Rattle.fut_meaning.specs.Claims.{Safe, Some_outcome}
+use Rattle.fut_meaning.specs.Uses.{is_size_in}
 use Rattle.type_soundness.specs.Fits.{widest, Fits}
 use Rattle.type_soundness.specs.Meant.{No_sizes, Meant, Literals_told}
+use Rattle.type_soundness.specs.Formed.{Definitions_formed, Definitions_apart}
 
 -- the meaning knows all forms of a program
 abbrev pub Definitions_meant : List Defined → Type 0
@@ -40,13 +42,23 @@ abbrev pub One_each : List Definition → Type 0
 One_each [] = Unit {0}
 One_each (d ∷ ds) = None_has d.bind.0 ds × One_each ds
 
--- a typed program, of which the meaning knows all forms, and whose literals without suffix are told
+-- a typed program in which no size is bound, of which the meaning knows all forms, and whose literals without suffix are told
 pub record Is_typed (N : Names) (places : Kind) (K : Kinds) (a : Sub) (integer_at : ℕ → IntType) (flat : Flat) : Type 0 where
   -- arrays hold data
   pub holds_data : level kind.Data ≤ level places
   pub typed : Program_typed N places (program_of flat) K a
   pub meant : Definitions_meant (program_of flat)
   pub told : Definitions_told integer_at a (program_of flat) 0
+  pub once : One_each flat.definitions.now
+  pub small : program_numbers (program_of flat) < widest
+
+-- and one in which sizes may be bound, where a sizing is told, which names them
+pub record Is_sized (N : Names) (places : Kind) (K : Kinds) (a : Sub) (T : Told) (flat : Flat) : Type 0 where
+  pub holds_data : level kind.Data ≤ level places
+  pub typed : Program_typed N places (program_of flat) K a
+  pub formed : Definitions_formed (program_of flat)
+  pub apart : Definitions_apart (is_size_in T.sizes) (program_of flat)
+  pub told : Definitions_told T.integer_at a (program_of flat) 0
   pub once : One_each flat.definitions.now
   pub small : program_numbers (program_of flat) < widest
 
@@ -64,13 +76,13 @@ module _ (N : Names) (T : Told) (M : FlatMode) (budget : ℕ) (total : Bool) whe
 -- from each entry, at each type at which it may be used, and for all arguments of that type
 abbrev pub Never_wrong : Type 0
 Never_wrong =
-    (N : Names) → AreNames N → (places : Kind) (K : Kinds) (a : Sub) (T : Told) (tight : Bool) (budget : ℕ) (flat : Flat) → Is_typed N places K a T.integer_at flat
+    (N : Names) → AreNames N → (places : Kind) (K : Kinds) (a : Sub) (T : Told) (tight : Bool) (budget : ℕ) (flat : Flat) → Is_sized N places K a T flat
     → (entry : BindId) (ts : Tys) (u : Ty) (vs : List FlatValue) → (scope_behind N places (program_of flat) 0 nothing).uses entry.0 K a (arrows ts u) → Arguments_fit N T (plain tight) budget false ts vs
     → Safe (Result_fits N T (plain tight) budget false u) (Flat_means T (plain tight) budget (named_terms flat) entry vs)
 
 -- and there is some outcome, for arguments that are total where they are functions
 abbrev pub Has_outcome : Type 0
 Has_outcome =
-    (N : Names) → AreNames N → (places : Kind) (K : Kinds) (a : Sub) (T : Told) (tight : Bool) (budget : ℕ) (flat : Flat) → Is_typed N places K a T.integer_at flat
+    (N : Names) → AreNames N → (places : Kind) (K : Kinds) (a : Sub) (T : Told) (tight : Bool) (budget : ℕ) (flat : Flat) → Is_sized N places K a T flat
     → (entry : BindId) (ts : Tys) (u : Ty) (vs : List FlatValue) → (scope_behind N places (program_of flat) 0 nothing).uses entry.0 K a (arrows ts u) → Arguments_fit N T (plain tight) budget true ts vs
     → Some_outcome (Flat_means T (plain tight) budget (named_terms flat) entry vs)

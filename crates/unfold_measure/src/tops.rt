@@ -3,7 +3,7 @@ ghost use Rattle.fut_meaning.specs.Knowns.{known_use};
 ghost use Rattle.unfold_measure.specs.Answers.{Known_to};
 ghost use Rattle.unfold_measure.specs.Held.{scope_of};
 
-use crate::known::{Known, Scope};
+use crate::known::{Known, Scope, known_data};
 use crate::primitives::known_primitive;
 use crate::scope::find;
 use crate::stop::Stop;
@@ -17,7 +17,7 @@ pub struct Tops<'a> {
     pub known: &'a Scope<'a>,
 }
 
-/// What is known of a use: of a local name, or else of a definition.
+/// What is known of a use: of a local name, or else of a definition. What nothing binds is the name of a size, which is data.
 pub fn known_use<'a>(
     tops: &Tops<'a>,
     scope: &'a Scope<'a>,
@@ -30,7 +30,7 @@ pub fn known_use<'a>(
             Some(known) => Ok(known),
             None => match find(tops.known, number) {
                 Some(known) => Ok(known),
-                None => Err(Stop::Lost),
+                None => Ok(known_data()),
             },
         },
         Ref::Prim(primitive) => known_primitive(tops.bump, primitive),

@@ -1,7 +1,7 @@
 -- Tables of what is named, one part after the other.
-use Rattle.std.proofs.Common.{◌≡◌, ℕ, zero, suc, ◌+◌, ◌-◌, ◌<◌, ◌≤◌, ◌≢◌, ◌||◌, ◌&&◌, List, [], ◌∷◌, map, length, get_or, set, drop, replicate, Bool, true, false, nat_eq, refl, sym, ap, ◌∙◌, subst, arith}
+use Rattle.std.proofs.Common.{◌≡◌, ℕ, ◌+◌, ◌-◌, ◌<◌, ◌≤◌, ◌≢◌, ◌||◌, ◌&&◌, List, [], ◌∷◌, map, length, get_or, set, drop, replicate, Bool, true, false, nat_eq, refl, sym, ap, ◌∙◌, subst, arith}
 use Rattle.std.proofs.lemmas.Bool.{eqb-true, eqb-false, eq-eqb, ne_eqb}
-use Rattle.std.proofs.lemmas.List.{length-set, length-replicate, get_or-set_same, get_or-set_other, get_or-replicate, get_or_default}
+use Rattle.std.proofs.lemmas.List.{length-set, get_or-set_same, get_or-set_other, get_or-replicate, get_or_default}
 use Rattle.std.specs.Borrow.{Bor}
 use Rattle.fut_scalar.specs.declared.place.BindId.{BindId}
 use Rattle.fut_scalar.specs.declared.place.Place.{Place}
@@ -19,11 +19,11 @@ use Rattle.fut_flat.specs.declared.prim.Ref.{Ref}
 use Rattle.fut_flat.specs.declared.prim.Ref.TheVariants as ref
 use Rattle.fut_flat.specs.declared.program.Definition.{Definition}
 use Rattle.fut_flat.specs.Numbers.{numbers}
-use Rattle.fut_flat.specs.Erased.{FlatTerm, Row, lets, pattern_of, patterns, term_of, terms}
-use Rattle.fut_flat.specs.Terms.{Use, Strict, Lambda, Apply, Let, If, Loop}
-use Rattle.fut_flat.proofs.ErasedForms.{loop_of, row_of, turns_of, loop_is, row_is, term_use, term_strict, term_lambda, term_apply, term_lets, term_if, term_loop, turns_counted, turns_over, turns_while}
+use Rattle.fut_flat.specs.Erased.{FlatTerm, lets, parameters, pattern_of, patterns, term_of, terms}
+use Rattle.fut_flat.specs.Terms.{Let}
+use Rattle.fut_flat.proofs.ErasedForms.{row_of, turns_of, loop_is, row_is, term_use, term_strict, term_lambda, term_apply, term_lets, term_if, term_loop, turns_counted, turns_over, turns_while}
 use Rattle.fut_meaning.specs.Flats.{flat_tops, is_flat_use}
-use Rattle.fut_meaning.specs.Programs.{turns_have_use, is_reached, all_names_of, names_of, names_of_turns}
+use Rattle.fut_meaning.specs.Programs.{turns_have_use, is_reached, all_names_of, names_of, names_of_turns, with_sizes, with_parameters}
 use Rattle.unfold_reach.specs.Reach.{is_set, Uses, use_of, uses, all_use, Named_more, named_more, Noted, noted, Noted_turns, noted_turns, Noted_rows, noted_rows, Noted_definition, noted_definition, named_term, Below, below, Reached, reached}
 use Rattle.unfold_reach.proofs.Lists.{one_more, drop_end}
 
@@ -56,6 +56,10 @@ module _ {old : List Bool} where
 
   noted_as : {t u : FlatTerm} {new : List Bool} → t ≡ u → Noted (uses u) old new → Noted (uses t) old new
   noted_as {new = new} e h = subst (λ z. Noted (uses z) old new) (sym e) h
+
+-- under other local names
+noted_under : {U : Uses} {old new : List Bool} (w : List BindId → List BindId) → Noted U old new → Noted (λ bs k. U (w bs) k) old new
+noted_under w (noted l f) = noted l (λ bs k lt. f (w bs) k lt)
 
 module _ (old : List Bool) where
   pub use_bound : (b : BindId) (r : Ref) (new : List Bool) → r ≡ ref.Bound b → Named_more b old new → Noted (use_of r) old new
@@ -91,11 +95,11 @@ module _ (e : Exp) (old new : List Bool) where
       pub note_loop : (l : Bor LoopTree) → e.form ≡ form.Loop l → Noted (uses (term_of l.now.first)) old mid → Noted_turns (turns_of l.now.form) mid mid' → Noted (uses (term_of l.now.body)) mid' new → Noted (uses (term_of e)) old new
       note_loop l is h (noted_turns m g) (noted n b) = noted_as (term_loop e l is ∙ loop_is l.now) (noted_then h (noted_then turned inside))
         where
-          turned : Noted (λ bs k. turns_have_use (λ ds p. is_flat_use tt ds p k) bs (names_of (pattern_of l.now.pat) bs) (turns_of l.now.form)) mid mid'
-          turned = noted m (λ bs k lt. g bs (names_of (pattern_of l.now.pat) bs) k lt)
+          turned : Noted (λ bs k. turns_have_use (λ ds p. is_flat_use tt ds p k) bs (names_of (pattern_of l.now.pat) (with_sizes l.now.sizes.now bs)) (turns_of l.now.form)) mid mid'
+          turned = noted m (λ bs k lt. g bs (names_of (pattern_of l.now.pat) (with_sizes l.now.sizes.now bs)) k lt)
 
-          inside : Noted (λ bs k. uses (term_of l.now.body) (names_of_turns (turns_of l.now.form) (names_of (pattern_of l.now.pat) bs)) k) mid' new
-          inside = noted n (λ bs k lt. b (names_of_turns (turns_of l.now.form) (names_of (pattern_of l.now.pat) bs)) k lt)
+          inside : Noted (λ bs k. uses (term_of l.now.body) (names_of_turns (turns_of l.now.form) (names_of (pattern_of l.now.pat) (with_sizes l.now.sizes.now bs))) k) mid' new
+          inside = noted n (λ bs k lt. b (names_of_turns (turns_of l.now.form) (names_of (pattern_of l.now.pat) (with_sizes l.now.sizes.now bs))) k lt)
 
 -- ---- parts
 
@@ -127,7 +131,7 @@ unfolding lets
 lets_more ls old now i d next lt (lets_noted f) h = lets_noted (λ body last g. f body last (subst (λ z. Noted (uses (lets (map row_of z) body)) now last) (sym (one_more ls i d lt)) (behind body last g)))
   where
     behind : (body : FlatTerm) (last : List Bool) → Noted (uses (lets (map row_of (drop (i + 1) ls)) body)) next last → Noted (uses (lets (map row_of (get_or ls i d ∷ drop (i + 1) ls)) body)) now last
-    behind body last (noted m g) = noted_as (ap (λ z. Let z.0 z.1 (lets (map row_of (drop (i + 1) ls)) body)) (row_is (get_or ls i d))) (noted_then h (noted m (λ bs k lt'. g (names_of (pattern_of (get_or ls i d).pat) bs) k lt')))
+    behind body last (noted m g) = noted_as (ap (λ z. Let z.0 z.1 (lets (map row_of (drop (i + 1) ls)) body)) (row_is (get_or ls i d))) (noted_then (noted_under (with_parameters (parameters (get_or ls i d).heads.now)) h) (noted_under (λ bs. names_of (pattern_of (get_or ls i d).pat) (with_sizes (get_or ls i d).sizes.now bs)) (noted m g)))
 
 pub lets_done : (ls : List LetTree) (old now : List Bool) (i : ℕ) → length ls ≤ i → Lets_noted ls old now i → Noted_rows (map row_of ls) old now
 unfolding lets

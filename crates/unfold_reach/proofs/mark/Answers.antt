@@ -1,4 +1,4 @@
-use Rattle.std.proofs.Common.{◌∙◌, arith, refl}
+use Rattle.std.proofs.Common.{◌∙◌, arith}
 use Rattle.std.proofs.lemmas.List.{length-set}
 use Rattle.unfold_reach.proofs.Reaching.{marked_start, marked_more}
 use Rattle.unfold_reach.proofs.mark.Goals as goal
