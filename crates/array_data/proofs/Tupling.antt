@@ -2,18 +2,16 @@
 use Rattle.std.proofs.Common.{◌≡◌, ℕ, zero, suc, ◌+◌, ◌<◌, ◌≤◌, List, [], ◌∷◌, ◌++◌, map, length, get_or, take, Ok, Err, Result, false, refl, sym, ap, ◌∙◌, subst, arith, add-one, append_assoc}
 use Rattle.std.proofs.lemmas.List.{append-nil, take_all}
 use Rattle.fut_scalar.specs.declared.place.Place.{Place}
-use Rattle.fut_value.specs.Data.{Shape, Datum, Tuple_datum, Unmet_shape, datums}
+use Rattle.fut_value.specs.Data.{Shape, Datum, Tuple_datum, datums}
 use Rattle.fut_meaning.specs.Arrays.{array}
-use Rattle.array_data.specs.declared.form.Form.{Form}
-use Rattle.array_data.specs.declared.form.Form.TheVariants as form
 use Rattle.array_data.specs.declared.data.Data.{Data}
 use Rattle.array_data.specs.declared.data.Data.TheVariants as hold
 use Rattle.array_data.specs.declared.stop.Stop.{Stop}
 use Rattle.array_data.specs.declared.stop.Stop.TheVariants.{Memory}
 use Rattle.array_data.specs.Answers.{Tells, no_memory_told, Copied, copied, not_copied, Added, added, not_added, All_added, all_added, not_all_added, Parted, parted, not_parted}
-use Rattle.array_data.specs.Held.{shape_held, held, held_all}
+use Rattle.array_data.specs.Held.{held, held_all}
 use Rattle.array_data.proofs.Forms.{map_push, held_length}
-use Rattle.array_data.proofs.Holding.{held_tuple, form_unmet}
+use Rattle.array_data.proofs.Holding.{held_tuple}
 use Rattle.array_data.proofs.Jobbing.{all_there, added_told}
 
 pub tuple_held : (m : ℕ) (ps qs : List Data) → qs ≡ ps → held (hold.Tuple m qs) ≡ Tuple_datum (datums (held_all ps))
@@ -61,7 +59,7 @@ pub ruleset pushing = (to_start, to_pushed, to_end, not_all_added)
 
 pub ruleset building = (to_start, to_added, to_end, not_all_added)
 
-pub literal : (at : Place) (h : Form) (es ds ds' : List Datum) (r : Result Datum Stop) → h ≡ form.Unmet → ds ≡ [] → All_added es ds ds' (Ok tt) → Tells (array false at (shape_held h) ds') r → Tells (array false at Unmet_shape es) r
-literal at h es ds ds' r u e a t = subst (λ z. Tells (array false at z es) r) (ap shape_held u ∙ form_unmet) (subst (λ z. Tells (array false at (shape_held h) z) r) (all_there es ds ds' e a) t)
+pub literal : (at : Place) (h : Shape) (es ds ds' : List Datum) (r : Result Datum Stop) → ds ≡ [] → All_added es ds ds' (Ok tt) → Tells (array false at h ds') r → Tells (array false at h es) r
+literal at h es ds ds' r e a t = subst (λ z. Tells (array false at h z) r) (all_there es ds ds' e a) t
 
 pub ruleset literals = (literal, added_told, no_memory_told)

@@ -18,7 +18,7 @@ use std::alloc::Global;
 
 /// The names of fields, copied.
 #[tactic(auto, using(crate::proofs::Recording::naming))]
-fn names_of(alloc: Global, names: &[&str]) -> Result<List<Name>, NoMemory>
+pub fn names_of(alloc: Global, names: &[&str]) -> Result<List<Name>, NoMemory>
     ensures { IfOk result (λ all. all ≡ texts names.now) }
 {
     let mut all = List::new(alloc);

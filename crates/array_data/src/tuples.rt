@@ -1,9 +1,9 @@
 // Tuples and arrays of parts, and the parts of tuples.
 ghost use Rattle.std.specs.Prelude.{◌≡◌, false, IfOk};
-ghost use Rattle.fut_value.specs.Data.{Tuple_datum, Unmet_shape, datums};
+ghost use Rattle.fut_value.specs.Data.{Tuple_datum, datums};
 ghost use Rattle.fut_meaning.specs.Arrays.{array as array_made};
 ghost use Rattle.array_data.specs.Answers.{All_added, Parted, Tells};
-ghost use Rattle.array_data.specs.Held.{as_held, built_rows, held, held_all};
+ghost use Rattle.array_data.specs.Held.{as_held, built_rows, held, held_all, shape_held};
 
 use crate::arrays::{array, deeper};
 use crate::built::Built;
@@ -68,13 +68,13 @@ fn push_all(parts: &[Data], built: &mut Built) -> Result<(), Stop>
     Ok(())
 }
 
-/// An array of parts.
+/// An array of parts; where there are none, of rows of the form that is told.
 #[tactic(auto, using(crate::proofs::Tupling::literals))]
-pub fn array_of_parts(alloc: Global, at: Place, parts: &[Data]) -> Result<Data, Stop>
-    ensures { Tells (array_made false at Unmet_shape (held_all parts.now)) (as_held result) }
+pub fn array_of_parts(alloc: Global, told: Form, at: Place, parts: &[Data]) -> Result<Data, Stop>
+    ensures { Tells (array_made false at (shape_held told) (held_all parts.now)) (as_held result) }
 {
-    let unmet = Shared::new(alloc, Form::Unmet)?;
+    let told = Shared::new(alloc, told)?;
     let mut built = Built::new(alloc);
     push_all(parts, &mut built)?;
-    array(alloc, at, &unmet, 0, built)
+    array(alloc, at, &told, 0, built)
 }

@@ -1,6 +1,7 @@
 pub mod Cutting
 pub mod Numbering
 pub mod Columning
+pub mod Told
 pub mod Planning
 pub mod Picking
 pub mod Zipping

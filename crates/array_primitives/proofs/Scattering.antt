@@ -7,7 +7,7 @@ use Rattle.fut_scalar.specs.declared.place.Place.{Place}
 use Rattle.fut_scalar.specs.declared.report.FailKind.TheVariants as kind
 use Rattle.fut_flat.specs.declared.prim.Primitive.{Primitive}
 use Rattle.fut_flat.specs.declared.prim.Primitive.TheVariants as prim
-use Rattle.fut_value.specs.Data.{Shape, Unmet_shape, Datum, Array_datum, datums, same_sizes}
+use Rattle.fut_value.specs.Data.{Shape, Datum, Array_datum, datums, same_sizes}
 use Rattle.fut_meaning.specs.Arrays.{Rows, each_out, exact_of, rows_of, fitting}
 use Rattle.fut_meaning.specs.Jobs.{Job, job, Choose_each, Reduce_each, in_place_of, Is_one_of, on_rows, or_old, places, writes, and_write, written_at, written, scattered, shown_to_agree}
 use Rattle.fut_meaning.specs.Outcomes.{Out, Val, Fail, Wrong, and_then}
@@ -17,7 +17,7 @@ use Rattle.array_data.specs.declared.stop.Stop.{Stop}
 use Rattle.array_data.specs.declared.stop.Stop.TheVariants.{Failed, Memory}
 use Rattle.array_data.specs.Answers.{Added, added, not_added, Counts, counts, no_array, Row_is, row_is, no_memory_row, Exact_is, exact_is, no_integer, exact_held}
 use Rattle.array_data.specs.Held.{held, held_all, rows_in, row_shape_in}
-use Rattle.array_primitives.specs.Plans.{and_old, Planned, plan_scatter, plan_combine, plan_fails, plan_memory, plan_lost}
+use Rattle.array_primitives.specs.Plans.{and_old, Planned, Plans, plan_scatter, plan_combine, plan_fails, plan_memory, plan_lost}
 use Rattle.array_data.specs.declared.data.Data.{Data}
 use Rattle.array_data.specs.declared.data.Data.TheVariants as hold
 use Rattle.fut_scalar.specs.declared.scalar.Scalar.TheVariants as scalar
@@ -26,7 +26,7 @@ use Rattle.array_data.specs.Changes.{Replaced, replaced}
 use Rattle.array_primitives.specs.Writes.{All_chosen, none_chosen, one_chosen, in_array, Scatters, scatters, scatter_fails, scatter_memory, scatter_lost, written_to, all_written, Write_counts, write_counts, writes_fail, writes_memory, Index_at, Put_at, put_there, put_nowhere, Rows_chosen}
 use Rattle.array_primitives.proofs.Asking.{Never_fails, has_value, is_wrong, all_never}
 use Rattle.array_primitives.proofs.Writing.{get_set, get_other, set_long, written_there, written_elsewhere, no_write, one_write, writes_more}
-use Rattle.array_primitives.proofs.Planning.{three_held, four_held}
+use Rattle.array_primitives.proofs.Planning.{three_held, four_held, no_plan}
 
 -- the integers are as many as what they are read of
 pub read_long : (is : List Datum) (zs : List ℤ) → each_out exact_of is ≡ Val zs → length zs ≡ length is
@@ -232,37 +232,38 @@ pub ruleset scattering = (scatter_stop, scatter_done, scatter_memory, places_cou
 -- ---- its plan
 
 module _ (p : Primitive) (at : Place) (ds : List Data) (x y z : Data) (e : p ≡ prim.Scatter) (l : length ds ≡ 3) where
-  scatter_job : job false Unmet_shape p at (held_all ds) ≡ scattered false at (held (get_or ds 0 x)) (held (get_or ds 1 y)) (held (get_or ds 2 z))
+  scatter_job : (told : Shape) → job false told p at (held_all ds) ≡ scattered false at (held (get_or ds 0 x)) (held (get_or ds 1 y)) (held (get_or ds 2 z))
   unfolding job held_all
-  scatter_job = ap (λ p. job false Unmet_shape p at (held_all ds)) e ∙ by_list ds l
+  scatter_job told = ap (λ p. job false told p at (held_all ds)) e ∙ by_list ds l
     where
-      by_list : (ds : List Data) → length ds ≡ 3 → job false Unmet_shape prim.Scatter at (map held ds) ≡ scattered false at (held (get_or ds 0 x)) (held (get_or ds 1 y)) (held (get_or ds 2 z))
+      by_list : (ds : List Data) → length ds ≡ 3 → job false told prim.Scatter at (map held ds) ≡ scattered false at (held (get_or ds 0 x)) (held (get_or ds 1 y)) (held (get_or ds 2 z))
       by_list [] l = absurd (omega arith)
       by_list (a ∷ []) l = absurd (omega arith)
       by_list (a ∷ b ∷ []) l = absurd (omega arith)
       by_list (a ∷ b ∷ c ∷ []) l = refl
       by_list (a ∷ b ∷ c ∷ d ∷ ds) l = absurd (omega arith)
 
-  scatter_planned : Planned (job false Unmet_shape p at (held_all ds)) at (held_all ds) (Ok plan.Scatter)
-  scatter_planned = plan_scatter (held (get_or ds 0 x)) (held (get_or ds 1 y)) (held (get_or ds 2 z)) (three_held ds x y z l) scatter_job
+  scatter_planned : Plans p at (held_all ds) (Ok plan.Scatter)
+  unfolding Plans
+  scatter_planned told = plan_scatter (held (get_or ds 0 x)) (held (get_or ds 1 y)) (held (get_or ds 2 z)) (three_held ds x y z l) (scatter_job told)
 
-pub three_planned : (p : Primitive) (at : Place) (ds : List Data) → p ≡ prim.Scatter → length ds ≡ 3 → Planned (job false Unmet_shape p at (held_all ds)) at (held_all ds) (Ok plan.Scatter)
+pub three_planned : (p : Primitive) (at : Place) (ds : List Data) → p ≡ prim.Scatter → length ds ≡ 3 → Plans p at (held_all ds) (Ok plan.Scatter)
 three_planned p at ds e l = scatter_planned p at ds nothing nothing nothing e l
   where
     nothing : Data
     nothing = hold.Scalar (scalar.Bool false)
 
-pub ruleset scatter_plans = (three_planned, plan_memory)
+pub ruleset scatter_plans = (three_planned, no_plan)
 
 module _ (p : Primitive) (at : Place) (ds : List Data) (w x y z : Data) (e : p ≡ prim.ReduceByIndex) (l : length ds ≡ 4) where
   abbrev combining_job : Datum → Rows → List (ℕ × Datum) → Out Job
   combining_job ne r ws = Val (Reduce_each true ne (places and_old 0 r.1 ws) (in_place_of false at r.0))
 
-  combine_job : job false Unmet_shape p at (held_all ds) ≡ written_to at (held (get_or ds 0 w)) (held (get_or ds 2 y)) (held (get_or ds 3 z)) (combining_job (held (get_or ds 1 x)))
+  combine_job : (told : Shape) → job false told p at (held_all ds) ≡ written_to at (held (get_or ds 0 w)) (held (get_or ds 2 y)) (held (get_or ds 3 z)) (combining_job (held (get_or ds 1 x)))
   unfolding job held_all written_to
-  combine_job = ap (λ p. job false Unmet_shape p at (held_all ds)) e ∙ by_list ds l
+  combine_job told = ap (λ p. job false told p at (held_all ds)) e ∙ by_list ds l
     where
-      by_list : (ds : List Data) → length ds ≡ 4 → job false Unmet_shape prim.ReduceByIndex at (map held ds) ≡ on_rows (held (get_or ds 0 w)) (λ r. written false at r (held (get_or ds 2 y)) (held (get_or ds 3 z)) (combining_job (held (get_or ds 1 x)) r))
+      by_list : (ds : List Data) → length ds ≡ 4 → job false told prim.ReduceByIndex at (map held ds) ≡ on_rows (held (get_or ds 0 w)) (λ r. written false at r (held (get_or ds 2 y)) (held (get_or ds 3 z)) (combining_job (held (get_or ds 1 x)) r))
       by_list [] l = absurd (omega arith)
       by_list (a ∷ []) l = absurd (omega arith)
       by_list (a ∷ b ∷ []) l = absurd (omega arith)
@@ -270,13 +271,14 @@ module _ (p : Primitive) (at : Place) (ds : List Data) (w x y z : Data) (e : p �
       by_list (a ∷ b ∷ c ∷ d ∷ []) l = refl
       by_list (a ∷ b ∷ c ∷ d ∷ f ∷ ds) l = absurd (omega arith)
 
-  pub combine_stops : (s : Stop) → Write_counts at (held (get_or ds 0 w)) (held (get_or ds 2 y)) (held (get_or ds 3 z)) (Err s) → Planned (job false Unmet_shape p at (held_all ds)) at (held_all ds) (Err s)
-  combine_stops _ (writes_fail q) = plan_fails (combine_job ∙ q (combining_job (held (get_or ds 1 x))))
-  combine_stops _ writes_memory = plan_memory
+  pub combine_stops : (s : Stop) → Write_counts at (held (get_or ds 0 w)) (held (get_or ds 2 y)) (held (get_or ds 3 z)) (Err s) → Plans p at (held_all ds) (Err s)
+  unfolding Plans
+  combine_stops _ (writes_fail q) told = plan_fails (combine_job told ∙ q (combining_job (held (get_or ds 1 x))))
+  combine_stops _ writes_memory told = plan_memory
 
-  pub combine_planned : (n m : ℕ) → Write_counts at (held (get_or ds 0 w)) (held (get_or ds 2 y)) (held (get_or ds 3 z)) (Ok (n, m)) → Planned (job false Unmet_shape p at (held_all ds)) at (held_all ds) (Ok (plan.Combine m))
-  unfolding all_written
-  combine_planned n m (write_counts i i' i'' k) = by_read (all_never (rows_in is))
+  pub combine_planned : (n m : ℕ) → Write_counts at (held (get_or ds 0 w)) (held (get_or ds 2 y)) (held (get_or ds 3 z)) (Ok (n, m)) → Plans p at (held_all ds) (Ok (plan.Combine m))
+  unfolding Plans all_written
+  combine_planned n m (write_counts i i' i'' k) told = by_read (all_never (rows_in is))
     where
       is : Datum
       is = held (get_or ds 2 y)
@@ -287,11 +289,11 @@ module _ (p : Primitive) (at : Place) (ds : List Data) (w x y z : Data) (e : p �
       after : Out (List ℤ) → Out Job
       after o = and_then o (λ zs. combining_job (held (get_or ds 1 x)) (row_shape_in (held (get_or ds 0 w)), rows_in (held (get_or ds 0 w))) (writes (length (rows_in (held (get_or ds 0 w)))) zs (rows_in vs)))
 
-      job_is : job false Unmet_shape p at (held_all ds) ≡ after (each_out exact_of (rows_in is))
-      job_is = combine_job ∙ k (combining_job (held (get_or ds 1 x)))
+      job_is : job false told p at (held_all ds) ≡ after (each_out exact_of (rows_in is))
+      job_is = combine_job told ∙ k (combining_job (held (get_or ds 1 x)))
 
-      by_read : Never_fails (each_out exact_of (rows_in is)) → Planned (job false Unmet_shape p at (held_all ds)) at (held_all ds) (Ok (plan.Combine m))
+      by_read : Never_fails (each_out exact_of (rows_in is)) → Planned told (job false told p at (held_all ds)) at (held_all ds) (Ok (plan.Combine m))
       by_read (is_wrong q) = plan_lost (job_is ∙ ap after q)
       by_read (has_value zs q) = plan_combine (held (get_or ds 0 w)) (held (get_or ds 1 x)) is vs zs (four_held ds w x y z l) q i' i'' (job_is ∙ ap after q)
 
-pub ruleset combine_plans = (combine_stops, combine_planned, plan_memory)
+pub ruleset combine_plans = (combine_stops, combine_planned, no_plan)

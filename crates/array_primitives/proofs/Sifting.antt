@@ -9,7 +9,7 @@ use Rattle.fut_scalar.specs.declared.scalar.ScalarType.{ScalarType}
 use Rattle.fut_scalar.specs.declared.scalar.ScalarType.TheVariants as sort
 use Rattle.fut_flat.specs.declared.prim.Primitive.{Primitive}
 use Rattle.fut_flat.specs.declared.prim.Primitive.TheVariants as prim
-use Rattle.fut_value.specs.Data.{Unmet_shape, Datum, Tuple_datum, Array_datum, datums, shape_of, array_words}
+use Rattle.fut_value.specs.Data.{Shape, Datum, Tuple_datum, Array_datum, datums, shape_of, array_words}
 use Rattle.fut_meaning.specs.Arrays.{Counted, rows_of, each_out, truth_of_datum}
 use Rattle.fut_meaning.specs.Jobs.{Apply_each, job, alone, truths, counting, sifted, two_arrays}
 use Rattle.fut_meaning.specs.Outcomes.{Out, Val, and_then}
@@ -24,38 +24,40 @@ use Rattle.array_data.specs.declared.stop.Stop.{Stop}
 use Rattle.array_data.specs.declared.stop.Stop.TheVariants.{Memory}
 use Rattle.array_data.specs.Answers.{each_at, Counts, counts, Row_is, row_is, Added, added}
 use Rattle.array_data.specs.Held.{scalars, shape_held, held, held_all, built_rows, rows_in, row_shape_in}
-use Rattle.array_primitives.specs.Plans.{made_of, odd, Planned, plan_each, plan_lost, plan_memory, Counted_is, counted_is, counted_memory, Sieved}
+use Rattle.array_primitives.specs.Plans.{made_of, odd, Plans, plan_each, Counted_is, counted_is, counted_memory, Sieved}
 use Rattle.array_data.proofs.Building.{no_rows}
 use Rattle.array_primitives.proofs.Columning.{alone_long, one_row}
-use Rattle.array_primitives.proofs.Planning.{one_held}
+use Rattle.array_primitives.proofs.Planning.{one_held, no_plan}
 use Rattle.array_data.proofs.RowsRead.{take_row}
 
 -- ---- the plan
 
-filter_known : (at : Place) (d : Datum) → rows_of d ≡ Val (row_shape_in d, rows_in d) → job false Unmet_shape prim.Filter at (d ∷ []) ≡ Val (Apply_each (alone (rows_in d)) (made_of finish.Kept at (d ∷ [])))
+filter_known : (told : Shape) (at : Place) (d : Datum) → rows_of d ≡ Val (row_shape_in d, rows_in d) → job false told prim.Filter at (d ∷ []) ≡ Val (Apply_each (alone (rows_in d)) (made_of told finish.Kept at (d ∷ [])))
 unfolding job
-filter_known at d q = ap (λ z. and_then z (λ r. Val (Apply_each (alone r.1) (truths (λ bs. counting d (Val (Array_datum r.0 (datums (sifted true r.1 bs))))))))) q
+filter_known told at d q = ap (λ z. and_then z (λ r. Val (Apply_each (alone r.1) (truths (λ bs. counting d (Val (Array_datum r.0 (datums (sifted true r.1 bs))))))))) q
 
-partition_known : (at : Place) (d : Datum) → rows_of d ≡ Val (row_shape_in d, rows_in d) → job false Unmet_shape prim.Partition at (d ∷ []) ≡ Val (Apply_each (alone (rows_in d)) (made_of finish.Parted at (d ∷ [])))
+partition_known : (told : Shape) (at : Place) (d : Datum) → rows_of d ≡ Val (row_shape_in d, rows_in d) → job false told prim.Partition at (d ∷ []) ≡ Val (Apply_each (alone (rows_in d)) (made_of told finish.Parted at (d ∷ [])))
 unfolding job
-partition_known at d q = ap (λ z. and_then z (λ r. Val (Apply_each (alone r.1) (truths (λ bs. counting d (Val (two_arrays r.0 r.1 bs))))))) q
+partition_known told at d q = ap (λ z. and_then z (λ r. Val (Apply_each (alone r.1) (truths (λ bs. counting d (Val (two_arrays r.0 r.1 bs))))))) q
 
 row_alone : (d : Datum) (k : ℕ) (es : List Datum) → each_at k (d ∷ []) ≡ Some es → slice_get (alone (rows_in d)) k ≡ Some es
 row_alone d k es h = one_row (rows_in d) k es (slice_get (rows_in d) k) refl h
 
 module _ (p : Primitive) (at : Place) (ds : List Data) (d : Data) (n : ℕ) (one : length ds ≡ 1) where
-  as_one : (q : Primitive) (r : Result Plan Stop) → p ≡ q → Planned (job false Unmet_shape q at (held (get_or ds 0 d) ∷ [])) at (held (get_or ds 0 d) ∷ []) r → Planned (job false Unmet_shape p at (held_all ds)) at (held_all ds) r
-  as_one q r i h = subst (λ z. Planned (job false Unmet_shape z at (held_all ds)) at (held_all ds) r) (sym i) (subst (λ z. Planned (job false Unmet_shape q at z) at z r) (sym (one_held ds d one)) h)
+  as_one : (q : Primitive) (r : Result Plan Stop) → p ≡ q → Plans q at (held (get_or ds 0 d) ∷ []) r → Plans p at (held_all ds) r
+  as_one q r i h = subst (λ z. Plans z at (held_all ds) r) (sym i) (subst (λ z. Plans q at z r) (sym (one_held ds d one)) h)
 
-  pub filter_planned : p ≡ prim.Filter → Counts (held (get_or ds 0 d)) (Ok n) → Planned (job false Unmet_shape p at (held_all ds)) at (held_all ds) (Ok (plan.Each finish.Kept n))
+  pub filter_planned : p ≡ prim.Filter → Counts (held (get_or ds 0 d)) (Ok n) → Plans p at (held_all ds) (Ok (plan.Each finish.Kept n))
+  unfolding Plans
   filter_planned i (counts q m) = as_one prim.Filter (Ok (plan.Each finish.Kept n)) i
-      (plan_each (alone (rows_in (held (get_or ds 0 d)))) (filter_known at (held (get_or ds 0 d)) q) (m ∙ sym (alone_long (rows_in (held (get_or ds 0 d))))) (λ k es l h. row_alone (held (get_or ds 0 d)) k es h))
+      (λ told. plan_each (alone (rows_in (held (get_or ds 0 d)))) (filter_known told at (held (get_or ds 0 d)) q) (m ∙ sym (alone_long (rows_in (held (get_or ds 0 d))))) (λ k es l h. row_alone (held (get_or ds 0 d)) k es h))
 
-  pub partition_planned : p ≡ prim.Partition → Counts (held (get_or ds 0 d)) (Ok n) → Planned (job false Unmet_shape p at (held_all ds)) at (held_all ds) (Ok (plan.Each finish.Parted n))
+  pub partition_planned : p ≡ prim.Partition → Counts (held (get_or ds 0 d)) (Ok n) → Plans p at (held_all ds) (Ok (plan.Each finish.Parted n))
+  unfolding Plans
   partition_planned i (counts q m) = as_one prim.Partition (Ok (plan.Each finish.Parted n)) i
-      (plan_each (alone (rows_in (held (get_or ds 0 d)))) (partition_known at (held (get_or ds 0 d)) q) (m ∙ sym (alone_long (rows_in (held (get_or ds 0 d))))) (λ k es l h. row_alone (held (get_or ds 0 d)) k es h))
+      (λ told. plan_each (alone (rows_in (held (get_or ds 0 d)))) (partition_known told at (held (get_or ds 0 d)) q) (m ∙ sym (alone_long (rows_in (held (get_or ds 0 d))))) (λ k es l h. row_alone (held (get_or ds 0 d)) k es h))
 
-pub ruleset sieves = (filter_planned, partition_planned, plan_memory)
+pub ruleset sieves = (filter_planned, partition_planned, no_plan)
 
 -- ---- truths
 

@@ -2,9 +2,10 @@
 use Rattle.std.specs.Prelude.{◌≡◌, ℕ, ℤ, ◌<◌, ◌%◌, ◌==◌, false, true, Bool, List, [], ◌∷◌, ◌++◌, length, slice_get, Option, Some, Result, Ok, Err}
 use Rattle.fut_scalar.specs.declared.place.Place.{Place}
 use Rattle.fut_scalar.specs.declared.report.Report.{Report}
-use Rattle.fut_value.specs.Data.{Datum, Array_datum, Unmet_shape, datums}
+use Rattle.fut_value.specs.Data.{Shape, Unmet_shape, Datum, Array_datum, datums}
 use Rattle.fut_meaning.specs.Arrays.{Counted, i64, rows_of, array, all_fresh, fresh, each_out, exact_of}
-use Rattle.fut_meaning.specs.Jobs.{Job, Apply_each, Reduce_each, array_of_results, array_of_indices, part_at, places, prefixes_on, truths, counting, sifted, two_arrays, in_place_of, scattered, writes}
+use Rattle.fut_flat.specs.declared.prim.Primitive.{Primitive}
+use Rattle.fut_meaning.specs.Jobs.{job, mapped, Job, Apply_each, Reduce_each, array_of_results, array_of_indices, part_at, places, prefixes_on, truths, counting, sifted, two_arrays, in_place_of, scattered, writes}
 use Rattle.fut_meaning.specs.Outcomes.{Out, Val, Fail, Wrong, and_then}
 use Rattle.array_data.specs.declared.data.Data.{Data}
 use Rattle.array_primitives.specs.declared.jobs.Finish.{Finish}
@@ -28,14 +29,14 @@ source_row (finish.Tabulated n) ds i = Some (i64 i ∷ [])
 source_row finish.Kept ds i = each_at i ds
 source_row finish.Parted ds i = each_at i ds
 
--- what is made of its results
-abbrev pub made_of : Finish → Place → List Datum → List Datum → Out Counted
-made_of finish.Mapped at ds es = array_of_results false Unmet_shape at es
-made_of (finish.Tabulated n) at ds es = array_of_indices false Unmet_shape at n es
-made_of finish.Kept at (d ∷ []) es = truths (λ bs. counting d (Val (Array_datum (row_shape_in d) (datums (sifted true (rows_in d) bs))))) es
-made_of finish.Kept at ds es = Wrong
-made_of finish.Parted at (d ∷ []) es = truths (λ bs. counting d (Val (two_arrays (row_shape_in d) (rows_in d) bs))) es
-made_of finish.Parted at ds es = Wrong
+-- what is made of its results, where rows that are missing have a shape that is told
+abbrev pub made_of : (told : Shape) → Finish → Place → List Datum → List Datum → Out Counted
+made_of told finish.Mapped at ds es = array_of_results false told at es
+made_of told (finish.Tabulated n) at ds es = array_of_indices false told at n es
+made_of told finish.Kept at (d ∷ []) es = truths (λ bs. counting d (Val (Array_datum (row_shape_in d) (datums (sifted true (rows_in d) bs))))) es
+made_of told finish.Kept at ds es = Wrong
+made_of told finish.Parted at (d ∷ []) es = truths (λ bs. counting d (Val (two_arrays (row_shape_in d) (rows_in d) bs))) es
+made_of told finish.Parted at ds es = Wrong
 
 -- these are the rows that the function is applied to
 abbrev pub Source_is : Finish → List Datum → List (List Datum) → Type 0
@@ -53,17 +54,24 @@ and_old v vs = v ∷ vs
 abbrev pub combines : Place → (d ne vs : Datum) → List ℤ → Job
 combines at d ne vs zs = Reduce_each true ne (places and_old 0 (rows_in d) (writes (length (rows_in d)) zs (rows_in vs))) (in_place_of false at (row_shape_in d))
 
--- what is left to do of a job
-pub data Planned (o : Out Job) (at : Place) (ds : List Datum) : Result Plan Stop → Type 0 where
-  plan_done : {v : Data} → Does o (Ok (held v)) → Planned o at ds (Ok (plan.Done v))
-  plan_scatter : (d is vs : Datum) → ds ≡ d ∷ is ∷ vs ∷ [] → o ≡ scattered false at d is vs → Planned o at ds (Ok plan.Scatter)
-  plan_each : {f : Finish} {n : ℕ} (rows : List (List Datum)) → o ≡ Val (Apply_each rows (made_of f at ds)) → n ≡ length rows → Source_is f ds rows → Planned o at ds (Ok (plan.Each f n))
-  plan_reduce : (any : Bool) (ne d : Datum) → ds ≡ ne ∷ d ∷ [] → o ≡ Val (Reduce_each any ne (rows_in d ∷ []) first_fresh) → Planned o at ds (Ok plan.Reduce)
-  plan_scan : (ne d : Datum) → ds ≡ ne ∷ d ∷ [] → o ≡ Val (Reduce_each false ne (prefixes_on [] (rows_in d)) (λ es. all_fresh (array false at (row_shape_in d) es))) → Planned o at ds (Ok plan.Scan)
-  plan_combine : {n : ℕ} (d ne is vs : Datum) (zs : List ℤ) → ds ≡ d ∷ ne ∷ is ∷ vs ∷ [] → each_out exact_of (rows_in is) ≡ Val zs → n ≡ length (rows_in is) → n ≡ length (rows_in vs) → o ≡ Val (combines at d ne vs zs) → Planned o at ds (Ok (plan.Combine n))
-  plan_fails : {r : Report} → o ≡ Fail r → Planned o at ds (Err (Failed r))
-  plan_memory : Planned o at ds (Err Memory)
-  plan_lost : {r : Result Plan Stop} → o ≡ Wrong → Planned o at ds r
+-- what is left to do of a job, where a shape is told
+pub data Planned (told : Shape) (o : Out Job) (at : Place) (ds : List Datum) : Result Plan Stop → Type 0 where
+  plan_done : {v : Data} → Does o (Ok (held v)) → Planned told o at ds (Ok (plan.Done v))
+  plan_scatter : (d is vs : Datum) → ds ≡ d ∷ is ∷ vs ∷ [] → o ≡ scattered false at d is vs → Planned told o at ds (Ok plan.Scatter)
+  plan_each : {f : Finish} {n : ℕ} (rows : List (List Datum)) → o ≡ Val (Apply_each rows (made_of told f at ds)) → n ≡ length rows → Source_is f ds rows → Planned told o at ds (Ok (plan.Each f n))
+  plan_reduce : (any : Bool) (ne d : Datum) → ds ≡ ne ∷ d ∷ [] → o ≡ Val (Reduce_each any ne (rows_in d ∷ []) first_fresh) → Planned told o at ds (Ok plan.Reduce)
+  plan_scan : (ne d : Datum) → ds ≡ ne ∷ d ∷ [] → o ≡ Val (Reduce_each false ne (prefixes_on [] (rows_in d)) (λ es. all_fresh (array false at (row_shape_in d) es))) → Planned told o at ds (Ok plan.Scan)
+  plan_combine : {n : ℕ} (d ne is vs : Datum) (zs : List ℤ) → ds ≡ d ∷ ne ∷ is ∷ vs ∷ [] → each_out exact_of (rows_in is) ≡ Val zs → n ≡ length (rows_in is) → n ≡ length (rows_in vs) → o ≡ Val (combines at d ne vs zs) → Planned told o at ds (Ok (plan.Combine n))
+  plan_fails : {r : Report} → o ≡ Fail r → Planned told o at ds (Err (Failed r))
+  plan_memory : Planned told o at ds (Err Memory)
+  plan_lost : {r : Result Plan Stop} → o ≡ Wrong → Planned told o at ds r
+
+-- of a primitive, and of a map, whatever shape is told
+unfoldable pub Plans : Primitive → Place → List Datum → Result Plan Stop → Type 0
+Plans p at ds r = (told : Shape) → Planned told (job false told p at ds) at ds r
+
+unfoldable pub Plans_map : Place → List Datum → Result Plan Stop → Type 0
+Plans_map at ds r = (told : Shape) → Planned told (mapped false told at ds) at ds r
 
 -- some data and an array
 pub data Two_rows (ds : List Datum) : Result (Unit {0}) Stop → Type 0 where
@@ -85,4 +93,4 @@ pub data Counted_is (o : Out Counted) : Result Datum Stop → Type 0 where
 
 -- what is made of truth values for the rows of an array
 unfoldable pub Sieved : Finish → Place → Datum → List Datum → Result Datum Stop → Type 0
-Sieved f at d es r = Counted_is (made_of f at (d ∷ []) es) r
+Sieved f at d es r = Counted_is (made_of Unmet_shape f at (d ∷ []) es) r

@@ -2,10 +2,10 @@
 ghost use Rattle.std.specs.Prelude.{◌≡◌, ◌<◌, false, [], ◌∷◌};
 ghost use Rattle.fut_flat.specs.declared.prim.Primitive.TheVariants as prim;
 ghost use Rattle.fut_value.specs.Data.{Unmet_shape};
-ghost use Rattle.fut_meaning.specs.Jobs.{job, mapped};
+ghost use Rattle.fut_meaning.specs.Jobs.{job};
 ghost use Rattle.array_data.specs.Answers.{Does};
-ghost use Rattle.array_primitives.specs.Plans.{Counted_is, Planned, Put_row, Two_rows, made_of};
-ghost use Rattle.array_data.specs.Held.{as_held, built_rows, held, held_all};
+ghost use Rattle.array_primitives.specs.Plans.{Counted_is, Plans, Plans_map, Put_row, Two_rows, made_of};
+ghost use Rattle.array_data.specs.Held.{as_held, built_rows, held, held_all, shape_held};
 
 use crate::columns::{put_rows, same_counts};
 use crate::counting::{copied, indices, iota, length, null, number, replicate};
@@ -160,7 +160,7 @@ fn done_zip(alloc: Global, primitive: Primitive, at: Place, args: &[Data]) -> Re
 /// The rows of a map.
 #[tactic(auto, using(crate::proofs::Planning::maps))]
 fn plan_map(at: Place, args: &[Data]) -> Result<Plan, Stop>
-    ensures { Planned (mapped false Unmet_shape at (held_all args.now)) at (held_all args.now) result }
+    ensures { Plans_map at (held_all args.now) result }
 {
     let n = same_counts(at, args)?;
     Ok(Plan::Each(Finish::Mapped, n))
@@ -169,7 +169,7 @@ fn plan_map(at: Place, args: &[Data]) -> Result<Plan, Stop>
 /// The indices of a table.
 #[tactic(auto, using(crate::proofs::Planning::tables))]
 fn plan_table(at: Place, size: &Data) -> Result<Plan, Stop>
-    ensures { Planned (job false Unmet_shape prim.Tabulate at (held size.now ∷ [])) at (held size.now ∷ []) result }
+    ensures { Plans prim.Tabulate at (held size.now ∷ []) result }
 {
     match whole_number(size)? {
         Exact::Below(_) => Err(failed(FailKind::Range, at)),
@@ -180,7 +180,7 @@ fn plan_table(at: Place, size: &Data) -> Result<Plan, Stop>
 /// The rows of a filter or a partition.
 #[tactic(auto, using(crate::proofs::Sifting::sieves))]
 fn plan_sieve(primitive: Primitive, at: Place, args: &[Data]) -> Result<Plan, Stop>
-    ensures { Planned (job false Unmet_shape primitive at (held_all args.now)) at (held_all args.now) result }
+    ensures { Plans primitive at (held_all args.now) result }
 {
     if args.len() != 1 {
         return Err(Stop::Memory);
@@ -199,7 +199,7 @@ fn plan_sieve(primitive: Primitive, at: Place, args: &[Data]) -> Result<Plan, St
 #[tactic(auto, using(crate::proofs::Scattering::scatter_plans))]
 fn plan_scatter(primitive: Primitive, at: Place, args: &[Data]) -> Result<Plan, Stop>
     requires { primitive ≡ prim.Scatter }
-    ensures { Planned (job false Unmet_shape primitive at (held_all args.now)) at (held_all args.now) result }
+    ensures { Plans primitive at (held_all args.now) result }
 {
     if args.len() != 3 {
         return Err(Stop::Memory);
@@ -211,7 +211,7 @@ fn plan_scatter(primitive: Primitive, at: Place, args: &[Data]) -> Result<Plan, 
 #[tactic(auto, using(crate::proofs::Scattering::combine_plans))]
 fn plan_combine(alloc: Global, primitive: Primitive, at: Place, args: &[Data]) -> Result<Plan, Stop>
     requires { primitive ≡ prim.ReduceByIndex }
-    ensures { Planned (job false Unmet_shape primitive at (held_all args.now)) at (held_all args.now) result }
+    ensures { Plans primitive at (held_all args.now) result }
 {
     if args.len() != 4 {
         return Err(Stop::Memory);
@@ -235,7 +235,7 @@ fn two_rows(args: &[Data]) -> Result<(), Stop>
 /// What a primitive does with its data.
 #[tactic(auto, using(crate::proofs::Planning::plans))]
 pub fn plan_of(alloc: Global, primitive: Primitive, at: Place, args: &[Data]) -> Result<Plan, Stop>
-    ensures { Planned (job false Unmet_shape primitive at (held_all args.now)) at (held_all args.now) result }
+    ensures { Plans primitive at (held_all args.now) result }
 {
     match primitive {
         Primitive::Map => plan_map(at, args),
@@ -288,21 +288,22 @@ pub fn put_row(finish: Finish, args: &[Data], at: usize, stack: &mut Vec<Data>) 
     }
 }
 
-/// What is made of the results of a function on rows.
+/// What is made of the results of a function on rows; where there are none, of rows of the form that is told.
 #[tactic(auto, using(crate::proofs::Planning::finishes))]
 pub fn finish_rows(
     alloc: Global,
     finish: Finish,
+    told: Form,
     at: Place,
     args: &[Data],
     built: Built,
 ) -> Result<Data, Stop>
-    ensures { Counted_is (made_of finish at (held_all args.now) (built_rows built)) (as_held result) }
+    ensures { Counted_is (made_of (shape_held told) finish at (held_all args.now) (built_rows built)) (as_held result) }
 {
-    let unmet = Shared::new(alloc, Form::Unmet)?;
+    let told = Shared::new(alloc, told)?;
     match finish {
-        Finish::Mapped => array(alloc, at, &unmet, 0, built),
-        Finish::Tabulated(_) => array(alloc, at, &unmet, 0, built),
+        Finish::Mapped => array(alloc, at, &told, 0, built),
+        Finish::Tabulated(_) => array(alloc, at, &told, 0, built),
         Finish::Kept => {
             if args.len() == 1 {
                 keep_rows(alloc, at, &args[0], &built)

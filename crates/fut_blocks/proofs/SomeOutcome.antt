@@ -3,7 +3,7 @@ use Rattle.std.proofs.Common.{◌≡◌, ℕ, suc, ◌+◌, List, [], ◌∷◌,
 use mathlib.Core.Logic.{inl}
 use Rattle.fut_scalar.specs.declared.report.FailKind.TheVariants as kind
 use Rattle.fut_scalar.specs.declared.scalar.Scalar.TheVariants as scalar
-use Rattle.fut_value.specs.Data.{Unmet_shape, Datum, Scalar_datum, Tuple_datum, datums}
+use Rattle.fut_value.specs.Data.{Datum, Scalar_datum, Tuple_datum, datums}
 use Rattle.fut_meaning.specs.Accessors.{or_wrong}
 use Rattle.fut_meaning.specs.Arrays.{Counted, rows_of, made}
 use Rattle.fut_meaning.specs.Claims.{Some_outcome}
@@ -12,10 +12,10 @@ use Rattle.fut_meaning.specs.Meaning.{counts}
 use Rattle.fut_meaning.specs.Operations.{report}
 use Rattle.fut_meaning.specs.Outcomes.{Out, Val, Fail, Wrong, and_then, Rel, the, Then, Both, both, stops_left, stops_right, sticks_left, sticks_right, each_of, Tree, element, neutral, node, elements, neutrals, tree_gives, IsTight, bracket}
 use Rattle.fut_meaning.proofs.Some.{some_exact, some_then, some_choose, some_turns, some_while}
-use Rattle.fut_blocks.specs.Plain.{Action, Operate, Tuple, Make, Read, If, For, Over, While, Body, Give, Let, body_of}
+use Rattle.fut_blocks.specs.Plain.{Action, Operate, Tuple, Make, Read, Size_of, Coerce, If, For, Over, While, Body, Give, Let, body_of}
 use Rattle.fut_blocks.specs.Plain as act
 use Rattle.fut_blocks.specs.Records.{reads}
-use Rattle.fut_blocks.specs.Meaning.{Component, Names, bound, value_of, values_of, operated, truth_of_atom, turns_of_datum, the_one, function_of, counted, holds, job_given, act_means, body_means}
+use Rattle.fut_blocks.specs.Meaning.{Component, Names, bound, value_of, values_of, row_shape, extent_worth, size_given, sizes_tested, operated, truth_of_atom, turns_of_datum, the_one, function_of, counted, holds, job_given, act_means, body_means}
 use Rattle.fut_blocks.specs.Programs.{Program_means}
 use Rattle.fut_blocks.specs.Claims.{SomeOutcome}
 
@@ -108,10 +108,12 @@ module _ (tight : Bool) (budget : ℕ) where
     act_some (Operate o) env = some_exact 0 (operated env o)
     act_some (Tuple us) env = some_exact 0 (and_then (values_of env us) (λ vs. Val (Tuple_datum (datums vs) ∷ [])))
     act_some (Read k us) env = some_exact 0 (and_then (values_of env us) (reads k))
-    act_some (Make m at us) env = some_the (values_of env us) _ (λ vs. some_the (made false Unmet_shape m at vs) counted (λ r. some_exact r.0 (Val (r.1 ∷ []))))
-    act_some (act.Job p at us xs b) env =
-        some_the (values_of env us) _ (λ vs. some_the (job false Unmet_shape p at vs) _ (some_given tight (function_of (body_means tight budget b) xs env)
+    act_some (Make r m at us) env = some_the (values_of env us) _ (λ vs. some_the (and_then (row_shape env r) (λ h. made false h m at vs)) counted (λ r. some_exact r.0 (Val (r.1 ∷ []))))
+    act_some (act.Job r p at us xs b) env =
+        some_the (values_of env us) _ (λ vs. some_the (and_then (row_shape env r) (λ h. job false h p at vs)) _ (some_given tight (function_of (body_means tight budget b) xs env)
         (λ ds. some_then _ _ (λ ws f x. some_exact 0 (the_one ws)) (some_the (or_wrong (bound xs ds env)) _ (λ e. body_some b e)))))
+    act_some (Size_of e) env = some_exact 0 (and_then (extent_worth env e) size_given)
+    act_some (Coerce at t r) env = some_exact 0 (and_then (row_shape env r) (sizes_tested env at t))
     act_some (If c a b) env = some_the (truth_of_atom env c) _ (λ t. some_choose t _ _ (body_some a env) (body_some b env))
     act_some (For xs us i n b) env =
         some_the (values_of env us) _ (λ vs. some_the (and_then (value_of env n) turns_of_datum) _

@@ -1,5 +1,8 @@
+pub mod Rows
 pub mod Plain
 pub mod Records
+pub mod Names
+pub mod Sizes
 pub mod Meaning
 pub mod Numbered
 pub mod Programs

@@ -1,65 +1,36 @@
 -- What blocks mean: which outcomes they may have, each with the fresh words that it counts. Steps go in order, and the first
 -- that fails gives its report to the whole. It is said in the words by which the copying meaning of programs is said, and
 -- since blocks hold no functions, by structure. With a budget of turns for each `while`.
-use Rattle.std.specs.Prelude.{ℕ, ◌%◌, ◌^◌, List, [], ◌∷◌, Bool, false, cond, not, nat_eq, Option, Some, None}
-use Rattle.fut_scalar.specs.Integers.{width_of}
+use Rattle.std.specs.Prelude.{ℕ, List, [], ◌∷◌, Bool, false, cond, not, Option, ℤ, pos}
 use Rattle.fut_scalar.specs.declared.operator.BinOp.{BinOp}
 use Rattle.fut_scalar.specs.declared.operator.BinOp.TheVariants as binary
 use Rattle.fut_scalar.specs.declared.place.Place.{Place}
 use Rattle.fut_scalar.specs.declared.report.FailKind.TheVariants as kind
 use Rattle.fut_scalar.specs.declared.scalar.IntType.{IntType}
+use Rattle.fut_scalar.specs.declared.scalar.IntType.TheVariants.{I64}
 use Rattle.fut_scalar.specs.declared.scalar.Scalar.{Scalar}
 use Rattle.fut_scalar.specs.declared.scalar.Scalar.TheVariants as scalar
 use Rattle.fut_arithmetic.specs.Conversions.{converted}
 use Rattle.fut_meaning.specs.Accessors.{or_wrong, turns_of_scalar}
-use Rattle.fut_value.specs.Data.{Unmet_shape, Datum, Scalar_datum, Tuple_datum, listed, datums}
+use Rattle.fut_value.specs.Data.{Shape, Datum, Scalar_datum, Tuple_datum, listed, datums}
 use Rattle.fut_meaning.specs.Datums.{as_value}
-use Rattle.fut_meaning.specs.Arrays.{rows_of, scalar_of_datum, truth_of_datum, Counted, made}
+use Rattle.fut_meaning.specs.Found.{count}
+use Rattle.fut_meaning.specs.Arrays.{checked, rows_of, scalar_of_datum, truth_of_datum, Counted, made}
 use Rattle.fut_meaning.specs.Jobs.{Job, Applied, job_means, job}
 use Rattle.fut_meaning.specs.Flats.{FlatValue}
 use Rattle.fut_meaning.specs.Meaning.{counts}
 use Rattle.fut_meaning.specs.Operations.{report, reported, equal}
-use Rattle.fut_meaning.specs.Operators.{binary_result, unary_result}
+use Rattle.fut_meaning.specs.Operators.{integer, binary_result, unary_result}
 use Rattle.fut_meaning.specs.Outcomes.{Out, Val, Fail, Wrong, and_then, Rel, gives, the, Then, choose, turns, while_turns}
 use Rattle.fut_blocks.specs.declared.block.Atom.{Atom}
-use Rattle.fut_blocks.specs.declared.block.Atom.TheVariants as atom
 use Rattle.fut_blocks.specs.declared.block.Operation.{Operation}
 use Rattle.fut_blocks.specs.declared.block.Operation.TheVariants as operation
 use Rattle.fut_blocks.specs.Records.{reads}
-use Rattle.fut_blocks.specs.Plain.{Action, Operate, Tuple, Make, Read, If, For, Over, While, Body, Give, Let}
+use Rattle.fut_blocks.specs.Rows.{Size_test}
+use Rattle.fut_blocks.specs.Plain.{Action, Operate, Tuple, Make, Read, Size_of, Coerce, If, For, Over, While, Body, Give, Let}
 use Rattle.fut_blocks.specs.Plain as act
-
--- what a name stands for
-abbrev pub Component : Type 0
-Component = Datum
-
--- numbers with what they stand for, the newest first
-abbrev pub Names : Type 0 → Type 0
-Names A = List (ℕ × A)
-
-abbrev pub look : {A : Type 0} → Names A → ℕ → Option A
-look [] x = None
-look (d ∷ ds) x = cond (nat_eq d.0 x) (Some d.1) (look ds x)
-
--- each name for its own component; None where there are not as many of both
-abbrev pub bound : {A : Type 0} → List ℕ → List A → Names A → Option (Names A)
-bound [] [] env = Some env
-bound [] (v ∷ vs) env = None
-bound (x ∷ xs) [] env = None
-bound (x ∷ xs) (v ∷ vs) env = bound xs vs ((x, v) ∷ env)
-
--- a scalar of the lowest bits, as many as the type has
-abbrev pub fitted : Scalar → Scalar
-fitted (scalar.Int t n) = scalar.Int t (n % 2 ^ width_of t)
-fitted (scalar.Bool b) = scalar.Bool b
-
-abbrev pub value_of : Names Component → Atom → Out Component
-value_of env (atom.Name x) = or_wrong (look env x)
-value_of env (atom.Constant s) = Val (Scalar_datum (fitted s))
-
-abbrev pub values_of : Names Component → List Atom → Out (List Component)
-values_of env [] = Val []
-values_of env (u ∷ us) = and_then (value_of env u) (λ v. and_then (values_of env us) (λ vs. Val (v ∷ vs)))
+pub use Rattle.fut_blocks.specs.Names.{Component, Names, look, bound, fitted, value_of, values_of}
+pub use Rattle.fut_blocks.specs.Sizes.{row_met, row_shape, extent_worth, reading_worth, passes}
 
 -- data as a value of a program, which is where operations are said
 abbrev pub as_flat : Datum → FlatValue
@@ -111,6 +82,14 @@ truth_of_atom env c = and_then (value_of env c) truth_of_datum
 abbrev pub turns_of_datum : Component → Out (IntType × ℕ)
 turns_of_datum v = and_then (scalar_of_datum v) turns_of_scalar
 
+-- as an i64
+abbrev pub size_given : Option ℤ → Out (List Component)
+size_given z = Val (Scalar_datum (integer I64 (pos (count z))) ∷ [])
+
+-- data of a shape has the sizes that it has to have, or the report is at this place
+abbrev pub sizes_tested : Names Component → Place → Size_test → Shape → Out (List Component)
+sizes_tested env at t h = and_then (passes env t h) (λ b. checked b kind.Size at (Val []))
+
 abbrev pub for_turns : (Names Component → Results) → List ℕ → ℕ → Names Component → Atom → List Component → Results
 for_turns body xs i env n vs =
     Then (the (and_then (value_of env n) turns_of_datum)) (λ c. turns (λ j ws. under xs ws env (λ e. body ((i, Scalar_datum (scalar.Int c.0 j)) ∷ e))) (counts c.1 0) vs)
@@ -139,14 +118,15 @@ test_turn test xs env vs = under xs vs env (λ e. Then (test e) (λ ws. the (hol
 abbrev pub job_given : Bool → Applied → Job → Results
 job_given tight f j = Then (job_means tight (λ any ne ds. Unit {0}) (λ ws. Unit {0}) f j) (λ d. gives 0 (d ∷ []))
 
--- an array that is made without rows has rows of a shape that nothing gives
 unfoldable mutual
   pub act_means : Bool → ℕ → Action → Names Component → Results
   act_means tight budget (Operate o) env = the (operated env o)
   act_means tight budget (Tuple us) env = the (and_then (values_of env us) (λ vs. Val (Tuple_datum (datums vs) ∷ [])))
   act_means tight budget (Read k us) env = the (and_then (values_of env us) (reads k))
-  act_means tight budget (Make m at us) env = Then (the (values_of env us)) (λ vs. Then (the (made false Unmet_shape m at vs)) counted)
-  act_means tight budget (act.Job p at us xs b) env = Then (the (values_of env us)) (λ vs. Then (the (job false Unmet_shape p at vs)) (job_given tight (function_of (body_means tight budget b) xs env)))
+  act_means tight budget (Make r m at us) env = Then (the (values_of env us)) (λ vs. Then (the (and_then (row_shape env r) (λ h. made false h m at vs))) counted)
+  act_means tight budget (act.Job r p at us xs b) env = Then (the (values_of env us)) (λ vs. Then (the (and_then (row_shape env r) (λ h. job false h p at vs))) (job_given tight (function_of (body_means tight budget b) xs env)))
+  act_means tight budget (Size_of e) env = the (and_then (extent_worth env e) size_given)
+  act_means tight budget (Coerce at t r) env = the (and_then (row_shape env r) (sizes_tested env at t))
   act_means tight budget (If c a b) env = Then (the (truth_of_atom env c)) (λ t. choose t (body_means tight budget a env) (body_means tight budget b env))
   act_means tight budget (For xs us i n b) env = Then (the (values_of env us)) (for_turns (body_means tight budget b) xs i env n)
   act_means tight budget (Over xs us x r b) env = Then (the (values_of env us)) (row_turns (body_means tight budget b) xs x env r)

@@ -1,4 +1,5 @@
 // Blocks of steps.
+use crate::row::{Reading, RowShape, SizeTest};
 use fut_ast::End;
 use fut_flat::{Part, Primitive};
 use fut_scalar::{BinOp, DataType, Place, Scalar, ScalarType, UnOp};
@@ -26,7 +27,8 @@ pub enum Operation {
 #[derive(Clone, Copy)]
 pub enum Making<'a> {
     Tuple,
-    Array,
+    /// The rows' shape stands for those that are missing where there are no parts.
+    Array(RowShape<'a>),
     Index(&'a [Part]),
     Update,
     Range { stepped: bool, end: End },
@@ -46,14 +48,20 @@ pub enum Making<'a> {
 pub enum Act<'a> {
     Operate(Operation),
     Make(Making<'a>, Place, &'a [Atom]),
-    /// A primitive on arrays with its data, and its function: the parameters and the body, which gives one component.
+    /// A primitive on arrays with its data, and its function: the parameters and the body, which gives one component. The rows'
+    /// shape is that of an array which the function's results make up, where there are none.
     Primitive {
         primitive: Primitive,
         place: Place,
+        row: RowShape<'a>,
         data: &'a [Atom],
         params: &'a [u32],
         body: &'a Block<'a>,
     },
+    /// What a size is worth, as an i64: what the first of the readings says that says anything; 0 where none does, or below 0.
+    Size(&'a [Reading<'a>]),
+    /// Data of this shape has to have these sizes. It gives nothing.
+    Coerce(Place, &'a SizeTest<'a>, &'a RowShape<'a>),
     If(Atom, &'a Block<'a>, &'a Block<'a>),
     /// As many turns as `count` says. The index counts them from 0.
     For {

@@ -9,6 +9,8 @@
 
 mod block;
 mod laws;
+mod row;
 
 pub use block::{Act, Atom, Block, Making, Operation, Program, Step};
 pub use laws::programs_have_some_outcome;
+pub use row::{FieldShape, FieldTest, Reading, RowShape, SizeTest};

@@ -10,10 +10,11 @@ use Rattle.fut_meaning.specs.Outcomes.{Val, and_then, the, Then, stops, sticks, 
 use Rattle.fut_blocks.specs.declared.block.Atom.{Atom}
 use Rattle.fut_blocks.specs.declared.block.Operation.{Operation}
 use Rattle.array_data.specs.declared.stop.Stop.TheVariants.{Stuck, Memory}
-use Rattle.fut_blocks.specs.Plain.{Action, Operate, If, For, Over, While, Body}
+use Rattle.fut_blocks.specs.Plain.{Action, Operate, Coerce, If, For, Over, While, Body}
 use Rattle.fut_blocks.specs.Meaning.{Component, Results, value_of, values_of, truth_of_atom, turns_of_datum, under, test_turn, for_turns, row_turns, act_means, body_means}
+use Rattle.fut_blocks.specs.Rows.{Row, Size_test}
 use Rattle.fut_blocks.specs.Numbered.{Act_numbered}
-use Rattle.fut_blocks.proofs.Layers.{action_of-Operate, action_of-Make, action_of-Primitive, action_of-If, action_of-For, action_of-ForEach, action_of-While}
+use Rattle.fut_blocks.proofs.Layers.{action_of-Operate, action_of-Make, action_of-Primitive, action_of-Size, action_of-Coerce, action_of-If, action_of-For, action_of-ForEach, action_of-While}
 use Rattle.array_data.specs.declared.stop.Stop.{Stop}
 use Rattle.fut_eval.specs.Answers.{Answer, Runs, ran, failed, no_memory, gone, Truth_at, Turns_at, Operates, Reads, Reads_all, told, lost}
 use Rattle.std.proofs.Common.{◌∙◌}
@@ -23,7 +24,7 @@ use Rattle.array_data.specs.Answers.{Counts, counts as rows_told, no_array}
 use Rattle.array_data.proofs.Jobbing.{rows_counted}
 use Rattle.fut_meaning.specs.Arrays.{rows_of}
 use Rattle.fut_eval.proofs.Holding.{held_length}
-use Rattle.fut_eval.specs.Runs.{Made_runs, Act_runs, Body_runs, index_turn, row_turn, For_runs, Over_runs, While_runs}
+use Rattle.fut_eval.specs.Runs.{Coerces, Made_runs, Act_runs, Body_runs, index_turn, row_turn, For_runs, Over_runs, While_runs}
 use Rattle.fut_eval.proofs.Tells.{tells_then, tells_stop, leads_then, runs_in, runs_less, then_next, then_stop, stands_more}
 use Rattle.fut_eval.proofs.Steps.{body_rises}
 
@@ -155,8 +156,12 @@ pub act_made : (budget : ℕ) (a : Action) (t given : List Data) (s s' : List Co
 unfolding Made_runs Act_runs
 act_made budget a t given s s' r h e env n last st na l = subst (λ z. Runs (act_means true budget a env) n (held_all t) (held_all z) s s' r) (sym e) (h budget env n st)
 
+pub act_coerce : (budget : ℕ) (at : Place) (w : Size_test) (row : Row) (t s : List Component) (r : Answer) → Coerces t at w row r → Act_runs budget (Coerce at w row) t t s s r
+unfolding Coerces Made_runs Act_runs
+act_coerce budget at w row t s r h env n last st na l = h s budget env n st
+
 pub act_memory : (budget : ℕ) (a : Action) (t s : List Component) → Act_runs budget a t t s s (Err Memory)
 unfolding Act_runs
 act_memory budget a t s env n last st na l = no_memory
 
-pub ruleset act_rules = (action_of-Operate, action_of-Make, action_of-Primitive, act_memory, act_made, action_of-If, action_of-For, action_of-ForEach, action_of-While, act_operate, if_stop, if_yes, if_no, for_first_stop, for_count_stop, held_for_done, over_first_stop, over_rows_stop, over_no_array, held_over_done, rows_counted, while_first_stop, held_while_act_done)
+pub ruleset act_rules = (action_of-Operate, action_of-Make, action_of-Primitive, act_memory, act_made, act_coerce, action_of-If, action_of-For, action_of-ForEach, action_of-While, act_operate, if_stop, if_yes, if_no, for_first_stop, for_count_stop, held_for_done, over_first_stop, over_rows_stop, over_no_array, held_over_done, rows_counted, while_first_stop, held_while_act_done)

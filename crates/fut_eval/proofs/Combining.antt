@@ -1,14 +1,13 @@
 -- Rows that are combined with those at their indices, one after the other: what stands at each place is a fold.
-use Rattle.std.proofs.Common.{◌≡◌, ℕ, zero, suc, ◌+◌, ◌<◌, ◌≤◌, List, [], ◌∷◌, ◌++◌, length, drop, take, slice_get, Option, Some, None, Ok, Err, Result, Bool, true, false, cond, nat_eq, nat_lt, refl, sym, ap, ◌∙◌, subst, arith, add-one, append_assoc, inl, inr, lt-ltb, le-ltb}
+use Rattle.std.proofs.Common.{◌≡◌, ℕ, zero, suc, ◌+◌, ◌≤◌, List, [], ◌∷◌, ◌++◌, length, drop, take, slice_get, Option, Some, None, Ok, Err, true, refl, sym, ap, ◌∙◌, subst, arith, add-one, inl, inr}
 use Rattle.std.specs.Prelude.{ℤ, pos, negsuc, slice_set, ◌⊎◌}
-use Rattle.std.proofs.lemmas.Bool.{ne_eqb, eq-eqb}
 use Rattle.std.proofs.lemmas.List.{append-nil, take_all}
 use Rattle.std.proofs.lemmas.Option.{slice_get_within}
 use Rattle.fut_scalar.specs.declared.report.Report.{Report}
 use Rattle.fut_value.specs.Data.{Datum}
 use Rattle.fut_meaning.specs.Arrays.{each_out, exact_of}
 use Rattle.fut_meaning.specs.Jobs.{Applied, all_of, places, writes, and_write, written_at}
-use Rattle.fut_meaning.specs.Outcomes.{Out, Val, Fail, Wrong, Rel, exact, gives, Then, goes_on, stops, sticks, Both, both, stops_left, stops_right, sticks_left, sticks_right}
+use Rattle.fut_meaning.specs.Outcomes.{Val, Fail, Wrong, Rel, exact, gives, Then, goes_on, stops, sticks, both, stops_left, stops_right, sticks_left, sticks_right}
 use Rattle.fut_blocks.specs.Meaning.{Component, Names}
 use Rattle.fut_blocks.specs.Numbered.{Upward, Body_numbered}
 use Rattle.fut_blocks.specs.Plain.{Body}

@@ -12,6 +12,10 @@ pub mod Applying
 pub mod Rowing
 pub mod Folding
 pub mod Combining
+pub mod RowsMet
+pub mod Shaping
+pub mod Testing
+pub mod Finishing
 pub mod Jobs
 pub mod Makings
 pub mod Recording

@@ -1,18 +1,17 @@
 -- Steps of one name whose operation gives one scalar: the stack is not used.
-use Rattle.std.proofs.Common.{◌≡◌, ℕ, ◌+◌, ◌<◌, ◌≤◌, List, [], ◌∷◌, ◌++◌, length, get_or, slice_set, Some, Result, Ok, Err, refl, sym, ap, ◌∙◌, subst, arith}
+use Rattle.std.proofs.Common.{◌≡◌, ℕ, ◌≤◌, List, [], ◌∷◌, ◌++◌, length, get_or, slice_set, Some, Ok, Err, refl, sym, ap, ◌∙◌, subst, arith}
 use Rattle.std.proofs.Math.Seq.{drop-append_seam, take-append_seam}
 use Rattle.fut_scalar.specs.declared.scalar.Scalar.{Scalar}
 use Rattle.fut_blocks.specs.declared.block.Act.TheVariants as act
 use Rattle.fut_blocks.specs.declared.block.Operation.{Operation}
 use Rattle.fut_blocks.specs.declared.block.Step.{Step}
-use Rattle.fut_blocks.specs.Plain.{Operate, action_of, binding_of}
+use Rattle.fut_blocks.specs.Plain.{action_of, binding_of}
 use Rattle.fut_blocks.specs.Meaning.{Component}
 use Rattle.fut_blocks.proofs.Layers.{action_of-Operate}
-use Rattle.array_data.specs.declared.data.Data.{Data}
 use Rattle.array_data.specs.declared.data.Data.TheVariants as hold
 use Rattle.array_data.specs.declared.stop.Stop.{Stop}
 use Rattle.array_data.specs.declared.stop.Stop.TheVariants.{Stuck}
-use Rattle.array_data.specs.Held.{held, held_all}
+use Rattle.array_data.specs.Held.{held}
 use Rattle.fut_eval.specs.Answers.{Answer, Gives, Operates, Named, named, beyond, stored, Stored, is_stored, past, Takes}
 use Rattle.fut_eval.specs.Runs.{Act_runs, Step_runs}
 use Rattle.fut_eval.proofs.Storing.{take_done, take_stop, bind_store}

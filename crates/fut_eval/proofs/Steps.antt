@@ -5,7 +5,7 @@ use Rattle.fut_meaning.specs.Accessors.{or_wrong}
 use Rattle.fut_meaning.specs.Outcomes.{Val, Fail, Wrong, Rel, Then, goes_on, stops, sticks}
 use Rattle.fut_blocks.specs.declared.block.Block.{Block, out-Block}
 use Rattle.fut_blocks.specs.declared.block.Step.{Step}
-use Rattle.fut_blocks.specs.Plain.{Action, Operate, Tuple, Make, Read, Job, If, For, Over, While, Body, Give, Let, lets, action_of, binding_of, body_of}
+use Rattle.fut_blocks.specs.Plain.{Action, Operate, Tuple, Make, Read, Size_of, Coerce, Job, If, For, Over, While, Body, Give, Let, lets, action_of, binding_of, body_of}
 use Rattle.fut_blocks.specs.Meaning.{Component, Names, bound, named, act_means, body_means}
 use Rattle.fut_blocks.specs.Numbered.{Act_numbered, Body_numbered}
 use Rattle.fut_blocks.proofs.Layers.{body_of-parts, binding_of-parts}
@@ -25,9 +25,11 @@ mutual
   pub act_rises : (a : Action) (n m : ℕ) → Act_numbered n a m → n ≤ m
   act_rises (Operate o) n m h = h
   act_rises (Tuple us) n m h = h
-  act_rises (Make o at us) n m h = h
+  act_rises (Make row o at us) n m h = h
   act_rises (Read k us) n m h = h
-  act_rises (Job p at us xs b) n m (k, hx, hb) = let q = upward_rises n xs k hx in let r = body_rises b k m hb in omega arith
+  act_rises (Size_of e) n m h = h
+  act_rises (Coerce at t r) n m h = h
+  act_rises (Job row p at us xs b) n m (k, hx, hb) = let q = upward_rises n xs k hx in let r = body_rises b k m hb in omega arith
   act_rises (If c a b) n m (k, ha, hb) = let p = body_rises a n k ha in let q = body_rises b k m hb in omega arith
   act_rises (For xs us i c b) n m (k, hx, hi, hb) = let p = upward_rises n xs k hx in let q = body_rises b (suc i) m hb in omega arith
   act_rises (Over xs us x r b) n m (k, hx, hi, hb) = let p = upward_rises n xs k hx in let q = body_rises b (suc x) m hb in omega arith

@@ -3,3 +3,4 @@ pub mod Slots
 pub mod Runs
 pub mod Primitives
 pub mod Evaluates
+pub mod Shapes

@@ -1,19 +1,23 @@
 -- What runs of primitives answer: of functions on rows, one after the other, and of folds.
 use Rattle.std.specs.Prelude.{◌≡◌, ℕ, zero, suc, ◌≤◌, ℤ, pos, negsuc, Bool, true, false, List, [], ◌∷◌, ◌++◌, length, slice_get, slice_set, Option, Some, None, Result, Ok, Err}
 use Rattle.fut_scalar.specs.declared.report.Report.{Report}
-use Rattle.fut_value.specs.Data.{Datum}
+use Rattle.fut_scalar.specs.declared.place.Place.{Place}
+use Rattle.fut_flat.specs.declared.prim.Primitive.{Primitive}
+use Rattle.fut_value.specs.Data.{Shape, Datum}
 use Rattle.fut_meaning.specs.Arrays.{each_out, exact_of}
-use Rattle.fut_meaning.specs.Jobs.{Job, Applied, Reduces, all_of, places, prefixes_on, writes}
-use Rattle.fut_meaning.specs.Outcomes.{Out, Val, Fail, Wrong, Rel, gives, the, Then, each_of}
+use Rattle.fut_meaning.specs.Jobs.{job, Job, Applied, Reduces, all_of, places, prefixes_on, writes}
+use Rattle.fut_meaning.specs.Outcomes.{Out, Val, Fail, Wrong, and_then, Rel, gives, the, Then, each_of}
 use Rattle.fut_blocks.specs.Plain.{Body}
 use Rattle.fut_blocks.specs.Meaning.{Component, Names, function_of, job_given, body_means}
+use Rattle.fut_blocks.specs.Rows.{Row}
+use Rattle.fut_blocks.specs.Sizes.{row_shape}
 use Rattle.fut_blocks.specs.Numbered.{Upward, Body_numbered}
 use Rattle.array_data.specs.declared.built.Built.{Built}
 use Rattle.array_primitives.specs.declared.jobs.Finish.{Finish}
 use Rattle.array_data.specs.declared.stop.Stop.{Stop}
 use Rattle.array_data.specs.declared.stop.Stop.TheVariants.{Failed, Memory}
 use Rattle.array_data.specs.Held.{built_rows, rows_in}
-use Rattle.array_primitives.specs.Plans.{Source_is, and_old}
+use Rattle.array_primitives.specs.Plans.{Source_is, and_old, made_of, Counted_is}
 use Rattle.fut_eval.specs.Answers.{Answer, Stands, Kept, Runs}
 
 abbrev pub as_built : Result Built Stop → Result (List Datum) Stop
@@ -106,3 +110,20 @@ unfoldable pub Job_runs : ℕ → Body → List ℕ → Out Job → (table table
 Job_runs budget b xs o table table' stack stack' r =
     (env : Names Component) (next mid last : ℕ) → Stands env next table → Upward next xs mid → Body_numbered mid b last → last ≤ length table
     → Runs (Then (the o) (job_given true (applies budget b xs env))) next table table' stack stack' r
+
+-- a primitive on data, whatever shape is told of missing rows
+unfoldable pub Told_runs : ℕ → Body → List ℕ → Primitive → Place → List Datum → (table table' stack stack' : List Component) → Answer → Type 0
+Told_runs budget b xs p at ds table table' stack stack' r = (told : Shape) → Job_runs budget b xs (job false told p at ds) table table' stack stack' r
+
+-- and where a row tells it
+abbrev pub told_by : Names Component → Row → Primitive → Place → List Datum → Out Job
+told_by env row p at ds = and_then (row_shape env row) (λ h. job false h p at ds)
+
+unfoldable pub Primitive_runs : ℕ → Body → List ℕ → Row → Primitive → Place → List Datum → (table table' stack stack' : List Component) → Answer → Type 0
+Primitive_runs budget b xs row p at ds table table' stack stack' r =
+    (env : Names Component) (next mid last : ℕ) → Stands env next table → Upward next xs mid → Body_numbered mid b last → last ≤ length table
+    → Runs (Then (the (told_by env row p at ds)) (job_given true (applies budget b xs env))) next table table' stack stack' r
+
+-- what is made of the results of a function, where a row tells of missing ones
+unfoldable pub Finishes : List Component → Row → Finish → Place → (ds es : List Datum) → Result Datum Stop → Type 0
+Finishes table row f at ds es r = (env : Names Component) (n : ℕ) → Stands env n table → Counted_is (and_then (row_shape env row) (λ h. made_of h f at ds es)) r

@@ -12,7 +12,8 @@ use Rattle.fut_meaning.specs.Meaning.{counts}
 use Rattle.fut_meaning.specs.Operations.{report}
 use Rattle.fut_meaning.specs.Outcomes.{Val, Fail, Wrong, Rel, Then, turns, while_turns}
 use Rattle.fut_blocks.specs.declared.block.Program.{Program}
-use Rattle.fut_blocks.specs.Plain.{Action, Body, body_of}
+use Rattle.fut_blocks.specs.Plain.{Action, Coerce, Body, body_of}
+use Rattle.fut_blocks.specs.Rows.{Row, Size_test}
 use Rattle.fut_blocks.specs.Programs.{Program_means}
 use Rattle.fut_blocks.specs.Meaning.{Component, Names, bound, Results, named, under, test_turn, act_means, body_means}
 use Rattle.fut_blocks.specs.Numbered.{Upward, Act_numbered, Body_numbered}
@@ -28,6 +29,10 @@ Act_runs budget a table table' stack stack' r =
 -- an act that binds no names inside
 unfoldable pub Made_runs : Action → (table stack stack' : List Component) → Answer → Type 0
 Made_runs a table stack stack' r = (budget : ℕ) (env : Names Component) (next : ℕ) → Stands env next table → Runs (act_means true budget a env) next table table stack stack' r
+
+-- a test of sizes, which leaves all as it is
+unfoldable pub Coerces : (table : List Component) → Place → Size_test → Row → Answer → Type 0
+Coerces table at w row r = (stack : List Component) → Made_runs (Coerce at w row) table stack stack r
 
 unfoldable pub Body_runs : ℕ → Body → (table table' stack stack' : List Component) → Answer → Type 0
 Body_runs budget b table table' stack stack' r =

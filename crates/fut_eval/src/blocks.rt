@@ -1,24 +1,25 @@
 // Runs of blocks, acts and loops.
 ghost use Rattle.std.specs.Prelude.{◌≡◌, false, length};
-ghost use Rattle.fut_value.specs.Data.{Unmet_shape};
-ghost use Rattle.fut_meaning.specs.Jobs.{job};
 ghost use Rattle.fut_blocks.specs.Plain.{Job, action_of, binding_of, body_of};
+ghost use Rattle.fut_blocks.specs.Rows.{row_of};
 ghost use Rattle.array_data.specs.Answers.{exact_held};
 ghost use Rattle.array_data.specs.Held.{as_held, built_rows, held, held_all, rows_in};
-ghost use Rattle.fut_eval.specs.Primitives.{Applied_runs, Combine_runs, Each_runs, Fold_runs, Job_runs, Next_runs, Scan_runs, Two_runs, Write_runs, as_built, leaving};
+ghost use Rattle.fut_eval.specs.Primitives.{Applied_runs, Combine_runs, Each_runs, Fold_runs, Next_runs, Primitive_runs, Scan_runs, Told_runs, Two_runs, Write_runs, as_built, leaving};
 ghost use Rattle.fut_eval.specs.Runs.{Act_runs, Body_runs, For_runs, Over_runs, Step_runs, Test_runs, Turn_runs, While_runs};
 
+use crate::finish::finish_each;
 use crate::make::make;
 use crate::names::{
     bind, name, name_scalar, pop_one, pop_truth, push, push_all, read, read_data, take,
 };
 use crate::operate::{operate, scalar_result, truth_at, turns_at};
+use crate::size_tests::{coerce, put_size};
 use crate::slots::{Branch, Slot, give_up_bound, give_up_moved, give_up_used};
 use array_data::{
     Built, Data, Exact, Stop, array, copy, count, first_apart, in_place, row, row_depth, row_form,
 };
-use array_primitives::{Finish, Plan, finish_rows, index_at, plan_of, put_row, scatter};
-use fut_blocks::{Act, Atom, Block, Step};
+use array_primitives::{Finish, Plan, index_at, plan_of, put_row, scatter};
+use fut_blocks::{Act, Atom, Block, RowShape, Step};
 use fut_flat::Primitive;
 use fut_scalar::{FailKind, IntType, List, Place, Report, Scalar};
 use std::alloc::Global;
@@ -86,12 +87,15 @@ fn run_act(
         Act::Primitive {
             primitive,
             place,
+            row: missing,
             data,
             params,
             body,
         } => run_primitive(
-            alloc, *primitive, *place, data, own, params, body, turns, table, stack,
+            alloc, *primitive, *place, missing, data, own, params, body, turns, table, stack,
         ),
+        Act::Size(readings) => put_size(alloc, readings, table, stack),
+        Act::Coerce(place, test, row) => coerce(alloc, *place, test, row, table),
         Act::ForEach {
             params,
             first,
@@ -152,6 +156,7 @@ fn run_primitive(
     alloc: Global,
     primitive: Primitive,
     place: Place,
+    missing: &RowShape,
     atoms: &[Atom],
     own: &[u32],
     params: &[u32],
@@ -160,7 +165,7 @@ fn run_primitive(
     table: &mut [Slot],
     stack: &mut Vec<Data>,
 ) -> Result<(), Stop>
-    ensures { Act_runs turns (Job primitive place atoms.now params.now (body_of body.now)) (held_all table.old) (held_all table.new) (held_all stack.old.items) (held_all stack.new.items) result }
+    ensures { Act_runs turns (Job (row_of missing.now) primitive place atoms.now params.now (body_of body.now)) (held_all table.old) (held_all table.new) (held_all stack.old.items) (held_all stack.new.items) result }
 {
     let args = read_data(alloc, atoms, table)?;
     give_up_moved(own, atoms, Branch::First, table);
@@ -175,6 +180,7 @@ fn run_primitive(
             alloc,
             primitive,
             place,
+            missing,
             args.as_slice(),
             params,
             body,
@@ -199,7 +205,7 @@ fn run_writes(
     table: &mut [Slot],
     stack: &mut Vec<Data>,
 ) -> Result<(), Stop>
-    ensures { Job_runs turns (body_of body.now) params.now (job false Unmet_shape primitive place (held_all args)) (held_all table.old) (held_all table.new) (held_all stack.old.items) (held_all stack.new.items) result }
+    ensures { Told_runs turns (body_of body.now) params.now primitive place (held_all args) (held_all table.old) (held_all table.new) (held_all stack.old.items) (held_all stack.new.items) result }
 {
     let plan = plan_of(alloc, primitive, place, args.as_slice())?;
     let Some((whole, rest)) = first_apart(args) else {
@@ -232,13 +238,14 @@ fn run_writes(
     }
 }
 
-/// Runs a primitive on its data, and puts its result on the stack.
+/// Runs a primitive on its data, and puts its result on the stack; rows that are missing are of the shape that is told.
 #[tactic(auto, using(crate::proofs::Jobs::jobs))]
 #[cycle(blocks)]
 fn run_job(
     alloc: Global,
     primitive: Primitive,
     place: Place,
+    missing: &RowShape,
     args: &[Data],
     params: &[u32],
     body: &Block,
@@ -246,13 +253,13 @@ fn run_job(
     table: &mut [Slot],
     stack: &mut Vec<Data>,
 ) -> Result<(), Stop>
-    ensures { Job_runs turns (body_of body.now) params.now (job false Unmet_shape primitive place (held_all args.now)) (held_all table.old) (held_all table.new) (held_all stack.old.items) (held_all stack.new.items) result }
+    ensures { Primitive_runs turns (body_of body.now) params.now (row_of missing.now) primitive place (held_all args.now) (held_all table.old) (held_all table.new) (held_all stack.old.items) (held_all stack.new.items) result }
 {
     match plan_of(alloc, primitive, place, args)? {
         Plan::Done(value) => push(stack, value),
         Plan::Each(finish, n) => {
             let built = run_each(alloc, finish, args, n, params, body, turns, table, stack)?;
-            let value = finish_rows(alloc, finish, place, args, built)?;
+            let value = finish_each(alloc, finish, missing, place, args, built, table)?;
             push(stack, value)
         }
         Plan::Reduce => {

@@ -9,12 +9,15 @@
 
 mod blocks;
 mod equality;
+mod finish;
 mod last_uses;
 mod make;
 mod names;
 mod operate;
 mod program;
 mod records;
+mod shapes;
+mod size_tests;
 mod slots;
 
 pub use array_data::Data;

@@ -1,16 +1,19 @@
 // What is made of the values of names: tuples, arrays, records and parts of them.
 ghost use Rattle.std.specs.Prelude.{◌≡◌, [], ◌∷◌, true};
 ghost use Rattle.fut_flat.specs.declared.act.Part.TheVariants as part;
-ghost use Rattle.fut_blocks.specs.Plain.{making_form};
+ghost use Rattle.fut_meaning.specs.Arrays.{Make_array};
+ghost use Rattle.fut_blocks.specs.Plain.{Make, making_form};
+ghost use Rattle.fut_blocks.specs.Rows.{row_of};
 ghost use Rattle.array_data.specs.Held.{held_all};
 ghost use Rattle.fut_eval.specs.Runs.{Made_runs};
 
 use crate::names::{push, read, read_data};
 use crate::records::{make_fields, make_part, make_record, make_replaced};
+use crate::shapes::missing_form;
 use crate::slots::{Branch, Slot, give_up_moved};
 use array_data::{Data, Stop, array_of_parts, tuple};
 use array_primitives::{part_at, range, row_at, update};
-use fut_blocks::{Atom, Making};
+use fut_blocks::{Atom, Making, RowShape};
 use fut_flat::Part;
 use fut_scalar::Place;
 use std::alloc::Global;
@@ -35,11 +38,7 @@ pub fn make(
             let whole = tuple(alloc, values)?;
             push(stack, whole)
         }
-        Making::Array => {
-            let values = read_data(alloc, atoms, table)?;
-            let whole = array_of_parts(alloc, place, values.as_slice())?;
-            push(stack, whole)
-        }
+        Making::Array(row) => make_array(alloc, &row, place, atoms, table, stack),
         Making::Index(parts) => {
             if !is_one_index(parts) || atoms.len() != 2 {
                 let values = read_data(alloc, atoms, table)?;
@@ -67,6 +66,24 @@ pub fn make(
         Making::Replace(name) => make_replaced(alloc, name, atoms, table, stack),
         Making::Fields(names) => make_fields(names, atoms, table, stack),
     }
+}
+
+/// Puts on the stack the array of the values of atoms; where there are none, of rows of the shape that is told.
+#[tactic(auto, using(crate::proofs::Makings::array_makings))]
+fn make_array(
+    alloc: Global,
+    row: &RowShape,
+    place: Place,
+    atoms: &[Atom],
+    table: &[Slot],
+    stack: &mut Vec<Data>,
+) -> Result<(), Stop>
+    ensures { Made_runs (Make (row_of row.now) Make_array place atoms.now) (held_all table.now) (held_all stack.old.items) (held_all stack.new.items) result }
+{
+    let values = read_data(alloc, atoms, table)?;
+    let told = missing_form(alloc, row, values.len(), table)?;
+    let whole = array_of_parts(alloc, told, place, values.as_slice())?;
+    push(stack, whole)
 }
 
 /// Whether an index has one part, which is no slice.

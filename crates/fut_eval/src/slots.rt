@@ -228,5 +228,7 @@ pub fn give_up_used(step: &Step, table: &mut [Slot])
         Act::Primitive { params, .. } => give_up_all(params, table),
         Act::Operate(_) => {}
         Act::Make(_, _, _) => {}
+        Act::Size(_) => {}
+        Act::Coerce(_, _, _) => {}
     }
 }

@@ -7,6 +7,7 @@ use Rattle.fut_scalar.specs.declared.sizes.DataType.{DataType}
 use Rattle.fut_value.specs.Data.{Datum, datums}
 use Rattle.fut_flat.specs.declared.program.Flat.{Flat}
 use Rattle.fut_flat.specs.declared.prim.Ref.{Ref}
+use Rattle.fut_meaning.specs.Found.{unsized}
 use Rattle.fut_meaning.specs.Datums.{as_values}
 use Rattle.fut_ast.specs.declared.module.Program.{Program as SourceProgram}
 use Rattle.fut_blocks.specs.declared.block.Program.{Program}
@@ -110,7 +111,7 @@ module _ {flat : Flat} {inference : Inference} {integers : List IntType} {number
     runs turns arguments of = run_is is_run true turns arguments of (subst (λ n. All_split (scalars n) (as_values (datums arguments)) arguments []) (lengths arguments params of) (data_split arguments))
 
     pub rising : Rising p
-    rising = names_rise (integer_at integers) _ number (scalars (length params)) pr.blocks.shape p pr.blocks.unfolds
+    rising = names_rise (unsized (integer_at integers)) _ number (scalars (length params)) pr.blocks.shape p pr.blocks.unfolds
 
     pub never_wrong_for : (turns : ℕ) → Never_wrong_for params turns p
     never_wrong_for turns arguments of = (runs turns arguments of).never_wrong

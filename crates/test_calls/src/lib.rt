@@ -1,5 +1,5 @@
 //! Calls that are tried in code, since no row of `test_rows` can say them: real files behind the adapters, the objects in
-//! memory that never fail, copies of values, blocks made by hand, tables on which workers race, and chunks that they draw.
+//! memory that never fail, copies of values, tables on which workers race, and chunks that they draw.
 #![tactic(auto)]
 
 #[cfg(test)]
@@ -9,16 +9,9 @@ mod files;
 #[cfg(test)]
 mod gates;
 #[cfg(test)]
-mod hand_made;
-#[cfg(test)]
-#[cfg(test)]
-mod in_place;
-#[cfg(test)]
 mod memory;
 #[cfg(test)]
 mod phases;
-#[cfg(test)]
-mod places;
 #[cfg(test)]
 mod tables;
 #[cfg(test)]

@@ -9,6 +9,7 @@ use Rattle.fut_flat.specs.declared.prim.Ref.{Ref}
 use Rattle.fut_flat.specs.Erased.{FlatPattern}
 use Rattle.fut_flat.specs.Numbers.{pattern_numbers}
 use Rattle.fut_flat.specs.Terms.{Bound_pattern, Wild_pattern, Tuple_pattern, Record_pattern, Typed_pattern, Patterns, no_pattern, pattern_and}
+use Rattle.fut_meaning.specs.Found.{Sizing}
 use Rattle.fut_meaning.specs.Accessors as accessors
 use Rattle.fut_meaning.specs.Accessors.{or_wrong, bound, all_bound, tuple_parts, fields_of}
 use Rattle.fut_value.specs.Data.{Datum, Scalar_datum, Tuple_datum, Record_datum, Array_datum, Datums, no_datum, datum_and, listed, Named_datums}
@@ -36,10 +37,10 @@ use Rattle.unfold.proofs.Components.{binds_names, values_are, upward_grows}
 use Rattle.unfold.proofs.Records.{and_then_twice, record_parts_as, parts_number}
 use Rattle.unfold.proofs.Patterns.{listed_stand, record_parts_stand}
 use Rattle.unfold.proofs.Runs.{Gives, run, none_sim, seq_sim}
-use Rattle.unfold.proofs.Stands.{FlatFields, Has, Stands, s_scalar, s_tuple, s_record, Holds, h_bind, h_entered, holds_on, list_on}
+use Rattle.unfold.proofs.Stands.{FlatFields, Has, Stands, s_scalar, s_tuple, s_record, Holds, h_bind, h_entered, stands_on, holds_on, list_on}
 
 mutual
-  pub binds_grow : {p : FlatPattern} {s : Known} {sc inner : Scope} {n m : ℕ} {bs : Bindings} → Binds p s sc n bs inner m → n ≤ m
+  pub binds_grow : {sizes : Option Sizing} {q : ℕ} {p : FlatPattern} {s : Known} {sc inner : Scope} {n m : ℕ} {bs : Bindings} → Binds sizes q p s sc n bs inner m → n ≤ m
   binds_grow b_bound = omega arith
   binds_grow b_wild = omega arith
   binds_grow (b_tuple r) = all_bind_grow r
@@ -48,7 +49,7 @@ mutual
   binds_grow (b_typed r) = binds_grow r
   binds_grow (b_fields {n = n} {k = k} xs up e r) = omega (arith, upward_grows n xs k up, all_bind_grow r)
 
-  all_bind_grow : {ps : Patterns Ref BindId} {ss : List Known} {sc inner : Scope} {n m : ℕ} {bs : Bindings} → All_bind ps ss sc n bs inner m → n ≤ m
+  all_bind_grow : {sizes : Option Sizing} {q : ℕ} {ps : Patterns Ref BindId} {ss : List Known} {sc inner : Scope} {n m : ℕ} {bs : Bindings} → All_bind sizes q ps ss sc n bs inner m → n ≤ m
   all_bind_grow b_none = omega arith
   all_bind_grow (b_more r rs) = omega (arith, binds_grow r, all_bind_grow rs)
 
@@ -136,7 +137,7 @@ bound_parts q ps v env = by_parts (tuple_parts v)
     by_parts (Fail r) = refl
     by_parts Wrong = refl
 
-all_bind_count : {ps : Patterns Ref BindId} {ss : List Known} {sc inner : Scope} {n m : ℕ} {bs : Bindings} → All_bind ps ss sc n bs inner m → count ps ≡ length ss
+all_bind_count : {sizes : Option Sizing} {q : ℕ} {ps : Patterns Ref BindId} {ss : List Known} {sc inner : Scope} {n m : ℕ} {bs : Bindings} → All_bind sizes q ps ss sc n bs inner m → count ps ≡ length ss
 all_bind_count b_none = refl
 all_bind_count (b_more r rs) = ap suc (all_bind_count rs)
 
@@ -153,82 +154,82 @@ parts_length : (ds : Datums) → length (flat_parts ds) ≡ length (listed ds)
 parts_length no_datum = refl
 parts_length (datum_and d ds) = ap suc (parts_length ds)
 
-abbrev pub All_new : List ℕ → ℕ → Names Component → List FlatValue → Type 0
-All_new xs k e vs = All_same (Stands e k) (map named xs) vs
+abbrev pub All_new : Option Sizing → List ℕ → ℕ → Names Component → List FlatValue → Type 0
+All_new sizes xs k e vs = All_same (Stands sizes e k) (map named xs) vs
 
-abbrev pub Scope_held : Scope → ℕ → Names Component → FlatEnv → Type 0
-Scope_held inner m e env = Holds e m inner env
+abbrev pub Scope_held : Option Sizing → Scope → ℕ → Names Component → FlatEnv → Type 0
+Scope_held sizes inner m e env = Holds sizes e m inner env
 
 module _ {d : Names Component} {n k : ℕ} (xs : List ℕ) (up : Upward n xs k) where
-  so_many : (ds : Datums) (b : Bool) → nat_eq (length xs) (length (flat_parts ds)) ≡ b → Same_out (Gives d n (All_new xs k)) (or_wrong (blocks.bound xs (listed ds) d)) (cond b (Val (flat_parts ds)) Wrong)
-  so_many ds true q =
+  so_many : {sizes : Option Sizing} (ds : Datums) (b : Bool) → nat_eq (length xs) (length (flat_parts ds)) ≡ b → Same_out (Gives d n (All_new sizes xs k)) (or_wrong (blocks.bound xs (listed ds) d)) (cond b (Val (flat_parts ds)) Wrong)
+  so_many {sizes = sizes} ds true q =
       let r = binds_names n xs k (listed ds) d up (length-map xs atom.Name ∙ eqb-true (length xs) (length (flat_parts ds)) q ∙ parts_length ds) in
-      subst (λ z. Same_out (Gives d n (All_new xs k)) (or_wrong z) (Val (flat_parts ds))) (sym r.is)
-      (same_value (record { extends = r.extends; says = subst (λ z. All_new xs k r.env z) (sym (parts_values ds)) (all_new xs (listed ds) r.have) }))
-  so_many ds false q =
-      subst (λ z. Same_out (Gives d n (All_new xs k)) (or_wrong z) Wrong) (sym (none_bound xs (listed ds) d (λ e. eqb-false (length xs) (length (flat_parts ds)) q (e ∙ sym (parts_length ds))))) same_wrong
+      subst (λ z. Same_out (Gives d n (All_new sizes xs k)) (or_wrong z) (Val (flat_parts ds))) (sym r.is)
+      (same_value (record { extends = r.extends; says = subst (λ z. All_new sizes xs k r.env z) (sym (parts_values ds)) (all_new xs (listed ds) r.have) }))
+  so_many {sizes = sizes} ds false q =
+      subst (λ z. Same_out (Gives d n (All_new sizes xs k)) (or_wrong z) Wrong) (sym (none_bound xs (listed ds) d (λ e. eqb-false (length xs) (length (flat_parts ds)) q (e ∙ sym (parts_length ds))))) same_wrong
 
-  parts_same : (c : Component) → Same_out (Gives d n (All_new xs k)) (and_then (parts_of c) (λ vs. or_wrong (blocks.bound xs vs d))) (parts_at (length xs) (as_value c))
+  parts_same : {sizes : Option Sizing} (c : Component) → Same_out (Gives d n (All_new sizes xs k)) (and_then (parts_of c) (λ vs. or_wrong (blocks.bound xs vs d))) (parts_at (length xs) (as_value c))
   parts_same (Tuple_datum ds) = so_many ds (nat_eq (length xs) (length (flat_parts ds))) refl
   parts_same (Scalar_datum s) = same_wrong
   parts_same (Record_datum fs) = same_wrong
   parts_same (Array_datum row ds) = same_wrong
 
-  parts_sim : (tight : Bool) (budget : ℕ) (dir : Bool) {u : Atom} {c : Component} → Has d n u c → Sim (Gives d n (All_new xs k)) (run tight budget (step xs (Operate (operation.Parts u))) d) (the (parts_at (length xs) (as_value c))) dir
+  parts_sim : {sizes : Option Sizing} (tight : Bool) (budget : ℕ) (dir : Bool) {u : Atom} {c : Component} → Has d n u c → Sim (Gives d n (All_new sizes xs k)) (run tight budget (step xs (Operate (operation.Parts u))) d) (the (parts_at (length xs) (as_value c))) dir
   unfolding run act_means operated
-  parts_sim tight budget dir {u} {c} h =
+  parts_sim {sizes = sizes} tight budget dir {u} {c} h =
       sim_left dir (alike_back (alike_given _))
       (sim_left dir (alike_back (alike_joined (operated d (operation.Parts u)) (λ vs. or_wrong (blocks.bound xs vs d))))
-      (the_sim dir (subst (λ z. Same_out (Gives d n (All_new xs k)) (and_then (and_then z parts_of) (λ vs. or_wrong (blocks.bound xs vs d))) (parts_at (length xs) (as_value c))) (sym h.value) (parts_same c))))
+      (the_sim dir (subst (λ z. Same_out (Gives d n (All_new sizes xs k)) (and_then (and_then z parts_of) (λ vs. or_wrong (blocks.bound xs vs d))) (parts_at (length xs) (as_value c))) (sym h.value) (parts_same c))))
 
   -- fields of a record
-  named_so : (names : List Text) (gs : Named_datums) → length xs ≡ length names → (o : Out (List Datum)) → datum_parts names gs ≡ o → Same_out (Gives d n (All_new xs k)) (and_then o (λ vs. or_wrong (blocks.bound xs vs d))) (and_then o (λ ds. Val (all_values ds)))
-  named_so names gs e (Val ds) q =
+  named_so : {sizes : Option Sizing} (names : List Text) (gs : Named_datums) → length xs ≡ length names → (o : Out (List Datum)) → datum_parts names gs ≡ o → Same_out (Gives d n (All_new sizes xs k)) (and_then o (λ vs. or_wrong (blocks.bound xs vs d))) (and_then o (λ ds. Val (all_values ds)))
+  named_so {sizes = sizes} names gs e (Val ds) q =
       let r = binds_names n xs k ds d up (length-map xs atom.Name ∙ e ∙ sym (parts_number names gs ds q)) in
-      subst (λ z. Same_out (Gives d n (All_new xs k)) (or_wrong z) (Val (all_values ds))) (sym r.is) (same_value (record { extends = r.extends; says = all_new xs ds r.have }))
+      subst (λ z. Same_out (Gives d n (All_new sizes xs k)) (or_wrong z) (Val (all_values ds))) (sym r.is) (same_value (record { extends = r.extends; says = all_new xs ds r.have }))
   named_so names gs e (Fail r) q = same_report
   named_so names gs e Wrong q = same_wrong
 
-  fields_same : (names : List Text) (c : Component) → length xs ≡ length names → Same_out (Gives d n (All_new xs k)) (and_then (and_then (datum_fields c) (datum_parts names)) (λ vs. or_wrong (blocks.bound xs vs d))) (and_then (fields_of (as_value c)) (accessors.record_parts names))
-  fields_same names (Record_datum gs) e = subst (λ z. Same_out (Gives d n (All_new xs k)) (and_then (datum_parts names gs) (λ vs. or_wrong (blocks.bound xs vs d))) z) (sym (record_parts_as names gs)) (named_so names gs e (datum_parts names gs) refl)
+  fields_same : {sizes : Option Sizing} (names : List Text) (c : Component) → length xs ≡ length names → Same_out (Gives d n (All_new sizes xs k)) (and_then (and_then (datum_fields c) (datum_parts names)) (λ vs. or_wrong (blocks.bound xs vs d))) (and_then (fields_of (as_value c)) (accessors.record_parts names))
+  fields_same {sizes = sizes} names (Record_datum gs) e = subst (λ z. Same_out (Gives d n (All_new sizes xs k)) (and_then (datum_parts names gs) (λ vs. or_wrong (blocks.bound xs vs d))) z) (sym (record_parts_as names gs)) (named_so names gs e (datum_parts names gs) refl)
   fields_same names (Tuple_datum ds) e = same_wrong
   fields_same names (Scalar_datum s) e = same_wrong
   fields_same names (Array_datum row ds) e = same_wrong
 
-  fields_sim : (tight : Bool) (budget : ℕ) (dir : Bool) {u : Atom} {c : Component} (names : List Text) → length xs ≡ length names → Has d n u c → Sim (Gives d n (All_new xs k)) (run tight budget (step xs (act.Read (act.Fields_at names) (u ∷ []))) d) (the (and_then (fields_of (as_value c)) (accessors.record_parts names))) dir
+  fields_sim : {sizes : Option Sizing} (tight : Bool) (budget : ℕ) (dir : Bool) {u : Atom} {c : Component} (names : List Text) → length xs ≡ length names → Has d n u c → Sim (Gives d n (All_new sizes xs k)) (run tight budget (step xs (act.Read (act.Fields_at names) (u ∷ []))) d) (the (and_then (fields_of (as_value c)) (accessors.record_parts names))) dir
   unfolding run act_means reads
-  fields_sim tight budget dir {u} {c} names e h =
+  fields_sim {sizes = sizes} tight budget dir {u} {c} names e h =
       sim_left dir (alike_back (alike_given _))
       (sim_left dir (alike_back (alike_joined (and_then (blocks.values_of d (u ∷ [])) (reads (act.Fields_at names))) (λ vs. or_wrong (blocks.bound xs vs d))))
-      (the_sim dir (subst (λ z. Same_out (Gives d n (All_new xs k)) (and_then (and_then z (reads (act.Fields_at names))) (λ vs. or_wrong (blocks.bound xs vs d))) (and_then (fields_of (as_value c)) (accessors.record_parts names))) (sym (values_are (all_more h all_none))) (fields_same names c e))))
+      (the_sim dir (subst (λ z. Same_out (Gives d n (All_new sizes xs k)) (and_then (and_then z (reads (act.Fields_at names))) (λ vs. or_wrong (blocks.bound xs vs d))) (and_then (fields_of (as_value c)) (accessors.record_parts names))) (sym (values_are (all_more h all_none))) (fields_same names c e))))
 
 module _ (tight : Bool) (budget : ℕ) (dir : Bool) where
   mutual
     unfolding bound all_bound
 
-    pub binds_sim : (q : ℕ) {p : FlatPattern} {s : Known} {v : FlatValue} {sc inner : Scope} {env : FlatEnv} {n m : ℕ} {bs : Bindings} {d : Names Component} → Binds p s sc n bs inner m → Stands d n s v → Holds d n sc env → Sim (Gives d n (Scope_held inner m)) (run tight budget bs d) (the (bound q p v env)) dir
-    binds_sim q b_bound h k = none_sim tight budget dir _ refl (h_bind h (h_entered k))
-    binds_sim q b_wild h k = none_sim tight budget dir _ refl (h_entered k)
-    binds_sim q (b_tuple r) (s_tuple h) k = all_binds_sim (1 + q) r (listed_stand h) (h_entered k)
-    binds_sim q {v = v} {inner = inner} {env = env} {n = n} {m = m} {d = d} (b_parts {ps = ps} {u = u} {k = k'} {bs = bs} xs up r) (s_scalar {c = c} e h) k =
+    pub binds_sim : {sizes : Option Sizing} (q : ℕ) {p : FlatPattern} {s : Known} {v : FlatValue} {sc inner : Scope} {env : FlatEnv} {n m : ℕ} {bs : Bindings} {d : Names Component} → Binds sizes q p s sc n bs inner m → Stands sizes d n s v → Holds sizes d n sc env → Sim (Gives d n (Scope_held sizes inner m)) (run tight budget bs d) (the (bound q p v env)) dir
+    binds_sim q b_bound h k = none_sim tight budget dir _ refl (h_bind h (h_entered h k))
+    binds_sim q b_wild h k = none_sim tight budget dir _ refl (h_entered h k)
+    binds_sim q (b_tuple r) (s_tuple h) k = all_binds_sim (1 + q) r (listed_stand h) (h_entered (s_tuple h) k)
+    binds_sim {sizes = sizes} q {v = v} {inner = inner} {env = env} {n = n} {m = m} {d = d} (b_parts {ps = ps} {u = u} {k = k'} {bs = bs} xs up r) (s_scalar {c = c} e h) k =
         let eq : count ps ≡ length xs = all_bind_count r ∙ length-map xs named in
-        subst (λ z. Sim (Gives d n (Scope_held inner m)) (run tight budget (step xs (Operate (operation.Parts u)) ++ bs) d) (the z) dir) (sym (bound_parts q ps v env))
+        subst (λ z. Sim (Gives d n (Scope_held sizes inner m)) (run tight budget (step xs (Operate (operation.Parts u)) ++ bs) d) (the z) dir) (sym (bound_parts q ps v env))
         (sim_right dir (alike_joined (parts_at (count ps) v) (λ vs. all_bound (1 + q) ps vs (entered q v env)))
         (seq_sim tight budget dir (step xs (Operate (operation.Parts u))) bs (upward_grows n xs k' up)
-        (subst (λ z. Sim (Gives d n (All_new xs k')) (run tight budget (step xs (Operate (operation.Parts u))) d) (the z) dir) (ap (λ z. parts_at z (as_value c)) (sym eq) ∙ ap (parts_at (count ps)) (sym e)) (parts_sim xs up tight budget dir h))
-        (λ e' vs x hs. all_binds_sim (1 + q) r hs (h_entered (holds_on x (upward_grows n xs k' up) k)))))
-    binds_sim q {v = v} {inner = inner} {env = env} {n = n} {m = m} {d = d} (b_record {fs = names} {ps = ps} {ss = ss} {bs = bs} found r) (s_record h) k =
+        (subst (λ z. Sim (Gives d n (All_new sizes xs k')) (run tight budget (step xs (Operate (operation.Parts u))) d) (the z) dir) (ap (λ z. parts_at z (as_value c)) (sym eq) ∙ ap (parts_at (count ps)) (sym e)) (parts_sim xs up tight budget dir h))
+        (λ e' vs x hs. all_binds_sim (1 + q) r hs (h_entered (stands_on x (upward_grows n xs k' up) (s_scalar e h)) (holds_on x (upward_grows n xs k' up) k)))))
+    binds_sim {sizes = sizes} q {v = v} {inner = inner} {env = env} {n = n} {m = m} {d = d} (b_record {fs = names} {ps = ps} {ss = ss} {bs = bs} found r) (s_record h) k =
         let l = record_parts_stand names ss h found in
-        subst (λ z. Sim (Gives d n (Scope_held inner m)) (run tight budget bs d) (the (and_then z (λ vs. all_bound (1 + q) ps vs (entered q v env)))) dir) (sym l.is) (all_binds_sim (1 + q) r l.stand (h_entered k))
-    binds_sim q {v = v} {inner = inner} {env = env} {n = n} {m = m} {d = d} (b_fields {fs = names} {ps = ps} {u = u} {k = k'} {bs = bs} xs up l r) (s_scalar {c = c} e h) k =
-        subst (λ z. Sim (Gives d n (Scope_held inner m)) (run tight budget (step xs (act.Read (act.Fields_at names) (u ∷ [])) ++ bs) d) (the z) dir) (and_then_twice (fields_of v) (accessors.record_parts names) (λ vs. all_bound (1 + q) ps vs (entered q v env)))
+        subst (λ z. Sim (Gives d n (Scope_held sizes inner m)) (run tight budget bs d) (the (and_then z (λ vs. all_bound (1 + q) ps vs (entered q v env)))) dir) (sym l.is) (all_binds_sim (1 + q) r l.stand (h_entered (s_record h) k))
+    binds_sim {sizes = sizes} q {v = v} {inner = inner} {env = env} {n = n} {m = m} {d = d} (b_fields {fs = names} {ps = ps} {u = u} {k = k'} {bs = bs} xs up l r) (s_scalar {c = c} e h) k =
+        subst (λ z. Sim (Gives d n (Scope_held sizes inner m)) (run tight budget (step xs (act.Read (act.Fields_at names) (u ∷ [])) ++ bs) d) (the z) dir) (and_then_twice (fields_of v) (accessors.record_parts names) (λ vs. all_bound (1 + q) ps vs (entered q v env)))
         (sim_right dir (alike_joined (and_then (fields_of v) (accessors.record_parts names)) (λ vs. all_bound (1 + q) ps vs (entered q v env)))
         (seq_sim tight budget dir (step xs (act.Read (act.Fields_at names) (u ∷ []))) bs (upward_grows n xs k' up)
-        (subst (λ z. Sim (Gives d n (All_new xs k')) (run tight budget (step xs (act.Read (act.Fields_at names) (u ∷ []))) d) (the (and_then (fields_of z) (accessors.record_parts names))) dir) (sym e) (fields_sim xs up tight budget dir names l h))
-        (λ e' vs x hs. all_binds_sim (1 + q) r hs (h_entered (holds_on x (upward_grows n xs k' up) k)))))
+        (subst (λ z. Sim (Gives d n (All_new sizes xs k')) (run tight budget (step xs (act.Read (act.Fields_at names) (u ∷ []))) d) (the (and_then (fields_of z) (accessors.record_parts names))) dir) (sym e) (fields_sim xs up tight budget dir names l h))
+        (λ e' vs x hs. all_binds_sim (1 + q) r hs (h_entered (stands_on x (upward_grows n xs k' up) (s_scalar e h)) (holds_on x (upward_grows n xs k' up) k)))))
     binds_sim q (b_typed r) h k = binds_sim q r h k
 
-    all_binds_sim : (q : ℕ) {ps : Patterns Ref BindId} {ss : List Known} {vs : List FlatValue} {sc inner : Scope} {env : FlatEnv} {n m : ℕ} {bs : Bindings} {d : Names Component} → All_bind ps ss sc n bs inner m → All_same (Stands d n) ss vs → Holds d n sc env → Sim (Gives d n (Scope_held inner m)) (run tight budget bs d) (the (all_bound q ps vs env)) dir
+    all_binds_sim : {sizes : Option Sizing} (q : ℕ) {ps : Patterns Ref BindId} {ss : List Known} {vs : List FlatValue} {sc inner : Scope} {env : FlatEnv} {n m : ℕ} {bs : Bindings} {d : Names Component} → All_bind sizes q ps ss sc n bs inner m → All_same (Stands sizes d n) ss vs → Holds sizes d n sc env → Sim (Gives d n (Scope_held sizes inner m)) (run tight budget bs d) (the (all_bound q ps vs env)) dir
     all_binds_sim q b_none all_none k = none_sim tight budget dir _ refl k
     all_binds_sim q {env = env} (b_more {p = p} {ps = ps} {bs = bs} {cs = cs} r rs) (all_more {x' = v} {xs' = vs} h hs) k =
         sim_right dir (alike_joined (bound q p v env) (λ e. all_bound (q + pattern_numbers p) ps vs e))

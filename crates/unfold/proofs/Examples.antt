@@ -10,10 +10,12 @@ use Rattle.fut_flat.specs.declared.prim.Primitive.TheVariants as prim
 use Rattle.fut_flat.specs.declared.prim.Ref.TheVariants as ref
 use Rattle.fut_flat.specs.Erased.{FlatTerm, FlatPattern}
 use Rattle.fut_flat.specs.Terms.{Bound_pattern, Tuple_pattern, no_pattern, pattern_and, Truth, Tuple_of, Project, Binary, Use, Strict, Lambda, Apply, Let, If, Loop, no_term, term_and, Counted, Over}
+use Rattle.fut_meaning.specs.Found.{unsized}
 use Rattle.fut_blocks.specs.declared.block.Atom.TheVariants as atom
 use Rattle.fut_blocks.specs.declared.block.Operation.TheVariants as operation
 use Rattle.fut_blocks.specs.Plain.{Operate, Give}
 use Rattle.fut_blocks.specs.Plain as act
+use Rattle.fut_blocks.specs.Rows.{Unknown_row}
 use Rattle.unfold.specs.Knowns.{Known, Tuple_known, Function_known, no_known, known_and, Scope, no_name, name_by, name_and, Tops, local_by, local, find}
 use Rattle.unfold.specs.Shapes.{Scalar_shape, Tuple_shape, no_shape, shape_and, Shape, laid_scalar, laid_tuple, laid_none, laid_more}
 use Rattle.unfold.specs.Unfolding.{Bindings, named, both_hold, b_bound, b_tuple, b_parts, b_none, b_more, e_scalars, e_packed, e_tuples, e_none, e_more, p_atom, p_tuple, p_none, p_more, o_truth, o_tuple, o_binary, o_equal, o_part, Unfolds, u_name, u_primitive, u_strict, u_lambda, u_apply, u_let, u_packed, u_if, u_counted, u_over, u_none, u_more, a_body, a_waits, a_primitive_waits, a_job, a_none, a_more}
@@ -54,7 +56,7 @@ abbrev locals : Scope
 locals = name_and (bind_id 5) (named 1) (name_and (bind_id 4) (named 0) no_name)
 
 abbrev Comes_to : FlatTerm → Bindings → Known → ℕ → Type 0
-Comes_to t bs s m = Unfolds (λ n. I32) defined locals 7 t 2 bs s m
+Comes_to t bs s m = Unfolds (unsized (λ n. I32)) defined locals 7 t 2 bs s m
 
 abbrev equal : ℕ → ℕ → act.Action
 equal x y = Operate (operation.Binary binary.Eq here (atom.Name x) (atom.Name y))
@@ -66,9 +68,9 @@ pairs_are_compared : Comes_to (Apply (Apply (var 0) (pair (var 4) (var 5))) (pai
 unfolding find local local_by name_and name_by
 pairs_are_compared =
     u_apply
-    (u_apply (u_name refl) (u_strict (u_more (u_name refl) (u_more (u_name refl) u_none)) o_tuple) (a_waits b_bound))
-    (u_strict (u_more (u_name refl) (u_more (u_name refl) u_none)) o_tuple)
-    (a_body b_bound (u_strict (u_more (u_name refl) (u_more (u_name refl) u_none))
+    (u_apply (u_name refl refl) (u_strict (u_more (u_name refl refl) (u_more (u_name refl refl) u_none)) o_tuple) (a_waits b_bound))
+    (u_strict (u_more (u_name refl refl) (u_more (u_name refl refl) u_none)) o_tuple)
+    (a_body b_bound (u_strict (u_more (u_name refl refl) (u_more (u_name refl refl) u_none))
     (o_equal (e_tuples (e_more (e_scalars (omega arith)) (e_more (e_scalars (omega arith)) e_none (omega arith)) (omega arith))))))
 
 -- a branch gives each component of a tuple under a new name
@@ -79,9 +81,9 @@ unfolding find local local_by name_and name_by Rattle.fut_blocks.specs.Plain.let
 branches_give_components =
     u_if {h = pair_shape} (2 ∷ 3 ∷ [])
     (u_strict u_none o_truth)
-    (u_strict (u_more (u_name refl) (u_more (u_name refl) u_none)) o_tuple)
+    (u_strict (u_more (u_name refl refl) (u_more (u_name refl refl) u_none)) o_tuple)
     (laid_tuple (laid_more laid_scalar (laid_more laid_scalar laid_none)))
-    (u_strict (u_more (u_name refl) (u_more (u_name refl) u_none)) o_tuple)
+    (u_strict (u_more (u_name refl refl) (u_more (u_name refl refl) u_none)) o_tuple)
     (laid_tuple (laid_more laid_scalar (laid_more laid_scalar laid_none)))
     (omega arith, (omega arith, omega arith))
     (laid_tuple (laid_more laid_scalar (laid_more laid_scalar laid_none)))
@@ -93,14 +95,14 @@ loops_have_components : Comes_to (Loop here [] (Tuple_pattern (pattern_and (name
 unfolding find local local_by name_and name_by Rattle.fut_blocks.specs.Plain.lets
 loops_have_components =
     u_counted {n3 = 4} {h = pair_shape} (2 ∷ 3 ∷ []) (5 ∷ 6 ∷ [])
-    (u_strict (u_more (u_name refl) (u_more (u_name refl) u_none)) o_tuple)
+    (u_strict (u_more (u_name refl refl) (u_more (u_name refl refl) u_none)) o_tuple)
     (laid_tuple (laid_more laid_scalar (laid_more laid_scalar laid_none)))
-    (u_name refl)
+    (u_name refl refl)
     (omega arith, (omega arith, omega arith))
     (laid_tuple (laid_more laid_scalar (laid_more laid_scalar laid_none)))
     (omega arith)
     (b_tuple (b_more b_bound (b_more b_bound b_none)))
-    (u_strict (u_more (u_name refl) (u_more (u_name refl) u_none)) o_tuple)
+    (u_strict (u_more (u_name refl refl) (u_more (u_name refl refl) u_none)) o_tuple)
     (laid_tuple (laid_more laid_scalar (laid_more laid_scalar laid_none)))
     (omega arith, (omega arith, omega arith))
     (laid_tuple (laid_more laid_scalar (laid_more laid_scalar laid_none)))
@@ -116,20 +118,20 @@ add x y = Operate (operation.Binary binary.Add here (atom.Name x) (atom.Name y))
 
 -- the function of a map is its block, on a new name, and sees the names outside: `map (\z -> z + y) x`
 maps_have_blocks : Comes_to (Apply (Apply (Use (ref.Prim prim.Map) here 0) (Lambda (pattern_and (name 6) no_pattern) (two binary.Add (var 6) (var 5)))) (var 4))
-    ((4 ∷ [], act.Job prim.Map here (atom.Name 0 ∷ []) (2 ∷ []) (act.Let (3 ∷ []) (add 2 1) (Give (atom.Name 3 ∷ [])))) ∷ [])
+    ((4 ∷ [], act.Job Unknown_row prim.Map here (atom.Name 0 ∷ []) (2 ∷ []) (act.Let (3 ∷ []) (add 2 1) (Give (atom.Name 3 ∷ [])))) ∷ [])
     (named 4) 5
 unfolding find local local_by name_and name_by Rattle.fut_blocks.specs.Plain.lets
 maps_have_blocks =
     u_apply
     (u_apply (u_primitive refl) u_lambda (a_primitive_waits refl))
-    (u_name refl)
+    (u_name refl refl)
     (a_job {n2 = 3} (2 ∷ []) refl refl refl (p_more p_atom p_none) (omega arith, omega arith) refl
-    (a_more (a_body b_bound (u_strict (u_more (u_name refl) (u_more (u_name refl) u_none)) (o_binary (omega arith)))) a_none) p_atom (omega arith))
+    (a_more (a_body b_bound (u_strict (u_more (u_name refl refl) (u_more (u_name refl refl) u_none)) (o_binary (omega arith)))) a_none) p_atom (omega arith))
 
 -- a tuple that came out of an array is taken apart by a step
 rows_come_apart : Comes_to (Let (record { sizes = []; parameters = []; is_function = false; pattern = Tuple_pattern (pattern_and (name 6) (pattern_and (name 7) no_pattern)) }) (var 4) (var 7)) ((2 ∷ 3 ∷ [], Operate (operation.Parts (atom.Name 0))) ∷ []) (named 3) 4
 unfolding find local local_by name_and name_by
-rows_come_apart = u_let (u_name refl) (b_parts (2 ∷ 3 ∷ []) (omega arith, (omega arith, omega arith)) (b_more b_bound (b_more b_bound b_none))) (u_name refl)
+rows_come_apart = u_let (u_name refl refl) (b_parts (2 ∷ 3 ∷ []) (omega arith, (omega arith, omega arith)) (b_more b_bound (b_more b_bound b_none))) (u_name refl refl)
 
 -- where one branch gives a tuple of names and the other one that came out of an array, both give one component
 branches_are_packed : Comes_to (If truth (pair (var 4) (var 5)) (var 4))
@@ -139,9 +141,9 @@ unfolding find local local_by name_and name_by Rattle.fut_blocks.specs.Plain.let
 branches_are_packed =
     u_if {h = Scalar_shape} (3 ∷ [])
     (u_strict u_none o_truth)
-    (u_packed (u_strict (u_more (u_name refl) (u_more (u_name refl) u_none)) o_tuple) (p_tuple (p_more p_atom (p_more p_atom p_none)) (omega arith)))
+    (u_packed (u_strict (u_more (u_name refl refl) (u_more (u_name refl refl) u_none)) o_tuple) (p_tuple (p_more p_atom (p_more p_atom p_none)) (omega arith)))
     laid_scalar
-    (u_name refl)
+    (u_name refl refl)
     laid_scalar
     (omega arith, omega arith)
     laid_scalar
@@ -153,15 +155,15 @@ loops_go_over_rows : Comes_to (Loop here [] (name 6) (var 5) (Over (name 7) (var
 unfolding find local local_by name_and name_by Rattle.fut_blocks.specs.Plain.lets
 loops_go_over_rows =
     u_over {n3 = 3} {h = Scalar_shape} (2 ∷ []) (5 ∷ [])
-    (u_name refl)
+    (u_name refl refl)
     laid_scalar
-    (u_name refl)
+    (u_name refl refl)
     (omega arith, omega arith)
     laid_scalar
     (omega arith)
     b_bound
     b_bound
-    (u_strict (u_more (u_name refl) (u_more (u_name refl) u_none)) (o_binary (omega arith)))
+    (u_strict (u_more (u_name refl refl) (u_more (u_name refl refl) u_none)) (o_binary (omega arith)))
     laid_scalar
     (omega arith, omega arith)
     laid_scalar
@@ -170,10 +172,10 @@ loops_go_over_rows =
 rows_are_compared : Comes_to (two binary.Eq (var 4) (pair (var 4) (var 5))) ((2 ∷ [], act.Tuple (atom.Name 0 ∷ atom.Name 1 ∷ [])) ∷ (3 ∷ [], equal 0 2) ∷ []) (named 3) 4
 unfolding find local local_by name_and name_by
 rows_are_compared =
-    u_strict (u_more (u_name refl) (u_more (u_strict (u_more (u_name refl) (u_more (u_name refl) u_none)) o_tuple) u_none))
+    u_strict (u_more (u_name refl refl) (u_more (u_strict (u_more (u_name refl refl) (u_more (u_name refl refl) u_none)) o_tuple) u_none))
     (o_equal (e_packed (p_more p_atom (p_more (p_tuple (p_more p_atom (p_more p_atom p_none)) (omega arith)) p_none)) (omega arith)))
 
 -- a part of a tuple that came out of an array is a step, and one of a known tuple is none
 parts_are_steps : Comes_to (Strict (Project one) here (term_and (var 4) no_term)) ((2 ∷ [], act.Read (act.Part_at one) (atom.Name 0 ∷ [])) ∷ []) (named 2) 3
 unfolding find local local_by name_and name_by
-parts_are_steps = u_strict (u_more (u_name refl) u_none) (o_part (omega arith))
+parts_are_steps = u_strict (u_more (u_name refl refl) u_none) (o_part (omega arith))

@@ -1,6 +1,8 @@
 pub mod Names
+pub mod Sought
 pub mod Alike
 pub mod Stands
+pub mod Told
 pub mod Patterns
 pub mod Components
 pub mod Runs
@@ -14,3 +16,4 @@ pub mod Programs
 pub mod Rising
 pub mod Mirror
 mod Examples
+mod Told_examples

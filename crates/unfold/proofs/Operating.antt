@@ -1,5 +1,5 @@
 -- The steps of operations and primitives give what these do.
-use Rattle.std.proofs.Common.{◌≡◌, ℕ, suc, ◌≤◌, ◌++◌, List, [], ◌∷◌, Bool, true, false, cond, not, Some, None, refl, sym, ap, ◌∙◌, subst, arith}
+use Rattle.std.proofs.Common.{◌≡◌, ℕ, suc, ◌≤◌, ◌++◌, List, [], ◌∷◌, Bool, true, false, cond, not, Some, None, refl, sym, ap, ◌∙◌, subst, arith, Option}
 use Rattle.std.specs.Str.{bytes_eq}
 use Rattle.fut_scalar.specs.declared.operator.BinOp.{BinOp}
 use Rattle.fut_scalar.specs.declared.operator.BinOp.TheVariants as binary
@@ -17,13 +17,21 @@ use Rattle.fut_flat.specs.Terms.{Operation}
 use Rattle.fut_arithmetic.specs.Conversions.{converted}
 use Rattle.fut_arithmetic.specs.Operations.{result_of_one}
 use Rattle.fut_scalar.specs.declared.scalar.ScalarType.{ScalarType}
-use Rattle.fut_value.specs.Data.{Unmet_shape, Scalar_datum}
+use Rattle.fut_value.specs.Data.{Scalar_datum}
+use Rattle.fut_meaning.specs.Found.{Sizing}
+use Rattle.fut_blocks.specs.Rows.{Row, Size_test}
+use Rattle.fut_blocks.specs.Sizes.{row_shape, passes}
+use Rattle.unfold.specs.Telling.{known_row}
+use Rattle.fut_value.specs.Data.{Shape as Data_shape}
+use Rattle.fut_value.specs.Data.{Datum}
+use Rattle.fut_meaning.specs.Arrays.{Making, Make_array, Make_index, Make_update, Make_range, checked, made}
+use Rattle.unfold.specs.Unfolding.{tested, made_row}
 use Rattle.fut_meaning.specs.Arrays.{scalar_of_datum, truth_of_datum}
 use Rattle.fut_meaning.specs.Datums.{all_values}
 use Rattle.fut_meaning.specs.Accessors.{or_wrong, scalar_of, truth_of, turns_of, part, fields_of}
 use Rattle.fut_meaning.specs.Flats.{FlatValue}
 use Rattle.fut_meaning.specs.Operations as operations
-use Rattle.fut_meaning.specs.Operations.{report, reported, equal, all_equal, fields_equal, equal_scalars, truth, binary_value, on_scalars, on_scalar, operate, coerced, operated_by, making, primitive}
+use Rattle.fut_meaning.specs.Operations.{report, reported, equal, all_equal, fields_equal, truth, binary_value, on_scalars, on_scalar, operate, coerced, operated_by, making, primitive}
 use Rattle.fut_meaning.specs.Operators.{binary_result, unary_result}
 use Rattle.fut_meaning.specs.Outcomes.{Out, Val, Fail, Wrong, and_then, Rel, the, choose}
 use Rattle.fut_meaning.specs.Sames.{All_same, all_none, all_more, Same_out, same_value, same_report, same_wrong, Sim}
@@ -46,7 +54,7 @@ use Rattle.unfold.proofs.Stands.{scalar_value, FlatValues, FlatFields, Has, has_
 use Rattle.unfold.proofs.Patterns.{knowns_stand, part_stands, replaced_stands, fields_stand, named_stand}
 use Rattle.unfold.proofs.Components.{values_are}
 use Rattle.unfold.proofs.Packing.{All_packed, packs_grow, packs_all_grow, packs_all_sim, packs_all_data, make_sim, pack_stands}
-use Rattle.unfold.proofs.Records.{part_read, replace_read}
+use Rattle.unfold.proofs.Records.{and_then_twice, part_read, replace_read}
 use Rattle.unfold.proofs.Runs.{Gives, Standing, run, none_sim, seq_sim, made_sim, step_sim}
 
 -- a scalar of an outcome, on both sides
@@ -60,7 +68,7 @@ unary_scalar op v = and_then (scalar_of_datum v) (λ s. or_wrong (unary_result o
 
 module _ (tight : Bool) (budget : ℕ) (dir : Bool) where
   -- a step that gives one scalar
-  one_sim : {d : Names Component} {n x : ℕ} (a : Block_operation) (o : Out Scalar) {p : Out FlatValue} → n ≤ x → operated d a ≡ one o → p ≡ and_then o (λ s. Val (Scalar_value s)) → Sim (Gives d n (Standing (Scalar_known (atom.Name x)) (suc x))) (run tight budget (step (x ∷ []) (Operate a)) d) (the p) dir
+  one_sim : {sizes : Option Sizing} {d : Names Component} {n x : ℕ} (a : Block_operation) (o : Out Scalar) {p : Out FlatValue} → n ≤ x → operated d a ≡ one o → p ≡ and_then o (λ s. Val (Scalar_value s)) → Sim (Gives d n (Standing sizes (Scalar_known (atom.Name x)) (suc x))) (run tight budget (step (x ∷ []) (Operate a)) d) (the p) dir
   unfolding act_means
   one_sim {d} {n} {x} a o {p} le e f =
       step_sim tight budget dir {h = Scalar_shape} (x ∷ []) (Operate a)
@@ -193,7 +201,7 @@ module _ (tight : Bool) (budget : ℕ) (dir : Bool) where
   mutual
     unfolding all_equal fields_equal act_means
 
-    equals_sim : {at : Place} {s t : Known} {n m : ℕ} {bs : Bindings} {u : Atom} {d : Names Component} {v w : FlatValue} → Equals at s t n bs u m → Stands d n s v → Stands d n t w → Sim (Gives d n (Truth_standing u m)) (run tight budget bs d) (the (equal v w)) dir
+    equals_sim : {sizes : Option Sizing} {at : Place} {s t : Known} {n m : ℕ} {bs : Bindings} {u : Atom} {d : Names Component} {v w : FlatValue} → Equals at s t n bs u m → Stands sizes d n s v → Stands sizes d n t w → Sim (Gives d n (Truth_standing u m)) (run tight budget bs d) (the (equal v w)) dir
     equals_sim {at} {d = d} (e_scalars {u = u} {w} {n = n} {x = x} le) (s_scalar {c = a} {v = v} e h) (s_scalar {c = b} {v = v'} f k) =
         subst (λ y. Sim (Gives d n (Truth_standing (atom.Name x) (suc x))) (run tight budget (step (x ∷ []) (Operate (operation.Binary binary.Eq at u w))) d) (the (equal y v')) dir) (sym e)
         (subst (λ y. Sim (Gives d n (Truth_standing (atom.Name x) (suc x))) (run tight budget (step (x ∷ []) (Operate (operation.Binary binary.Eq at u w))) d) (the (equal (as_flat a) y)) dir) (sym f)
@@ -207,18 +215,18 @@ module _ (tight : Bool) (budget : ℕ) (dir : Bool) where
     equals_sim (e_tuples r) (s_tuple h) (s_tuple k) = all_equal_sim r h k
     equals_sim (e_records r) (s_record h) (s_record k) = fields_equal_sim r h k
 
-    all_equal_sim : {at : Place} {ss ts : Knowns} {n m : ℕ} {bs : Bindings} {u : Atom} {d : Names Component} {vs ws : FlatValues} → All_equal at ss ts n bs u m → All_stand d n ss vs → All_stand d n ts ws → Sim (Gives d n (Truth_standing u m)) (run tight budget bs d) (the (all_equal vs ws)) dir
+    all_equal_sim : {sizes : Option Sizing} {at : Place} {ss ts : Knowns} {n m : ℕ} {bs : Bindings} {u : Atom} {d : Names Component} {vs ws : FlatValues} → All_equal at ss ts n bs u m → All_stand sizes d n ss vs → All_stand sizes d n ts ws → Sim (Gives d n (Truth_standing u m)) (run tight budget bs d) (the (all_equal vs ws)) dir
     all_equal_sim e_none s_none s_none = none_sim tight budget dir true refl (record { value = refl; below = tt })
     all_equal_sim (e_more {bs = bs} {cs} {u} {w} r rs le) (s_more h hs) (s_more k ks) = both_sim bs cs le (equals_grow r) (all_equal_grow rs) (equals_sim r h k) (λ e x. all_equal_sim rs (all_on x (equals_grow r) hs) (all_on x (equals_grow r) ks))
 
-    fields_equal_sim : {at : Place} {fs gs : Known_fields} {n m : ℕ} {bs : Bindings} {u : Atom} {d : Names Component} {vs ws : FlatFields} → Fields_equal at fs gs n bs u m → Fields_stand d n fs vs → Fields_stand d n gs ws → Sim (Gives d n (Truth_standing u m)) (run tight budget bs d) (the (fields_equal vs ws)) dir
+    fields_equal_sim : {sizes : Option Sizing} {at : Place} {fs gs : Known_fields} {n m : ℕ} {bs : Bindings} {u : Atom} {d : Names Component} {vs ws : FlatFields} → Fields_equal at fs gs n bs u m → Fields_stand sizes d n fs vs → Fields_stand sizes d n gs ws → Sim (Gives d n (Truth_standing u m)) (run tight budget bs d) (the (fields_equal vs ws)) dir
     fields_equal_sim e_no_field s_no_field s_no_field = none_sim tight budget dir true refl (record { value = refl; below = tt })
     fields_equal_sim (e_field {f} {g} {bs = bs} {cs} q r rs le) (s_field h hs) (s_field k ks) =
         if_same_name (bytes_eq f g) q _ _ (both_sim bs cs le (equals_grow r) (fields_equal_grow rs) (equals_sim r h k) (λ e x. fields_equal_sim rs (fields_on x (equals_grow r) hs) (fields_on x (equals_grow r) ks)))
 
 -- ---- operations
 
-pub operates_grow : {t : IntType} {o : Operation Ref BindId} {at : Place} {ss : List Known} {n m : ℕ} {bs : Bindings} {s : Known} → Operates t o at ss n bs s m → n ≤ m
+pub operates_grow : {row : Row} {wanted : Option Size_test} {t : IntType} {o : Operation Ref BindId} {at : Place} {ss : List Known} {n m : ℕ} {bs : Bindings} {s : Known} → Operates row wanted t o at ss n bs s m → n ≤ m
 operates_grow (o_integer q) = omega arith
 operates_grow o_truth = omega arith
 operates_grow o_tuple = omega arith
@@ -255,13 +263,32 @@ asserted_same at w (Val false) = same_report
 asserted_same at w (Fail r) = same_report
 asserted_same at w Wrong = same_wrong
 
-module _ (tight : Bool) (budget : ℕ) (dir : Bool) where
-  after_nothing : {d : Names Component} {n : ℕ} {s : Known} (w : FlatValue) → Stands d n s w → (cs : List Component) (v : FlatValue) → Is_nothing w cs v → Same_out (Gives d n (Standing s n)) (or_wrong (bound [] cs d)) (Val v)
-  after_nothing {d} {n} {s} w h cs v e =
-      subst (λ z. Same_out (Gives d n (Standing s n)) (or_wrong (bound [] z d)) (Val v)) (sym e.0)
-      (same_value (record { extends = extends_same n d; says = subst (λ z. Stands d n s z) (sym e.1) h }))
+-- a row that is told, whatever names stand beside
+abbrev pub Told_row : Row → Data_shape → ℕ → Names Component → Type 0
+Told_row row told n d = (e : Names Component) → Extends n d e → row_shape e row ≡ Val told
 
-  assert_sim : (at : Place) {d : Names Component} {n : ℕ} {u : Atom} {c : Component} {s : Known} {w : FlatValue} → Has d n u c → Stands d n s w → Sim (Gives d n (Standing s n)) (run tight budget (step [] (Operate (operation.Assert at u))) d) (the (and_then (truth_of_datum c) (λ b. cond b (Val w) (Fail (report kind.Assert at))))) dir
+-- a test that is told: none, which each value passes, or one of the shape of what is known of a value
+abbrev pub Told_test : Option Sizing → Option Size_test → (FlatValue → Bool) → ℕ → Names Component → Type 0
+Told_test sizes None test n d = (e : Names Component) → Extends n d e → (s : Known) (v : FlatValue) → Stands sizes e n s v → test v ≡ true
+Told_test sizes (Some t) test n d = (e : Names Component) → Extends n d e → (s : Known) (v : FlatValue) → Stands sizes e n s v → and_then (row_shape e (known_row s)) (passes e t) ≡ Val (test v)
+
+-- only an array literal looks at the row
+made_told : (e : Names Component) (row : Row) (told : Data_shape) (k : Making) (at : Place) (ds : List Datum) → row_shape e row ≡ Val told → and_then (row_shape e (made_row row k)) (λ h. made false h k at ds) ≡ made false told k at ds
+unfolding made
+made_told e row told Make_array at ds q = ap (λ z. and_then z (λ h. made false h Make_array at ds)) q
+made_told e row told (Make_index parts) at [] q = refl
+made_told e row told (Make_index parts) at (d ∷ ds) q = refl
+made_told e row told Make_update at [] q = refl
+made_told e row told Make_update at (d ∷ ds) q = refl
+made_told e row told (Make_range stepped end) at ds q = refl
+
+module _ (tight : Bool) (budget : ℕ) (dir : Bool) where
+  after_nothing : {sizes : Option Sizing} {d : Names Component} {n : ℕ} {s : Known} (w : FlatValue) → Stands sizes d n s w → (cs : List Component) (v : FlatValue) → Is_nothing w cs v → Same_out (Gives d n (Standing sizes s n)) (or_wrong (bound [] cs d)) (Val v)
+  after_nothing {sizes = sizes} {d} {n} {s} w h cs v e =
+      subst (λ z. Same_out (Gives d n (Standing sizes s n)) (or_wrong (bound [] z d)) (Val v)) (sym e.0)
+      (same_value (record { extends = extends_same n d; says = subst (λ z. Stands sizes d n s z) (sym e.1) h }))
+
+  assert_sim : {sizes : Option Sizing} (at : Place) {d : Names Component} {n : ℕ} {u : Atom} {c : Component} {s : Known} {w : FlatValue} → Has d n u c → Stands sizes d n s w → Sim (Gives d n (Standing sizes s n)) (run tight budget (step [] (Operate (operation.Assert at u))) d) (the (and_then (truth_of_datum c) (λ b. cond b (Val w) (Fail (report kind.Assert at))))) dir
   unfolding run act_means operated
   assert_sim at {d} {n} {u} {c} {s} {w} h k =
       sim_left dir (alike_back (alike_given _)) (sim_right dir (alike_given _) (then_sim dir
@@ -269,55 +296,69 @@ module _ (tight : Bool) (budget : ℕ) (dir : Bool) where
       (λ cs v e. the_sim dir (after_nothing w k cs v e))))
 
   -- a step that reads components
-  read_sim : {d : Names Component} {n x : ℕ} {us : List Atom} {cs : List Component} {o : Out FlatValue} (k : act.Reading) → n ≤ x → All_same (Has d n) us cs → Same_out (Is_value Scalar_shape) (reads k cs) o → Sim (Gives d n (Standing (Rattle.unfold.specs.Unfolding.named x) (suc x))) (run tight budget (step (x ∷ []) (act.Read k us)) d) (the o) dir
+  read_sim : {sizes : Option Sizing} {d : Names Component} {n x : ℕ} {us : List Atom} {cs : List Component} {o : Out FlatValue} (k : act.Reading) → n ≤ x → All_same (Has d n) us cs → Same_out (Is_value Scalar_shape) (reads k cs) o → Sim (Gives d n (Standing sizes (Rattle.unfold.specs.Unfolding.named x) (suc x))) (run tight budget (step (x ∷ []) (act.Read k us)) d) (the o) dir
   unfolding act_means
   read_sim {x = x} {us = us} {o = o} k le h same =
       step_sim tight budget dir {h = Scalar_shape} (x ∷ []) (act.Read k us) (the_sim dir (subst (λ z. Same_out (Is_value Scalar_shape) (and_then z (reads k)) o) (sym (values_are h)) same)) (le, omega arith) laid_scalar
 
-  changed : {d : Names Component} {n x : ℕ} {u w : Atom} {c : Component} {v z : FlatValue} (f : _) → v ≡ as_flat c → Has d n u c → Stands d n (Scalar_known w) z → n ≤ x
-      → Sim (Gives d n (Standing (Rattle.unfold.specs.Unfolding.named x) (suc x))) (run tight budget (step (x ∷ []) (act.Read (act.Replace_at f) (u ∷ w ∷ []))) d) (the (and_then (fields_of v) (λ fs. Val (Record_value (values.replaced f z fs))))) dir
+  changed : {sizes : Option Sizing} {d : Names Component} {n x : ℕ} {u w : Atom} {c : Component} {v z : FlatValue} (f : _) → v ≡ as_flat c → Has d n u c → Stands sizes d n (Scalar_known w) z → n ≤ x
+      → Sim (Gives d n (Standing sizes (Rattle.unfold.specs.Unfolding.named x) (suc x))) (run tight budget (step (x ∷ []) (act.Read (act.Replace_at f) (u ∷ w ∷ []))) d) (the (and_then (fields_of v) (λ fs. Val (Record_value (values.replaced f z fs))))) dir
   changed {c = c} {v = v} {z = z} f e h (s_scalar {c = b} q g) le =
       read_sim (act.Replace_at f) le (all_more h (all_more g all_none))
       (subst (λ y. Same_out (Is_value Scalar_shape) (reads (act.Replace_at f) (c ∷ b ∷ [])) (and_then (fields_of y) (λ fs. Val (Record_value (values.replaced f z fs))))) (sym e)
       (subst (λ y. Same_out (Is_value Scalar_shape) (reads (act.Replace_at f) (c ∷ b ∷ [])) (and_then (fields_of (as_flat c)) (λ fs. Val (Record_value (values.replaced f y fs))))) (sym q) (replace_read f c b)))
 
-  pub operates_sim : {t : IntType} {o : Operation Ref BindId} {at : Place} {ss : List Known} {n m : ℕ} {bs : Bindings} {s : Known} {d : Names Component} {vs : List FlatValue} {test : FlatValue → Bool} → ((v : FlatValue) → test v ≡ true) → Operates t o at ss n bs s m → All_same (Stands d n) ss vs → Sim (Gives d n (Standing s m)) (run tight budget bs d) (operated_by false Unmet_shape (making o) (coerced test o at vs (operate t o at vs)) at vs) dir
+  -- `:>`, where there is a sizing and where there is none
+  coerced_same : (at : Place) (w : FlatValue) (b : Bool) → Same_out (Is_nothing w) (checked b kind.Size at (Val [])) (cond b (Val w) (Fail (report kind.Size at)))
+  coerced_same at w true = same_value (refl, refl)
+  coerced_same at w false = same_report
+
+  coerce_sim : {sizes : Option Sizing} (at : Place) (wanted : Option Size_test) (test : FlatValue → Bool) {d : Names Component} {n : ℕ} {s : Known} {v : FlatValue} → Told_test sizes wanted test n d → Stands sizes d n s v → Sim (Gives d n (Standing sizes s n)) (run tight budget (tested wanted at s) d) (the (cond (test v) (Val v) (Fail (report kind.Size at)))) dir
+  unfolding run act_means
+  coerce_sim at None test {v = v} tests h = none_sim tight budget dir _ (ap (λ z. cond z (Val v) (Fail (report kind.Size at))) (tests _ (extends_same _ _) _ _ h)) h
+  coerce_sim at (Some t) test {d} {s = s} {v} tests h =
+      sim_left dir (alike_back (alike_given _)) (sim_right dir (alike_given _) (then_sim dir
+      (the_sim dir (subst (λ z. Same_out (Is_nothing v) z (cond (test v) (Val v) (Fail (report kind.Size at)))) (sym (sym (and_then_twice (row_shape d (known_row s)) (passes d t) (λ b. checked b kind.Size at (Val []))) ∙ ap (λ z. and_then z (λ b. checked b kind.Size at (Val []))) (tests _ (extends_same _ _) _ _ h)))
+      (coerced_same at v (test v))))
+      (λ cs w e. the_sim dir (after_nothing v h cs w e))))
+
+  pub operates_sim : {sizes : Option Sizing} {t : IntType} {o : Operation Ref BindId} {at : Place} {ss : List Known} {n m : ℕ} {bs : Bindings} {s : Known} {d : Names Component} {vs : List FlatValue} {row : Row} {told : Data_shape} {wanted : Option Size_test} (test : FlatValue → Bool) → Told_row row told n d → Told_test sizes wanted test n d → Operates row wanted t o at ss n bs s m → All_same (Stands sizes d n) ss vs → Sim (Gives d n (Standing sizes s m)) (run tight budget bs d) (operated_by false told (making o) (coerced test o at vs (operate t o at vs)) at vs) dir
   unfolding operate coerced unary_result result_of_one
-  operates_sim passes (o_integer {suffix = None} q) all_none = none_sim tight budget dir _ refl (s_scalar refl (record { value = ap (λ z. Val (Scalar_datum z)) q; below = tt }))
-  operates_sim passes (o_integer {suffix = Some u} q) all_none = none_sim tight budget dir _ refl (s_scalar refl (record { value = ap (λ z. Val (Scalar_datum z)) q; below = tt }))
-  operates_sim passes o_truth all_none = none_sim tight budget dir _ refl (s_scalar refl (record { value = refl; below = tt }))
-  operates_sim passes o_tuple hs = none_sim tight budget dir _ refl (s_tuple (knowns_stand hs))
-  operates_sim passes (o_record {fs = names} {known} q) hs =
+  operates_sim test rows tests (o_integer {suffix = None} q) all_none = none_sim tight budget dir _ refl (s_scalar refl (record { value = ap (λ z. Val (Scalar_datum z)) q; below = tt }))
+  operates_sim test rows tests (o_integer {suffix = Some u} q) all_none = none_sim tight budget dir _ refl (s_scalar refl (record { value = ap (λ z. Val (Scalar_datum z)) q; below = tt }))
+  operates_sim test rows tests o_truth all_none = none_sim tight budget dir _ refl (s_scalar refl (record { value = refl; below = tt }))
+  operates_sim test rows tests o_tuple hs = none_sim tight budget dir _ refl (s_tuple (knowns_stand hs))
+  operates_sim test rows tests (o_record {fs = names} {known} q) hs =
       let r = named_stand names known hs q in
       none_sim tight budget dir _ (ap (λ z. and_then (or_wrong z) (λ fs. Val (Record_value (values.fields fs)))) r.is) (s_record (fields_stand r.stand))
-  operates_sim passes (o_binary {op} {at = at} {u} {w} le) (all_more (s_scalar {c = a} e h) (all_more (s_scalar {c = b} {v = v'} f k) all_none)) =
+  operates_sim test rows tests (o_binary {op} {at = at} {u} {w} le) (all_more (s_scalar {c = a} e h) (all_more (s_scalar {c = b} {v = v'} f k) all_none)) =
       one_sim tight budget dir (operation.Binary op at u w) (binary_scalar op at a b) le (operated_binary tight budget dir op at h k) (ap (λ z. binary_value op at z v') e ∙ ap (binary_value op at (as_flat a)) f ∙ given_value op at a b)
-  operates_sim passes (o_equal {bs = bs} r) (all_more {x' = v} h (all_more {x' = w} k all_none)) =
+  operates_sim test rows tests (o_equal {bs = bs} r) (all_more {x' = v} h (all_more {x' = w} k all_none)) =
       sim_right dir (alike_joined (equal v w) (λ b. Val (truth b))) (made_sim tight budget dir truth bs (equals_sim tight budget dir r h k) (λ e b x k. s_scalar refl k))
-  operates_sim passes (o_unequal {bs = bs} {u} r le) (all_more {x' = v} h (all_more {x' = w} k all_none)) =
+  operates_sim test rows tests (o_unequal {bs = bs} {u} r le) (all_more {x' = v} h (all_more {x' = w} k all_none)) =
       sim_right dir (alike_joined (equal v w) (λ b. Val (truth (not b))))
       (seq_sim tight budget dir bs _ (equals_grow r) (equals_sim tight budget dir r h k)
       (λ e b x t. one_sim tight budget dir (operation.Unary unary.Not u) (Val (scalar.Bool (not b))) le (operated_unary tight budget dir unary.Not t) refl))
-  operates_sim passes (o_negate {u = u} le) (all_more (s_scalar {c = a} e h) all_none) = one_sim tight budget dir (operation.Unary unary.Neg u) (unary_scalar unary.Neg a) le (operated_unary tight budget dir unary.Neg h) (ap (on_scalar unary.Neg) e ∙ given_one unary.Neg a)
-  operates_sim passes (o_complement {u = u} le) (all_more (s_scalar {c = a} e h) all_none) = one_sim tight budget dir (operation.Unary unary.Not u) (unary_scalar unary.Not a) le (operated_unary tight budget dir unary.Not h) (ap (on_scalar unary.Not) e ∙ given_one unary.Not a)
-  operates_sim passes (o_project {f = f} {s' = s'} q) (all_more h all_none) = let r = part_stands f s' h q in none_sim tight budget dir r.value r.is r.stands
-  operates_sim passes (o_part {f = f} {u = u} le) (all_more {x' = v} (s_scalar {c = c} e h) all_none) =
+  operates_sim test rows tests (o_negate {u = u} le) (all_more (s_scalar {c = a} e h) all_none) = one_sim tight budget dir (operation.Unary unary.Neg u) (unary_scalar unary.Neg a) le (operated_unary tight budget dir unary.Neg h) (ap (on_scalar unary.Neg) e ∙ given_one unary.Neg a)
+  operates_sim test rows tests (o_complement {u = u} le) (all_more (s_scalar {c = a} e h) all_none) = one_sim tight budget dir (operation.Unary unary.Not u) (unary_scalar unary.Not a) le (operated_unary tight budget dir unary.Not h) (ap (on_scalar unary.Not) e ∙ given_one unary.Not a)
+  operates_sim test rows tests (o_project {f = f} {s' = s'} q) (all_more h all_none) = let r = part_stands f s' h q in none_sim tight budget dir r.value r.is r.stands
+  operates_sim test rows tests (o_part {f = f} {u = u} le) (all_more {x' = v} (s_scalar {c = c} e h) all_none) =
       read_sim (act.Part_at f) le (all_more h all_none) (subst (λ z. Same_out (Is_value Scalar_shape) (reads (act.Part_at f) (c ∷ [])) (part f z)) (sym e) (part_read f c))
-  operates_sim {n = n} {d = d} passes (o_changed {m = m} {x = x} {f = f} {u = u} {w = w} {bs = bs} r le) (all_more {x' = v} (s_scalar {c = c} e h) (all_more {x' = v'} k all_none)) =
+  operates_sim {n = n} {d = d} test rows tests (o_changed {m = m} {x = x} {f = f} {u = u} {w = w} {bs = bs} r le) (all_more {x' = v} (s_scalar {c = c} e h) (all_more {x' = v'} k all_none)) =
       sim_right dir (alike_value v' (λ z. the (and_then (fields_of v) (λ fs. Val (Record_value (values.replaced f z fs))))))
       (seq_sim tight budget dir bs _ (packs_grow r) (pack_stands tight budget dir r k)
       (λ e' z y kz. changed f e (has_on y (packs_grow r) u h) kz le))
-  operates_sim passes (o_replace {f = f}) (all_more (s_record h) (all_more k all_none)) = none_sim tight budget dir _ refl (s_record (replaced_stands f k h))
-  operates_sim passes o_ascribe (all_more h all_none) = none_sim tight budget dir _ refl h
-  operates_sim {at = at} passes o_coerce (all_more {x' = v} h all_none) = none_sim tight budget dir _ (ap (λ z. cond z (Val v) (Fail (report kind.Size at))) (passes v)) h
-  operates_sim passes o_declared (all_more h all_none) = none_sim tight budget dir _ refl h
-  operates_sim {d = d} passes (o_assert {n = n} {at = at} {u = u}) (all_more {x' = v} (s_scalar {c = c} e h) all_none) =
-      subst (λ z. Sim (Gives d n (Standing (Scalar_known u) n)) (run tight budget (step [] (Operate (operation.Assert at u))) d) (the (and_then z (λ b. cond b (Val v) (Fail (report kind.Assert at))))) dir) (sym (ap truth_of e ∙ truth_of-as c)) (assert_sim at h (s_scalar e h))
-  operates_sim {t} {o} {at} {n = n} {d = d} {vs = vs} {test = test} passes (o_made {m = m} {x = x} {k = k} {bs = bs} {us} q r le) hs =
-      subst (λ z. Sim (Gives d n (Standing (Rattle.unfold.specs.Unfolding.named x) (suc x))) (run tight budget (bs ++ step (x ∷ []) (Rattle.fut_blocks.specs.Plain.Make k at us)) d) (operated_by false Unmet_shape z (coerced test o at vs (operate t o at vs)) at vs) dir) (sym q)
-      (seq_sim tight budget dir bs _ (packs_all_grow r) (packs_all_sim tight budget dir r hs) (λ e ds x h. make_sim tight budget dir k at le h))
+  operates_sim test rows tests (o_replace {f = f}) (all_more (s_record h) (all_more k all_none)) = none_sim tight budget dir _ refl (s_record (replaced_stands f k h))
+  operates_sim test rows tests o_ascribe (all_more h all_none) = none_sim tight budget dir _ refl h
+  operates_sim {at = at} test rows tests o_coerce (all_more {x' = v} h all_none) = coerce_sim at _ test tests h
+  operates_sim test rows tests o_declared (all_more h all_none) = none_sim tight budget dir _ refl h
+  operates_sim {sizes = sizes} {d = d} test rows tests (o_assert {n = n} {at = at} {u = u}) (all_more {x' = v} (s_scalar {c = c} e h) all_none) =
+      subst (λ z. Sim (Gives d n (Standing sizes (Scalar_known u) n)) (run tight budget (step [] (Operate (operation.Assert at u))) d) (the (and_then z (λ b. cond b (Val v) (Fail (report kind.Assert at))))) dir) (sym (ap truth_of e ∙ truth_of-as c)) (assert_sim at h (s_scalar e h))
+  operates_sim {sizes = sizes} {t} {o} {at} {n = n} {d = d} {vs = vs} {row = row} {told} test rows tests (o_made {m = m} {x = x} {k = k} {bs = bs} {us} q r le) hs =
+      subst (λ z. Sim (Gives d n (Standing sizes (Rattle.unfold.specs.Unfolding.named x) (suc x))) (run tight budget (bs ++ step (x ∷ []) (Rattle.fut_blocks.specs.Plain.Make (made_row row k) k at us)) d) (operated_by false told z (coerced test o at vs (operate t o at vs)) at vs) dir) (sym q)
+      (seq_sim tight budget dir bs _ (packs_all_grow r) (packs_all_sim tight budget dir r hs) (λ e ds x h. make_sim tight budget dir told (made_row row k) k at le h (made_told e row told k at ds (rows e x))))
 
-  pub primitive_sim : {p : Primitive} {at : Place} {ss : List Known} {n m : ℕ} {bs : Bindings} {s : Known} {d : Names Component} {vs : List FlatValue} → Primitive_operates p at ss n bs s m → All_same (Stands d n) ss vs → Sim (Gives d n (Standing s m)) (run tight budget bs d) (the (primitive p at vs)) dir
+  pub primitive_sim : {sizes : Option Sizing} {p : Primitive} {at : Place} {ss : List Known} {n m : ℕ} {bs : Bindings} {s : Known} {d : Names Component} {vs : List FlatValue} → Primitive_operates p at ss n bs s m → All_same (Stands sizes d n) ss vs → Sim (Gives d n (Standing sizes s m)) (run tight budget bs d) (the (primitive p at vs)) dir
   unfolding primitive operated
   primitive_sim (p_convert {to} {u = u} le) (all_more (s_scalar {c = a} e h) all_none) =
       one_sim tight budget dir (operation.Convert to u) (and_then (scalar_of_datum a) (λ s. Val (converted to s))) le (ap (λ z. and_then z (λ v. one (and_then (scalar_of_datum v) (λ s. Val (converted to s))))) h.value)

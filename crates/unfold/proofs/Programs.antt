@@ -1,14 +1,13 @@
 -- A program and the blocks to which it unfolds have the same outcomes.
-use Rattle.std.proofs.Common.{◌≡◌, ℕ, ◌≤◌, ◌++◌, List, [], Bool, true, false, refl, sym, ap, subst, arith}
+use Rattle.std.proofs.Common.{◌≡◌, ℕ, ◌≤◌, ◌++◌, List, [], Bool, true, false, refl, sym, ap, subst, arith, Option}
 use Rattle.fut_scalar.specs.declared.place.BindId.{BindId}
-use Rattle.fut_scalar.specs.declared.scalar.IntType.{IntType}
 use Rattle.fut_flat.specs.declared.prim.Ref.{Ref}
 use Rattle.fut_meaning.specs.Accessors.{or_wrong}
 use Rattle.fut_meaning.specs.Flats.{FlatTop, FlatTops, flat_names}
-use Rattle.fut_meaning.specs.Found.{unsized}
+use Rattle.fut_meaning.specs.Found.{Told, Sizing}
 use Rattle.fut_meaning.specs.Meaning.{plain}
 use Rattle.fut_meaning.specs.Outcomes.{Rel, choose}
-use Rattle.fut_meaning.specs.Programs.{top, evaluated, applied_to}
+use Rattle.fut_meaning.specs.Programs.{top, evaluated}
 use Rattle.fut_meaning.specs.Programs as programs
 use Rattle.fut_meaning.specs.Sames.{all_none, all_more, Sim}
 use Rattle.fut_meaning.specs.Values as values
@@ -29,44 +28,44 @@ use Rattle.unfold.proofs.Runs.{Gives, run, none_sim, seq_sim, body_sim}
 use Rattle.unfold.proofs.Simulation.{unfolds_grow, unfold_sim, applied_sim}
 use Rattle.unfold.proofs.Stands.{h_base, Tops_stand, tops_on, list_on, top_found}
 
-module _ {integer_at : ℕ → IntType} where
-  pub definitions_grow : {entry : ℕ} {tops end : Tops} {ds : List FlatTop} {n m : ℕ} {bs : Bindings} → Definitions_unfold integer_at entry tops ds n bs end m → n ≤ m
+module _ {told : Told} where
+  pub definitions_grow : {entry : ℕ} {tops end : Tops} {ds : List FlatTop} {n m : ℕ} {bs : Bindings} → Definitions_unfold told entry tops ds n bs end m → n ≤ m
   definitions_grow d_none = omega arith
   definitions_grow (d_reached q p r) = omega (arith, unfolds_grow p, definitions_grow r)
   definitions_grow (d_other q r) = definitions_grow r
 
-abbrev All_tops : Tops → ℕ → Names Component → FlatTops → Type 0
-All_tops tops n e tops' = Tops_stand e n tops tops'
+abbrev All_tops : Option Sizing → Tops → ℕ → Names Component → FlatTops → Type 0
+All_tops sizes tops n e tops' = Tops_stand sizes e n tops tops'
 
-module _ (integer_at : ℕ → IntType) (tight : Bool) (budget entry : ℕ) (dir : Bool) where
-  chosen : {d : Names Component} {n m : ℕ} {end : Tops} (bs : Bindings) (z y : Bool) (P Q : Rel FlatTops) → z ≡ y → Sim (Gives d n (All_tops end m)) (run tight budget bs d) (choose y P Q) dir → Sim (Gives d n (All_tops end m)) (run tight budget bs d) (choose z P Q) dir
-  chosen {d} {n} {m} {end} bs z y P Q e s = subst (λ x. Sim (Gives d n (All_tops end m)) (run tight budget bs d) (choose x P Q) dir) (sym e) s
+module _ (told : Told) (tight : Bool) (budget entry : ℕ) (dir : Bool) where
+  chosen : {d : Names Component} {n m : ℕ} {end : Tops} (bs : Bindings) (z y : Bool) (P Q : Rel FlatTops) → z ≡ y → Sim (Gives d n (All_tops told.sizes end m)) (run tight budget bs d) (choose y P Q) dir → Sim (Gives d n (All_tops told.sizes end m)) (run tight budget bs d) (choose z P Q) dir
+  chosen {d} {n} {m} {end} bs z y P Q e s = subst (λ x. Sim (Gives d n (All_tops told.sizes end m)) (run tight budget bs d) (choose x P Q) dir) (sym e) s
 
-  definitions_sim : {d : Names Component} {n m : ℕ} {tops end : Tops} {tops' : FlatTops} {ds : List FlatTop} {bs : Bindings} → Definitions_unfold integer_at entry tops ds n bs end m → Tops_stand d n tops tops' → Sim (Gives d n (All_tops end m)) (run tight budget bs d) (evaluated (flat_names (unsized integer_at)) (plain tight) budget entry ds tops') dir
+  definitions_sim : {d : Names Component} {n m : ℕ} {tops end : Tops} {tops' : FlatTops} {ds : List FlatTop} {bs : Bindings} → Definitions_unfold told entry tops ds n bs end m → Tops_stand told.sizes d n tops tops' → Sim (Gives d n (All_tops told.sizes end m)) (run tight budget bs d) (evaluated (flat_names told) (plain tight) budget entry ds tops') dir
   unfolding flat_names
   definitions_sim {tops' = tops'} d_none ts = none_sim tight budget dir tops' refl ts
   definitions_sim {tops = tops} {tops' = tops'} (d_reached {bs = bs} {cs} q p r) ts =
       chosen _ _ true _ _ q
-      (seq_sim tight budget dir bs cs (unfolds_grow p) (unfold_sim integer_at tight budget tops tops' dir p ts h_base)
+      (seq_sim tight budget dir bs cs (unfolds_grow p) (unfold_sim told tight budget tops tops' dir p ts h_base)
       (λ e v x k. definitions_sim r (all_more (record { number = refl; stands = k }) (tops_on x (unfolds_grow p) ts))))
   definitions_sim (d_other q r) ts = chosen _ _ false _ _ q (definitions_sim r ts)
 
-  pub program_sim : {ds : List FlatTop} {hs : Shapes} {h : Shape} {p : Program} {vs : Values Ref BindId (Unit {0})} {cs : List Component} → Program_unfolds integer_at ds entry hs h p → All_split hs vs cs [] → Sim (Is_value h) (Program_means tight budget p cs) (programs.Program_means (flat_names (unsized integer_at)) (plain tight) budget ds entry (values.listed vs)) dir
+  pub program_sim : {ds : List FlatTop} {hs : Shapes} {h : Shape} {p : Program} {vs : Values Ref BindId (Unit {0})} {cs : List Component} → Program_unfolds told ds entry hs h p → All_split hs vs cs [] → Sim (Is_value h) (Program_means tight budget p cs) (programs.Program_means (flat_names told) (plain tight) budget ds entry (values.listed vs)) dir
   unfolding Program_means
   program_sim {ds} {h = h} {p} {vs} {cs} u split =
       let b = binds_names 0 p.params.now u.first cs [] u.rising (all_length u.parameters split refl) in
       let a = scatter_all u.parameters split b.have in
       known_left dir (or_wrong (bound p.params.now cs [])) b.env _ _ (ap or_wrong b.is)
-      (subst (λ z. Sim (Is_value h) (body_means tight budget z b.env) (programs.Program_means (flat_names (unsized integer_at)) (plain tight) budget ds entry (values.listed vs)) dir) (sym u.body)
+      (subst (λ z. Sim (Is_value h) (body_means tight budget z b.env) (programs.Program_means (flat_names told) (plain tight) budget ds entry (values.listed vs)) dir) (sym u.body)
       (body_sim tight budget dir (u.defined ++ u.applied)
       (seq_sim tight budget dir u.defined u.applied (definitions_grow u.definitions) (definitions_sim u.definitions all_none)
       (λ e tops' x ts.
       let f = top_found e u.behind entry u.function ts u.entry_known in
-      known_right dir (top tops' entry) f.value _ _ f.is (applied_sim integer_at tight budget u.tops tops' dir u.application ts f.stands (list_on x (definitions_grow u.definitions) (listed_stand a.stand)))))
+      known_right dir (top tops' entry) f.value _ _ f.is (applied_sim told tight budget u.tops tops' dir u.application ts f.stands (list_on x (definitions_grow u.definitions) (listed_stand a.stand)))))
       u.laid))
 
 pub adds_no_outcome : AddsNoOutcome
-adds_no_outcome tight integer_at budget ds entry hs h p u vs cs split o f x = go_forth (program_sim integer_at tight budget entry.0 false u split) o f x
+adds_no_outcome tight told budget ds entry hs h p u vs cs split o f x = go_forth (program_sim told tight budget entry.0 false u split) o f x
 
 pub loses_no_outcome : LosesNoOutcome
-loses_no_outcome tight integer_at budget ds entry hs h p u vs cs split o f x = go_back (program_sim integer_at tight budget entry.0 true u split) o f x
+loses_no_outcome tight told budget ds entry hs h p u vs cs split o f x = go_back (program_sim told tight budget entry.0 true u split) o f x

@@ -1,5 +1,5 @@
 -- The names of a program's blocks rise.
-use Rattle.std.proofs.Common.{◌≡◌, ℕ, suc, ◌≤◌, ◌++◌, List, [], ◌∷◌, refl, sym, subst, arith}
+use Rattle.std.proofs.Common.{◌≡◌, ℕ, suc, ◌≤◌, ◌++◌, List, [], ◌∷◌, Option, Some, None, refl, sym, subst, arith}
 use Rattle.fut_scalar.specs.declared.place.BindId.{BindId}
 use Rattle.fut_scalar.specs.declared.place.Place.{Place}
 use Rattle.fut_scalar.specs.declared.scalar.IntType.{IntType}
@@ -7,6 +7,8 @@ use Rattle.fut_flat.specs.declared.prim.Primitive.{Primitive}
 use Rattle.fut_flat.specs.declared.prim.Ref.{Ref}
 use Rattle.fut_flat.specs.Erased.{FlatTerm, FlatPattern}
 use Rattle.fut_flat.specs.Terms.{Operation, Patterns, Terms}
+use Rattle.fut_meaning.specs.Found.{Told, Sizing}
+use Rattle.fut_blocks.specs.Rows.{Row, Size_test}
 use Rattle.fut_meaning.specs.Flats.{FlatTop}
 use Rattle.fut_blocks.specs.declared.block.Atom.{Atom}
 use Rattle.fut_blocks.specs.declared.block.Operation.{Operation as Block_operation}
@@ -15,7 +17,7 @@ use Rattle.fut_blocks.specs.Plain.{Action, Operate, lets}
 use Rattle.unfold.specs.Claims.{NamesRise}
 use Rattle.unfold.specs.Knowns.{Known, Knowns, Known_fields, Scope, Tops}
 use Rattle.unfold.specs.Programs.{Definitions_unfold, d_none, d_reached, d_other}
-use Rattle.unfold.specs.Unfolding.{Bindings, step, both_hold, Binds, b_bound, b_wild, b_tuple, b_parts, b_record, b_fields, b_typed, All_bind, b_none, b_more, Equals, e_scalars, e_packed, e_tuples, e_records, All_equal, e_none, e_more, Fields_equal, e_no_field, e_field, Operates, o_integer, o_truth, o_tuple, o_record, o_binary, o_equal, o_unequal, o_negate, o_complement, o_project, o_part, o_changed, o_replace, o_ascribe, o_coerce, o_declared, o_assert, o_made, Primitive_operates, p_convert, p_min, p_max, p_abs, p_popc, Unfolds, u_name, u_primitive, u_constant, u_strict, u_lambda, u_apply, u_let, u_packed, u_if, u_counted, u_over, u_while, Unfold_all, u_none, u_more, Applies, a_body, a_waits, a_primitive_waits, a_primitive, a_job, Applies_all, a_none, a_more, Packs, p_atom, p_tuple, p_record, Packs_all, p_none, p_more}
+use Rattle.unfold.specs.Unfolding.{Bindings, step, tested, both_hold, Binds, b_bound, b_wild, b_tuple, b_parts, b_record, b_fields, b_typed, All_bind, b_none, b_more, Equals, e_scalars, e_packed, e_tuples, e_records, All_equal, e_none, e_more, Fields_equal, e_no_field, e_field, Operates, o_integer, o_truth, o_tuple, o_record, o_binary, o_equal, o_unequal, o_negate, o_complement, o_project, o_part, o_changed, o_replace, o_ascribe, o_coerce, o_declared, o_assert, o_made, Primitive_operates, p_convert, p_min, p_max, p_abs, p_popc, Unfolds, u_name, u_size, u_primitive, u_constant, u_strict, u_lambda, u_apply, u_let, u_packed, u_if, u_counted, u_over, u_while, Unfold_all, u_none, u_more, Applies, a_body, a_waits, a_primitive_waits, a_primitive, a_job, Applies_all, a_none, a_more, Packs, p_atom, p_tuple, p_record, Packs_all, p_none, p_more}
 
 -- the names of steps rise from `n` on, up to `m`
 unfoldable pub Numbered : ℕ → Bindings → ℕ → Type 0
@@ -80,7 +82,12 @@ mutual
   fields_equal_rise (e_no_field {n = n}) = numbered_none n
   fields_equal_rise (e_field {n = n} {n1} {n2} {x} {bs} {cs} {u} {w} q h k le) = numbered_append n n1 (suc x) bs _ (equals_rise h) (numbered_append n1 n2 (suc x) cs _ (fields_equal_rise k) (numbered_both n2 x u w le))
 
-operates_rise : {t : IntType} {o : Operation Ref BindId} {at : Place} {ss : List Known} {n m : ℕ} {bs : Bindings} {s : Known} → Operates t o at ss n bs s m → Numbered n bs m
+tested_rises : (wanted : Option Size_test) (at : Place) (s : Known) (n : ℕ) → Numbered n (tested wanted at s) n
+unfolding Act_numbered
+tested_rises None at s n = numbered_none n
+tested_rises (Some t) at s n = numbered_step n n n [] _ (omega arith) (omega arith)
+
+operates_rise : {row : Row} {wanted : Option Size_test} {t : IntType} {o : Operation Ref BindId} {at : Place} {ss : List Known} {n m : ℕ} {bs : Bindings} {s : Known} → Operates row wanted t o at ss n bs s m → Numbered n bs m
 unfolding Act_numbered
 operates_rise (o_integer q) = numbered_none _
 operates_rise o_truth = numbered_none _
@@ -94,7 +101,7 @@ operates_rise (o_complement {n = n} {x} le) = numbered_one n x _ le
 operates_rise (o_project q) = numbered_none _
 operates_rise o_replace = numbered_none _
 operates_rise o_ascribe = numbered_none _
-operates_rise o_coerce = numbered_none _
+operates_rise {wanted = wanted} (o_coerce {n = n} {at = at} {s = s}) = tested_rises wanted at s n
 operates_rise o_declared = numbered_none _
 operates_rise (o_part {n = n} {x = x} le) = numbered_step n x (suc x) (x ∷ []) _ le (omega arith, omega arith)
 operates_rise (o_changed {n = n} {m = m} {x = x} {bs = bs} r le) = numbered_append n m (suc x) bs _ (packs_rise r) (numbered_step m x (suc x) (x ∷ []) _ le (omega arith, omega arith))
@@ -111,7 +118,7 @@ primitive_rises (p_popc {n = n} {x} le) = numbered_one n x _ le
 mutual
   unfolding Act_numbered
 
-  binds_rise : {p : FlatPattern} {s : Known} {sc inner : Scope} {n m : ℕ} {bs : Bindings} → Binds p s sc n bs inner m → Numbered n bs m
+  binds_rise : {sizes : Option Sizing} {q : ℕ} {p : FlatPattern} {s : Known} {sc inner : Scope} {n m : ℕ} {bs : Bindings} → Binds sizes q p s sc n bs inner m → Numbered n bs m
   binds_rise b_bound = numbered_none _
   binds_rise b_wild = numbered_none _
   binds_rise (b_tuple r) = all_bind_rise r
@@ -120,17 +127,18 @@ mutual
   binds_rise (b_typed r) = binds_rise r
   binds_rise (b_fields {n = n} {k = k} {m = m} {bs = bs} xs up e r) = numbered_append n k m _ bs (numbered_step n n k xs _ (omega arith) up) (all_bind_rise r)
 
-  all_bind_rise : {ps : Patterns Ref BindId} {ss : List Known} {sc inner : Scope} {n m : ℕ} {bs : Bindings} → All_bind ps ss sc n bs inner m → Numbered n bs m
+  all_bind_rise : {sizes : Option Sizing} {q : ℕ} {ps : Patterns Ref BindId} {ss : List Known} {sc inner : Scope} {n m : ℕ} {bs : Bindings} → All_bind sizes q ps ss sc n bs inner m → Numbered n bs m
   all_bind_rise b_none = numbered_none _
   all_bind_rise (b_more {n = n} {k = k} {m = m} {bs = bs} {cs = cs} r rs) = numbered_append n k m bs cs (binds_rise r) (all_bind_rise rs)
 
-module _ {integer_at : ℕ → IntType} where
+module _ {told : Told} where
   module _ {tops : Tops} where
     mutual
       unfolding Act_numbered
 
-      unfolds_rise : {sc : Scope} {lo n m : ℕ} {t : FlatTerm} {bs : Bindings} {s : Known} → Unfolds integer_at tops sc lo t n bs s m → Numbered n bs m
-      unfolds_rise (u_name q) = numbered_none _
+      unfolds_rise : {sc : Scope} {lo n m : ℕ} {t : FlatTerm} {bs : Bindings} {s : Known} → Unfolds told tops sc lo t n bs s m → Numbered n bs m
+      unfolds_rise (u_name q r) = numbered_none _
+      unfolds_rise (u_size {n = n} {x} q le) = numbered_step n x (suc x) (x ∷ []) _ le (omega arith, omega arith)
       unfolds_rise (u_primitive q) = numbered_none _
       unfolds_rise (u_constant q) = numbered_none _
       unfolds_rise (u_strict {n = n} {n1} {n2} {bs = bs} {cs} p o) = numbered_append n n1 n2 bs cs (all_rise p) (operates_rise o)
@@ -147,11 +155,11 @@ module _ {integer_at : ℕ → IntType} where
       unfolds_rise (u_while {n = n} {n1 = n1} {n2 = n2} {n3 = n3} {n4 = n4} {n5 = n5} {n6 = n6} {n7 = n7} {bs = bs} {es = es} {cs = cs} {es' = es'} {ds = ds} {u = u} {ws = ws} ps xs p l up k b q b' r i up' t) =
           numbered_append n n1 n7 bs _ (unfolds_rise p) (numbered_step n1 n6 n7 xs _ (n2, up, n4, numbered_body n2 n4 (es ++ cs) (u ∷ []) (numbered_append n2 n3 n4 es cs (binds_rise b) (unfolds_rise q)), numbered_body n4 n6 (es' ++ ds) ws (numbered_append n4 n5 n6 es' ds (binds_rise b') (unfolds_rise r))) up')
 
-      all_rise : {sc : Scope} {lo n m : ℕ} {ts : Terms Ref BindId} {bs : Bindings} {ss : List Known} → Unfold_all integer_at tops sc lo ts n bs ss m → Numbered n bs m
+      all_rise : {sc : Scope} {lo n m : ℕ} {ts : Terms Ref BindId} {bs : Bindings} {ss : List Known} → Unfold_all told tops sc lo ts n bs ss m → Numbered n bs m
       all_rise u_none = numbered_none _
       all_rise (u_more {n = n} {n1} {n2} {bs = bs} {cs} p q) = numbered_append n n1 n2 bs cs (unfolds_rise p) (all_rise q)
 
-      applies_rise : {f s s' : Known} {n m : ℕ} {bs : Bindings} → Applies integer_at tops f s n bs s' m → Numbered n bs m
+      applies_rise : {f s s' : Known} {n m : ℕ} {bs : Bindings} → Applies told tops f s n bs s' m → Numbered n bs m
       applies_rise (a_body {n = n} {n1 = n1} {n2 = n2} {bs = bs} {cs = cs} b p) = numbered_append n n1 n2 bs cs (binds_rise b) (unfolds_rise p)
       applies_rise (a_waits b) = binds_rise b
       applies_rise (a_primitive_waits q) = numbered_none _
@@ -159,17 +167,17 @@ module _ {integer_at : ℕ → IntType} where
       applies_rise (a_job {n = n} {n1} {n2} {n3} {n4} {x} {bs} {cs} {ds} {w = w} xs q i e r up len a pk le) =
           numbered_append n n1 (suc x) bs _ (packs_all_rise r) (numbered_step n1 x (suc x) (x ∷ []) _ (n2, up, numbered_lets n2 n4 x (cs ++ ds) (w ∷ []) (numbered_append n2 n3 n4 cs ds (applied_rises a) (packs_rise pk)) le) (omega arith, omega arith))
 
-      applied_rises : {ss : List Known} {f s : Known} {n m : ℕ} {bs : Bindings} → Applies_all integer_at tops ss f n bs s m → Numbered n bs m
+      applied_rises : {ss : List Known} {f s : Known} {n m : ℕ} {bs : Bindings} → Applies_all told tops ss f n bs s m → Numbered n bs m
       applied_rises a_none = numbered_none _
       applied_rises (a_more {n = n} {n1} {n2} {bs} {cs} p r) = numbered_append n n1 n2 bs cs (applies_rise p) (applied_rises r)
 
-  definitions_rise : {entry : ℕ} {tops end : Tops} {ds : List FlatTop} {n m : ℕ} {bs : Bindings} → Definitions_unfold integer_at entry tops ds n bs end m → Numbered n bs m
+  definitions_rise : {entry : ℕ} {tops end : Tops} {ds : List FlatTop} {n m : ℕ} {bs : Bindings} → Definitions_unfold told entry tops ds n bs end m → Numbered n bs m
   definitions_rise d_none = numbered_none _
   definitions_rise (d_reached {n = n} {n1} {n2} {bs} {cs} q p r) = numbered_append n n1 n2 bs cs (unfolds_rise p) (definitions_rise r)
   definitions_rise (d_other q r) = definitions_rise r
 
 pub names_rise : NamesRise
-names_rise integer_at ds entry hs h p u =
+names_rise told ds entry hs h p u =
     record {
       first = u.first;
       parameters = u.rising;

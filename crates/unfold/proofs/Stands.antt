@@ -8,6 +8,7 @@ use Rattle.fut_flat.specs.declared.prim.Primitive.{Primitive}
 use Rattle.fut_flat.specs.declared.prim.Ref.{Ref}
 use Rattle.fut_flat.specs.Erased.{FlatTerm}
 use Rattle.fut_flat.specs.Terms.{Patterns}
+use Rattle.fut_meaning.specs.Found.{Sizing}
 use Rattle.fut_meaning.specs.Outcomes.{Out, Val}
 use Rattle.fut_meaning.specs.Values.{Scalar_value, Tuple_value, Record_value, Closure, Primitive_value, Values, no_value, value_and, Fields, no_field, field_and, base, bind, entered}
 use Rattle.fut_scalar.specs.declared.scalar.Scalar.{Scalar}
@@ -19,7 +20,8 @@ use Rattle.fut_meaning.specs.Sames.{All_same, all_none, all_more}
 use Rattle.fut_blocks.specs.declared.block.Atom.{Atom}
 use Rattle.fut_blocks.specs.declared.block.Atom.TheVariants as atom
 use Rattle.fut_blocks.specs.Meaning.{Component, Names, look, value_of}
-use Rattle.unfold.specs.Knowns.{Known, Scalar_known, Tuple_known, Record_known, Function_known, Primitive_known, Knowns, no_known, known_and, Known_fields, no_known_field, known_field_and, Scope, no_name, name_and, Tops, find}
+use Rattle.unfold.specs.Telling.{enter}
+use Rattle.unfold.specs.Knowns.{local, local_by, Known, Scalar_known, Tuple_known, Record_known, Function_known, Primitive_known, Knowns, no_known, known_and, Known_fields, no_known_field, known_field_and, Scope, no_name, name_and, Tops, find}
 use Rattle.unfold.proofs.Names.{found_here, found_on, no_local}
 
 abbrev pub FlatValues : Type 0
@@ -41,34 +43,34 @@ pub record Has (d : Names Component) (n : ℕ) (u : Atom) (c : Component) : Type
   pub below : Below n u
 
 mutual
-  pub data Stands (d : Names Component) (n : ℕ) : Known → FlatValue → Type 0 where
-    s_scalar : {u : Atom} {c : Component} {v : FlatValue} → v ≡ as_value c → Has d n u c → Stands d n (Scalar_known u) v
-    s_tuple : {ss : Knowns} {vs : FlatValues} → All_stand d n ss vs → Stands d n (Tuple_known ss) (Tuple_value vs)
-    s_record : {fs : Known_fields} {gs : FlatFields} → Fields_stand d n fs gs → Stands d n (Record_known fs) (Record_value gs)
-    s_function : {ps : Patterns Ref BindId} {e : FlatTerm} {lo : ℕ} {sc : Scope} {env : FlatEnv} → Holds d n sc env → Stands d n (Function_known ps e lo sc) (Closure ps e lo env)
-    s_primitive : {p : Primitive} {at : Place} {ss : Knowns} {vs : FlatValues} → All_stand d n ss vs → Stands d n (Primitive_known p at ss) (Primitive_value p at vs)
+  pub data Stands (sizes : Option Sizing) (d : Names Component) (n : ℕ) : Known → FlatValue → Type 0 where
+    s_scalar : {u : Atom} {c : Component} {v : FlatValue} → v ≡ as_value c → Has d n u c → Stands sizes d n (Scalar_known u) v
+    s_tuple : {ss : Knowns} {vs : FlatValues} → All_stand sizes d n ss vs → Stands sizes d n (Tuple_known ss) (Tuple_value vs)
+    s_record : {fs : Known_fields} {gs : FlatFields} → Fields_stand sizes d n fs gs → Stands sizes d n (Record_known fs) (Record_value gs)
+    s_function : {ps : Patterns Ref BindId} {e : FlatTerm} {lo : ℕ} {sc : Scope} {env : FlatEnv} → Holds sizes d n sc env → Stands sizes d n (Function_known ps e lo sc) (Closure ps e lo env)
+    s_primitive : {p : Primitive} {at : Place} {ss : Knowns} {vs : FlatValues} → All_stand sizes d n ss vs → Stands sizes d n (Primitive_known p at ss) (Primitive_value p at vs)
 
-  pub data All_stand (d : Names Component) (n : ℕ) : Knowns → FlatValues → Type 0 where
-    s_none : All_stand d n no_known no_value
-    s_more : {s : Known} {ss : Knowns} {v : FlatValue} {vs : FlatValues} → Stands d n s v → All_stand d n ss vs → All_stand d n (known_and s ss) (value_and v vs)
+  pub data All_stand (sizes : Option Sizing) (d : Names Component) (n : ℕ) : Knowns → FlatValues → Type 0 where
+    s_none : All_stand sizes d n no_known no_value
+    s_more : {s : Known} {ss : Knowns} {v : FlatValue} {vs : FlatValues} → Stands sizes d n s v → All_stand sizes d n ss vs → All_stand sizes d n (known_and s ss) (value_and v vs)
 
-  pub data Fields_stand (d : Names Component) (n : ℕ) : Known_fields → FlatFields → Type 0 where
-    s_no_field : Fields_stand d n no_known_field no_field
-    s_field : {f : Text} {s : Known} {fs : Known_fields} {v : FlatValue} {gs : FlatFields} → Stands d n s v → Fields_stand d n fs gs → Fields_stand d n (known_field_and f s fs) (field_and f v gs)
+  pub data Fields_stand (sizes : Option Sizing) (d : Names Component) (n : ℕ) : Known_fields → FlatFields → Type 0 where
+    s_no_field : Fields_stand sizes d n no_known_field no_field
+    s_field : {f : Text} {s : Known} {fs : Known_fields} {v : FlatValue} {gs : FlatFields} → Stands sizes d n s v → Fields_stand sizes d n fs gs → Fields_stand sizes d n (known_field_and f s fs) (field_and f v gs)
 
-  pub data Holds (d : Names Component) (n : ℕ) : Scope → FlatEnv → Type 0 where
-    h_base : {u : Unit {0}} → Holds d n no_name (base u)
-    h_bind : {b : BindId} {s : Known} {sc : Scope} {v : FlatValue} {env : FlatEnv} → Stands d n s v → Holds d n sc env → Holds d n (name_and b s sc) (bind b v env)
-    -- what was entered is no name
-    h_entered : {q : ℕ} {sc : Scope} {v : FlatValue} {env : FlatEnv} → Holds d n sc env → Holds d n sc (entered q v env)
+  pub data Holds (sizes : Option Sizing) (d : Names Component) (n : ℕ) : Scope → FlatEnv → Type 0 where
+    h_base : {u : Unit {0}} → Holds sizes d n no_name (base u)
+    h_bind : {b : BindId} {s : Known} {sc : Scope} {v : FlatValue} {env : FlatEnv} → Stands sizes d n s v → Holds sizes d n sc env → Holds sizes d n (name_and b s sc) (bind b v env)
+    -- what was entered is no name, and is remembered where there is a sizing
+    h_entered : {q : ℕ} {s : Known} {sc : Scope} {v : FlatValue} {env : FlatEnv} → Stands sizes d n s v → Holds sizes d n sc env → Holds sizes d n (enter sizes q s sc) (entered q v env)
 
 -- definitions that were evaluated, by the same numbers
-pub record Top_stands (d : Names Component) (n : ℕ) (s : ℕ × Known) (v : ℕ × FlatValue) : Type 0 where
+pub record Top_stands (sizes : Option Sizing) (d : Names Component) (n : ℕ) (s : ℕ × Known) (v : ℕ × FlatValue) : Type 0 where
   pub number : s.0 ≡ v.0
-  pub stands : Stands d n s.1 v.1
+  pub stands : Stands sizes d n s.1 v.1
 
-abbrev pub Tops_stand : Names Component → ℕ → Tops → FlatTops → Type 0
-Tops_stand d n = All_same (Top_stands d n)
+abbrev pub Tops_stand : Option Sizing → Names Component → ℕ → Tops → FlatTops → Type 0
+Tops_stand sizes d n = All_same (Top_stands sizes d n)
 
 -- ---- more names
 
@@ -97,31 +99,31 @@ module _ {d e : Names Component} {n m : ℕ} (x : Extends n d e) (le : n ≤ m) 
   has_on (atom.Constant c) h = record { value = h.value; below = tt }
 
   mutual
-    pub stands_on : {s : Known} {v : FlatValue} → Stands d n s v → Stands e m s v
+    pub stands_on : {sizes : Option Sizing} {s : Known} {v : FlatValue} → Stands sizes d n s v → Stands sizes e m s v
     stands_on (s_scalar {u} e h) = s_scalar e (has_on u h)
     stands_on (s_tuple h) = s_tuple (all_on h)
     stands_on (s_record h) = s_record (fields_on h)
     stands_on (s_function h) = s_function (holds_on h)
     stands_on (s_primitive h) = s_primitive (all_on h)
 
-    pub all_on : {ss : Knowns} {vs : FlatValues} → All_stand d n ss vs → All_stand e m ss vs
+    pub all_on : {sizes : Option Sizing} {ss : Knowns} {vs : FlatValues} → All_stand sizes d n ss vs → All_stand sizes e m ss vs
     all_on s_none = s_none
     all_on (s_more h k) = s_more (stands_on h) (all_on k)
 
-    pub fields_on : {fs : Known_fields} {gs : FlatFields} → Fields_stand d n fs gs → Fields_stand e m fs gs
+    pub fields_on : {sizes : Option Sizing} {fs : Known_fields} {gs : FlatFields} → Fields_stand sizes d n fs gs → Fields_stand sizes e m fs gs
     fields_on s_no_field = s_no_field
     fields_on (s_field h k) = s_field (stands_on h) (fields_on k)
 
-    pub holds_on : {sc : Scope} {env : FlatEnv} → Holds d n sc env → Holds e m sc env
+    pub holds_on : {sizes : Option Sizing} {sc : Scope} {env : FlatEnv} → Holds sizes d n sc env → Holds sizes e m sc env
     holds_on h_base = h_base
     holds_on (h_bind h k) = h_bind (stands_on h) (holds_on k)
-    holds_on (h_entered k) = h_entered (holds_on k)
+    holds_on (h_entered h k) = h_entered (stands_on h) (holds_on k)
 
-  pub tops_on : {tops : Tops} {tops' : FlatTops} → Tops_stand d n tops tops' → Tops_stand e m tops tops'
+  pub tops_on : {sizes : Option Sizing} {tops : Tops} {tops' : FlatTops} → Tops_stand sizes d n tops tops' → Tops_stand sizes e m tops tops'
   tops_on all_none = all_none
   tops_on (all_more h k) = all_more (record { number = h.number; stands = stands_on h.stands }) (tops_on k)
 
-  pub list_on : {ss : List Known} {vs : List FlatValue} → All_same (Stands d n) ss vs → All_same (Stands e m) ss vs
+  pub list_on : {sizes : Option Sizing} {ss : List Known} {vs : List FlatValue} → All_same (Stands sizes d n) ss vs → All_same (Stands sizes e m) ss vs
   list_on all_none = all_none
   list_on (all_more h k) = all_more (stands_on h) (list_on k)
 
@@ -140,9 +142,15 @@ pub record Finds {A : Type 0} (r : A → FlatValue → Type 0) (s : A) (o : Out 
   pub is : o ≡ Val value
   pub stands : r s value
 
+-- what was entered is no name
+entered_find : (sizes : Option Sizing) (tops : Tops) (q : ℕ) (u : Known) (sc : Scope) (k : ℕ) → find tops (enter sizes q u sc) k ≡ find tops sc k
+unfolding find local local_by
+entered_find None tops q u sc k = refl
+entered_find (Some Z) tops q u sc k = refl
+
 module _ (d : Names Component) (n : ℕ) where
-  by_name : (b b' : Bool) → b ≡ b' → (s t : Known) (v : FlatValue) (found : Option Known) (o : Out FlatValue) → Stands d n t v → cond b (Some t) found ≡ Some s → (found ≡ Some s → Finds (Stands d n) s o) → Finds (Stands d n) s (cond b' (Val v) o)
-  by_name true true e s t v found o h q k = record { value = v; is = refl; stands = subst (λ z. Stands d n z v) (some_inj q) h }
+  by_name : {sizes : Option Sizing} (b b' : Bool) → b ≡ b' → (s t : Known) (v : FlatValue) (found : Option Known) (o : Out FlatValue) → Stands sizes d n t v → cond b (Some t) found ≡ Some s → (found ≡ Some s → Finds (Stands sizes d n) s o) → Finds (Stands sizes d n) s (cond b' (Val v) o)
+  by_name {sizes = sizes} true true e s t v found o h q k = record { value = v; is = refl; stands = subst (λ z. Stands sizes d n z v) (some_inj q) h }
   by_name false false e s t v found o h q k = k q
   by_name true false e s t v found o h q k = absurd (let z : true ≡ false = e in cc)
   by_name false true e s t v found o h q k = absurd (let z : false ≡ true = e in cc)
@@ -151,13 +159,13 @@ module _ (d : Names Component) (n : ℕ) where
   found_by tops b u sc k true e = found_here tops b u sc k (eqb-true b.0 k e)
   found_by tops b u sc k false e = found_on tops b u sc k (eqb-false b.0 k e)
 
-  pub top_found : (k : ℕ) (s : Known) {tops : Tops} {tops' : FlatTops} → Tops_stand d n tops tops' → look tops k ≡ Some s → Finds (Stands d n) s (top tops' k)
+  pub top_found : {sizes : Option Sizing} (k : ℕ) (s : Known) {tops : Tops} {tops' : FlatTops} → Tops_stand sizes d n tops tops' → look tops k ≡ Some s → Finds (Stands sizes d n) s (top tops' k)
   top_found k s all_none q = absurd (let z : None ≡ Some s = q in cc)
   top_found k s (all_more {x = a} {x' = b} h t) q = by_name (nat_eq a.0 k) (nat_eq b.0 k) (ap (λ z. nat_eq z k) h.number) s a.1 b.1 _ _ h.stands q (λ e. top_found k s t e)
 
-  pub name_found : (k : ℕ) (s : Known) {tops : Tops} {tops' : FlatTops} {sc : Scope} {env : FlatEnv} → Tops_stand d n tops tops' → Holds d n sc env → find tops sc k ≡ Some s → Finds (Stands d n) s (flat_look tops' env k)
+  pub name_found : {sizes : Option Sizing} (k : ℕ) (s : Known) {tops : Tops} {tops' : FlatTops} {sc : Scope} {env : FlatEnv} → Tops_stand sizes d n tops tops' → Holds sizes d n sc env → find tops sc k ≡ Some s → Finds (Stands sizes d n) s (flat_look tops' env k)
   unfolding flat_look
-  name_found k s t (h_entered h) q = name_found k s t h q
+  name_found {sizes = sizes} k s {tops = tops} t (h_entered {q = q'} {s = u} {sc = sc} h hs) q = name_found k s t hs (sym (entered_find sizes tops q' u sc k) ∙ q)
   name_found k s {tops = tops} t h_base q = top_found k s t (sym (no_local tops k) ∙ q)
   name_found k s {tops = tops} t (h_bind {b} {s = u} {sc = sc} {v = v} h hs) q =
       by_name (nat_eq b.0 k) (nat_eq b.0 k) refl s u v (find tops sc k) _ h (sym (found_by tops b u sc k (nat_eq b.0 k) refl) ∙ q) (λ e. name_found k s t hs e)

@@ -23,9 +23,11 @@ use Rattle.fut_flat.specs.declared.prim.Ref.TheVariants as ref
 use Rattle.fut_flat.specs.Erased.{FlatType, FlatTerm, FlatPattern}
 use Rattle.fut_flat.specs.Numbers.{pattern_numbers, all_pattern_numbers, own_numbers, numbers}
 use Rattle.fut_flat.specs.Terms.{Bound_pattern, Wild_pattern, Tuple_pattern, Record_pattern, Typed_pattern, Patterns, no_pattern, pattern_and, Operation, Integer, Truth, Tuple_of, Record_of, Binary, Negate, Complement, Project, Replace, Ascribe, Coerce, Declared, Assert, Binding, Use, Strict, Lambda, Apply, Let, If, Loop, Terms, no_term, term_and, Counted, Over, While}
-use Rattle.fut_meaning.specs.Arrays.{Making}
+use Rattle.fut_meaning.specs.Arrays.{Making, Make_array}
 use Rattle.fut_meaning.specs.Datums.{takes}
+use Rattle.fut_meaning.specs.Found.{Told, Sizing}
 use Rattle.fut_meaning.specs.Knowns.{with_some}
+use Rattle.fut_meaning.specs.Meaning.{first_node}
 use Rattle.fut_meaning.specs.Operations.{named_values, parameters_of, arity, making, is_of_scalars}
 use Rattle.fut_meaning.specs.Operators.{integer, lowest, highest}
 use Rattle.fut_blocks.specs.declared.block.Atom.{Atom}
@@ -33,10 +35,12 @@ use Rattle.fut_blocks.specs.declared.block.Atom.TheVariants as atom
 use Rattle.fut_blocks.specs.declared.block.Operation.TheVariants as operation
 use Rattle.fut_blocks.specs.Plain.{Action, Operate, Give, lets}
 use Rattle.fut_blocks.specs.Plain as act
+use Rattle.fut_blocks.specs.Rows.{Row, Unknown_row, Extent, Size_test}
 use Rattle.fut_blocks.specs.Meaning.{fitted}
 use Rattle.fut_blocks.specs.Numbered.{Upward}
 use Rattle.unfold.specs.Knowns.{Known, Scalar_known, Tuple_known, Record_known, Function_known, Primitive_known, Knowns, no_known, known_and, Known_fields, no_known_field, known_field_and, Scope, name_and, Tops, listed, knowns, find, fields, replaced, part, record_parts}
 use Rattle.unfold.specs.Shapes.{Shape, Laid}
+use Rattle.unfold.specs.Telling.{known_row, literal_row, function_row, test_at, size_used, enter}
 
 -- steps: new names for what an act gives
 abbrev pub Bindings : Type 0
@@ -56,20 +60,21 @@ constant c = Scalar_known (atom.Constant c)
 
 -- ---- patterns
 
--- The names of a pattern with what is known of the parts. A tuple that is one component is taken apart by a step.
+-- The names of a pattern, whose node has a number, with what is known of the parts; each pattern inside is entered with its part.
+-- A tuple that is one component is taken apart by a step.
 mutual
-  pub data Binds : FlatPattern → Known → Scope → ℕ → Bindings → Scope → ℕ → Type 0 where
-    b_bound : {b : BindId} {s : Known} {sc : Scope} {n : ℕ} → Binds (Bound_pattern b) s sc n [] (name_and b s sc) n
-    b_wild : {s : Known} {sc : Scope} {n : ℕ} → Binds Wild_pattern s sc n [] sc n
-    b_tuple : {ps : Patterns Ref BindId} {ss : Knowns} {sc inner : Scope} {n m : ℕ} {bs : Bindings} → All_bind ps (listed ss) sc n bs inner m → Binds (Tuple_pattern ps) (Tuple_known ss) sc n bs inner m
-    b_parts : {ps : Patterns Ref BindId} {u : Atom} {sc inner : Scope} {n k m : ℕ} {bs : Bindings} (xs : List ℕ) → Upward n xs k → All_bind ps (map named xs) sc k bs inner m → Binds (Tuple_pattern ps) (Scalar_known u) sc n (step xs (Operate (operation.Parts u)) ++ bs) inner m
-    b_record : {fs : List Text} {ps : Patterns Ref BindId} {known : Known_fields} {ss : List Known} {sc inner : Scope} {n m : ℕ} {bs : Bindings} → record_parts fs known ≡ Some ss → All_bind ps ss sc n bs inner m → Binds (Record_pattern fs ps) (Record_known known) sc n bs inner m
-    b_fields : {fs : List Text} {ps : Patterns Ref BindId} {u : Atom} {sc inner : Scope} {n k m : ℕ} {bs : Bindings} (xs : List ℕ) → Upward n xs k → length xs ≡ length fs → All_bind ps (map named xs) sc k bs inner m → Binds (Record_pattern fs ps) (Scalar_known u) sc n (step xs (act.Read (act.Fields_at fs) (u ∷ [])) ++ bs) inner m
-    b_typed : {p : FlatPattern} {t : FlatType} {s : Known} {sc inner : Scope} {n m : ℕ} {bs : Bindings} → Binds p s sc n bs inner m → Binds (Typed_pattern p t) s sc n bs inner m
+  pub data Binds (sizes : Option Sizing) : ℕ → FlatPattern → Known → Scope → ℕ → Bindings → Scope → ℕ → Type 0 where
+    b_bound : {q : ℕ} {b : BindId} {s : Known} {sc : Scope} {n : ℕ} → Binds sizes q (Bound_pattern b) s sc n [] (name_and b s (enter sizes q s sc)) n
+    b_wild : {q : ℕ} {s : Known} {sc : Scope} {n : ℕ} → Binds sizes q Wild_pattern s sc n [] (enter sizes q s sc) n
+    b_tuple : {q : ℕ} {ps : Patterns Ref BindId} {ss : Knowns} {sc inner : Scope} {n m : ℕ} {bs : Bindings} → All_bind sizes (1 + q) ps (listed ss) (enter sizes q (Tuple_known ss) sc) n bs inner m → Binds sizes q (Tuple_pattern ps) (Tuple_known ss) sc n bs inner m
+    b_parts : {q : ℕ} {ps : Patterns Ref BindId} {u : Atom} {sc inner : Scope} {n k m : ℕ} {bs : Bindings} (xs : List ℕ) → Upward n xs k → All_bind sizes (1 + q) ps (map named xs) (enter sizes q (Scalar_known u) sc) k bs inner m → Binds sizes q (Tuple_pattern ps) (Scalar_known u) sc n (step xs (Operate (operation.Parts u)) ++ bs) inner m
+    b_record : {q : ℕ} {fs : List Text} {ps : Patterns Ref BindId} {known : Known_fields} {ss : List Known} {sc inner : Scope} {n m : ℕ} {bs : Bindings} → record_parts fs known ≡ Some ss → All_bind sizes (1 + q) ps ss (enter sizes q (Record_known known) sc) n bs inner m → Binds sizes q (Record_pattern fs ps) (Record_known known) sc n bs inner m
+    b_fields : {q : ℕ} {fs : List Text} {ps : Patterns Ref BindId} {u : Atom} {sc inner : Scope} {n k m : ℕ} {bs : Bindings} (xs : List ℕ) → Upward n xs k → length xs ≡ length fs → All_bind sizes (1 + q) ps (map named xs) (enter sizes q (Scalar_known u) sc) k bs inner m → Binds sizes q (Record_pattern fs ps) (Scalar_known u) sc n (step xs (act.Read (act.Fields_at fs) (u ∷ [])) ++ bs) inner m
+    b_typed : {q : ℕ} {p : FlatPattern} {t : FlatType} {s : Known} {sc inner : Scope} {n m : ℕ} {bs : Bindings} → Binds sizes q p s sc n bs inner m → Binds sizes q (Typed_pattern p t) s sc n bs inner m
 
-  pub data All_bind : Patterns Ref BindId → List Known → Scope → ℕ → Bindings → Scope → ℕ → Type 0 where
-    b_none : {sc : Scope} {n : ℕ} → All_bind no_pattern [] sc n [] sc n
-    b_more : {p : FlatPattern} {ps : Patterns Ref BindId} {s : Known} {ss : List Known} {sc sc' inner : Scope} {n k m : ℕ} {bs cs : Bindings} → Binds p s sc n bs sc' k → All_bind ps ss sc' k cs inner m → All_bind (pattern_and p ps) (s ∷ ss) sc n (bs ++ cs) inner m
+  pub data All_bind (sizes : Option Sizing) : ℕ → Patterns Ref BindId → List Known → Scope → ℕ → Bindings → Scope → ℕ → Type 0 where
+    b_none : {q : ℕ} {sc : Scope} {n : ℕ} → All_bind sizes q no_pattern [] sc n [] sc n
+    b_more : {q : ℕ} {p : FlatPattern} {ps : Patterns Ref BindId} {s : Known} {ss : List Known} {sc sc' inner : Scope} {n k m : ℕ} {bs cs : Bindings} → Binds sizes q p s sc n bs sc' k → All_bind sizes (q + pattern_numbers p) ps ss sc' k cs inner m → All_bind sizes q (pattern_and p ps) (s ∷ ss) sc n (bs ++ cs) inner m
 
 -- ---- data as one component
 
@@ -134,29 +139,40 @@ function_known (k ∷ ks) [] other = other
 function_known (zero ∷ ks) (s ∷ ss) other = function_known ks ss other
 function_known (suc k ∷ ks) (s ∷ ss) other = s
 
--- an operation at its mark, where `t` is the type of an integer without a suffix
-pub data Operates (t : IntType) : Operation Ref BindId → Place → List Known → ℕ → Bindings → Known → ℕ → Type 0 where
-  o_integer : {m n : ℕ} {suffix : Option IntType} {at : Place} {c : Scalar} → fitted c ≡ integer (literal_type t suffix) (pos m) → Operates t (Integer m suffix) at [] n [] (constant c) n
-  o_truth : {b : Bool} {n : ℕ} {at : Place} → Operates t (Truth b) at [] n [] (constant (scalar.Bool b)) n
-  o_tuple : {n : ℕ} {at : Place} {ss : List Known} → Operates t Tuple_of at ss n [] (Tuple_known (knowns ss)) n
-  o_record : {n : ℕ} {at : Place} {ss : List Known} {fs : List Text} {known : List (Text × Known)} → named_values fs ss ≡ Some known → Operates t (Record_of fs) at ss n [] (Record_known (fields known)) n
-  o_binary : {op : BinOp} {n x : ℕ} {at : Place} {u w : Atom} → n ≤ x → Operates t (Binary op) at (Scalar_known u ∷ Scalar_known w ∷ []) n (step (x ∷ []) (Operate (operation.Binary op at u w))) (named x) (suc x)
-  o_equal : {n n' : ℕ} {at : Place} {s s' : Known} {bs : Bindings} {u : Atom} → Equals at s s' n bs u n' → Operates t (Binary binary.Eq) at (s ∷ s' ∷ []) n bs (Scalar_known u) n'
-  o_unequal : {n n' x : ℕ} {at : Place} {s s' : Known} {bs : Bindings} {u : Atom} → Equals at s s' n bs u n' → n' ≤ x → Operates t (Binary binary.Ne) at (s ∷ s' ∷ []) n (bs ++ step (x ∷ []) (Operate (operation.Unary unary.Not u))) (named x) (suc x)
-  o_negate : {n x : ℕ} {at : Place} {u : Atom} → n ≤ x → Operates t Negate at (Scalar_known u ∷ []) n (step (x ∷ []) (Operate (operation.Unary unary.Neg u))) (named x) (suc x)
-  o_complement : {n x : ℕ} {at : Place} {u : Atom} → n ≤ x → Operates t Complement at (Scalar_known u ∷ []) n (step (x ∷ []) (Operate (operation.Unary unary.Not u))) (named x) (suc x)
-  o_project : {n : ℕ} {at : Place} {f : Text} {s s' : Known} → part f s ≡ Some s' → Operates t (Project f) at (s ∷ []) n [] s' n
+-- the test of `:>`, where there is a sizing: a step without names
+abbrev pub tested : Option Size_test → Place → Known → Bindings
+tested None at s = []
+tested (Some test) at s = step [] (act.Coerce at test (known_row s))
+
+-- of what is made, an array literal alone may be without rows
+abbrev pub made_row : Row → Making → Row
+made_row row Make_array = row
+made_row row k = Unknown_row
+
+-- An operation at its mark, where `t` is the type of an integer without a suffix; of what shape the rows of an array literal are
+-- where it has none, and which sizes data has to have, is told.
+pub data Operates (row : Row) (test : Option Size_test) (t : IntType) : Operation Ref BindId → Place → List Known → ℕ → Bindings → Known → ℕ → Type 0 where
+  o_integer : {m n : ℕ} {suffix : Option IntType} {at : Place} {c : Scalar} → fitted c ≡ integer (literal_type t suffix) (pos m) → Operates row test t (Integer m suffix) at [] n [] (constant c) n
+  o_truth : {b : Bool} {n : ℕ} {at : Place} → Operates row test t (Truth b) at [] n [] (constant (scalar.Bool b)) n
+  o_tuple : {n : ℕ} {at : Place} {ss : List Known} → Operates row test t Tuple_of at ss n [] (Tuple_known (knowns ss)) n
+  o_record : {n : ℕ} {at : Place} {ss : List Known} {fs : List Text} {known : List (Text × Known)} → named_values fs ss ≡ Some known → Operates row test t (Record_of fs) at ss n [] (Record_known (fields known)) n
+  o_binary : {op : BinOp} {n x : ℕ} {at : Place} {u w : Atom} → n ≤ x → Operates row test t (Binary op) at (Scalar_known u ∷ Scalar_known w ∷ []) n (step (x ∷ []) (Operate (operation.Binary op at u w))) (named x) (suc x)
+  o_equal : {n n' : ℕ} {at : Place} {s s' : Known} {bs : Bindings} {u : Atom} → Equals at s s' n bs u n' → Operates row test t (Binary binary.Eq) at (s ∷ s' ∷ []) n bs (Scalar_known u) n'
+  o_unequal : {n n' x : ℕ} {at : Place} {s s' : Known} {bs : Bindings} {u : Atom} → Equals at s s' n bs u n' → n' ≤ x → Operates row test t (Binary binary.Ne) at (s ∷ s' ∷ []) n (bs ++ step (x ∷ []) (Operate (operation.Unary unary.Not u))) (named x) (suc x)
+  o_negate : {n x : ℕ} {at : Place} {u : Atom} → n ≤ x → Operates row test t Negate at (Scalar_known u ∷ []) n (step (x ∷ []) (Operate (operation.Unary unary.Neg u))) (named x) (suc x)
+  o_complement : {n x : ℕ} {at : Place} {u : Atom} → n ≤ x → Operates row test t Complement at (Scalar_known u ∷ []) n (step (x ∷ []) (Operate (operation.Unary unary.Not u))) (named x) (suc x)
+  o_project : {n : ℕ} {at : Place} {f : Text} {s s' : Known} → part f s ≡ Some s' → Operates row test t (Project f) at (s ∷ []) n [] s' n
   -- of one component
-  o_part : {n x : ℕ} {at : Place} {f : Text} {u : Atom} → n ≤ x → Operates t (Project f) at (Scalar_known u ∷ []) n (step (x ∷ []) (act.Read (act.Part_at f) (u ∷ []))) (named x) (suc x)
-  o_changed : {n m x : ℕ} {at : Place} {f : Text} {u w : Atom} {s : Known} {bs : Bindings} → Packs s n bs w m → m ≤ x → Operates t (Replace f) at (Scalar_known u ∷ s ∷ []) n (bs ++ step (x ∷ []) (act.Read (act.Replace_at f) (u ∷ w ∷ []))) (named x) (suc x)
-  o_replace : {n : ℕ} {at : Place} {f : Text} {fs : Known_fields} {s : Known} → Operates t (Replace f) at (Record_known fs ∷ s ∷ []) n [] (Record_known (replaced f s fs)) n
-  o_ascribe : {n : ℕ} {at : Place} {u : FlatType} {s : Known} → Operates t (Ascribe u) at (s ∷ []) n [] s n
-  o_coerce : {n : ℕ} {at : Place} {u : FlatType} {s : Known} → Operates t (Coerce u) at (s ∷ []) n [] s n
-  o_declared : {n : ℕ} {at : Place} {u : FlatType} {s : Known} → Operates t (Declared u) at (s ∷ []) n [] s n
+  o_part : {n x : ℕ} {at : Place} {f : Text} {u : Atom} → n ≤ x → Operates row test t (Project f) at (Scalar_known u ∷ []) n (step (x ∷ []) (act.Read (act.Part_at f) (u ∷ []))) (named x) (suc x)
+  o_changed : {n m x : ℕ} {at : Place} {f : Text} {u w : Atom} {s : Known} {bs : Bindings} → Packs s n bs w m → m ≤ x → Operates row test t (Replace f) at (Scalar_known u ∷ s ∷ []) n (bs ++ step (x ∷ []) (act.Read (act.Replace_at f) (u ∷ w ∷ []))) (named x) (suc x)
+  o_replace : {n : ℕ} {at : Place} {f : Text} {fs : Known_fields} {s : Known} → Operates row test t (Replace f) at (Record_known fs ∷ s ∷ []) n [] (Record_known (replaced f s fs)) n
+  o_ascribe : {n : ℕ} {at : Place} {u : FlatType} {s : Known} → Operates row test t (Ascribe u) at (s ∷ []) n [] s n
+  o_coerce : {n : ℕ} {at : Place} {u : FlatType} {s : Known} → Operates row test t (Coerce u) at (s ∷ []) n (tested test at s) s n
+  o_declared : {n : ℕ} {at : Place} {u : FlatType} {s : Known} → Operates row test t (Declared u) at (s ∷ []) n [] s n
   -- one that makes arrays or takes parts of them
-  o_made : {n m x : ℕ} {o : Operation Ref BindId} {k : Making} {at : Place} {ss : List Known} {bs : Bindings} {us : List Atom} → making o ≡ Some k → Packs_all ss n bs us m → m ≤ x → Operates t o at ss n (bs ++ step (x ∷ []) (act.Make k at us)) (named x) (suc x)
+  o_made : {n m x : ℕ} {o : Operation Ref BindId} {k : Making} {at : Place} {ss : List Known} {bs : Bindings} {us : List Atom} → making o ≡ Some k → Packs_all ss n bs us m → m ≤ x → Operates row test t o at ss n (bs ++ step (x ∷ []) (act.Make (made_row row k) k at us)) (named x) (suc x)
   -- the condition is asserted by a step without names
-  o_assert : {n : ℕ} {at : Place} {u : Atom} → Operates t Assert at (Scalar_known u ∷ []) n (step [] (Operate (operation.Assert at u))) (Scalar_known u) n
+  o_assert : {n : ℕ} {at : Place} {u : Atom} → Operates row test t Assert at (Scalar_known u ∷ []) n (step [] (Operate (operation.Assert at u))) (Scalar_known u) n
 
 -- the numbers of a type
 abbrev pub constant_of : Primitive → Option Scalar
@@ -176,43 +192,45 @@ pub data Primitive_operates : Primitive → Place → List Known → ℕ → Bin
 -- ---- terms
 
 -- Under the names of a scope a term, whose nodes are numbered from a number on, unfolds to steps and what is then known of its
--- value. The types of integers without a suffix and what is known of the definitions are told.
+-- value. What a typing tells, and a sizing where there is one, and what is known of the definitions are told.
 mutual
-  pub data Unfolds (integer_at : ℕ → IntType) (tops : Tops) : Scope → ℕ → FlatTerm → ℕ → Bindings → Known → ℕ → Type 0 where
-    u_name : {sc : Scope} {lo k n : ℕ} {b : BindId} {at : Place} {s : Known} → find tops sc b.0 ≡ Some s → Unfolds integer_at tops sc lo (Use (ref.Bound b) at k) n [] s n
-    u_primitive : {sc : Scope} {lo k n : ℕ} {p : Primitive} {at : Place} → constant_of p ≡ None → Unfolds integer_at tops sc lo (Use (ref.Prim p) at k) n [] (Primitive_known p at no_known) n
-    u_constant : {sc : Scope} {lo k n : ℕ} {p : Primitive} {at : Place} {c : Scalar} → constant_of p ≡ Some (fitted c) → Unfolds integer_at tops sc lo (Use (ref.Prim p) at k) n [] (constant c) n
-    u_strict : {sc : Scope} {lo n n1 n2 : ℕ} {o : Operation Ref BindId} {mark : Place} {ts : Terms Ref BindId} {bs cs : Bindings} {ss : List Known} {s : Known} → Unfold_all integer_at tops sc (lo + own_numbers o) ts n bs ss n1 → Operates (integer_at lo) o mark ss n1 cs s n2 → Unfolds integer_at tops sc lo (Strict o mark ts) n (bs ++ cs) s n2
-    u_lambda : {sc : Scope} {lo n : ℕ} {ps : Patterns Ref BindId} {e : FlatTerm} → Unfolds integer_at tops sc lo (Lambda ps e) n [] (Function_known ps e (1 + lo + all_pattern_numbers ps) sc) n
-    u_apply : {sc : Scope} {lo n n1 n2 n3 : ℕ} {f e : FlatTerm} {bs cs ds : Bindings} {h s s' : Known} → Unfolds integer_at tops sc (1 + lo) f n bs h n1 → Unfolds integer_at tops sc (1 + lo + numbers f) e n1 cs s n2 → Applies integer_at tops h s n2 ds s' n3 → Unfolds integer_at tops sc lo (Apply f e) n (bs ++ (cs ++ ds)) s' n3
-    u_let : {sc inner : Scope} {lo n n1 n2 n3 : ℕ} {b : Binding Ref BindId} {v e : FlatTerm} {bs cs ds : Bindings} {s s' : Known} → Unfolds integer_at tops sc (1 + lo + pattern_numbers b.pattern) v n bs s n1 → Binds b.pattern s sc n1 cs inner n2 → Unfolds integer_at tops inner (1 + lo + pattern_numbers b.pattern + numbers v) e n2 ds s' n3 → Unfolds integer_at tops sc lo (Let b v e) n (bs ++ (cs ++ ds)) s' n3
+  pub data Unfolds (told : Told) (tops : Tops) : Scope → ℕ → FlatTerm → ℕ → Bindings → Known → ℕ → Type 0 where
+    u_name : {sc : Scope} {lo k n : ℕ} {b : BindId} {at : Place} {s : Known} → size_used told.sizes sc b.0 ≡ None → find tops sc b.0 ≡ Some s → Unfolds told tops sc lo (Use (ref.Bound b) at k) n [] s n
+    -- a size as an expression
+    u_size : {sc : Scope} {lo k n x : ℕ} {b : BindId} {at : Place} {e : Extent} → size_used told.sizes sc b.0 ≡ Some e → n ≤ x → Unfolds told tops sc lo (Use (ref.Bound b) at k) n (step (x ∷ []) (act.Size_of e)) (named x) (suc x)
+    u_primitive : {sc : Scope} {lo k n : ℕ} {p : Primitive} {at : Place} → constant_of p ≡ None → Unfolds told tops sc lo (Use (ref.Prim p) at k) n [] (Primitive_known p at no_known) n
+    u_constant : {sc : Scope} {lo k n : ℕ} {p : Primitive} {at : Place} {c : Scalar} → constant_of p ≡ Some (fitted c) → Unfolds told tops sc lo (Use (ref.Prim p) at k) n [] (constant c) n
+    u_strict : {sc : Scope} {lo n n1 n2 : ℕ} {o : Operation Ref BindId} {mark : Place} {ts : Terms Ref BindId} {bs cs : Bindings} {ss : List Known} {s : Known} → Unfold_all told tops sc (lo + own_numbers o) ts n bs ss n1 → Operates (literal_row told.sizes sc lo) (test_at told.sizes sc lo) (told.integer_at lo) o mark ss n1 cs s n2 → Unfolds told tops sc lo (Strict o mark ts) n (bs ++ cs) s n2
+    u_lambda : {sc : Scope} {lo n : ℕ} {ps : Patterns Ref BindId} {e : FlatTerm} → Unfolds told tops sc lo (Lambda ps e) n [] (Function_known ps e (1 + lo + all_pattern_numbers ps) sc) n
+    u_apply : {sc : Scope} {lo n n1 n2 n3 : ℕ} {f e : FlatTerm} {bs cs ds : Bindings} {h s s' : Known} → Unfolds told tops sc (1 + lo) f n bs h n1 → Unfolds told tops sc (1 + lo + numbers f) e n1 cs s n2 → Applies told tops h s n2 ds s' n3 → Unfolds told tops sc lo (Apply f e) n (bs ++ (cs ++ ds)) s' n3
+    u_let : {sc inner : Scope} {lo n n1 n2 n3 : ℕ} {b : Binding Ref BindId} {v e : FlatTerm} {bs cs ds : Bindings} {s s' : Known} → Unfolds told tops sc (1 + lo + pattern_numbers b.pattern) v n bs s n1 → Binds told.sizes (1 + lo) b.pattern s sc n1 cs inner n2 → Unfolds told tops inner (1 + lo + pattern_numbers b.pattern + numbers v) e n2 ds s' n3 → Unfolds told tops sc lo (Let b v e) n (bs ++ (cs ++ ds)) s' n3
     -- what is known may be made one component, as where two branches meet that have not the same shape
-    u_packed : {sc : Scope} {lo n n1 n2 : ℕ} {t : FlatTerm} {bs cs : Bindings} {s : Known} {u : Atom} → Unfolds integer_at tops sc lo t n bs s n1 → Packs s n1 cs u n2 → Unfolds integer_at tops sc lo t n (bs ++ cs) (Scalar_known u) n2
+    u_packed : {sc : Scope} {lo n n1 n2 : ℕ} {t : FlatTerm} {bs cs : Bindings} {s : Known} {u : Atom} → Unfolds told tops sc lo t n bs s n1 → Packs s n1 cs u n2 → Unfolds told tops sc lo t n (bs ++ cs) (Scalar_known u) n2
     -- both branches give data of one shape, whose components get new names
-    u_if : {sc : Scope} {lo n n1 n2 n3 n4 : ℕ} {c a b : FlatTerm} {bs cs ds : Bindings} {u : Atom} {h : Shape} {s s' t : Known} {us ws : List Atom} (xs : List ℕ) → Unfolds integer_at tops sc (1 + lo) c n bs (Scalar_known u) n1 → Unfolds integer_at tops sc (1 + lo + numbers c) a n1 cs s n2 → Laid h s us [] → Unfolds integer_at tops sc (1 + lo + numbers c + numbers a) b n2 ds s' n3 → Laid h s' ws [] → Upward n3 xs n4 → Laid h t (names xs) [] → Unfolds integer_at tops sc lo (If c a b) n (bs ++ step xs (act.If u (lets cs us) (lets ds ws))) t n4
+    u_if : {sc : Scope} {lo n n1 n2 n3 n4 : ℕ} {c a b : FlatTerm} {bs cs ds : Bindings} {u : Atom} {h : Shape} {s s' t : Known} {us ws : List Atom} (xs : List ℕ) → Unfolds told tops sc (1 + lo) c n bs (Scalar_known u) n1 → Unfolds told tops sc (1 + lo + numbers c) a n1 cs s n2 → Laid h s us [] → Unfolds told tops sc (1 + lo + numbers c + numbers a) b n2 ds s' n3 → Laid h s' ws [] → Upward n3 xs n4 → Laid h t (names xs) [] → Unfolds told tops sc lo (If c a b) n (bs ++ step xs (act.If u (lets cs us) (lets ds ws))) t n4
     -- each turn is unfolded once, on new names `ps` for the components of its value and `y` for the turn, and gives data of the same shape
-    u_counted : {sc inner : Scope} {lo n n1 n2 n3 n4 n5 n6 y : ℕ} {mark : Place} {sizes : List BindId} {p : FlatPattern} {i : BindId} {first count body : FlatTerm} {bs cs es ds : Bindings} {u : Atom} {h : Shape} {s r s' t : Known} {us ws : List Atom} (ps xs : List ℕ) → Unfolds integer_at tops sc (1 + lo + pattern_numbers p) first n bs s n1 → Laid h s us [] → Unfolds integer_at tops sc (1 + (1 + lo + pattern_numbers p + numbers first)) count n1 cs (Scalar_known u) n2 → Upward n2 ps n3 → Laid h r (names ps) [] → n3 ≤ y → Binds p r sc (suc y) es inner n4 → Unfolds integer_at tops (name_and i (named y) inner) (1 + lo + pattern_numbers p + numbers first + (1 + numbers count)) body n4 ds s' n5 → Laid h s' ws [] → Upward n5 xs n6 → Laid h t (names xs) [] → Unfolds integer_at tops sc lo (Loop mark sizes p first (Counted i count) body) n (bs ++ (cs ++ step xs (act.For ps us y u (lets (es ++ ds) ws)))) t n6
+    u_counted : {sc inner : Scope} {lo n n1 n2 n3 n4 n5 n6 y : ℕ} {mark : Place} {sizes : List BindId} {p : FlatPattern} {i : BindId} {first count body : FlatTerm} {bs cs es ds : Bindings} {u : Atom} {h : Shape} {s r s' t : Known} {us ws : List Atom} (ps xs : List ℕ) → Unfolds told tops sc (1 + lo + pattern_numbers p) first n bs s n1 → Laid h s us [] → Unfolds told tops sc (1 + (1 + lo + pattern_numbers p + numbers first)) count n1 cs (Scalar_known u) n2 → Upward n2 ps n3 → Laid h r (names ps) [] → n3 ≤ y → Binds told.sizes (1 + lo) p r sc (suc y) es inner n4 → Unfolds told tops (name_and i (named y) (enter told.sizes (1 + lo + pattern_numbers p + numbers first) (named y) inner)) (1 + lo + pattern_numbers p + numbers first + (1 + numbers count)) body n4 ds s' n5 → Laid h s' ws [] → Upward n5 xs n6 → Laid h t (names xs) [] → Unfolds told tops sc lo (Loop mark sizes p first (Counted i count) body) n (bs ++ (cs ++ step xs (act.For ps us y u (lets (es ++ ds) ws)))) t n6
     -- a turn for each row, which has the new name `y`
-    u_over : {sc inside inner : Scope} {lo n n1 n2 n3 n4 n5 n6 n7 y : ℕ} {mark : Place} {sizes : List BindId} {p q : FlatPattern} {first rows body : FlatTerm} {bs cs es es' ds : Bindings} {u : Atom} {h : Shape} {s r s' t : Known} {us ws : List Atom} (ps xs : List ℕ) → Unfolds integer_at tops sc (1 + lo + pattern_numbers p) first n bs s n1 → Laid h s us [] → Unfolds integer_at tops sc (1 + lo + pattern_numbers p + numbers first + pattern_numbers q) rows n1 cs (Scalar_known u) n2 → Upward n2 ps n3 → Laid h r (names ps) [] → n3 ≤ y → Binds p r sc (suc y) es inside n4 → Binds q (named y) inside n4 es' inner n5 → Unfolds integer_at tops inner (1 + lo + pattern_numbers p + numbers first + (pattern_numbers q + numbers rows)) body n5 ds s' n6 → Laid h s' ws [] → Upward n6 xs n7 → Laid h t (names xs) [] → Unfolds integer_at tops sc lo (Loop mark sizes p first (Over q rows) body) n (bs ++ (cs ++ step xs (act.Over ps us y u (lets (es ++ (es' ++ ds)) ws)))) t n7
-    u_while : {sc inner inner' : Scope} {lo n n1 n2 n3 n4 n5 n6 n7 : ℕ} {mark : Place} {sizes : List BindId} {p : FlatPattern} {first test body : FlatTerm} {bs es cs es' ds : Bindings} {u : Atom} {h : Shape} {s r s' t : Known} {us ws : List Atom} (ps xs : List ℕ) → Unfolds integer_at tops sc (1 + lo + pattern_numbers p) first n bs s n1 → Laid h s us [] → Upward n1 ps n2 → Laid h r (names ps) [] → Binds p r sc n2 es inner n3 → Unfolds integer_at tops inner (1 + lo + pattern_numbers p + numbers first) test n3 cs (Scalar_known u) n4 → Binds p r sc n4 es' inner' n5 → Unfolds integer_at tops inner' (1 + lo + pattern_numbers p + numbers first + numbers test) body n5 ds s' n6 → Laid h s' ws [] → Upward n6 xs n7 → Laid h t (names xs) [] → Unfolds integer_at tops sc lo (Loop mark sizes p first (While test) body) n (bs ++ step xs (act.While mark ps us (lets (es ++ cs) (u ∷ [])) (lets (es' ++ ds) ws))) t n7
+    u_over : {sc inside inner : Scope} {lo n n1 n2 n3 n4 n5 n6 n7 y : ℕ} {mark : Place} {sizes : List BindId} {p q : FlatPattern} {first rows body : FlatTerm} {bs cs es es' ds : Bindings} {u : Atom} {h : Shape} {s r s' t : Known} {us ws : List Atom} (ps xs : List ℕ) → Unfolds told tops sc (1 + lo + pattern_numbers p) first n bs s n1 → Laid h s us [] → Unfolds told tops sc (1 + lo + pattern_numbers p + numbers first + pattern_numbers q) rows n1 cs (Scalar_known u) n2 → Upward n2 ps n3 → Laid h r (names ps) [] → n3 ≤ y → Binds told.sizes (1 + lo) p r sc (suc y) es inside n4 → Binds told.sizes (1 + lo + pattern_numbers p + numbers first) q (named y) inside n4 es' inner n5 → Unfolds told tops inner (1 + lo + pattern_numbers p + numbers first + (pattern_numbers q + numbers rows)) body n5 ds s' n6 → Laid h s' ws [] → Upward n6 xs n7 → Laid h t (names xs) [] → Unfolds told tops sc lo (Loop mark sizes p first (Over q rows) body) n (bs ++ (cs ++ step xs (act.Over ps us y u (lets (es ++ (es' ++ ds)) ws)))) t n7
+    u_while : {sc inner inner' : Scope} {lo n n1 n2 n3 n4 n5 n6 n7 : ℕ} {mark : Place} {sizes : List BindId} {p : FlatPattern} {first test body : FlatTerm} {bs es cs es' ds : Bindings} {u : Atom} {h : Shape} {s r s' t : Known} {us ws : List Atom} (ps xs : List ℕ) → Unfolds told tops sc (1 + lo + pattern_numbers p) first n bs s n1 → Laid h s us [] → Upward n1 ps n2 → Laid h r (names ps) [] → Binds told.sizes (1 + lo) p r sc n2 es inner n3 → Unfolds told tops inner (1 + lo + pattern_numbers p + numbers first) test n3 cs (Scalar_known u) n4 → Binds told.sizes (1 + lo) p r sc n4 es' inner' n5 → Unfolds told tops inner' (1 + lo + pattern_numbers p + numbers first + numbers test) body n5 ds s' n6 → Laid h s' ws [] → Upward n6 xs n7 → Laid h t (names xs) [] → Unfolds told tops sc lo (Loop mark sizes p first (While test) body) n (bs ++ step xs (act.While mark ps us (lets (es ++ cs) (u ∷ [])) (lets (es' ++ ds) ws))) t n7
 
   -- terms from left to right
-  pub data Unfold_all (integer_at : ℕ → IntType) (tops : Tops) : Scope → ℕ → Terms Ref BindId → ℕ → Bindings → List Known → ℕ → Type 0 where
-    u_none : {sc : Scope} {lo n : ℕ} → Unfold_all integer_at tops sc lo no_term n [] [] n
-    u_more : {sc : Scope} {lo n n1 n2 : ℕ} {t : FlatTerm} {ts : Terms Ref BindId} {bs cs : Bindings} {s : Known} {ss : List Known} → Unfolds integer_at tops sc lo t n bs s n1 → Unfold_all integer_at tops sc (lo + numbers t) ts n1 cs ss n2 → Unfold_all integer_at tops sc lo (term_and t ts) n (bs ++ cs) (s ∷ ss) n2
+  pub data Unfold_all (told : Told) (tops : Tops) : Scope → ℕ → Terms Ref BindId → ℕ → Bindings → List Known → ℕ → Type 0 where
+    u_none : {sc : Scope} {lo n : ℕ} → Unfold_all told tops sc lo no_term n [] [] n
+    u_more : {sc : Scope} {lo n n1 n2 : ℕ} {t : FlatTerm} {ts : Terms Ref BindId} {bs cs : Bindings} {s : Known} {ss : List Known} → Unfolds told tops sc lo t n bs s n1 → Unfold_all told tops sc (lo + numbers t) ts n1 cs ss n2 → Unfold_all told tops sc lo (term_and t ts) n (bs ++ cs) (s ∷ ss) n2
 
   -- a known function applied to an argument: its body is unfolded where there is an argument for each parameter
-  pub data Applies (integer_at : ℕ → IntType) (tops : Tops) : Known → Known → ℕ → Bindings → Known → ℕ → Type 0 where
-    a_body : {sc inner : Scope} {p : FlatPattern} {e : FlatTerm} {lo n n1 n2 : ℕ} {bs cs : Bindings} {s s' : Known} → Binds p s sc n bs inner n1 → Unfolds integer_at tops inner lo e n1 cs s' n2 → Applies integer_at tops (Function_known (pattern_and p no_pattern) e lo sc) s n (bs ++ cs) s' n2
-    a_waits : {sc inner : Scope} {p q : FlatPattern} {ps : Patterns Ref BindId} {e : FlatTerm} {lo n m : ℕ} {bs : Bindings} {s : Known} → Binds p s sc n bs inner m → Applies integer_at tops (Function_known (pattern_and p (pattern_and q ps)) e lo sc) s n bs (Function_known (pattern_and q ps) e lo inner) m
-    a_primitive_waits : {p : Primitive} {at : Place} {ss : Knowns} {s : Known} {n : ℕ} → nat_lt (length (listed ss ++ s ∷ [])) (arity p) ≡ true → Applies integer_at tops (Primitive_known p at ss) s n [] (Primitive_known p at (knowns (listed ss ++ s ∷ []))) n
-    a_primitive : {p : Primitive} {at : Place} {ss : Knowns} {s s' : Known} {n n' : ℕ} {bs : Bindings} → nat_lt (length (listed ss ++ s ∷ [])) (arity p) ≡ false → is_of_scalars p ≡ true → Primitive_operates p at (listed ss ++ s ∷ []) n bs s' n' → Applies integer_at tops (Primitive_known p at ss) s n bs s' n'
+  pub data Applies (told : Told) (tops : Tops) : Known → Known → ℕ → Bindings → Known → ℕ → Type 0 where
+    a_body : {sc inner : Scope} {p : FlatPattern} {e : FlatTerm} {lo n n1 n2 : ℕ} {bs cs : Bindings} {s s' : Known} → Binds told.sizes (first_node (pattern_and p no_pattern) lo) p s sc n bs inner n1 → Unfolds told tops inner lo e n1 cs s' n2 → Applies told tops (Function_known (pattern_and p no_pattern) e lo sc) s n (bs ++ cs) s' n2
+    a_waits : {sc inner : Scope} {p q : FlatPattern} {ps : Patterns Ref BindId} {e : FlatTerm} {lo n m : ℕ} {bs : Bindings} {s : Known} → Binds told.sizes (first_node (pattern_and p (pattern_and q ps)) lo) p s sc n bs inner m → Applies told tops (Function_known (pattern_and p (pattern_and q ps)) e lo sc) s n bs (Function_known (pattern_and q ps) e lo inner) m
+    a_primitive_waits : {p : Primitive} {at : Place} {ss : Knowns} {s : Known} {n : ℕ} → nat_lt (length (listed ss ++ s ∷ [])) (arity p) ≡ true → Applies told tops (Primitive_known p at ss) s n [] (Primitive_known p at (knowns (listed ss ++ s ∷ []))) n
+    a_primitive : {p : Primitive} {at : Place} {ss : Knowns} {s s' : Known} {n n' : ℕ} {bs : Bindings} → nat_lt (length (listed ss ++ s ∷ [])) (arity p) ≡ false → is_of_scalars p ≡ true → Primitive_operates p at (listed ss ++ s ∷ []) n bs s' n' → Applies told tops (Primitive_known p at ss) s n bs s' n'
     -- a primitive on arrays: its data as components, and its function once, on new names
     a_job : {p : Primitive} {at : Place} {ss : Knowns} {s r : Known} {us : List Known} {n n1 n2 n3 n4 x : ℕ} {bs cs ds : Bindings} {ws : List Atom} {w : Atom} (xs : List ℕ) → nat_lt (length (listed ss ++ s ∷ [])) (arity p) ≡ false → is_of_scalars p ≡ false → data_known (parameters_of p) (listed ss ++ s ∷ []) ≡ Some us → Packs_all us n bs ws n1
-        → Upward n1 xs n2 → length xs ≡ takes (parameters_of p) → Applies_all integer_at tops (map named xs) (function_known (parameters_of p) (listed ss ++ s ∷ []) (Tuple_known no_known)) n2 cs r n3 → Packs r n3 ds w n4 → n4 ≤ x
-        → Applies integer_at tops (Primitive_known p at ss) s n (bs ++ step (x ∷ []) (act.Job p at ws xs (lets (cs ++ ds) (w ∷ [])))) (named x) (suc x)
+        → Upward n1 xs n2 → length xs ≡ takes (parameters_of p) → Applies_all told tops (map named xs) (function_known (parameters_of p) (listed ss ++ s ∷ []) (Tuple_known no_known)) n2 cs r n3 → Packs r n3 ds w n4 → n4 ≤ x
+        → Applies told tops (Primitive_known p at ss) s n (bs ++ step (x ∷ []) (act.Job (function_row told.sizes p (function_known (parameters_of p) (listed ss ++ s ∷ []) (Tuple_known no_known)) ws) p at ws xs (lets (cs ++ ds) (w ∷ [])))) (named x) (suc x)
 
   -- a function applied to arguments, one after the other
-  pub data Applies_all (integer_at : ℕ → IntType) (tops : Tops) : List Known → Known → ℕ → Bindings → Known → ℕ → Type 0 where
-    a_none : {s : Known} {n : ℕ} → Applies_all integer_at tops [] s n [] s n
-    a_more : {s f g s' : Known} {ss : List Known} {n n1 n2 : ℕ} {bs cs : Bindings} → Applies integer_at tops f s n bs g n1 → Applies_all integer_at tops ss g n1 cs s' n2 → Applies_all integer_at tops (s ∷ ss) f n (bs ++ cs) s' n2
+  pub data Applies_all (told : Told) (tops : Tops) : List Known → Known → ℕ → Bindings → Known → ℕ → Type 0 where
+    a_none : {s : Known} {n : ℕ} → Applies_all told tops [] s n [] s n
+    a_more : {s f g s' : Known} {ss : List Known} {n n1 n2 : ℕ} {bs cs : Bindings} → Applies told tops f s n bs g n1 → Applies_all told tops ss g n1 cs s' n2 → Applies_all told tops (s ∷ ss) f n (bs ++ cs) s' n2

@@ -1,5 +1,6 @@
 -- Functions and primitives: each is known by its type.
 use Rattle.std.proofs.Common.{◌≡◌, true, false, ℕ, ◌≤◌, ◌++◌, refl, sym, ◌∙◌, subst, List, [], ◌∷◌, Some, None, length, nat_lt, arith}
+use Rattle.fut_meaning.specs.Found.{Told}
 use Rattle.fut_scalar.specs.Integers.{width_of}
 use Rattle.fut_scalar.specs.declared.operator.BinOp.TheVariants as op
 use Rattle.fut_scalar.specs.declared.operator.UnOp.TheVariants as unary
@@ -28,16 +29,17 @@ use Rattle.unfold.specs.Knowns.{Known, Scalar_known, Primitive_known, Knowns, no
 use Rattle.unfold.specs.Stuck.{No_primitive, Stuck_run, no_function, no_primitive, no_arguments, stuck_job, job_function}
 use Rattle.unfold.specs.Unfolding.{Bindings, step, named, constant, constant_of, Primitive_operates, p_convert, p_min, p_max, p_abs, p_popc, Applies, a_primitive_waits, a_primitive, a_job}
 use Rattle.unfold_laws.specs.Fits.{World, types_of, Learns, Comes, Is_data, Fits}
-use Rattle.unfold_laws.specs.Typed.{Act_typed, any_types}
-use Rattle.unfold_laws.proofs.Fitting.{some_same, fits_learn, fits_data}
+use Rattle.unfold_laws.specs.Entered.{All_in_knowns}
+use Rattle.unfold_laws.specs.Typed.{Stands, Act_typed, any_types}
+use Rattle.unfold_laws.proofs.Fitting.{some_same, fits_learn, fits_stand, fits_data}
 use Rattle.unfold_laws.proofs.Functions.{fits_function}
 use Rattle.unfold_laws.proofs.Operating.{constant_type, fits_constant, scalar_fits, step_gives}
 use Rattle.unfold_laws.proofs.Primitives.{all_applied_so, arrays_fit}
 use Rattle.unfold_laws.proofs.TypedSteps.{comes_none}
 
-module _ (N : Names) (are : AreNames N) (integer_at : ℕ → IntType) (K : Kinds) where
+module _ (N : Names) (are : AreNames N) (T : Told) (K : Kinds) where
   abbrev At : World → Ty → Known → Type 0
-  At world t s = Fits N integer_at K t world s
+  At world t s = Fits N T K t world s
 
   scalar_data : (x : ScalarType) → Is_data N (scalar_ty x)
   unfolding Is_data
@@ -53,7 +55,7 @@ module _ (N : Names) (are : AreNames N) (integer_at : ℕ → IntType) (K : Kind
   integer_kind i = omega arith
 
   atom_is : (x : ScalarType) (world : World) (s : Known) → At world (scalar_ty x) s → (u : Atom) × (s ≡ Scalar_known u)
-  atom_is x world s h = scalar_fits N integer_at K world x (scalar_ty x) s refl h
+  atom_is x world s h = scalar_fits N T K world x (scalar_ty x) s refl h
 
   -- ---- primitives
   module _ (p : Primitive) (at : Place) where
@@ -62,34 +64,34 @@ module _ (N : Names) (are : AreNames N) (integer_at : ℕ → IntType) (K : Kind
     Operated y world ss = (n n' : ℕ) (bs : Bindings) (r : Known) → Primitive_operates p at ss n bs r n' → Comes N K world bs (λ there. At there y r)
 
     -- with all arguments but the last one
-    last_argument : (given : Knowns) (x : ScalarType) (y : Ty) (world : World) → is_of_scalars p ≡ true → ((s : Known) → nat_lt (length (listed given ++ s ∷ [])) (arity p) ≡ false) → ((world' : World) (s : Known) → Learns N K world world' → At world' (scalar_ty x) s → No_primitive p at (listed given ++ s ∷ []) → ⊥)
+    last_argument : (given : Knowns) (x : ScalarType) (y : Ty) (world : World) → All_in_knowns (Stands (types_of N K world.1)) given → is_of_scalars p ≡ true → ((s : Known) → nat_lt (length (listed given ++ s ∷ [])) (arity p) ≡ false) → ((world' : World) (s : Known) → Learns N K world world' → At world' (scalar_ty x) s → No_primitive p at (listed given ++ s ∷ []) → ⊥)
         → ((world' : World) (s : Known) → Learns N K world world' → At world' (scalar_ty x) s → Operated y world' (listed given ++ s ∷ [])) → At world (fun_ty (scalar_ty x) y) (Primitive_known p at given)
-    last_argument given x y world of full takes gives = fits_function N integer_at K (scalar_ty x) y world (Primitive_known p at given) refl (λ world' g s h. ((λ w. stuck world' s g h w), (λ n n' bs r a. result world' s g h n n' bs r a)))
+    last_argument given x y world stand of full takes gives = fits_function N T K (scalar_ty x) y world (Primitive_known p at given) refl stand (λ world' g s h. ((λ w. stuck world' s g h w), (λ n n' bs r a. result world' s g h n n' bs r a)))
       where
-        stuck : (world' : World) (s : Known) → Learns N K world world' → At world' (scalar_ty x) s → Stuck_run integer_at world'.0 (Primitive_known p at given) s → ⊥
+        stuck : (world' : World) (s : Known) → Learns N K world world' → At world' (scalar_ty x) s → Stuck_run T world'.0 (Primitive_known p at given) s → ⊥
         stuck world' s g h (no_function f) = let z : true ≡ false = f in cc
         stuck world' s g h (no_primitive f i lacks) = takes world' s g h lacks
         stuck world' s g h (no_arguments f i lacks) = let z : true ≡ false = sym of ∙ i in cc
         stuck world' s g h (stuck_job xs f i l w) = let z : true ≡ false = sym of ∙ i in cc
         stuck world' s g h (job_function xs f i l a lacks) = let z : true ≡ false = sym of ∙ i in cc
 
-        result : (world' : World) (s : Known) → Learns N K world world' → At world' (scalar_ty x) s → (n n' : ℕ) (bs : Bindings) (r : Known) → Applies integer_at world'.0 (Primitive_known p at given) s n bs r n' → Comes N K world' bs (λ there. At there y r)
+        result : (world' : World) (s : Known) → Learns N K world world' → At world' (scalar_ty x) s → (n n' : ℕ) (bs : Bindings) (r : Known) → Applies T world'.0 (Primitive_known p at given) s n bs r n' → Comes N K world' bs (λ there. At there y r)
         result world' s g h _ _ _ _ (a_primitive_waits f) = absurd (let z : true ≡ false = sym f ∙ full s in cc)
         result world' s g h n n' bs r (a_primitive f i o) = gives world' s g h n n' bs r o
         result world' s g h _ _ _ _ (a_job xs f i e r up l a k le) = absurd (let z : true ≡ false = sym of ∙ i in cc)
 
     -- with none, where it takes two
     first_argument : (x : ScalarType) (u : Ty) (world : World) → ((s : Known) → nat_lt (length (s ∷ [])) (arity p) ≡ true) → ((world' : World) (s : Known) → Learns N K world world' → At world' (scalar_ty x) s → At world' u (Primitive_known p at (known_and s no_known))) → At world (fun_ty (scalar_ty x) u) (Primitive_known p at no_known)
-    first_argument x u world waits rest = fits_function N integer_at K (scalar_ty x) u world (Primitive_known p at no_known) refl (λ world' g s h. ((λ w. stuck world' s w), (λ n n' bs r a. result world' s g h n n' bs r a)))
+    first_argument x u world waits rest = fits_function N T K (scalar_ty x) u world (Primitive_known p at no_known) refl tt (λ world' g s h. ((λ w. stuck world' s w), (λ n n' bs r a. result world' s g h n n' bs r a)))
       where
-        stuck : (world' : World) (s : Known) → Stuck_run integer_at world'.0 (Primitive_known p at no_known) s → ⊥
+        stuck : (world' : World) (s : Known) → Stuck_run T world'.0 (Primitive_known p at no_known) s → ⊥
         stuck world' s (no_function f) = let z : true ≡ false = f in cc
         stuck world' s (no_primitive f i lacks) = let z : true ≡ false = sym (waits s) ∙ f in cc
         stuck world' s (no_arguments f i lacks) = let z : true ≡ false = sym (waits s) ∙ f in cc
         stuck world' s (stuck_job xs f i l w) = let z : true ≡ false = sym (waits s) ∙ f in cc
         stuck world' s (job_function xs f i l a lacks) = let z : true ≡ false = sym (waits s) ∙ f in cc
 
-        result : (world' : World) (s : Known) → Learns N K world world' → At world' (scalar_ty x) s → (n n' : ℕ) (bs : Bindings) (r : Known) → Applies integer_at world'.0 (Primitive_known p at no_known) s n bs r n' → Comes N K world' bs (λ there. At there u r)
+        result : (world' : World) (s : Known) → Learns N K world world' → At world' (scalar_ty x) s → (n n' : ℕ) (bs : Bindings) (r : Known) → Applies T world'.0 (Primitive_known p at no_known) s n bs r n' → Comes N K world' bs (λ there. At there u r)
         result world' s g h _ _ _ _ (a_primitive_waits f) = comes_none N K world' (λ there. At there u (Primitive_known p at (known_and s no_known))) (rest world' s g h)
         result world' s g h _ _ _ _ (a_primitive f i o) = absurd (let z : true ≡ false = sym (waits s) ∙ f in cc)
         result world' s g h _ _ _ _ (a_job xs f i e r up l a k le) = absurd (let z : true ≡ false = sym (waits s) ∙ f in cc)
@@ -102,10 +104,10 @@ module _ (N : Names) (are : AreNames N) (integer_at : ℕ → IntType) (K : Kind
         subst (λ y. No_primitive p at (y ∷ r ∷ []) → ⊥) (sym a.1) (subst (λ y. No_primitive p at (Scalar_known a.0 ∷ y ∷ []) → ⊥) (sym b.1) (takes a.0 b.0))
 
   step_of : (world : World) (x : ScalarType) (y : ℕ) (o : Operation) → Act_typed N K any_types (Operate o) (types_of N K world.1) (more (scalar_ty x) none) → Comes N K world (step (y ∷ []) (Operate o)) (λ there. At there (scalar_ty x) (named y))
-  step_of world x y o h = step_gives N integer_at K world (scalar_ty x) (scalar_data x) y (Operate o) h
+  step_of world x y o h = step_gives N T K world (scalar_ty x) (scalar_data x) y (Operate o) h
 
   typed : (world : World) (x : ScalarType) (u : Atom) → At world (scalar_ty x) (Scalar_known u) → types_of N K world.1 u (scalar_ty x)
-  typed world x u h = (fits_data N integer_at K (scalar_ty x) world u h).1
+  typed world x u h = (fits_data N T K (scalar_ty x) world u h).1
 
   convert_comes : (to from : ScalarType) (at : Place) (world : World) (s : Known) → At world (scalar_ty from) s → Operated (prim.Convert to from) at (scalar_ty to) world (s ∷ [])
   unfolding Act_typed
@@ -129,14 +131,14 @@ module _ (N : Names) (are : AreNames N) (integer_at : ℕ → IntType) (K : Kind
 
   -- of one scalar, and of two of one type
   unary_fits : (p : Primitive) (x y : ScalarType) (at : Place) (world : World) → is_of_scalars p ≡ true → ((s : Known) → nat_lt (length (s ∷ [])) (arity p) ≡ false) → ((u : Atom) → No_primitive p at (Scalar_known u ∷ []) → ⊥) → ((there : World) (s : Known) → At there (scalar_ty x) s → Operated p at (scalar_ty y) there (s ∷ [])) → At world (fun_ty (scalar_ty x) (scalar_ty y)) (Primitive_known p at no_known)
-  unary_fits p x y at world of full takes gives = last_argument p at no_known x (scalar_ty y) world of full (λ world' s g h. one_scalar p at x takes world' s h) (λ world' s g h. gives world' s h)
+  unary_fits p x y at world of full takes gives = last_argument p at no_known x (scalar_ty y) world tt of full (λ world' s g h. one_scalar p at x takes world' s h) (λ world' s g h. gives world' s h)
 
   binary_fits : (p : Primitive) (x : ScalarType) (at : Place) (world : World) → is_of_scalars p ≡ true → ((s : Known) → nat_lt (length (s ∷ [])) (arity p) ≡ true) → ((s r : Known) → nat_lt (length (s ∷ r ∷ [])) (arity p) ≡ false) → ((u w : Atom) → No_primitive p at (Scalar_known u ∷ Scalar_known w ∷ []) → ⊥)
       → ((there : World) (s r : Known) → At there (scalar_ty x) s → At there (scalar_ty x) r → Operated p at (scalar_ty x) there (s ∷ r ∷ [])) → At world (fun_ty (scalar_ty x) (fun_ty (scalar_ty x) (scalar_ty x))) (Primitive_known p at no_known)
   binary_fits p x at world of few full takes gives = first_argument p at x (fun_ty (scalar_ty x) (scalar_ty x)) world few (λ world' s g h.
-      last_argument p at (known_and s no_known) x (scalar_ty x) world' of (full s)
-      (λ world'' r g' k. two_scalars p at x takes world'' s r (fits_learn N integer_at K (scalar_ty x) world' world'' g' s h) k)
-      (λ world'' r g' k. gives world'' s r (fits_learn N integer_at K (scalar_ty x) world' world'' g' s h) k))
+      last_argument p at (known_and s no_known) x (scalar_ty x) world' (fits_stand N T K world' (scalar_ty x) s h, tt) of (full s)
+      (λ world'' r g' k. two_scalars p at x takes world'' s r (fits_learn N T K (scalar_ty x) world' world'' g' s h) k)
+      (λ world'' r g' k. gives world'' s r (fits_learn N T K (scalar_ty x) world' world'' g' s h) k))
 
   pub primitive_fits : (p : Primitive) (given : Sub) → ((n : ℕ) → HasKind K kind.Data (given n)) → (at : Place) (world : World) → constant_of p ≡ None → At world (applied given (prim_type p)) (Primitive_known p at no_known)
   unfolding applied all_applied
@@ -148,11 +150,11 @@ module _ (N : Names) (are : AreNames N) (integer_at : ℕ → IntType) (K : Kind
   primitive_fits (prim.Lowest i) given kinds at world e = absurd (let z : Some _ ≡ None = e in cc)
   primitive_fits (prim.Highest i) given kinds at world e = absurd (let z : Some _ ≡ None = e in cc)
   primitive_fits (prim.NumBits i) given kinds at world e = absurd (let z : Some _ ≡ None = e in cc)
-  primitive_fits (prim.Fold folding.Sum i) given kinds at world e = arrays_fit N are integer_at K (prim.Fold folding.Sum i) at given kinds world _ _ refl refl (all_applied_so (prim.Fold folding.Sum i))
-  primitive_fits (prim.Fold folding.Product i) given kinds at world e = arrays_fit N are integer_at K (prim.Fold folding.Product i) at given kinds world _ _ refl refl (all_applied_so (prim.Fold folding.Product i))
-  primitive_fits (prim.Fold folding.Minimum i) given kinds at world e = arrays_fit N are integer_at K (prim.Fold folding.Minimum i) at given kinds world _ _ refl refl (all_applied_so (prim.Fold folding.Minimum i))
-  primitive_fits (prim.Fold folding.Maximum i) given kinds at world e = arrays_fit N are integer_at K (prim.Fold folding.Maximum i) at given kinds world _ _ refl refl (all_applied_so (prim.Fold folding.Maximum i))
-  primitive_fits p given kinds at world e = arrays_fit N are integer_at K p at given kinds world _ _ refl refl (all_applied_so p)
+  primitive_fits (prim.Fold folding.Sum i) given kinds at world e = arrays_fit N are T K (prim.Fold folding.Sum i) at given kinds world _ _ refl refl (all_applied_so (prim.Fold folding.Sum i))
+  primitive_fits (prim.Fold folding.Product i) given kinds at world e = arrays_fit N are T K (prim.Fold folding.Product i) at given kinds world _ _ refl refl (all_applied_so (prim.Fold folding.Product i))
+  primitive_fits (prim.Fold folding.Minimum i) given kinds at world e = arrays_fit N are T K (prim.Fold folding.Minimum i) at given kinds world _ _ refl refl (all_applied_so (prim.Fold folding.Minimum i))
+  primitive_fits (prim.Fold folding.Maximum i) given kinds at world e = arrays_fit N are T K (prim.Fold folding.Maximum i) at given kinds world _ _ refl refl (all_applied_so (prim.Fold folding.Maximum i))
+  primitive_fits p given kinds at world e = arrays_fit N are T K p at given kinds world _ _ refl refl (all_applied_so p)
 
   pub number_fits : (p : Primitive) (given : Sub) (world : World) (c : Scalar) → constant_of p ≡ Some (fitted c) → At world (applied given (prim_type p)) (constant c)
   unfolding applied all_applied
@@ -161,7 +163,7 @@ module _ (N : Names) (are : AreNames N) (integer_at : ℕ → IntType) (K : Kind
   number_fits (prim.Max i) given world c e = absurd (let z : None ≡ Some (fitted c) = e in cc)
   number_fits (prim.Abs i) given world c e = absurd (let z : None ≡ Some (fitted c) = e in cc)
   number_fits (prim.Popc i) given world c e = absurd (let z : None ≡ Some (fitted c) = e in cc)
-  number_fits (prim.Lowest i) given world c e = fits_constant N integer_at K world (types.Int i) (scalar_ty (types.Int i)) c refl (constant_type c (scalar.Int i (lowest i)) (types.Int i) (sym (some_same e)) refl)
-  number_fits (prim.Highest i) given world c e = fits_constant N integer_at K world (types.Int i) (scalar_ty (types.Int i)) c refl (constant_type c (scalar.Int i (highest i)) (types.Int i) (sym (some_same e)) refl)
-  number_fits (prim.NumBits i) given world c e = fits_constant N integer_at K world (types.Int int.I32) (scalar_ty (types.Int int.I32)) c refl (constant_type c (scalar.Int int.I32 (width_of i)) (types.Int int.I32) (sym (some_same e)) refl)
+  number_fits (prim.Lowest i) given world c e = fits_constant N T K world (types.Int i) (scalar_ty (types.Int i)) c refl (constant_type c (scalar.Int i (lowest i)) (types.Int i) (sym (some_same e)) refl)
+  number_fits (prim.Highest i) given world c e = fits_constant N T K world (types.Int i) (scalar_ty (types.Int i)) c refl (constant_type c (scalar.Int i (highest i)) (types.Int i) (sym (some_same e)) refl)
+  number_fits (prim.NumBits i) given world c e = fits_constant N T K world (types.Int int.I32) (scalar_ty (types.Int int.I32)) c refl (constant_type c (scalar.Int int.I32 (width_of i)) (types.Int int.I32) (sym (some_same e)) refl)
   number_fits p given world c e = absurd (let z : None ≡ Some (fitted c) = e in cc)

@@ -1,5 +1,5 @@
 -- Typed blocks never go wrong.
-use Rattle.std.proofs.Common.{◌≡◌, ℕ, suc, ◌≤◌, ◌<◌, refl, sym, subst, arith, List, [], ◌∷◌, Bool, true, false}
+use Rattle.std.proofs.Common.{◌≡◌, ℕ, suc, ◌≤◌, ◌<◌, refl, sym, subst, arith, List, [], ◌∷◌, Bool, true, false, Option, ℤ}
 use Rattle.fut_scalar.specs.declared.report.FailKind.TheVariants as fail
 use Rattle.fut_scalar.specs.declared.scalar.IntType.{IntType}
 use Rattle.fut_scalar.specs.declared.scalar.Scalar.TheVariants as scalar
@@ -9,10 +9,10 @@ use Rattle.fut_types.specs.declared.Kind.TheVariants as kind
 use Rattle.fut_types.specs.declared.Head.TheVariants as head
 use Rattle.fut_types.specs.Types.{Ty, Made, Tys, none, more, Kinds, HasKind}
 use Rattle.fut_typing.specs.Names.{Names, AreNames}
-use Rattle.fut_typing.specs.Primitives.{array_ty, bool_ty}
-use Rattle.fut_value.specs.Data.{Scalar_datum, Tuple_datum, Unmet_shape, datums}
+use Rattle.fut_typing.specs.Primitives.{array_ty, bool_ty, i64_ty}
+use Rattle.fut_value.specs.Data.{Shape, Scalar_datum, Tuple_datum, datums}
 use Rattle.fut_meaning.specs.Found.{Told}
-use Rattle.fut_meaning.specs.Arrays.{Making, Make_array, Make_index, Make_update, Make_range, made, rows_of, truth_of_datum}
+use Rattle.fut_meaning.specs.Arrays.{Making, Make_array, Make_index, Make_update, Make_range, made, rows_of, truth_of_datum, checked}
 use Rattle.fut_meaning.specs.Claims.{HasOut, Safe}
 use Rattle.fut_meaning.specs.Jobs.{Applied, job}
 use Rattle.fut_meaning.specs.Jobs as jobs
@@ -23,19 +23,21 @@ use Rattle.fut_meaning.proofs.Safe.{Every, Any_truth, safe_exact, safe_then, saf
 use Rattle.fut_blocks.specs.declared.block.Atom.{Atom}
 use Rattle.fut_blocks.specs.declared.block.Operation.{Operation}
 use Rattle.fut_blocks.specs.declared.block.Operation.TheVariants as operation
-use Rattle.fut_blocks.specs.Meaning.{Component, Names as Environment, value_of, values_of, under, operated, turns_of_datum, holds, the_one, function_of, act_means, body_means}
+use Rattle.fut_blocks.specs.Meaning.{Component, Names as Environment, value_of, values_of, row_shape, extent_worth, passes, size_given, sizes_tested, under, operated, turns_of_datum, holds, the_one, function_of, act_means, body_means}
 use Rattle.fut_blocks.specs.Numbered.{Act_numbered, Body_numbered}
-use Rattle.fut_blocks.specs.Plain.{Action, Operate, Tuple, Make, Read, Job, If, For, Over, While, Body, Give, Let, body_of}
+use Rattle.fut_blocks.specs.Plain.{Action, Operate, Tuple, Make, Read, Size_of, Coerce, Job, If, For, Over, While, Body, Give, Let, body_of}
 use Rattle.fut_blocks.specs.Programs.{Program_means}
 use Rattle.fut_blocks.specs.Records.{reads}
 use Rattle.type_soundness.specs.Fits.{Fits}
-use Rattle.type_soundness.proofs.Making.{Of_counted, Rows_fit, rows_fit, row_data, has_as}
+use Rattle.type_soundness.proofs.Binding.{has_then}
+use Rattle.type_soundness.proofs.Making.{Of_counted, Rows_fit, rows_fit, row_data, has_as, has_checked}
 use Rattle.type_soundness.proofs.Makings.{array_is, array_has, index_is, update_is, range_is}
 use Rattle.unfold_laws.specs.Safety.{Is_of, Are_of, ProgramsNeverStuck}
-use Rattle.unfold_laws.specs.Typed.{Types, of_constants, Are, with_names, with_name, with_each, Operation_typed, Makes, Act_typed, Body_typed, Names_typed, any_types}
-use Rattle.unfold_laws.proofs.Binding.{upward_le, Sees, sees_nothing, values_are, with_value, with_values, sees_names, under_names, named_each}
+use Rattle.unfold_laws.specs.Typed.{Types, of_constants, Are, Stands, with_names, with_name, with_each, Operation_typed, Makes, Act_typed, Body_typed, Names_typed, any_types}
+use Rattle.unfold_laws.proofs.Binding.{upward_le, Sees, sees_nothing, value_is, values_are, with_value, with_values, sees_names, under_names, named_each}
 use Rattle.unfold_laws.proofs.Jobs.{Job_is, job_is}
 use Rattle.unfold_laws.proofs.Reading.{reads_are}
+use Rattle.unfold_laws.proofs.Standing.{Any, row_out, extent_out, test_out}
 use Rattle.unfold_laws.proofs.Safety.{as_each, integer_datum, truth_datum, binary_is, unary_is, convert_is, assert_is, parts_are, tuple_is}
 
 -- names inside are not below the first
@@ -45,9 +47,11 @@ mutual
   act_le : (a : Action) (n m : ℕ) → Act_numbered n a m → n ≤ m
   act_le (Operate o) n m h = h
   act_le (Tuple us) n m h = h
-  act_le (Make o at us) n m h = h
+  act_le (Make row o at us) n m h = h
   act_le (Read k us) n m h = h
-  act_le (Job p at us xs b) n m (k, u, h) = let r = upward_le xs n k u in let q = body_le b k m h in omega (arith, r, q)
+  act_le (Size_of e) n m h = h
+  act_le (Coerce at test row) n m h = h
+  act_le (Job row p at us xs b) n m (k, u, h) = let r = upward_le xs n k u in let q = body_le b k m h in omega (arith, r, q)
   act_le (If c a b) n m (k, g, h) = let r = body_le a n k g in let q = body_le b k m h in omega (arith, r, q)
   act_le (For xs us i c b) n m (k, u, le, h) = let r = upward_le xs n k u in let q = body_le b (suc i) m h in omega (arith, r, q, le)
   act_le (Over xs us x r b) n m (k, u, le, h) = let s = upward_le xs n k u in let q = body_le b (suc x) m h in omega (arith, s, q, le)
@@ -74,6 +78,10 @@ module _ (N : Names) (are : AreNames N) (T : Told) (K : Kinds) (tight : Bool) (b
   sees_one : (G : Types) (env : Environment Component) (n x : ℕ) (t : Ty) (d : Component) → n ≤ x → Sees_at G env n → Of t d → Sees_at (with_name x t G) ((x, d) ∷ env) (suc x)
   sees_one G env n x t d le s h = sees_names N T tight budget G env n s (more t none) (x ∷ []) n (suc x) (d ∷ []) ((x, d) ∷ env) (let z : n ≤ n = omega arith in z) (le, (let z : suc x ≤ suc x = omega arith in z)) refl (h, tt)
 
+  size_is : (z : Option ℤ) → Any z → HasOut (All_of (more i64_ty none)) (size_given z)
+  unfolding Fits
+  size_is z x = (refl, tt)
+
   -- ---- operations
   module _ (G : Types) (env : Environment Component) (n : ℕ) (sees : Sees_at G env n) where
     operated_is : (o : Operation) (ts : Tys) → Operation_typed K G o ts → HasOut (All_of ts) (operated env o)
@@ -89,6 +97,10 @@ module _ (N : Names) (are : AreNames N) (T : Told) (K : Kinds) (tight : Bool) (b
         subst (λ y. HasOut (All_of y) (operated env (operation.Assert at a))) (sym e) (with_value N T tight budget G env n sees (All_of none) a bool_ty _ ha (λ v hv. assert_is N are T K tight budget at v hv))
     operated_is (operation.Parts a) ts ha = with_value N T tight budget G env n sees (All_of ts) a (Made head.Tuple ts) _ ha (λ v hv. parts_are N are T K tight budget ts v hv)
 
+    -- what is asked of rows, extents and tests
+    stands_out : (u : Atom) → Stands G u → HasOut Any (value_of env u)
+    stands_out u (t, h) = let a = value_is N T tight budget G env n sees u t h in subst (HasOut Any) (sym a.1) tt
+
     -- the first values of a loop, and others
     values_safe : (us : List Atom) (ts : Tys) → Are G us ts → HasOut (All_of ts) (values_of env us)
     values_safe us ts h = let a = values_are N T tight budget G env n sees us ts h in subst (HasOut (All_of ts)) (sym a.1) a.2
@@ -97,24 +109,24 @@ module _ (N : Names) (are : AreNames N) (T : Told) (K : Kinds) (tight : Bool) (b
     truth_safe c h = with_value N T tight budget G env n sees Any_truth c bool_ty truth_of_datum h (λ d k. let r = truth_datum N are T K tight budget d k in subst (λ z. HasOut Any_truth (truth_of_datum z)) (sym r.1) tt)
 
   -- ---- arrays
-  made_is : (m : Making) (at : Place) (us : Tys) (t : Ty) (ds : List Component) → Makes N K m us t → All_of us ds → HasOut (Of_counted (Of t)) (made false Unmet_shape m at ds)
-  made_is Make_array at us t ds (meant, (u, (el, arr, a))) h = array_is N are T (plain tight) budget false [] K kind.Data (let z : 1 ≤ 1 = omega arith in z) Unmet_shape at t el us ds arr a (as_each N are T K tight budget us ds h)
-  made_is (Make_index []) at us t ds (meant, (u, r)) h = absurd meant
-  made_is (Make_index (p ∷ ps)) at none t ds (meant, (u, r)) h = absurd r
-  made_is (Make_index (p ∷ ps)) at (more x is) t ds (meant, (u, r)) h =
-      index_is N are T (plain tight) budget false [] K kind.Data (let z : 1 ≤ 1 = omega arith in z) Unmet_shape at (p ∷ ps) t x is ds (array_has N are T (plain tight) budget false [] K kind.Data (let z : 1 ≤ 1 = omega arith in z) x r.2.0 r.2.2) r.0 r.1 r.2
+  made_is : (told : Shape) (m : Making) (at : Place) (us : Tys) (t : Ty) (ds : List Component) → Makes N K m us t → All_of us ds → HasOut (Of_counted (Of t)) (made false told m at ds)
+  made_is told Make_array at us t ds (meant, (u, (el, arr, a))) h = array_is N are T (plain tight) budget false [] K kind.Data (let z : 1 ≤ 1 = omega arith in z) told at t el us ds arr a (as_each N are T K tight budget us ds h)
+  made_is told (Make_index []) at us t ds (meant, (u, r)) h = absurd meant
+  made_is told (Make_index (p ∷ ps)) at none t ds (meant, (u, r)) h = absurd r
+  made_is told (Make_index (p ∷ ps)) at (more x is) t ds (meant, (u, r)) h =
+      index_is N are T (plain tight) budget false [] K kind.Data (let z : 1 ≤ 1 = omega arith in z) told at (p ∷ ps) t x is ds (array_has N are T (plain tight) budget false [] K kind.Data (let z : 1 ≤ 1 = omega arith in z) x r.2.0 r.2.2) r.0 r.1 r.2
       (as_each N are T K tight budget (more x is) ds h)
-  made_is Make_update at none t ds (meant, (u, r)) h = absurd r
-  made_is Make_update at (more x none) t ds (meant, (u, r)) h = absurd r.1
-  made_is Make_update at (more x (more v none)) t ds (meant, (u, r)) h = absurd (let z : 2 < 2 = meant in omega (arith, z))
-  made_is Make_update at (more x (more i (more v vs))) t ds (meant, (u, r)) h =
-      update_is N are T (plain tight) budget false [] K kind.Data (let z : 1 ≤ 1 = omega arith in z) Unmet_shape at t x (more i (more v vs)) ds (array_has N are T (plain tight) budget false [] K kind.Data (let z : 1 ≤ 1 = omega arith in z) x r.1.1.0 r.1.1.1) r.0 r.1
+  made_is told Make_update at none t ds (meant, (u, r)) h = absurd r
+  made_is told Make_update at (more x none) t ds (meant, (u, r)) h = absurd r.1
+  made_is told Make_update at (more x (more v none)) t ds (meant, (u, r)) h = absurd (let z : 2 < 2 = meant in omega (arith, z))
+  made_is told Make_update at (more x (more i (more v vs))) t ds (meant, (u, r)) h =
+      update_is N are T (plain tight) budget false [] K kind.Data (let z : 1 ≤ 1 = omega arith in z) told at t x (more i (more v vs)) ds (array_has N are T (plain tight) budget false [] K kind.Data (let z : 1 ≤ 1 = omega arith in z) x r.1.1.0 r.1.1.1) r.0 r.1
       (as_each N are T K tight budget (more x (more i (more v vs))) ds h)
-  made_is (Make_range true end) at (more x (more y (more z none))) t ds (meant, (u, (el, arr, k, a))) h =
-      range_is N are T (plain tight) budget false [] K kind.Data (let z : 1 ≤ 1 = omega arith in z) Unmet_shape at true end t el (more x (more y (more z none))) ds arr k a refl (as_each N are T K tight budget (more x (more y (more z none))) ds h)
-  made_is (Make_range false end) at (more x (more z none)) t ds (meant, (u, (el, arr, k, a))) h =
-      range_is N are T (plain tight) budget false [] K kind.Data (let z : 1 ≤ 1 = omega arith in z) Unmet_shape at false end t el (more x (more z none)) ds arr k a refl (as_each N are T K tight budget (more x (more z none)) ds h)
-  made_is (Make_range stepped end) at us t ds (meant, (u, r)) h = absurd r
+  made_is told (Make_range true end) at (more x (more y (more z none))) t ds (meant, (u, (el, arr, k, a))) h =
+      range_is N are T (plain tight) budget false [] K kind.Data (let z : 1 ≤ 1 = omega arith in z) told at true end t el (more x (more y (more z none))) ds arr k a refl (as_each N are T K tight budget (more x (more y (more z none))) ds h)
+  made_is told (Make_range false end) at (more x (more z none)) t ds (meant, (u, (el, arr, k, a))) h =
+      range_is N are T (plain tight) budget false [] K kind.Data (let z : 1 ≤ 1 = omega arith in z) told at false end t el (more x (more z none)) ds arr k a refl (as_each N are T K tight budget (more x (more z none)) ds h)
+  made_is told (Make_range stepped end) at us t ds (meant, (u, r)) h = absurd r
 
   -- ---- blocks
   every_one : (xs : List ℕ) → Every (λ x. Unit {0}) xs
@@ -162,19 +174,26 @@ module _ (N : Names) (are : AreNames N) (T : Told) (K : Kinds) (tight : Bool) (b
         (safe_exact (All_of (more (Made head.Tuple parts) none)) 0 (and_then (values_of env us) (λ vs. Val (Tuple_datum (datums vs) ∷ [])))
         (with_values N T tight budget G env n s (All_of (more (Made head.Tuple parts) none)) us parts (λ vs. Val (Tuple_datum (datums vs) ∷ [])) h (λ ds k. (tuple_is N are T K tight budget parts ds lt k, tt))))
     act_safe (Read k us) G env n m u s ts (parts, h, r) = safe_exact (All_of ts) 0 (and_then (values_of env us) (reads k)) (with_values N T tight budget G env n s (All_of ts) us parts (reads k) h (λ ds q. reads_are N are T K tight budget k parts ts ds r q))
-    act_safe (Make o at us) G env n m u s ts (parts, t, h, k, e) =
-        subst (λ y. Safe (All_of y) (act_means tight budget (Make o at us) env)) (sym e)
+    act_safe (Make row o at us) G env n m u s ts (parts, t, w', h, k, e) =
+        subst (λ y. Safe (All_of y) (act_means tight budget (Make row o at us) env)) (sym e)
         (safe_then (All_of parts) (All_of (more t none)) _ _ (safe_exact (All_of parts) 0 (values_of env us) (values_safe G env n s us parts h)) (λ ds q.
-        safe_then (Of_counted (Of t)) (All_of (more t none)) _ _ (safe_exact (Of_counted (Of t)) 0 (made false Unmet_shape o at ds) (made_is o at parts t ds k q)) (λ r w. safe_exact (All_of (more t none)) r.0 (Val (r.1 ∷ [])) (w, tt))))
-    act_safe (Job p at us xs b) G env n m (k, up, gb) s ts (taken, fs, r, t, hu, typed, m', hb, l, e) =
-        subst (λ y. Safe (All_of y) (act_means tight budget (Job p at us xs b) env)) (sym e)
+        safe_then (Of_counted (Of t)) (All_of (more t none)) _ _ (safe_exact (Of_counted (Of t)) 0 (and_then (row_shape env row) (λ told. made false told o at ds)) (has_then Any (Of_counted (Of t)) (row_shape env row) _ (row_out env (Stands G) (stands_out G env n s) row w') (λ told x. made_is told o at parts t ds k q))) (λ r w. safe_exact (All_of (more t none)) r.0 (Val (r.1 ∷ [])) (w, tt))))
+    act_safe (Job row p at us xs b) G env n m (k, up, gb) s ts (taken, fs, r, t, w', hu, typed, m', hb, l, e) =
+        subst (λ y. Safe (All_of y) (act_means tight budget (Job row p at us xs b) env)) (sym e)
         (safe_then (All_of taken) (All_of (more t none)) _ _ (safe_exact (All_of taken) 0 (values_of env us) (values_safe G env n s us taken hu)) (λ ds q.
         safe_then (Job_gives (function_of (body_means tight budget b) xs env) t) (All_of (more t none)) _ _
-        (safe_exact (Job_gives (function_of (body_means tight budget b) xs env) t) 0 (job false Unmet_shape p at ds) (job_is N are T K tight budget p at taken fs r t (function_of (body_means tight budget b) xs env) ds typed (λ es w.
+        (safe_exact (Job_gives (function_of (body_means tight budget b) xs env) t) 0 (and_then (row_shape env row) (λ told. job false told p at ds)) (has_then Any (Job_gives (function_of (body_means tight budget b) xs env) t) (row_shape env row) _ (row_out env (Stands G) (stands_out G env n s) row w') (λ told x. job_is N are T K tight budget told p at taken fs r t (function_of (body_means tight budget b) xs env) ds typed (λ es w.
         safe_then (All_of (more r none)) (Of r) _ _
         (under_names N T tight budget G env n s (All_of (more r none)) fs xs n k es (body_means tight budget b) (let y : n ≤ n = omega arith in y) up l w (λ inner sees. body_safe b (with_names xs fs G) inner k m gb sees (more r none) hb))
-        (λ ws z. safe_exact (Of r) 0 (the_one ws) (one_is r ws z))) q))
+        (λ ws z. safe_exact (Of r) 0 (the_one ws) (one_is r ws z))) q)))
         (λ j w. safe_then (Of t) (All_of (more t none)) _ _ w (λ d z. safe_exact (All_of (more t none)) 0 (Val (d ∷ [])) (z, tt)))))
+    act_safe (Size_of e) G env n m u s ts (h, same) =
+        subst (λ y. Safe (All_of y) (act_means tight budget (Size_of e) env)) (sym same)
+        (safe_exact (All_of (more i64_ty none)) 0 _ (has_then Any (All_of (more i64_ty none)) (extent_worth env e) size_given (extent_out env (Stands G) (stands_out G env n s) e h) size_is))
+    act_safe (Coerce at test row) G env n m u s ts (h, w', same) =
+        subst (λ y. Safe (All_of y) (act_means tight budget (Coerce at test row) env)) (sym same)
+        (safe_exact (All_of none) 0 _ (has_then Any (All_of none) (row_shape env row) (sizes_tested env at test) (row_out env (Stands G) (stands_out G env n s) row w') (λ told x.
+        has_then Any (All_of none) (passes env test told) (λ b. checked b fail.Size at (Val [])) (test_out env (Stands G) (stands_out G env n s) test told h) (λ b y. has_checked (All_of none) b fail.Size at (Val []) (λ same. tt)))))
     act_safe (If c a b) G env n m (k, ga, gb) s ts (hc, ha, hb) =
         safe_then Any_truth (All_of ts) _ _ (safe_exact Any_truth 0 _ (truth_safe G env n s c hc)) (λ t w. safe_choose (All_of ts) t _ _ (body_safe a G env n k ga s ts ha) (body_safe b G env k m gb (sees_more G env n k (body_le a n k ga) s) ts hb))
     act_safe (For xs us i c b) G env n m (k, up, le, gb) s ts (hu, l, t, m', integral, hn, hb) =

@@ -27,16 +27,17 @@ use Rattle.fut_blocks.specs.declared.block.Atom.{Atom}
 use Rattle.fut_blocks.specs.declared.block.Atom.TheVariants as atom
 use Rattle.fut_blocks.specs.declared.block.Operation.{Operation}
 use Rattle.fut_blocks.specs.declared.block.Operation.TheVariants as operation
-use Rattle.fut_blocks.specs.Plain.{Reading as Reads_of, Record_with, Part_at, Replace_at, Fields_at, Action, Operate, Tuple, Make, Read, Job, If, For, Over, While, Body, Give, Let, body_of}
+use Rattle.fut_blocks.specs.Plain.{Reading as Reads_of, Record_with, Part_at, Replace_at, Fields_at, Action, Operate, Tuple, Make, Read, Size_of, Coerce, Job, If, For, Over, While, Body, Give, Let, body_of}
 use Rattle.unfold.specs.Shapes.{Shape, Scalar_shape, Tuple_shape, Record_shape, Shapes, no_shape, shape_and, Field_shapes, no_field_shape, field_shape_and}
 use Rattle.unfold.specs.Unfolding.{names}
 use Rattle.unfold_laws.specs.Claims.{UnfoldedClosed}
 use Rattle.unfold_laws.specs.Closed.{Is_fixed, Is_closed, All_closed, TypesMayBeClosed}
 use Rattle.unfold_laws.specs.Components.{with_part, components, all_components, field_components}
 use Rattle.unfold_laws.proofs.Fitting.{some_same}
+use Rattle.unfold_laws.proofs.Standing.{row_as, extent_as, test_as}
 use Rattle.unfold_laws.proofs.TypedSteps.{body_kept}
 use Rattle.unfold_laws.proofs.Unstuck.{unfolded_well_typed}
-use Rattle.unfold_laws.specs.Typed.{Types, of_constants, Are, Stands_at, with_names, with_each, One, Operation_typed, operation_of, Makes, Reads, data_types, function_type, Primitive_typed, Act_typed, Body_typed, Names_typed, any_types}
+use Rattle.unfold_laws.specs.Typed.{Types, of_constants, Are, Stands, Stands_at, with_names, with_each, One, Operation_typed, operation_of, Makes, Reads, data_types, function_type, Primitive_typed, Act_typed, Body_typed, Names_typed, any_types}
 
 -- ---- variables and type parameters as numbers, which are of each kind
 abbrev numbers : Reading
@@ -122,6 +123,9 @@ module _ (I : Reading) where
   abbrev Reads_to : Types → Types → Type 0
   Reads_to G H = (u : Atom) (t : Ty) → G u t → H u (read I t)
 
+  stand_on : (G H : Types) → Reads_to G H → (u : Atom) → Stands G u → Stands H u
+  stand_on G H k u (t, h) = (read I t, k u t h)
+
   are_read : (G H : Types) → Reads_to G H → (us : List Atom) (ts : Tys) → Are G us ts → Are H us (read_all I ts)
   unfolding read
   are_read G H k [] none h = tt
@@ -197,13 +201,16 @@ module _ (N : Names) (K : Kinds) where
     act_read : (a : Action) (G H : Types) → Reads_to numbers G H → (ts : Tys) → Act_typed N K any_types a G ts → Act_typed N K All_closed a H (read_all numbers ts)
     act_read (Operate o) G H k ts h = operation_read G H k o ts h
     act_read (Tuple us) G H k ts (parts, h, w, e) = (read_all numbers parts, are_read numbers G H k us parts h, (let c : count (read_all numbers parts) ≡ count parts = count_read numbers parts in omega (arith, w, c)), ap (read_all numbers) e)
-    act_read (Make m at us) G H k ts (parts, t, h, r, e) = (read_all numbers parts, read numbers t, are_read numbers G H k us parts h, makes_read m parts t r, ap (read_all numbers) e)
+    act_read (Make row m at us) G H k ts (parts, t, w, h, r, e) = (read_all numbers parts, read numbers t, row_as (Stands G) (Stands H) (stand_on numbers G H k) row w, are_read numbers G H k us parts h, makes_read m parts t r, ap (read_all numbers) e)
     act_read (Read r us) G H k ts (parts, h, q) = (read_all numbers parts, are_read numbers G H k us parts h, reads_read r parts ts q)
-    act_read (Job p at us xs b) G H k ts (taken, fs, r, t, h, q, m, hb, l, e) = (
+    act_read (Size_of x) G H k ts (h, e) = (extent_as (Stands G) (Stands H) (stand_on numbers G H k) x h, ap (read_all numbers) e)
+    act_read (Coerce at test row) G H k ts (h, w, e) = (test_as (Stands G) (Stands H) (stand_on numbers G H k) test h, row_as (Stands G) (Stands H) (stand_on numbers G H k) row w, ap (read_all numbers) e)
+    act_read (Job row p at us xs b) G H k ts (taken, fs, r, t, w, h, q, m, hb, l, e) = (
       read_all numbers taken,
       read_all numbers fs,
       read numbers r,
       read numbers t,
+      row_as (Stands G) (Stands H) (stand_on numbers G H k) row w,
       are_read numbers G H k us taken h,
       primitive_read p taken fs r t q,
       all_closed fs,
@@ -305,6 +312,6 @@ module _ (N : Names) where
 
 pub unfolded_closed : UnfoldedClosed
 unfolding All_closed
-unfolded_closed N are K a integer_at flat typed entry ts u used k c d hs of_shapes h p unfolds =
+unfolded_closed N are K a T flat typed entry ts u used k c d hs of_shapes h p unfolds =
     chosen_closed N K p.params.now (body_of p.body) (all_components N hs ts none) (components N h u none) (all_components_closed N hs ts none c tt) (components_closed N h u none d tt)
-    (unfolded_well_typed N are K a integer_at flat typed entry ts u used k hs of_shapes h p unfolds)
+    (unfolded_well_typed N are K a T flat typed entry ts u used k hs of_shapes h p unfolds)

@@ -10,11 +10,12 @@ use Rattle.fut_scalar.specs.declared.scalar.ScalarType.TheVariants as sort
 use Rattle.fut_flat.specs.declared.prim.Primitive.TheVariants as prim
 use Rattle.fut_types.specs.Types.{Ty, Var, Tys, none, more, Kinds, fun_ty, rank, least, scalar_ty, applied, all_applied}
 use Rattle.fut_typing.specs.Names.{Names}
-use Rattle.fut_typing.specs.Primitives.{array_ty, bool_ty, pair_ty}
+use Rattle.fut_typing.specs.Primitives.{array_ty, bool_ty, i64_ty, pair_ty}
 use Rattle.fut_meaning.specs.Arrays.{Make_array}
 use Rattle.fut_blocks.specs.declared.block.Atom.TheVariants as atom
 use Rattle.fut_blocks.specs.declared.block.Operation.TheVariants as operation
-use Rattle.fut_blocks.specs.Plain.{Action, Operate, Make, Job, If, Give, Let}
+use Rattle.fut_blocks.specs.Rows.{Unknown_row, Rows_of, Shape_of, Length_of, no_reading, reading_or, Any_size}
+use Rattle.fut_blocks.specs.Plain.{Size_of, Coerce, Action, Operate, Make, Job, If, Give, Let}
 use Rattle.unfold.specs.Shapes.{Scalar_shape, Tuple_shape, no_shape, shape_and}
 use Rattle.unfold_laws.specs.Components.{components, all_components}
 use Rattle.unfold_laws.specs.Closed.{Is_closed, All_closed}
@@ -29,7 +30,7 @@ byte = scalar_ty (sort.Int U8)
 module _ (N : Names) (K : Kinds) where
   -- `map (\z -> z + 1) x`, where x has the name 0
   abbrev next : Action
-  next = Job prim.Map here (atom.Name 0 ∷ []) (1 ∷ []) (Let (2 ∷ []) (Operate (operation.Binary binary.Add here (atom.Name 1) (atom.Constant (scalar.Int U8 1)))) (Give (atom.Name 2 ∷ [])))
+  next = Job Unknown_row prim.Map here (atom.Name 0 ∷ []) (1 ∷ []) (Let (2 ∷ []) (Operate (operation.Binary binary.Add here (atom.Name 1) (atom.Constant (scalar.Int U8 1)))) (Give (atom.Name 2 ∷ [])))
 
   maps_are_typed : Act_typed N K any_types next (with_name 0 (array_ty byte) of_constants) (more (array_ty byte) none)
   unfolding Act_typed Body_typed applied all_applied rank least
@@ -38,6 +39,7 @@ module _ (N : Names) (K : Kinds) where
     more byte none,
     byte,
     array_ty byte,
+    tt,
     (inl (inl (refl, refl)), tt),
     record {
       on_arrays = refl;
@@ -62,29 +64,29 @@ module _ (N : Names) (K : Kinds) where
 
   -- `[]`, which gets the name 3
   abbrev empty : Types
-  empty = with_each (3 ∷ []) (Names_typed N K any_types (Make Make_array here []) of_constants) of_constants
+  empty = with_each (3 ∷ []) (Names_typed N K any_types (Make Unknown_row Make_array here []) of_constants) of_constants
 
   of_bytes : empty (atom.Name 3) (array_ty byte)
   unfolding Act_typed rank least
-  of_bytes = inl (more (array_ty byte) none, (tt, (none, array_ty byte, tt, (tt, (byte, (byte, (refl, omega arith), tt))), refl)), inl (refl, refl))
+  of_bytes = inl (more (array_ty byte) none, (tt, (none, array_ty byte, tt, tt, (tt, (byte, (byte, (refl, omega arith), tt))), refl)), inl (refl, refl))
 
   and_of_truth_values : empty (atom.Name 3) (array_ty bool_ty)
   unfolding Act_typed rank least
-  and_of_truth_values = inl (more (array_ty bool_ty) none, (tt, (none, array_ty bool_ty, tt, (tt, (bool_ty, (bool_ty, (refl, omega arith), tt))), refl)), inl (refl, refl))
+  and_of_truth_values = inl (more (array_ty bool_ty) none, (tt, (none, array_ty bool_ty, tt, tt, (tt, (bool_ty, (bool_ty, (refl, omega arith), tt))), refl)), inl (refl, refl))
 
   -- `([], []) : ([]u8, []bool)`: one name of two types, of which each use takes one
-  twice_empty : Body_typed N K All_closed (Let (3 ∷ []) (Make Make_array here []) (Give (atom.Name 3 ∷ atom.Name 3 ∷ []))) of_constants (more (array_ty byte) (more (array_ty bool_ty) none))
+  twice_empty : Body_typed N K All_closed (Let (3 ∷ []) (Make Unknown_row Make_array here []) (Give (atom.Name 3 ∷ atom.Name 3 ∷ []))) of_constants (more (array_ty byte) (more (array_ty bool_ty) none))
   unfolding Act_typed Body_typed Is_closed All_closed rank least
   twice_empty = (
-    (more (array_ty byte) none, (((tt, ((tt, tt), tt)), tt), (none, array_ty byte, tt, (tt, (byte, (byte, (refl, omega arith), tt))), refl)), refl),
+    (more (array_ty byte) none, (((tt, ((tt, tt), tt)), tt), (none, array_ty byte, tt, tt, (tt, (byte, (byte, (refl, omega arith), tt))), refl)), refl),
     (
-      inl (more (array_ty byte) none, (((tt, ((tt, tt), tt)), tt), (none, array_ty byte, tt, (tt, (byte, (byte, (refl, omega arith), tt))), refl)), inl (refl, refl)),
-      (inl (more (array_ty bool_ty) none, (((tt, ((tt, tt), tt)), tt), (none, array_ty bool_ty, tt, (tt, (bool_ty, (bool_ty, (refl, omega arith), tt))), refl)), inl (refl, refl)), tt),
+      inl (more (array_ty byte) none, (((tt, ((tt, tt), tt)), tt), (none, array_ty byte, tt, tt, (tt, (byte, (byte, (refl, omega arith), tt))), refl)), inl (refl, refl)),
+      (inl (more (array_ty bool_ty) none, (((tt, ((tt, tt), tt)), tt), (none, array_ty bool_ty, tt, tt, (tt, (bool_ty, (bool_ty, (refl, omega arith), tt))), refl)), inl (refl, refl)), tt),
     ),
   )
 
   -- and none of a type variable
-  no_variable : with_each (3 ∷ []) (Names_typed N K All_closed (Make Make_array here []) of_constants) of_constants (atom.Name 3) (array_ty (Var 0)) → ⊥
+  no_variable : with_each (3 ∷ []) (Names_typed N K All_closed (Make Unknown_row Make_array here []) of_constants) of_constants (atom.Name 3) (array_ty (Var 0)) → ⊥
   unfolding Is_closed All_closed
   no_variable (inl (none, p, s)) = absurd s
   no_variable (inl (more t ts, (c, a), inl (n, e))) = absurd ((subst Is_closed e c.0).1.0)
@@ -106,6 +108,23 @@ module _ (N : Names) (K : Kinds) where
   branches_on_bytes_have_no_type : (ts : Tys) → Act_typed N K any_types branch_on_byte of_constants ts → ⊥
   unfolding Act_typed branch_on_byte
   branches_on_bytes_have_no_type ts (c, a, b) = let z : bool_ty ≡ byte = c in cc
+
+  -- how many rows an array has, as a size
+  rows_as_a_size : Action
+  rows_as_a_size = Size_of (reading_or (Length_of (Shape_of (atom.Name 0))) no_reading)
+
+  sizes_are_typed : Act_typed N K any_types rows_as_a_size (with_name 0 (array_ty byte) of_constants) (more i64_ty none)
+  unfolding Act_typed rows_as_a_size
+  sizes_are_typed = (((array_ty byte, inl (inl (refl, refl))), tt), refl)
+
+  -- where the array is not there it has no type, nor has a test of it
+  sizes_of_nothing_have_no_type : (ts : Tys) → Act_typed N K any_types rows_as_a_size of_constants ts → ⊥
+  unfolding Act_typed rows_as_a_size
+  sizes_of_nothing_have_no_type ts (((t, h), x), e) = absurd h
+
+  tests_of_nothing_have_no_type : (ts : Tys) → Act_typed N K any_types (Coerce here Any_size (Rows_of (Shape_of (atom.Name 0)))) of_constants ts → ⊥
+  unfolding Act_typed
+  tests_of_nothing_have_no_type ts (x, (t, h), e) = absurd h
 
   -- a pair of a byte and an array is two components, or one
   two_components : components N (Tuple_shape (shape_and Scalar_shape (shape_and Scalar_shape no_shape))) (pair_ty byte (array_ty byte)) none ≡ more byte (more (array_ty byte) none)

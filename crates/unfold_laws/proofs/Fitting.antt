@@ -4,7 +4,7 @@ use Rattle.std.proofs.Common.{◌≡◌, Bool, true, false, cond, ℕ, zero, suc
 use native.Mathlib.Decide.{ℕ_discrete}
 use Rattle.std.specs.Str.{bytes_eq}
 use Rattle.std.proofs.lemmas.Slice.Eq.{bytes_eq-Decides}
-use Rattle.fut_scalar.specs.declared.scalar.IntType.{IntType}
+use Rattle.fut_meaning.specs.Found.{Told}
 use Rattle.fut_ast.specs.Sorts.{Text}
 use Rattle.fut_types.specs.declared.Head.TheVariants as head
 use Rattle.fut_types.specs.declared.Kind.TheVariants as kind
@@ -17,6 +17,9 @@ use Rattle.fut_blocks.specs.Meaning.{look}
 use Rattle.fut_meaning.specs.Knowns.{or_else}
 use Rattle.unfold.specs.Knowns.{Known, Scalar_known, Tuple_known, Record_known, Function_known, Primitive_known, Knowns, no_known, known_and, Known_fields, no_known_field, known_field_and, Scope as Seen, Tops, local, find, field}
 use Rattle.unfold_laws.specs.Fits.{World, Keeps_tops, types_of, Learns, On_component, Each_field, Is_data, All_data, Part_data, Fits, All_fit, Keyed}
+use Rattle.unfold_laws.specs.Entered.{All_in_known, All_in_knowns, All_in_known_fields}
+use Rattle.unfold_laws.specs.Typed.{Stands}
+use Rattle.unfold_laws.proofs.Entered.{known_as}
 use Rattle.unfold_laws.proofs.TypedSteps.{learns_more}
 
 pub some_same : {A : Type 0} {x y : A} → Some x ≡ Some y → x ≡ y
@@ -53,30 +56,30 @@ each_found P f s (known_field_and g u fs) h e = known (bytes_eq g f) refl (each_
     known true is rec e = subst (λ x. P x s) ((bytes_eq-Decides g f).0 is) (subst (λ y. P g y) (some_same e) h.0)
     known false is rec e = rec e
 
-module _ (N : Names) (integer_at : ℕ → IntType) (K : Kinds) where
+module _ (N : Names) (T : Told) (K : Kinds) where
   -- ---- a label's part
-  pub keyed_found : (l : ℕ) (u : Ty) (world : World) (s : Known) (ls : List ℕ) (ts : Tys) → part_at (place_from 0 l ls) ts ≡ Some u → Keyed N integer_at K ls ts world l s → Fits N integer_at K u world s
+  pub keyed_found : (l : ℕ) (u : Ty) (world : World) (s : Known) (ls : List ℕ) (ts : Tys) → part_at (place_from 0 l ls) ts ≡ Some u → Keyed N T K ls ts world l s → Fits N T K u world s
   unfolding Keyed place_from part_at
   keyed_found l u world s [] ts e h = absurd h
   keyed_found l u world s (x ∷ xs) none e h = absurd h
-  keyed_found l u world s (x ∷ xs) (more t ts) e h = elim (ℕ_discrete x l) as (λ d. Fits N integer_at K u world s) [
+  keyed_found l u world s (x ∷ xs) (more t ts) e h = elim (ℕ_discrete x l) as (λ d. Fits N T K u world s) [
     | yes same ↦
         let here : Some t ≡ Some u = subst (λ b. part_at (if b then Some 0 else place_from 1 l xs) (more t ts) ≡ Some u) (eq-eqb x l same) e in
-        subst (λ w. Fits N integer_at K w world s) (some_same here) (h.0 same)
+        subst (λ w. Fits N T K w world s) (some_same here) (h.0 same)
     | no ne ↦ keyed_found l u world s xs ts (sym (there_place l x xs t ts ne) ∙ e) (h.1 ne)
   ]
 
   -- there is such a part
-  pub keyed_part : (l : ℕ) (world : World) (s : Known) (ls : List ℕ) (ts : Tys) → Keyed N integer_at K ls ts world l s → (u : Ty) × (part_at (place_from 0 l ls) ts ≡ Some u) × Fits N integer_at K u world s
+  pub keyed_part : (l : ℕ) (world : World) (s : Known) (ls : List ℕ) (ts : Tys) → Keyed N T K ls ts world l s → (u : Ty) × (part_at (place_from 0 l ls) ts ≡ Some u) × Fits N T K u world s
   unfolding Keyed place_from part_at
   keyed_part l world s [] ts h = absurd h
   keyed_part l world s (x ∷ xs) none h = absurd h
-  keyed_part l world s (x ∷ xs) (more t ts) h = elim (ℕ_discrete x l) as (λ d. (u : Ty) × (part_at (place_from 0 l (x ∷ xs)) (more t ts) ≡ Some u) × Fits N integer_at K u world s) [
+  keyed_part l world s (x ∷ xs) (more t ts) h = elim (ℕ_discrete x l) as (λ d. (u : Ty) × (part_at (place_from 0 l (x ∷ xs)) (more t ts) ≡ Some u) × Fits N T K u world s) [
     | yes same ↦ (t, ap (λ b. part_at (if b then Some 0 else place_from 1 l xs) (more t ts)) (eq-eqb x l same), h.0 same)
     | no ne ↦ let r = keyed_part l world s xs ts (h.1 ne) in (r.0, there_place l x xs t ts ne ∙ r.1, r.2)
   ]
 
-  pub keyed_from : (l : ℕ) (u : Ty) (world : World) (s : Known) (ls : List ℕ) (ts : Tys) → part_at (place_from 0 l ls) ts ≡ Some u → Fits N integer_at K u world s → Keyed N integer_at K ls ts world l s
+  pub keyed_from : (l : ℕ) (u : Ty) (world : World) (s : Known) (ls : List ℕ) (ts : Tys) → part_at (place_from 0 l ls) ts ≡ Some u → Fits N T K u world s → Keyed N T K ls ts world l s
   unfolding Keyed place_from part_at
   keyed_from l u world s [] none e h = absurd (let z : None ≡ Some u = e in cc)
   keyed_from l u world s [] (more t ts) e h = absurd (let z : None ≡ Some u = e in cc)
@@ -86,15 +89,18 @@ module _ (N : Names) (integer_at : ℕ → IntType) (K : Kinds) where
       none_at None e = let z : None ≡ Some u = e in cc
       none_at (Some i) e = let z : None ≡ Some u = e in cc
   keyed_from l u world s (x ∷ xs) (more t ts) e h = (
-    (λ same. subst (λ w. Fits N integer_at K w world s) (sym (some_same (subst (λ b. part_at (if b then Some 0 else place_from 1 l xs) (more t ts) ≡ Some u) (eq-eqb x l same) e))) h),
+    (λ same. subst (λ w. Fits N T K w world s) (sym (some_same (subst (λ b. part_at (if b then Some 0 else place_from 1 l xs) (more t ts) ≡ Some u) (eq-eqb x l same) e))) h),
     (λ ne. keyed_from l u world s xs ts (sym (there_place l x xs t ts ne) ∙ e) h),
   )
 
   -- ---- more definitions
+  pub stands_learn : (world world' : World) → Learns N K world world' → (u : Atom) → Stands (types_of N K world.1) u → Stands (types_of N K world'.1) u
+  stands_learn world world' g u (t, h) = (t, g.1 u t h)
+
   mutual
     unfolding Fits All_fit Keyed
 
-    pub fits_learn : (t : Ty) (world world' : World) → Learns N K world world' → (s : Known) → Fits N integer_at K t world s → Fits N integer_at K t world' s
+    pub fits_learn : (t : Ty) (world world' : World) → Learns N K world world' → (s : Known) → Fits N T K t world s → Fits N T K t world' s
     fits_learn (Var n) world world' g s h = component_map _ _ (λ u. g.1 u (Var n)) s h
     fits_learn (Made (head.Scalar x) ts) world world' g s h = component_map _ _ (λ u. g.1 u (Made (head.Scalar x) ts)) s h
     fits_learn (Made head.Array ts) world world' g s h = (h.0, component_map _ _ (λ u. g.1 u (Made head.Array ts)) s h.1)
@@ -104,27 +110,79 @@ module _ (N : Names) (integer_at : ℕ → IntType) (K : Kinds) where
     fits_learn (Made head.Tuple ts) world world' g (Function_known ps e lo sc) h = absurd h
     fits_learn (Made head.Tuple ts) world world' g (Primitive_known p at ss) h = absurd h
     fits_learn (Made (head.Record n) ts) world world' g (Record_known fs) h =
-        (h.0, h.1, each_map (λ f u. Keyed N integer_at K (N.shapes.fields n) ts world (N.label f) u) (λ f u. Keyed N integer_at K (N.shapes.fields n) ts world' (N.label f) u) (λ f u k. keyed_learn (N.shapes.fields n) ts world world' g (N.label f) u k) fs h.2)
+        (h.0, h.1, each_map (λ f u. Keyed N T K (N.shapes.fields n) ts world (N.label f) u) (λ f u. Keyed N T K (N.shapes.fields n) ts world' (N.label f) u) (λ f u k. keyed_learn (N.shapes.fields n) ts world world' g (N.label f) u k) fs h.2)
     fits_learn (Made (head.Record n) ts) world world' g (Scalar_known u) h = (h.0, g.1 u (Made (head.Record n) ts) h.1)
     fits_learn (Made (head.Record n) ts) world world' g (Tuple_known ss) h = absurd h
     fits_learn (Made (head.Record n) ts) world world' g (Function_known ps e lo sc) h = absurd h
     fits_learn (Made (head.Record n) ts) world world' g (Primitive_known p at ss) h = absurd h
     fits_learn (Made head.Fun none) world world' g s h = h
     fits_learn (Made head.Fun (more t none)) world world' g s h = h
-    fits_learn (Made head.Fun (more t (more u none))) world world' g s h = (h.0, λ world'' g'. h.1 world'' (learns_more N K world world' world'' g g'))
+    fits_learn (Made head.Fun (more t (more u none))) world world' g s h = (h.0, known_as _ _ (stands_learn world world' g) s h.1, λ world'' g'. h.2 world'' (learns_more N K world world' world'' g g'))
     fits_learn (Made head.Fun (more t (more u (more w ts)))) world world' g s h = h
     fits_learn (Made (head.Rigid n k) ts) world world' g s h = component_map _ _ (λ u. g.1 u (Made (head.Rigid n k) ts)) s h
     fits_learn (Made (head.Abstract n d) ts) world world' g s h = component_map _ _ (λ u. g.1 u (Made (head.Abstract n d) ts)) s h
 
-    pub all_fit_learn : (ts : Tys) (world world' : World) → Learns N K world world' → (ss : Knowns) → All_fit N integer_at K ts world ss → All_fit N integer_at K ts world' ss
+    pub all_fit_learn : (ts : Tys) (world world' : World) → Learns N K world world' → (ss : Knowns) → All_fit N T K ts world ss → All_fit N T K ts world' ss
     all_fit_learn none world world' g ss h = h
     all_fit_learn (more t ts) world world' g no_known h = absurd h
     all_fit_learn (more t ts) world world' g (known_and s ss) h = (fits_learn t world world' g s h.0, all_fit_learn ts world world' g ss h.1)
 
-    pub keyed_learn : (ls : List ℕ) (ts : Tys) (world world' : World) → Learns N K world world' → (l : ℕ) (s : Known) → Keyed N integer_at K ls ts world l s → Keyed N integer_at K ls ts world' l s
+    pub keyed_learn : (ls : List ℕ) (ts : Tys) (world world' : World) → Learns N K world world' → (l : ℕ) (s : Known) → Keyed N T K ls ts world l s → Keyed N T K ls ts world' l s
     keyed_learn [] ts world world' g l s h = absurd h
     keyed_learn (x ∷ ls) none world world' g l s h = absurd h
     keyed_learn (x ∷ ls) (more t ts) world world' g l s h = ((λ e. fits_learn t world world' g s (h.0 e)), (λ ne. keyed_learn ls ts world world' g l s (h.1 ne)))
+
+-- ---- atoms
+fields_stand : (P : Text → Known → Type 0) (Q : Atom → Type 0) → ((g : Text) (s : Known) → P g s → All_in_known Q s) → (fs : Known_fields) → Each_field P fs → All_in_known_fields Q fs
+fields_stand P Q go no_known_field h = tt
+fields_stand P Q go (known_field_and g s fs) h = (go g s h.0, fields_stand P Q go fs h.1)
+
+module _ (N : Names) (T : Told) (K : Kinds) (world : World) where
+  abbrev Here : Atom → Type 0
+  Here u = Stands (types_of N K world.1) u
+
+  component_stands : (t : Ty) (s : Known) → On_component (λ u. types_of N K world.1 u t) s → All_in_known Here s
+  component_stands t (Scalar_known u) h = (t, h)
+  component_stands t (Tuple_known ss) h = absurd h
+  component_stands t (Record_known fs) h = absurd h
+  component_stands t (Function_known ps e lo sc) h = absurd h
+  component_stands t (Primitive_known p at ss) h = absurd h
+
+  -- each atom of what is known of a value of a type stands for data
+  mutual
+    unfolding Fits All_fit Keyed
+
+    pub fits_stand : (t : Ty) (s : Known) → Fits N T K t world s → All_in_known Here s
+    fits_stand (Var n) s h = component_stands (Var n) s h
+    fits_stand (Made (head.Scalar x) ts) s h = component_stands (Made (head.Scalar x) ts) s h
+    fits_stand (Made head.Array ts) s h = component_stands (Made head.Array ts) s h.1
+    fits_stand (Made head.Tuple ts) (Tuple_known ss) h = all_fit_stand ts ss h.1
+    fits_stand (Made head.Tuple ts) (Scalar_known u) h = (Made head.Tuple ts, h.1)
+    fits_stand (Made head.Tuple ts) (Record_known fs) h = absurd h
+    fits_stand (Made head.Tuple ts) (Function_known ps e lo sc) h = absurd h
+    fits_stand (Made head.Tuple ts) (Primitive_known p at ss) h = absurd h
+    fits_stand (Made (head.Record n) ts) (Record_known fs) h = fields_stand (λ f u. Keyed N T K (N.shapes.fields n) ts world (N.label f) u) Here (λ f u k. keyed_stand (N.shapes.fields n) ts (N.label f) u k) fs h.2
+    fits_stand (Made (head.Record n) ts) (Scalar_known u) h = (Made (head.Record n) ts, h.1)
+    fits_stand (Made (head.Record n) ts) (Tuple_known ss) h = absurd h
+    fits_stand (Made (head.Record n) ts) (Function_known ps e lo sc) h = absurd h
+    fits_stand (Made (head.Record n) ts) (Primitive_known p at ss) h = absurd h
+    fits_stand (Made head.Fun none) s h = absurd h
+    fits_stand (Made head.Fun (more t none)) s h = absurd h
+    fits_stand (Made head.Fun (more t (more u none))) s h = h.1
+    fits_stand (Made head.Fun (more t (more u (more w ts)))) s h = absurd h
+    fits_stand (Made (head.Rigid n k) ts) s h = component_stands (Made (head.Rigid n k) ts) s h
+    fits_stand (Made (head.Abstract n d) ts) s h = component_stands (Made (head.Abstract n d) ts) s h
+
+    all_fit_stand : (ts : Tys) (ss : Knowns) → All_fit N T K ts world ss → All_in_knowns Here ss
+    all_fit_stand none no_known h = tt
+    all_fit_stand none (known_and s ss) h = absurd h
+    all_fit_stand (more t ts) no_known h = absurd h
+    all_fit_stand (more t ts) (known_and s ss) h = (fits_stand t s h.0, all_fit_stand ts ss h.1)
+
+    keyed_stand : (ls : List ℕ) (ts : Tys) (l : ℕ) (s : Known) → Keyed N T K ls ts world l s → All_in_known Here s
+    keyed_stand [] ts l s h = absurd h
+    keyed_stand (x ∷ ls) none l s h = absurd h
+    keyed_stand (x ∷ ls) (more t ts) l s h = elim (ℕ_discrete x l) as (λ d. All_in_known Here s) [ yes e ↦ fits_stand t s (h.0 e) | no ne ↦ keyed_stand ls ts l s (h.1 ne) ]
 
 -- ---- data
 module _ (N : Names) (K : Kinds) where
@@ -150,9 +208,9 @@ module _ (N : Names) (K : Kinds) where
     kind_parts (l ∷ ls) none g k = tt
     kind_parts (l ∷ ls) (more t ts) g k = let z : 1 ≤ min (rank K t) (least K ts) = k in ((λ e. kind_data t (omega (arith, z))), (λ ne. kind_parts ls ts g (omega (arith, z))))
 
-module _ (N : Names) (integer_at : ℕ → IntType) (K : Kinds) where
+module _ (N : Names) (T : Told) (K : Kinds) where
   -- one component of a type
-  pub data_fits : (t : Ty) (world : World) (u : Atom) → Is_data N t → types_of N K world.1 u t → Fits N integer_at K t world (Scalar_known u)
+  pub data_fits : (t : Ty) (world : World) (u : Atom) → Is_data N t → types_of N K world.1 u t → Fits N T K t world (Scalar_known u)
   unfolding Fits Is_data
   data_fits (Var n) world u d h = h
   data_fits (Made (head.Scalar x) ts) world u d h = h
@@ -163,7 +221,7 @@ module _ (N : Names) (integer_at : ℕ → IntType) (K : Kinds) where
   data_fits (Made (head.Rigid n k) ts) world u d h = h
   data_fits (Made (head.Abstract n k) ts) world u d h = h
 
-  pub fits_data : (t : Ty) (world : World) (u : Atom) → Fits N integer_at K t world (Scalar_known u) → Is_data N t × types_of N K world.1 u t
+  pub fits_data : (t : Ty) (world : World) (u : Atom) → Fits N T K t world (Scalar_known u) → Is_data N t × types_of N K world.1 u t
   unfolding Fits Is_data
   fits_data (Var n) world u h = (tt, h)
   fits_data (Made (head.Scalar x) ts) world u h = (tt, h)

@@ -6,7 +6,7 @@ use Rattle.fut_flat.specs.declared.prim.Primitive.{Primitive}
 use Rattle.fut_types.specs.Types.{Ty, Tys, none, more, Kinds}
 use Rattle.fut_typing.specs.Names.{Names, AreNames, count}
 use Rattle.fut_typing.specs.Patterns.{arrows}
-use Rattle.fut_value.specs.Data.{Unmet_shape}
+use Rattle.fut_value.specs.Data.{Shape}
 use Rattle.fut_meaning.specs.Found.{Told}
 use Rattle.fut_meaning.specs.Claims.{HasOut, Safe}
 use Rattle.fut_meaning.specs.Datums.{takes}
@@ -72,11 +72,11 @@ module _ (N : Names) (are : AreNames N) (T : Told) (K : Kinds) (tight : Bool) (b
   abbrev pub Job_is : Applied → Ty → Job → Type 0
   Job_is g t j = Safe (Of t) (job_means tight (λ any ne ds. Unit {0}) (λ ws. Unit {0}) g j)
 
-  pub job_is : (p : Primitive) (at : Place) (taken fs : Tys) (r t : Ty) (g : Applied) (ds : List Component) → Primitive_typed K p taken fs r t → ((es : List Component) → All_of fs es → Safe (Of r) (g es)) → All_of taken ds → HasOut (Job_is g t) (job false Unmet_shape p at ds)
-  job_is p at taken fs r t g ds typed gives h =
+  pub job_is : (told : Shape) (p : Primitive) (at : Place) (taken fs : Tys) (r t : Ty) (g : Applied) (ds : List Component) → Primitive_typed K p taken fs r t → ((es : List Component) → All_of fs es → Safe (Of r) (g es)) → All_of taken ds → HasOut (Job_is g t) (job false told p at ds)
+  job_is told p at taken fs r t g ds typed gives h =
       let f : Application false = block_applied g in
       let a = args_of (parameters_of p) typed.parameters ds (subst (λ z. Each z ds) typed.taken (as_each N are T K tight budget taken ds h)) in
       let applies : Takes_to fs r f = λ es x. record { safe = gives es (of_each fs es x); some = λ z. absurd (let y : false ≡ true = z in cc) } in
-      subst (λ z. HasOut (Job_is g t) (job false Unmet_shape p at z)) a.1
+      subst (λ z. HasOut (Job_is g t) (job false told p at z)) a.1
       (has_as (Job_fits N are T (plain tight) budget false K [] f (Of t)) (Job_is g t) _ (λ j w. w.safe)
-      (array_jobs N are T (plain tight) budget false K typed.given typed.kinds p at typed.on_arrays typed.some typed.parameters t typed.is typed.all [] Unmet_shape f (function_at (parameters_of p) typed.parameters fs r f typed.function typed.of_function applies) a.0))
+      (array_jobs N are T (plain tight) budget false K typed.given typed.kinds p at typed.on_arrays typed.some typed.parameters t typed.is typed.all [] told f (function_at (parameters_of p) typed.parameters fs r f typed.function typed.of_function applies) a.0))

@@ -1,6 +1,9 @@
 pub mod NeverWrong
 pub mod ResultTypes
+pub mod Standing
 pub mod TypedSteps
+pub mod Entered
+pub mod Telling
 pub mod Fitting
 pub mod Functions
 pub mod Shaping

@@ -3,7 +3,7 @@ use Rattle.std.proofs.Common.{◌≡◌, ◌≢◌, Bool, true, false, cond, ℕ
 use Rattle.std.specs.Str.{bytes_eq}
 use Rattle.std.proofs.lemmas.Slice.Eq.{bytes_eq-Decides}
 use mathlib.Core.Logic.{◌⊎◌, inl, inr}
-use Rattle.fut_scalar.specs.declared.scalar.IntType.{IntType}
+use Rattle.fut_meaning.specs.Found.{Told}
 use Rattle.fut_ast.specs.Sorts.{Text}
 use Rattle.fut_types.specs.declared.Head.TheVariants as head
 use Rattle.fut_types.specs.Types.{Ty, Var, Made, Tys, none, more, Kinds}
@@ -79,26 +79,26 @@ abbrev pub with_known : Option Known → List Text → Known_fields → Option (
 with_known o names fs = with_some o (λ s. with_some (record_parts names fs) (λ ss. Some (s ∷ ss)))
 
 -- ---- types of parts
-abbrev pub Each_fits_at : (N : Names) (integer_at : ℕ → IntType) (K : Kinds) → World → Tys → List Known → Type 0
-Each_fits_at N integer_at K world none [] = Unit {0}
-Each_fits_at N integer_at K world none (s ∷ ss) = ⊥
-Each_fits_at N integer_at K world (more t ts) [] = ⊥
-Each_fits_at N integer_at K world (more t ts) (s ∷ ss) = Fits N integer_at K t world s × Each_fits_at N integer_at K world ts ss
+abbrev pub Each_fits_at : (N : Names) (T : Told) (K : Kinds) → World → Tys → List Known → Type 0
+Each_fits_at N T K world none [] = Unit {0}
+Each_fits_at N T K world none (s ∷ ss) = ⊥
+Each_fits_at N T K world (more t ts) [] = ⊥
+Each_fits_at N T K world (more t ts) (s ∷ ss) = Fits N T K t world s × Each_fits_at N T K world ts ss
 
-module _ (N : Names) (integer_at : ℕ → IntType) (K : Kinds) (world : World) where
+module _ (N : Names) (T : Told) (K : Kinds) (world : World) where
   abbrev pub Part_fits : ℕ → Tys → Text → Known → Type 0
-  Part_fits n ts g s = Keyed N integer_at K (N.shapes.fields n) ts world (N.label g) s
+  Part_fits n ts g s = Keyed N T K (N.shapes.fields n) ts world (N.label g) s
 
   abbrev pub Each_fits : Tys → List Known → Type 0
-  Each_fits ts ss = Each_fits_at N integer_at K world ts ss
+  Each_fits ts ss = Each_fits_at N T K world ts ss
 
-  pub each_learn : (world' : World) → Learns N K world world' → (ts : Tys) (ss : List Known) → Each_fits ts ss → Each_fits_at N integer_at K world' ts ss
+  pub each_learn : (world' : World) → Learns N K world world' → (ts : Tys) (ss : List Known) → Each_fits ts ss → Each_fits_at N T K world' ts ss
   each_learn world' g none [] h = tt
   each_learn world' g none (s ∷ ss) h = absurd h
   each_learn world' g (more t ts) [] h = absurd h
-  each_learn world' g (more t ts) (s ∷ ss) h = (fits_learn N integer_at K t world world' g s h.0, each_learn world' g ts ss h.1)
+  each_learn world' g (more t ts) (s ∷ ss) h = (fits_learn N T K t world world' g s h.0, each_learn world' g ts ss h.1)
 
-  pub each_listed : (ts : Tys) (ss : Knowns) → All_fit N integer_at K ts world ss → Each_fits ts (listed ss)
+  pub each_listed : (ts : Tys) (ss : Knowns) → All_fit N T K ts world ss → Each_fits ts (listed ss)
   unfolding All_fit
   each_listed none no_known h = tt
   each_listed none (known_and s ss) h = absurd h
@@ -106,17 +106,17 @@ module _ (N : Names) (integer_at : ℕ → IntType) (K : Kinds) (world : World) 
   each_listed (more t ts) (known_and s ss) h = (h.0, each_listed ts ss h.1)
 
   abbrev Found : Option Known → Ty → Type 0
-  Found o t = (s : Known) × (o ≡ Some s) × Fits N integer_at K t world s
+  Found o t = (s : Known) × (o ≡ Some s) × Fits N T K t world s
 
   abbrev Is_record_of : ℕ → Tys → Known_fields → Type 0
-  Is_record_of n ts fs = Are_keys N (N.shapes.fields n) (keys fs) × (count ts ≡ length (N.shapes.fields n)) × Each_field (λ g u. Keyed N integer_at K (N.shapes.fields n) ts world (N.label g) u) fs
+  Is_record_of n ts fs = Are_keys N (N.shapes.fields n) (keys fs) × (count ts ≡ length (N.shapes.fields n)) × Each_field (λ g u. Keyed N T K (N.shapes.fields n) ts world (N.label g) u) fs
 
   pub field_fits : (f : Text) (u : Ty) (n : ℕ) (ts : Tys) (fs : Known_fields) → HasPart N.shapes (N.label f) (Made (head.Record n) ts) u → Is_record_of n ts fs → Found (field f fs) u
   unfolding part_named place
   field_fits f u n ts fs h k =
       let inside : In (N.label f) (N.shapes.fields n) = placed_label (N.label f) (N.shapes.fields n) ts u h in
       let r = key_found f fs ((k.0.same f).1 (list_in (N.shapes.fields n) (N.label f) inside)) in
-      (r.0, r.1, keyed_found N integer_at K (N.label f) u world r.0 (N.shapes.fields n) ts h (each_found (Part_fits n ts) f r.0 fs k.2 r.1))
+      (r.0, r.1, keyed_found N T K (N.label f) u world r.0 (N.shapes.fields n) ts h (each_found (Part_fits n ts) f r.0 fs k.2 r.1))
 
   -- values under their names
   record Builds (n : ℕ) (ts : Tys) (names : List Text) (ss : List Known) : Type 0 where
@@ -144,7 +144,7 @@ module _ (N : Names) (integer_at : ℕ → IntType) (K : Kinds) (world : World) 
         ordered = subst In_order (sym e) (order_put f (Tuple_value no_value) (keys (fields r.pairs)) lacks r.ordered);
         keys_to = λ s i. elim (key_put s f (Tuple_value no_value) (keys (fields r.pairs)) (subst (Is_key s) e i)) as (λ d. Named s (f ∷ names)) [ inl e ↦ inl e | inr j ↦ inr (r.keys_to s j) ];
         keys_from = λ s i. subst (Is_key s) (sym e) (key_stays s f (Tuple_value no_value) (keys (fields r.pairs)) (elim i as (λ d. (s ≡ f) ⊎ Is_key s (keys (fields r.pairs))) [ inl e ↦ inl e | inr j ↦ inr (r.keys_from s j) ]));
-        parts = each_put (Part_fits n ts) f v (fields r.pairs) (keyed_from N integer_at K (N.label f) u world v (N.shapes.fields n) ts h.0 k.0) r.parts;
+        parts = each_put (Part_fits n ts) f v (fields r.pairs) (keyed_from N T K (N.label f) u world v (N.shapes.fields n) ts h.0 k.0) r.parts;
       }
 
   module _ (are : AreNames N) where
@@ -156,7 +156,7 @@ module _ (N : Names) (integer_at : ℕ → IntType) (K : Kinds) (world : World) 
     named_inside n ts (f ∷ names) (more u us) h s (inl e) = subst (λ x. In (N.label x) (N.shapes.fields n)) (sym e) (placed_label (N.label f) (N.shapes.fields n) ts u h.0)
     named_inside n ts (f ∷ names) (more u us) h s (inr j) = named_inside n ts names us h.1 s j
 
-    pub record_fits : (names : List Text) (t : Ty) (us : Tys) (ss : List Known) → IsRecord N names t us → Each_fits us ss → (pairs : List (Text × Known)) × (named_values names ss ≡ Some pairs) × Fits N integer_at K t world (Record_known (fields pairs))
+    pub record_fits : (names : List Text) (t : Ty) (us : Tys) (ss : List Known) → IsRecord N names t us → Each_fits us ss → (pairs : List (Text × Known)) × (named_values names ss ≡ Some pairs) × Fits N T K t world (Record_known (fields pairs))
     unfolding Fits
     record_fits names t us ss r k =
         let named : Parts_named N names (Made (head.Record r.number) r.parts) us = subst (λ x. Parts_named N names x us) r.made r.named in
@@ -166,7 +166,7 @@ module _ (N : Names) (integer_at : ℕ → IntType) (K : Kinds) (world : World) 
         (λ l i. let q = label_named N.label names l i in subst (λ x. In x (N.shapes.fields r.number)) (sym q.2) (inside q.0 q.1)) (let x = r.fields in let y = long_map N.label names in omega (arith, x, y)) in (
           b.pairs,
           b.named,
-          subst (λ x. Fits N integer_at K x world (Record_known (fields b.pairs))) (sym r.made) (
+          subst (λ x. Fits N T K x world (Record_known (fields b.pairs))) (sym r.made) (
             record {
               ordered = b.ordered;
               same = λ s. (
@@ -180,13 +180,13 @@ module _ (N : Names) (integer_at : ℕ → IntType) (K : Kinds) (world : World) 
         )
 
     -- ---- parts
-    tuple_part : (ts : Tys) (ss : Knowns) (i k : ℕ) (f : Text) (u : Ty) → part_at (Some i) ts ≡ Some u → All_fit N integer_at K ts world ss → decimal (k + i) ≡ f → k + count ts ≤ widest → Found (part_from k f ss) u
+    tuple_part : (ts : Tys) (ss : Knowns) (i k : ℕ) (f : Text) (u : Ty) → part_at (Some i) ts ≡ Some u → All_fit N T K ts world ss → decimal (k + i) ≡ f → k + count ts ≤ widest → Found (part_from k f ss) u
     unfolding part_at All_fit
     tuple_part none ss i k f u e h d le = absurd (let z : None ≡ Some u = e in cc)
     tuple_part (more t ts) no_known i k f u e h d le = absurd h
     tuple_part (more t ts) (known_and s ss) zero k f u e h d le =
         let here : decimal k ≡ f = ap decimal (let w : k ≡ k + 0 = omega arith in w) ∙ d in
-        (s, ap (λ b. cond b (Some s) (part_from (suc k) f ss)) (ap (λ g. bytes_eq g f) here ∙ eq_here f), subst (λ x. Fits N integer_at K x world s) (some_same e) h.0)
+        (s, ap (λ b. cond b (Some s) (part_from (suc k) f ss)) (ap (λ g. bytes_eq g f) here ∙ eq_here f), subst (λ x. Fits N T K x world s) (some_same e) h.0)
     tuple_part (more t ts) (known_and s ss) (suc i) k f u e h d le =
         let some : i < count ts = part_low ts i u e in
         let z : k + (1 + count ts) ≤ widest = le in
@@ -194,7 +194,7 @@ module _ (N : Names) (integer_at : ℕ → IntType) (K : Kinds) (world : World) 
         let r = tuple_part ts ss i (suc k) f u e h.1 (ap decimal (let w : suc k + i ≡ k + suc i = omega arith in w) ∙ d) (omega arith) in
         (r.0, ap (λ b. cond b (Some s) (part_from (suc k) f ss)) (eq_other (decimal k) f ne) ∙ r.1, r.2)
 
-    tuple_project : (f : Text) (t : Ty) (ts : Tys) (ss : Knowns) → HasPart N.shapes (N.label f) (Made head.Tuple ts) t → count ts < widest → All_fit N integer_at K ts world ss → Found (part_from 0 f ss) t
+    tuple_project : (f : Text) (t : Ty) (ts : Tys) (ss : Knowns) → HasPart N.shapes (N.label f) (Made head.Tuple ts) t → count ts < widest → All_fit N T K ts world ss → Found (part_from 0 f ss) t
     unfolding part_named place part_at
     tuple_project f t ts ss h lt k = known (N.shapes.position (N.label f)) refl h
       where
@@ -213,13 +213,13 @@ module _ (N : Names) (integer_at : ℕ → IntType) (K : Kinds) (world : World) 
       where
         known : (o : Option ℕ) → part_at o ts ≡ Some t → Is_data N t
         known None e = absurd (let z : None ≡ Some t = e in cc)
-        known (Some i) e = all_data_part N integer_at K ts i t e d
+        known (Some i) e = all_data_part N T K ts i t e d
 
     record_data : (f : Text) (t : Ty) (n : ℕ) (ts : Tys) → HasPart N.shapes (N.label f) (Made (head.Record n) ts) t → Record_data N n ts → Is_data N t
     unfolding part_named place
-    record_data f t n ts h d = part_data N integer_at K (N.label f) t (N.shapes.fields n) ts h (d f (list_in (N.shapes.fields n) (N.label f) (placed_label (N.label f) (N.shapes.fields n) ts t h)))
+    record_data f t n ts h d = part_data N T K (N.label f) t (N.shapes.fields n) ts h (d f (list_in (N.shapes.fields n) (N.label f) (placed_label (N.label f) (N.shapes.fields n) ts t h)))
 
-    pub project_fits : (f : Text) (t u : Ty) (s : Known) → HasPart N.shapes (N.label f) u t → Fits N integer_at K u world s → Projects f t u s
+    pub project_fits : (f : Text) (t u : Ty) (s : Known) → HasPart N.shapes (N.label f) u t → Fits N T K u world s → Projects f t u s
     unfolding Fits part_named place part_at
     project_fits f t (Var n) s h k = absurd (let z : None ≡ Some t = h in cc)
     project_fits f t (Made (head.Scalar x) ts) s h k = absurd (let z : None ≡ Some t = h in cc)
@@ -240,9 +240,9 @@ module _ (N : Names) (integer_at : ℕ → IntType) (K : Kinds) (world : World) 
 
     -- a record of which a field is replaced: one component, and the new field may be one too, or with known fields
     abbrev pub Replaces : Text → Ty → Known → Known → Type 0
-    Replaces f t u s = ((w : Atom) × (u ≡ Scalar_known w) × Is_data N t × Packing s × types_of N K world.1 w t) ⊎ ((fs : Known_fields) × (u ≡ Record_known fs) × Fits N integer_at K t world (Record_known (replaced f s fs)))
+    Replaces f t u s = ((w : Atom) × (u ≡ Scalar_known w) × Is_data N t × Packing s × types_of N K world.1 w t) ⊎ ((fs : Known_fields) × (u ≡ Record_known fs) × Fits N T K t world (Record_known (replaced f s fs)))
 
-    pub replace_fits : (f : Text) (t x : Ty) (u s : Known) → ((n : ℕ) → Spells f n → ⊥) → HasPart N.shapes (N.label f) t x → Fits N integer_at K t world u → Fits N integer_at K x world s → Replaces f t u s
+    pub replace_fits : (f : Text) (t x : Ty) (u s : Known) → ((n : ℕ) → Spells f n → ⊥) → HasPart N.shapes (N.label f) t x → Fits N T K t world u → Fits N T K x world s → Replaces f t u s
     unfolding Fits Is_data part_named place part_at
     replace_fits f (Var n) x u s lacks h k g = absurd (let z : None ≡ Some x = h in cc)
     replace_fits f (Made (head.Scalar y) ts) x u s lacks h k g = absurd (let z : None ≡ Some x = h in cc)
@@ -254,10 +254,10 @@ module _ (N : Names) (integer_at : ℕ → IntType) (K : Kinds) (world : World) 
       (
         subst (Are_keys N (N.shapes.fields n)) (sym (keys_replaced f s fs)) k.0,
         k.1,
-        each_replaced (Part_fits n ts) f s fs (keyed_from N integer_at K (N.label f) x world s (N.shapes.fields n) ts h g) k.2,
+        each_replaced (Part_fits n ts) f s fs (keyed_from N T K (N.label f) x world s (N.shapes.fields n) ts h g) k.2,
       ),
     )
-    replace_fits f (Made (head.Record n) ts) x (Scalar_known w) s lacks h k g = inl (w, refl, k.0, shaped_packing s (shaped N integer_at K world x s (record_data f x n ts h k.0) g), k.1)
+    replace_fits f (Made (head.Record n) ts) x (Scalar_known w) s lacks h k g = inl (w, refl, k.0, shaped_packing s (shaped N T K world x s (record_data f x n ts h k.0) g), k.1)
     replace_fits f (Made (head.Record n) ts) x (Tuple_known ss) s lacks h k g = absurd k
     replace_fits f (Made (head.Record n) ts) x (Function_known ps e lo sc) s lacks h k g = absurd k
     replace_fits f (Made (head.Record n) ts) x (Primitive_known p at ss) s lacks h k g = absurd k
@@ -283,21 +283,21 @@ module _ (N : Names) (integer_at : ℕ → IntType) (K : Kinds) (world : World) 
     parts_data (f ∷ names) n ts (more u us) h d = (record_data f u n ts h.0 d, parts_data names n ts us h.1 d)
 
     -- where the form is known
-    pub known_parts_fit : (names : List Text) (t : Ty) (us : Tys) (fs : Known_fields) → IsRecord N names t us → Fits N integer_at K t world (Record_known fs) → (ss : List Known) × (record_parts names fs ≡ Some ss) × Each_fits us ss
+    pub known_parts_fit : (names : List Text) (t : Ty) (us : Tys) (fs : Known_fields) → IsRecord N names t us → Fits N T K t world (Record_known fs) → (ss : List Known) × (record_parts names fs ≡ Some ss) × Each_fits us ss
     unfolding Fits
-    known_parts_fit names t us fs r k = parts_fit names r.number r.parts us fs (subst (λ x. Parts_named N names x us) r.made r.named) (subst (λ x. Fits N integer_at K x world (Record_known fs)) r.made k)
+    known_parts_fit names t us fs r k = parts_fit names r.number r.parts us fs (subst (λ x. Parts_named N names x us) r.made r.named) (subst (λ x. Fits N T K x world (Record_known fs)) r.made k)
 
-    pub component_parts : (names : List Text) (t : Ty) (us : Tys) (w : Atom) → IsRecord N names t us → Fits N integer_at K t world (Scalar_known w) → All_data N us
+    pub component_parts : (names : List Text) (t : Ty) (us : Tys) (w : Atom) → IsRecord N names t us → Fits N T K t world (Scalar_known w) → All_data N us
     unfolding Fits
-    component_parts names t us w r k = let d : Fits N integer_at K (Made (head.Record r.number) r.parts) world (Scalar_known w) = subst (λ x. Fits N integer_at K x world (Scalar_known w)) r.made k in
+    component_parts names t us w r k = let d : Fits N T K (Made (head.Record r.number) r.parts) world (Scalar_known w) = subst (λ x. Fits N T K x world (Scalar_known w)) r.made k in
         parts_data names r.number r.parts us (subst (λ x. Parts_named N names x us) r.made r.named) d.0
 
-    pub record_parts_fit : (names : List Text) (t : Ty) (us : Tys) (s : Known) → IsRecord N names t us → Fits N integer_at K t world s → ((w : Atom) × (s ≡ Scalar_known w) × All_data N us) ⊎ ((fs : Known_fields) × (s ≡ Record_known fs) × ((ss : List Known) × (record_parts names fs ≡ Some ss) × Each_fits us ss))
+    pub record_parts_fit : (names : List Text) (t : Ty) (us : Tys) (s : Known) → IsRecord N names t us → Fits N T K t world s → ((w : Atom) × (s ≡ Scalar_known w) × All_data N us) ⊎ ((fs : Known_fields) × (s ≡ Record_known fs) × ((ss : List Known) × (record_parts names fs ≡ Some ss) × Each_fits us ss))
     unfolding Fits
     record_parts_fit names t us s r k =
         let named : Parts_named N names (Made (head.Record r.number) r.parts) us = subst (λ x. Parts_named N names x us) r.made r.named in
         let D : Atom → Type 0 = λ u. Record_data N r.number r.parts × types_of N K world.1 u (Made (head.Record r.number) r.parts) in
-        let h : On_record D (Is_record_of r.number r.parts) s = subst (λ x. Fits N integer_at K x world s) r.made k in
+        let h : On_record D (Is_record_of r.number r.parts) s = subst (λ x. Fits N T K x world s) r.made k in
         elim (record_is D (Is_record_of r.number r.parts) s h) as (λ d. ((w : Atom) × (s ≡ Scalar_known w) × All_data N us) ⊎ ((fs : Known_fields) × (s ≡ Record_known fs) × ((ss : List Known) × (record_parts names fs ≡ Some ss) × Each_fits us ss))) [
           | inl q ↦ inl (q.0, q.1, parts_data names r.number r.parts us named q.2.0)
           | inr q ↦ inr (q.0, q.1, parts_fit names r.number r.parts us q.0 named q.2)

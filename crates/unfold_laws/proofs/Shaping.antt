@@ -3,8 +3,8 @@
 use Rattle.std.proofs.Common.{◌≡◌, true, false, ℕ, ◌+◌, ◌≤◌, ◌<◌, refl, sym, ap, subst, arith, List, [], ◌∷◌, length, Option, Some}
 use mathlib.Core.Logic.{◌⊎◌, inl, inr}
 use native.Mathlib.Decide.{ℕ_discrete}
+use Rattle.fut_meaning.specs.Found.{Told}
 use Rattle.fut_scalar.specs.declared.place.Place.{Place}
-use Rattle.fut_scalar.specs.declared.scalar.IntType.{IntType}
 use Rattle.fut_ast.specs.Sorts.{Text}
 use Rattle.fut_types.specs.declared.Head.TheVariants as head
 use Rattle.fut_types.specs.Shapes.{place_from, place, part_at, part_named}
@@ -80,12 +80,12 @@ fields_keys _ _ _ _ _ _ _ laid_no_field laid_no_field = refl
 fields_keys _ _ _ us rest ws rest' (laid_field {f = f} {hs = hs} {fs = fs} l ls) (laid_field {fs = gs} m ms) = ap (field_and f (Tuple_value no_value)) (fields_keys hs fs gs _ rest _ rest' ls ms)
 
 -- ---- by types
-module _ (N : Names) (integer_at : ℕ → IntType) (K : Kinds) (world : World) where
+module _ (N : Names) (T : Told) (K : Kinds) (world : World) where
   abbrev At : Ty → Known → Type 0
-  At t s = Fits N integer_at K t world s
+  At t s = Fits N T K t world s
 
   abbrev Part : List ℕ → Tys → Text → Known → Type 0
-  Part ls ts g s = Keyed N integer_at K ls ts world (N.label g) s
+  Part ls ts g s = Keyed N T K ls ts world (N.label g) s
 
   scalar_shaped : (D : Atom → Type 0) (s : Known) → On_component D s → Shaped s
   scalar_shaped D s h = let r = scalar_is D s h in subst Shaped (sym r.1) (scalar_lays r.0)
@@ -114,7 +114,7 @@ module _ (N : Names) (integer_at : ℕ → IntType) (K : Kinds) (world : World) 
     shaped (Made (head.Rigid n d) ts) s k h = scalar_shaped _ s h
     shaped (Made (head.Abstract n d) ts) s k h = scalar_shaped _ s h
 
-    all_shaped : (ts : Tys) (ss : Knowns) → All_data N ts → All_fit N integer_at K ts world ss → (hs : Shapes) × All_lay hs ss
+    all_shaped : (ts : Tys) (ss : Knowns) → All_data N ts → All_fit N T K ts world ss → (hs : Shapes) × All_lay hs ss
     all_shaped none no_known k h = (no_shape, λ rest. (rest, laid_none))
     all_shaped none (known_and s ss) k h = absurd h
     all_shaped (more t ts) no_known k h = absurd h
@@ -125,14 +125,14 @@ module _ (N : Names) (integer_at : ℕ → IntType) (K : Kinds) (world : World) 
           (λ rest. let q = b.1 rest in let p = a.1 q.0 in (p.0, laid_more p.1 q.1)),
         )
 
-    part_shaped : (ls : List ℕ) (ts : Tys) (l : ℕ) (s : Known) → Part_data N ls ts l → Keyed N integer_at K ls ts world l s → Shaped s
+    part_shaped : (ls : List ℕ) (ts : Tys) (l : ℕ) (s : Known) → Part_data N ls ts l → Keyed N T K ls ts world l s → Shaped s
     part_shaped [] ts l s k h = absurd h
     part_shaped (x ∷ ls) none l s k h = absurd h
     part_shaped (x ∷ ls) (more t ts) l s k h = elim (ℕ_discrete x l) as (λ d. Shaped s) [ yes e ↦ shaped t s (k.0 e) (h.0 e) | no ne ↦ part_shaped ls ts l s (k.1 ne) (h.1 ne) ]
 
   -- ---- the type of what has a form
   abbrev pub Tuple_of : Ty → Knowns → Type 0
-  Tuple_of t ss = (ts : Tys) × (t ≡ Made head.Tuple ts) × (count ts < widest) × All_fit N integer_at K ts world ss
+  Tuple_of t ss = (ts : Tys) × (t ≡ Made head.Tuple ts) × (count ts < widest) × All_fit N T K ts world ss
 
   pub tuple_type : (t : Ty) (ss : Knowns) → At t (Tuple_known ss) → Tuple_of t ss
   unfolding Fits
@@ -149,7 +149,7 @@ module _ (N : Names) (integer_at : ℕ → IntType) (K : Kinds) (world : World) 
   tuple_type (Made (head.Abstract n d) ts) ss h = absurd h
 
   abbrev pub Record_of : Ty → Known_fields → Type 0
-  Record_of t fs = (n : ℕ) × (ts : Tys) × (t ≡ Made (head.Record n) ts) × Are_keys N (N.shapes.fields n) (keys fs) × (count ts ≡ length (N.shapes.fields n)) × Each_field (λ g u. Keyed N integer_at K (N.shapes.fields n) ts world (N.label g) u) fs
+  Record_of t fs = (n : ℕ) × (ts : Tys) × (t ≡ Made (head.Record n) ts) × Are_keys N (N.shapes.fields n) (keys fs) × (count ts ≡ length (N.shapes.fields n)) × Each_field (λ g u. Keyed N T K (N.shapes.fields n) ts world (N.label g) u) fs
 
   pub record_type : (t : Ty) (fs : Known_fields) → At t (Record_known fs) → Record_of t fs
   unfolding Fits
@@ -174,7 +174,7 @@ module _ (N : Names) (integer_at : ℕ → IntType) (K : Kinds) (world : World) 
     unfolding components all_components field_components All_fit part_named place
 
     pub laid_are : (h : Shape) (s : Known) (us rest : List Atom) (t : Ty) (rs : Tys) → Laid h s us rest → At t s → Are (types_of N K world.1) rest rs → Are (types_of N K world.1) us (components N h t rs)
-    laid_are _ _ _ rest t rs (laid_scalar {u = u}) f r = ((fits_data N integer_at K t world u f).1, r)
+    laid_are _ _ _ rest t rs (laid_scalar {u = u}) f r = ((fits_data N T K t world u f).1, r)
     laid_are _ _ us rest t rs (laid_tuple {hs = hs} {ss = ss} l) f r =
         let q = tuple_type t ss f in
         subst (λ y. Are (types_of N K world.1) us (components N (Tuple_shape hs) y rs)) (sym q.1) (all_laid_are hs ss us rest q.0 rs l q.3 r)
@@ -182,7 +182,7 @@ module _ (N : Names) (integer_at : ℕ → IntType) (K : Kinds) (world : World) 
         let q = record_type t fs f in
         subst (λ y. Are (types_of N K world.1) us (components N (Record_shape hs) y rs)) (sym q.2) (fields_laid_are hs fs us rest q.0 q.1 rs l q.5 r)
 
-    pub all_laid_are : (hs : Shapes) (ss : Knowns) (us rest : List Atom) (ts rs : Tys) → All_laid hs ss us rest → All_fit N integer_at K ts world ss → Are (types_of N K world.1) rest rs → Are (types_of N K world.1) us (all_components N hs ts rs)
+    pub all_laid_are : (hs : Shapes) (ss : Knowns) (us rest : List Atom) (ts rs : Tys) → All_laid hs ss us rest → All_fit N T K ts world ss → Are (types_of N K world.1) rest rs → Are (types_of N K world.1) us (all_components N hs ts rs)
     all_laid_are _ _ us _ ts rs laid_none f r = r
     all_laid_are _ _ us rest none rs (laid_more l ls) f r = absurd f
     all_laid_are _ _ us rest (more t ts) rs (laid_more {h = h} {hs = hs} {s = s} {ss = ss} {ws = ws} l ls) f r =
@@ -191,7 +191,7 @@ module _ (N : Names) (integer_at : ℕ → IntType) (K : Kinds) (world : World) 
     fields_laid_are : (hs : Field_shapes) (fs : Known_fields) (us rest : List Atom) (n : ℕ) (ts rs : Tys) → Fields_laid hs fs us rest → Each_field (Part (N.shapes.fields n) ts) fs → Are (types_of N K world.1) rest rs → Are (types_of N K world.1) us (field_components N hs (Made (head.Record n) ts) rs)
     fields_laid_are _ _ us _ n ts rs laid_no_field f r = r
     fields_laid_are _ _ us rest n ts rs (laid_field {f = g} {h = h} {hs = hs} {s = s} {fs = fs} {ws = ws} l ls) f r =
-        let p = keyed_part N integer_at K (N.label g) world s (N.shapes.fields n) ts f.0 in
+        let p = keyed_part N T K (N.label g) world s (N.shapes.fields n) ts f.0 in
         let c : Tys = field_components N hs (Made (head.Record n) ts) rs in
         subst (Are (types_of N K world.1) us) (sym (with_some_part (part_at (place_from 0 (N.label g) (N.shapes.fields n)) ts) p.0 (λ u. components N h u c) c p.1))
         (laid_are h s us ws p.0 c l p.2 (fields_laid_are hs fs ws rest n ts rs ls f.1 r))
@@ -201,18 +201,18 @@ module _ (N : Names) (integer_at : ℕ → IntType) (K : Kinds) (world : World) 
     mutual
       unfolding components all_components field_components Fits All_fit part_named place
 
-      pub are_laid : (h : Shape) (s r : Known) (us rest ws rest' : List Atom) (t : Ty) (rs : Tys) → Laid h s us rest → Laid h r ws rest' → At t s → Are (types_of N K world'.1) ws (components N h t rs) → Fits N integer_at K t world' r × Are (types_of N K world'.1) rest' rs
-      are_laid _ _ _ _ rest _ rest' t rs (laid_scalar {u = u}) (laid_scalar {u = w}) f a = (data_fits N integer_at K t world' w (fits_data N integer_at K t world u f).0 a.0, a.1)
+      pub are_laid : (h : Shape) (s r : Known) (us rest ws rest' : List Atom) (t : Ty) (rs : Tys) → Laid h s us rest → Laid h r ws rest' → At t s → Are (types_of N K world'.1) ws (components N h t rs) → Fits N T K t world' r × Are (types_of N K world'.1) rest' rs
+      are_laid _ _ _ _ rest _ rest' t rs (laid_scalar {u = u}) (laid_scalar {u = w}) f a = (data_fits N T K t world' w (fits_data N T K t world u f).0 a.0, a.1)
       are_laid _ _ _ us rest ws rest' t rs (laid_tuple {hs = hs} {ss = ss} l) (laid_tuple {ss = qs} m) f a =
           let q = tuple_type t ss f in
           let b = all_are_laid hs ss qs us rest ws rest' q.0 rs l m q.3 (subst (λ y. Are (types_of N K world'.1) ws (components N (Tuple_shape hs) y rs)) q.1 a) in
-          (subst (λ y. Fits N integer_at K y world' (Tuple_known qs)) (sym q.1) (q.2, b.0), b.1)
+          (subst (λ y. Fits N T K y world' (Tuple_known qs)) (sym q.1) (q.2, b.0), b.1)
       are_laid _ _ _ us rest ws rest' t rs (laid_record {hs = hs} {fs = fs} l) (laid_record {fs = gs} m) f a =
           let q = record_type t fs f in
           let b = fields_are_laid hs fs gs us rest ws rest' q.0 q.1 rs l m q.5 (subst (λ y. Are (types_of N K world'.1) ws (components N (Record_shape hs) y rs)) q.2 a) in
-          (subst (λ y. Fits N integer_at K y world' (Record_known gs)) (sym q.2) (subst (Are_keys N (N.shapes.fields q.0)) (fields_keys hs fs gs us rest ws rest' l m) q.3, q.4, b.0), b.1)
+          (subst (λ y. Fits N T K y world' (Record_known gs)) (sym q.2) (subst (Are_keys N (N.shapes.fields q.0)) (fields_keys hs fs gs us rest ws rest' l m) q.3, q.4, b.0), b.1)
 
-      all_are_laid : (hs : Shapes) (ss qs : Knowns) (us rest ws rest' : List Atom) (ts rs : Tys) → All_laid hs ss us rest → All_laid hs qs ws rest' → All_fit N integer_at K ts world ss → Are (types_of N K world'.1) ws (all_components N hs ts rs) → All_fit N integer_at K ts world' qs × Are (types_of N K world'.1) rest' rs
+      all_are_laid : (hs : Shapes) (ss qs : Knowns) (us rest ws rest' : List Atom) (ts rs : Tys) → All_laid hs ss us rest → All_laid hs qs ws rest' → All_fit N T K ts world ss → Are (types_of N K world'.1) ws (all_components N hs ts rs) → All_fit N T K ts world' qs × Are (types_of N K world'.1) rest' rs
       all_are_laid _ _ _ us _ ws _ none rs laid_none laid_none f a = (tt, a)
       all_are_laid _ _ _ us _ ws _ (more t ts) rs laid_none laid_none f a = absurd f
       all_are_laid _ _ _ us rest ws rest' none rs (laid_more l ls) m f a = absurd f
@@ -221,14 +221,14 @@ module _ (N : Names) (integer_at : ℕ → IntType) (K : Kinds) (world : World) 
           let c = all_are_laid hs ss qs _ rest _ rest' ts rs ls ms f.1 b.1 in ((b.0, c.0), c.1)
 
       fields_are_laid : (hs : Field_shapes) (fs gs : Known_fields) (us rest ws rest' : List Atom) (n : ℕ) (ts rs : Tys) → Fields_laid hs fs us rest → Fields_laid hs gs ws rest' → Each_field (Part (N.shapes.fields n) ts) fs → Are (types_of N K world'.1) ws (field_components N hs (Made (head.Record n) ts) rs)
-          → Each_field (λ g u. Keyed N integer_at K (N.shapes.fields n) ts world' (N.label g) u) gs × Are (types_of N K world'.1) rest' rs
+          → Each_field (λ g u. Keyed N T K (N.shapes.fields n) ts world' (N.label g) u) gs × Are (types_of N K world'.1) rest' rs
       fields_are_laid _ _ _ us _ ws _ n ts rs laid_no_field laid_no_field f a = (tt, a)
       fields_are_laid _ _ _ us rest ws rest' n ts rs (laid_field {f = g} {h = h} {hs = hs} {s = s} {fs = fs} l ls) (laid_field {s = q} {fs = gs} m ms) f a =
-          let p = keyed_part N integer_at K (N.label g) world s (N.shapes.fields n) ts f.0 in
+          let p = keyed_part N T K (N.label g) world s (N.shapes.fields n) ts f.0 in
           let c : Tys = field_components N hs (Made (head.Record n) ts) rs in
           let b = are_laid h s q us _ ws _ p.0 c l m p.2 (subst (Are (types_of N K world'.1) ws) (with_some_part (part_at (place_from 0 (N.label g) (N.shapes.fields n)) ts) p.0 (λ u. components N h u c) c p.1) a) in
           let d = fields_are_laid hs fs gs _ rest _ rest' n ts rs ls ms f.1 b.1 in
-          ((keyed_from N integer_at K (N.label g) p.0 world' q (N.shapes.fields n) ts p.1 b.0, d.0), d.1)
+          ((keyed_from N T K (N.label g) p.0 world' q (N.shapes.fields n) ts p.1 b.0, d.0), d.1)
 
 -- ---- how many components
 mutual

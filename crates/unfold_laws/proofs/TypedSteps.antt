@@ -8,10 +8,11 @@ use Rattle.fut_blocks.specs.declared.block.Atom.{Atom}
 use Rattle.fut_blocks.specs.declared.block.Atom.TheVariants as atom
 use Rattle.fut_blocks.specs.declared.block.Operation.{Operation}
 use Rattle.fut_blocks.specs.declared.block.Operation.TheVariants as operation
-use Rattle.fut_blocks.specs.Plain.{Action, Operate, Tuple, Make, Read, Job, If, For, Over, While, Body, Give, Let, lets}
+use Rattle.fut_blocks.specs.Plain.{Action, Operate, Tuple, Make, Read, Size_of, Coerce, Job, If, For, Over, While, Body, Give, Let, lets}
 use Rattle.unfold.specs.Unfolding.{Bindings, step, names}
 use Rattle.unfold_laws.specs.Fits.{Given, Bound, Context, behind, World, Keeps, types_of, Steps_typed, Learns, Comes}
-use Rattle.unfold_laws.specs.Typed.{Types, Are, Stands_at, with_atoms, with_each, with_names, Operation_typed, Act_typed, Body_typed, Names_typed, any_types}
+use Rattle.unfold_laws.specs.Typed.{Types, Are, Stands, Stands_at, with_atoms, with_each, with_names, Operation_typed, Act_typed, Body_typed, Names_typed, any_types}
+use Rattle.unfold_laws.proofs.Standing.{row_as, extent_as, test_as}
 
 pub are_kept : (G H : Types) → Keeps G H → (us : List Atom) (ts : Tys) → Are G us ts → Are H us ts
 are_kept G H k [] none h = tt
@@ -30,6 +31,9 @@ atoms_kept G H k us ts x t (inr h) = inr (k x t h)
 names_kept : (G H : Types) → Keeps G H → (xs : List ℕ) (ts : Tys) → Keeps (with_names xs ts G) (with_names xs ts H)
 names_kept G H k xs ts = atoms_kept G H k (names xs) ts
 
+stands_kept : (G H : Types) → Keeps G H → (u : Atom) → Stands G u → Stands H u
+stands_kept G H k u (t, h) = (t, k u t h)
+
 operation_kept : (K : Kinds) (G H : Types) → Keeps G H → (o : Operation) (ts : Tys) → Operation_typed K G o ts → Operation_typed K H o ts
 operation_kept K G H k (operation.Binary op at a b) ts (t, u, r, ha, hb, e) = (t, u, r, k a u ha, k b u hb, e)
 operation_kept K G H k (operation.Unary op a) ts (t, u, r, ha, e) = (t, u, r, k a u ha, e)
@@ -45,9 +49,11 @@ module _ (N : Names) (K : Kinds) (May Also : Tys → Type 0) (also : (ts : Tys) 
     pub act_kept : (a : Action) (G H : Types) → Keeps G H → (ts : Tys) → Act_typed N K May a G ts → Act_typed N K Also a H ts
     act_kept (Operate o) G H k ts h = operation_kept K G H k o ts h
     act_kept (Tuple us) G H k ts (parts, h, w, e) = (parts, are_kept G H k us parts h, w, e)
-    act_kept (Make m at us) G H k ts (parts, t, h, m', e) = (parts, t, are_kept G H k us parts h, m', e)
+    act_kept (Make row m at us) G H k ts (parts, t, w, h, m', e) = (parts, t, row_as (Stands G) (Stands H) (stands_kept G H k) row w, are_kept G H k us parts h, m', e)
     act_kept (Read r us) G H k ts (parts, h, e) = (parts, are_kept G H k us parts h, e)
-    act_kept (Job p at us xs b) G H k ts (taken, fs, r, t, h, q, m, hb, l, e) = (taken, fs, r, t, are_kept G H k us taken h, q, also fs m, body_kept b (with_names xs fs G) (with_names xs fs H) (names_kept G H k xs fs) (more r none) hb, l, e)
+    act_kept (Size_of x) G H k ts (h, e) = (extent_as (Stands G) (Stands H) (stands_kept G H k) x h, e)
+    act_kept (Coerce at test row) G H k ts (h, w, e) = (test_as (Stands G) (Stands H) (stands_kept G H k) test h, row_as (Stands G) (Stands H) (stands_kept G H k) row w, e)
+    act_kept (Job row p at us xs b) G H k ts (taken, fs, r, t, w, h, q, m, hb, l, e) = (taken, fs, r, t, row_as (Stands G) (Stands H) (stands_kept G H k) row w, are_kept G H k us taken h, q, also fs m, body_kept b (with_names xs fs G) (with_names xs fs H) (names_kept G H k xs fs) (more r none) hb, l, e)
     act_kept (If c a b) G H k ts (hc, ha, hb) = (k c bool_ty hc, body_kept a G H k ts ha, body_kept b G H k ts hb)
     act_kept (For xs us i n b) G H k ts (hu, l, t, m, q, hn, hb) =
         (are_kept G H k us ts hu, l, t, also (more t ts) m, q, k n t hn, body_kept b _ _ (names_kept (with_names xs ts G) (with_names xs ts H) (names_kept G H k xs ts) (i ∷ []) (more t none)) ts hb)

@@ -2,23 +2,26 @@
 -- known so that its application has a way on for what is known of each value of its parameter's type, its steps are typed, and
 -- what is then known is known of a value of its result's; and so it stays where more is known. Data, in which no function is,
 -- may be one component of its type; and of a variable, a rigid and an abstract type it is known as nothing else.
-use Rattle.std.specs.Prelude.{◌≡◌, ◌≢◌, ℕ, ◌<◌, List, [], ◌∷◌, true, Some, length}
+use Rattle.std.specs.Prelude.{◌≡◌, ◌≢◌, ℕ, ◌<◌, List, [], ◌∷◌, Bool, true, false, Option, Some, length}
 use Rattle.std.specs.List.{Contains}
-use Rattle.fut_scalar.specs.declared.scalar.IntType.{IntType}
+use Rattle.fut_meaning.specs.Found.{Told}
 use Rattle.fut_ast.specs.Sorts.{Text}
 use Rattle.fut_types.specs.declared.Head.TheVariants as head
 use Rattle.fut_types.specs.Types.{Ty, Var, Made, Tys, none, more, Sub, Kinds}
 use Rattle.fut_typing.specs.Names.{Names, count}
+use Rattle.fut_typing.specs.Primitives.{i64_ty}
 use Rattle.fut_typing.specs.Scopes.{Scope}
 use Rattle.fut_meaning.specs.Values.{Tuple_value, no_value, no_field, field_and}
 use Rattle.fut_blocks.specs.declared.block.Atom.{Atom}
 use Rattle.fut_blocks.specs.Meaning.{look}
 use Rattle.fut_blocks.specs.Plain.{Action}
+use Rattle.fut_meaning.specs.Uses.{is_size_in}
 use Rattle.type_soundness.specs.Fits.{widest, FlatFields, Are_keys}
 use Rattle.unfold.specs.Knowns.{Known, Scalar_known, Tuple_known, Record_known, Knowns, no_known, known_and, Known_fields, no_known_field, known_field_and, Scope as Seen, Tops, find}
 use Rattle.unfold.specs.Stuck.{is_function, Stuck_run}
 use Rattle.unfold.specs.Unfolding.{Bindings, Applies}
-use Rattle.unfold_laws.specs.Typed.{Types, of_constants, with_atoms, with_each, Names_typed, any_types}
+use Rattle.unfold_laws.specs.Entered.{All_in_known, All_entered}
+use Rattle.unfold_laws.specs.Typed.{Types, Stands, of_constants, with_atoms, with_each, Names_typed, any_types}
 
 -- ---- worlds
 
@@ -67,8 +70,8 @@ module _ (N : Names) (K : Kinds) where
   Comes world bs Q = Steps_typed world.1 bs × Q (world.0, behind world.1 bs)
 
   -- the application has a way on, its steps are typed, and all that it comes to is of Q
-  abbrev pub Runs_well : (ℕ → IntType) → World → Known → Known → (World → Known → Type 0) → Type 0
-  Runs_well integer_at world h s Q = (Stuck_run integer_at world.0 h s → ⊥) × ((n n' : ℕ) (bs : Bindings) (s' : Known) → Applies integer_at world.0 h s n bs s' n' → Comes world bs (λ there. Q there s'))
+  abbrev pub Runs_well : Told → World → Known → Known → (World → Known → Type 0) → Type 0
+  Runs_well T world h s Q = (Stuck_run T world.0 h s → ⊥) × ((n n' : ℕ) (bs : Bindings) (s' : Known) → Applies T world.0 h s n bs s' n' → Comes world bs (λ there. Q there s'))
 
 -- ---- what is known
 
@@ -130,7 +133,7 @@ unfoldable mutual
 abbrev pub Record_data : Names → ℕ → Tys → Type 0
 Record_data N n ts = (f : Text) → Contains (N.shapes.fields n) (N.label f) → Part_data N (N.shapes.fields n) ts (N.label f)
 
-module _ (N : Names) (integer_at : ℕ → IntType) (K : Kinds) where
+module _ (N : Names) (T : Told) (K : Kinds) where
   abbrev pub Has : World → Ty → Atom → Type 0
   Has world t u = types_of N K world.1 u t
 
@@ -145,7 +148,7 @@ module _ (N : Names) (integer_at : ℕ → IntType) (K : Kinds) where
         On_record (λ u. Record_data N n ts × Has world (Made (head.Record n) ts) u) (λ fs. Are_keys N (N.shapes.fields n) (keys fs) × (count ts ≡ length (N.shapes.fields n)) × Each_field (λ g u. Keyed (N.shapes.fields n) ts world (N.label g) u) fs) s
     Fits (Made head.Fun none) world s = ⊥
     Fits (Made head.Fun (more t none)) world s = ⊥
-    Fits (Made head.Fun (more t (more u none))) world h = (is_function h ≡ true) × ((world' : World) → Learns N K world world' → (s : Known) → Fits t world' s → Runs_well N K integer_at world' h s (Fits u))
+    Fits (Made head.Fun (more t (more u none))) world h = (is_function h ≡ true) × All_in_known (Stands (types_of N K world.1)) h × ((world' : World) → Learns N K world world' → (s : Known) → Fits t world' s → Runs_well N K T world' h s (Fits u))
     Fits (Made head.Fun (more t (more u (more w ts)))) world s = ⊥
     Fits (Made (head.Rigid n k) ts) world s = On_component (Has world (Made (head.Rigid n k) ts)) s
     Fits (Made (head.Abstract n d) ts) world s = On_component (Has world (Made (head.Abstract n d) ts)) s
@@ -160,6 +163,12 @@ module _ (N : Names) (integer_at : ℕ → IntType) (K : Kinds) where
     Keyed (l ∷ ls) none world g s = ⊥
     Keyed (l ∷ ls) (more t ts) world g s = (l ≡ g → Fits t world s) × (l ≢ g → Keyed ls ts world g s)
 
--- each name of P is known, at each type at which it may be used: a local one, or else a definition
-abbrev pub Names_fit : Names → (ℕ → IntType) → World → (ℕ → Type 0) → Scope → Kinds → Sub → Seen → Type 0
-Names_fit N integer_at world P scope K a sc = (b : ℕ) → P b → (t : Ty) → scope.uses b K a t → (s : Known) × (find world.0 sc b ≡ Some s) × Fits N integer_at K t world s
+-- a size is used at the type i64; another name is known, and by this type
+abbrev pub Name_fits : Names → Told → Kinds → World → Ty → Option Known → Bool → Type 0
+Name_fits N T K world t o true = t ≡ i64_ty
+Name_fits N T K world t o false = (s : Known) × (o ≡ Some s) × Fits N T K t world s
+
+-- Of what was entered each atom stands for data, and so it is with each name of P, at each type at which it may be used: a local
+-- one, or else a definition.
+abbrev pub Names_fit : Names → Told → World → (ℕ → Type 0) → Scope → Kinds → Sub → Seen → Type 0
+Names_fit N T world P scope K a sc = All_entered (Stands (types_of N K world.1)) sc × ((b : ℕ) → P b → (t : Ty) → scope.uses b K a t → Name_fits N T K world t (find world.0 sc b) (is_size_in T.sizes b))

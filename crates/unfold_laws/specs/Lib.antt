@@ -1,7 +1,9 @@
 pub mod Sorts
 pub mod Shaped
 pub mod Claims
+pub mod Entered
 pub mod Fits
+pub mod Standing
 pub mod Typed
 pub mod Components
 pub mod Safety

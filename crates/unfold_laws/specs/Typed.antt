@@ -18,7 +18,7 @@ use Rattle.fut_types.specs.Shapes.{HasPart}
 use Rattle.fut_types.specs.Types.{Ty, Made, Tys, none, more, Sub, Kinds, HasKind, scalar_ty, applied}
 use Rattle.fut_typing.specs.Names.{Names, IsRecord, Spells, count}
 use Rattle.fut_typing.specs.Patterns.{arrows}
-use Rattle.fut_typing.specs.Primitives.{array_ty, bool_ty, i32_ty, prim_type}
+use Rattle.fut_typing.specs.Primitives.{array_ty, bool_ty, i32_ty, i64_ty, prim_type}
 use Rattle.fut_typing.specs.Rules.{Operator, Rule}
 use Rattle.fut_meaning.specs.Arrays.{Making, Make_array, Make_index, Make_update, Make_range}
 use Rattle.fut_meaning.specs.Datums.{takes}
@@ -31,7 +31,8 @@ use Rattle.fut_blocks.specs.declared.block.Atom.TheVariants as atom
 use Rattle.fut_blocks.specs.declared.block.Operation.{Operation}
 use Rattle.fut_blocks.specs.declared.block.Operation.TheVariants as operation
 use Rattle.unfold.specs.Unfolding.{names}
-use Rattle.fut_blocks.specs.Plain.{Reading, Record_with, Part_at, Replace_at, Fields_at, Action, Operate, Tuple, Make, Read, Job, If, For, Over, While, Body, Give, Let}
+use Rattle.unfold_laws.specs.Standing.{All_in_row, All_in_extent, All_in_test}
+use Rattle.fut_blocks.specs.Plain.{Reading, Record_with, Part_at, Replace_at, Fields_at, Action, Operate, Tuple, Make, Read, Size_of, Coerce, Job, If, For, Over, While, Body, Give, Let}
 
 -- ---- atoms
 
@@ -69,6 +70,10 @@ with_name x t G = with_names (x ∷ []) (more t none) G
 -- with new names, of each row of types that there may be
 abbrev pub with_each : List ℕ → (Tys → Type 0) → Types → Types
 with_each xs P G u t = ((ts : Tys) × P ts × Stands_at (names xs) ts u t) ⊎ G u t
+
+-- it stands for data of some type
+abbrev pub Stands : Types → Atom → Type 0
+Stands G u = (t : Ty) × G u t
 
 -- ---- acts
 
@@ -138,16 +143,19 @@ pub record Primitive_typed (K : Kinds) (p : Primitive) (us fs : Tys) (r t : Ty) 
 
 -- ---- blocks
 
--- new names may have each row of types of which `May` holds
+-- New names may have each row of types of which `May` holds. Of the shapes of rows that are missing nothing is asked but that their
+-- atoms stand for data: no row shows whether it has that shape.
 module _ (N : Names) (K : Kinds) (May : Tys → Type 0) where
   unfoldable mutual
     pub Act_typed : Action → Types → Tys → Type 0
     Act_typed (Operate o) G ts = Operation_typed K G o ts
     Act_typed (Tuple us) G ts = (parts : Tys) × Are G us parts × (count parts < widest) × (ts ≡ more (Made head.Tuple parts) none)
-    Act_typed (Make m at us) G ts = (parts : Tys) × (t : Ty) × Are G us parts × Makes N K m parts t × (ts ≡ more t none)
+    Act_typed (Make row m at us) G ts = (parts : Tys) × (t : Ty) × All_in_row (Stands G) row × Are G us parts × Makes N K m parts t × (ts ≡ more t none)
     Act_typed (Read k us) G ts = (parts : Tys) × Are G us parts × Reads N k parts ts
-    Act_typed (Job p at us xs b) G ts =
-        (taken : Tys) × (fs : Tys) × (r : Ty) × (t : Ty) × Are G us taken × Primitive_typed K p taken fs r t × May fs × Body_typed b (with_names xs fs G) (more r none) × (length xs ≡ count fs) × (ts ≡ more t none)
+    Act_typed (Size_of e) G ts = All_in_extent (Stands G) e × (ts ≡ more i64_ty none)
+    Act_typed (Coerce at test row) G ts = All_in_test (Stands G) test × All_in_row (Stands G) row × (ts ≡ none)
+    Act_typed (Job row p at us xs b) G ts =
+        (taken : Tys) × (fs : Tys) × (r : Ty) × (t : Ty) × All_in_row (Stands G) row × Are G us taken × Primitive_typed K p taken fs r t × May fs × Body_typed b (with_names xs fs G) (more r none) × (length xs ≡ count fs) × (ts ≡ more t none)
     Act_typed (If c a b) G ts = G c bool_ty × Body_typed a G ts × Body_typed b G ts
     Act_typed (For xs us i n b) G ts = Are G us ts × (length xs ≡ count ts) × (t : Ty) × May (more t ts) × HasKind K kind.Integer t × G n t × Body_typed b (with_name i t (with_names xs ts G)) ts
     Act_typed (Over xs us x rows b) G ts = Are G us ts × (length xs ≡ count ts) × (t : Ty) × May (more t ts) × G rows (array_ty t) × Body_typed b (with_name x t (with_names xs ts G)) ts

@@ -26,7 +26,12 @@ use Rattle.unfold.proofs.Mirror.{known_scalar, known_tuple, known_record}
 use Rattle.unfold.specs.Held.{known_of, field_of, fields_known, scope_of}
 use Rattle.unfold.specs.Knowns.{Known, Scalar_known, Tuple_known, Record_known, Known_fields, Scope, name_and, knowns, field, record_parts}
 use Rattle.unfold.specs.Stuck.{Not_bound, No_scalar}
-use Rattle.unfold.specs.Unfolding.{Bindings, step, named, Binds, b_bound, b_wild, b_tuple, b_parts, b_record, b_fields, b_typed, All_bind, b_none, b_more}
+use Rattle.unfold.specs.Unfolding.{Bindings, step, named, b_bound, b_wild, b_tuple, b_parts, b_record, b_fields, b_typed, b_none, b_more}
+use Rattle.unfold.specs.Unfolding as rules
+use Rattle.fut_flat.specs.Numbers.{pattern_numbers}
+use Rattle.unfold.specs.Telling.{enter}
+use Rattle.fut_meaning.specs.Found.{Sizing}
+use Rattle.unfold_parts.specs.Unsized.{Binds, All_bind}
 use Rattle.unfold.specs.declared.known.Field.{Field}
 use Rattle.unfold.specs.declared.known.Known.{Known as Held_known}
 use Rattle.unfold.specs.declared.known.KnownForm.TheVariants as form
@@ -62,17 +67,17 @@ record_is p fs is = pattern_record p fs is ∙ ap (λ z. Record_pattern z (patte
 
 -- ---- a component is bound to a pattern whatever its name is
 
-abbrev Binds_from : FlatPattern → Atom → Scope → ℕ → Type 0
-Binds_from p u sc n = (inner : Scope) × (bs : Bindings) × (m : ℕ) × Binds p (Scalar_known u) sc n bs inner m
+abbrev Binds_from : Option Sizing → ℕ → FlatPattern → Atom → Scope → ℕ → Type 0
+Binds_from z q p u sc n = (inner : Scope) × (bs : Bindings) × (m : ℕ) × rules.Binds z q p (Scalar_known u) sc n bs inner m
 
-abbrev All_from : Patterns Ref BindId → List ℕ → Scope → ℕ → Type 0
-All_from ps xs sc n = (inner : Scope) × (bs : Bindings) × (m : ℕ) × All_bind ps (map named xs) sc n bs inner m
+abbrev All_from : Option Sizing → ℕ → Patterns Ref BindId → List ℕ → Scope → ℕ → Type 0
+All_from z q ps xs sc n = (inner : Scope) × (bs : Bindings) × (m : ℕ) × rules.All_bind z q ps (map named xs) sc n bs inner m
 
 abbrev pattern_count : Patterns Ref BindId → ℕ
 pattern_count no_pattern = 0
 pattern_count (pattern_and p ps) = suc (pattern_count ps)
 
-many_bind : {ps : Patterns Ref BindId} {ss : List Known} {sc inner : Scope} {n m : ℕ} {bs : Bindings} → All_bind ps ss sc n bs inner m → length ss ≡ pattern_count ps
+many_bind : {z : Option Sizing} {q : ℕ} {ps : Patterns Ref BindId} {ss : List Known} {sc inner : Scope} {n m : ℕ} {bs : Bindings} → rules.All_bind z q ps ss sc n bs inner m → length ss ≡ pattern_count ps
 many_bind b_none = refl
 many_bind (b_more b bs) = ap suc (many_bind bs)
 
@@ -84,55 +89,55 @@ numbers_length : (n k : ℕ) → length (numbers_from n k) ≡ k
 numbers_length n zero = refl
 numbers_length n (suc k) = ap suc (numbers_length (suc n) k)
 
-parts_from : (ps : Patterns Ref BindId) (u : Atom) (sc : Scope) (n k : ℕ) → All_from ps (numbers_from n k) sc (n + k) → Binds_from (Tuple_pattern ps) u sc n
-parts_from ps u sc n k (inner, bs, m, h) = (inner, step (numbers_from n k) (Operate (operation.Parts u)) ++ bs, m, b_parts (numbers_from n k) (upward n k) h)
+parts_from : (z : Option Sizing) (q : ℕ) (ps : Patterns Ref BindId) (u : Atom) (sc : Scope) (n k : ℕ) → All_from z (1 + q) ps (numbers_from n k) (enter z q (Scalar_known u) sc) (n + k) → Binds_from z q (Tuple_pattern ps) u sc n
+parts_from z q ps u sc n k (inner, bs, m, h) = (inner, step (numbers_from n k) (Operate (operation.Parts u)) ++ bs, m, b_parts (numbers_from n k) (upward n k) h)
 
-fields_from : (fs : List Text) (ps : Patterns Ref BindId) (u : Atom) (sc : Scope) (n k : ℕ) → k ≡ length fs → All_from ps (numbers_from n k) sc (n + k) → Binds_from (Record_pattern fs ps) u sc n
-fields_from fs ps u sc n k e (inner, bs, m, h) = (inner, step (numbers_from n k) (Read (Fields_at fs) (u ∷ [])) ++ bs, m, b_fields (numbers_from n k) (upward n k) (numbers_length n k ∙ e) h)
+fields_from : (z : Option Sizing) (q : ℕ) (fs : List Text) (ps : Patterns Ref BindId) (u : Atom) (sc : Scope) (n k : ℕ) → k ≡ length fs → All_from z (1 + q) ps (numbers_from n k) (enter z q (Scalar_known u) sc) (n + k) → Binds_from z q (Record_pattern fs ps) u sc n
+fields_from z q fs ps u sc n k e (inner, bs, m, h) = (inner, step (numbers_from n k) (Read (Fields_at fs) (u ∷ [])) ++ bs, m, b_fields (numbers_from n k) (upward n k) (numbers_length n k ∙ e) h)
 
-typed_from : (p : FlatPattern) (t : Rattle.fut_flat.specs.Erased.FlatType) (u : Atom) (sc : Scope) (n : ℕ) → Binds_from p u sc n → Binds_from (Typed_pattern p t) u sc n
-typed_from p t u sc n (inner, bs, m, h) = (inner, bs, m, b_typed h)
+typed_from : (z : Option Sizing) (q : ℕ) (p : FlatPattern) (t : Rattle.fut_flat.specs.Erased.FlatType) (u : Atom) (sc : Scope) (n : ℕ) → Binds_from z q p u sc n → Binds_from z q (Typed_pattern p t) u sc n
+typed_from z q p t u sc n (inner, bs, m, h) = (inner, bs, m, b_typed h)
 
-more_from : (p : FlatPattern) (ps : Patterns Ref BindId) (x : ℕ) (xs : List ℕ) (sc : Scope) (n : ℕ) → Binds_from p (atom.Name x) sc n → ((inner : Scope) (m : ℕ) → All_from ps xs inner m) → All_from (pattern_and p ps) (x ∷ xs) sc n
-more_from p ps x xs sc n (inner, bs, m, h) all = rest (all inner m)
+more_from : (z : Option Sizing) (q : ℕ) (p : FlatPattern) (ps : Patterns Ref BindId) (x : ℕ) (xs : List ℕ) (sc : Scope) (n : ℕ) → Binds_from z q p (atom.Name x) sc n → ((inner : Scope) (m : ℕ) → All_from z (q + pattern_numbers p) ps xs inner m) → All_from z q (pattern_and p ps) (x ∷ xs) sc n
+more_from z q p ps x xs sc n (inner, bs, m, h) all = rest (all inner m)
   where
-    rest : All_from ps xs inner m → All_from (pattern_and p ps) (x ∷ xs) sc n
+    rest : All_from z (q + pattern_numbers p) ps xs inner m → All_from z q (pattern_and p ps) (x ∷ xs) sc n
     rest (last, cs, m', hs) = (last, bs ++ cs, m', b_more h hs)
 
 mutual
-  binds_again : {p : FlatPattern} {s : Known} {sc inner : Scope} {n m : ℕ} {bs : Bindings} → Binds p s sc n bs inner m → (u : Atom) → s ≡ Scalar_known u → (w : Atom) (sc' : Scope) (k : ℕ) → Binds_from p w sc' k
-  binds_again (b_bound {b = b}) u q w sc' k = (name_and b (Scalar_known w) sc', [], k, b_bound)
-  binds_again b_wild u q w sc' k = (sc', [], k, b_wild)
+  binds_again : {z : Option Sizing} {i : ℕ} {p : FlatPattern} {s : Known} {sc inner : Scope} {n m : ℕ} {bs : Bindings} → rules.Binds z i p s sc n bs inner m → (u : Atom) → s ≡ Scalar_known u → (w : Atom) (sc' : Scope) (k : ℕ) → Binds_from z i p w sc' k
+  binds_again {z} {i} (b_bound {b = b}) u q w sc' k = (name_and b (Scalar_known w) (enter z i (Scalar_known w) sc'), [], k, b_bound)
+  binds_again {z} {i} b_wild u q w sc' k = (enter z i (Scalar_known w) sc', [], k, b_wild)
   binds_again (b_tuple {ss = ss} h) u q w sc' k = absurd (let z : Tuple_known ss ≡ Scalar_known u = q in cc)
-  binds_again (b_parts {ps = ps} xs up h) u q w sc' k = parts_from ps w sc' k (length xs) (all_again h xs refl (numbers_from k (length xs)) (sym (numbers_length k (length xs))) sc' (k + length xs))
+  binds_again {z} {i} (b_parts {ps = ps} xs up h) u q w sc' k = parts_from z i ps w sc' k (length xs) (all_again h xs refl (numbers_from k (length xs)) (sym (numbers_length k (length xs))) (enter z i (Scalar_known w) sc') (k + length xs))
   binds_again (b_record {known = known} e h) u q w sc' k = absurd (let z : Record_known known ≡ Scalar_known u = q in cc)
-  binds_again (b_fields {fs = fs} {ps = ps} xs up e h) u q w sc' k = fields_from fs ps w sc' k (length xs) e (all_again h xs refl (numbers_from k (length xs)) (sym (numbers_length k (length xs))) sc' (k + length xs))
-  binds_again (b_typed {p = p} {t = t} h) u q w sc' k = typed_from p t w sc' k (binds_again h u q w sc' k)
+  binds_again {z} {i} (b_fields {fs = fs} {ps = ps} xs up e h) u q w sc' k = fields_from z i fs ps w sc' k (length xs) e (all_again h xs refl (numbers_from k (length xs)) (sym (numbers_length k (length xs))) (enter z i (Scalar_known w) sc') (k + length xs))
+  binds_again {z} {i} (b_typed {p = p} {t = t} h) u q w sc' k = typed_from z i p t w sc' k (binds_again h u q w sc' k)
 
-  all_again : {ps : Patterns Ref BindId} {ss : List Known} {sc inner : Scope} {n m : ℕ} {bs : Bindings} → All_bind ps ss sc n bs inner m → (xs : List ℕ) → ss ≡ map named xs → (ys : List ℕ) → length xs ≡ length ys → (sc' : Scope) (k : ℕ) → All_from ps ys sc' k
+  all_again : {z : Option Sizing} {i : ℕ} {ps : Patterns Ref BindId} {ss : List Known} {sc inner : Scope} {n m : ℕ} {bs : Bindings} → rules.All_bind z i ps ss sc n bs inner m → (xs : List ℕ) → ss ≡ map named xs → (ys : List ℕ) → length xs ≡ length ys → (sc' : Scope) (k : ℕ) → All_from z i ps ys sc' k
   all_again b_none [] q [] e sc' k = (sc', [], k, b_none)
   all_again b_none [] q (y ∷ ys) e sc' k = absurd (let z : 0 ≡ suc (length ys) = e in cc)
   all_again b_none (x ∷ xs) q ys e sc' k = absurd (let z : [] ≡ named x ∷ map named xs = q in cc)
   all_again (b_more {s = s} {ss = ss} h hs) [] q ys e sc' k = absurd (let z : s ∷ ss ≡ [] = q in cc)
   all_again (b_more h hs) (x ∷ xs) q [] e sc' k = absurd (let z : suc (length xs) ≡ 0 = e in cc)
-  all_again (b_more {p = p} {ps = ps} {s = s} {ss = ss} h hs) (x ∷ xs) q (y ∷ ys) e sc' k =
+  all_again {z = sizes} {i} (b_more {p = p} {ps = ps} {s = s} {ss = ss} h hs) (x ∷ xs) q (y ∷ ys) e sc' k =
       let z : s ∷ ss ≡ named x ∷ map named xs = q in
       let first : s ≡ named x = cc in
       let rest : ss ≡ map named xs = cc in
       let many : length xs ≡ length ys = (let i : suc (length xs) ≡ suc (length ys) = e in cc) in
-      more_from p ps y ys sc' k (binds_again h (atom.Name x) first (atom.Name y) sc' k) (λ inner m. all_again hs xs rest ys many inner m)
+      more_from sizes i p ps y ys sc' k (binds_again h (atom.Name x) first (atom.Name y) sc' k) (λ inner m. all_again hs xs rest ys many inner m)
 
-from_lacks : (ps : Patterns Ref BindId) (xs : List ℕ) (sc : Scope) (n : ℕ) → Not_all_bound ps (map named xs) → All_from ps xs sc n → ⊥
-from_lacks ps xs sc n lacks (inner, bs, m, h) = lacks sc inner n m bs h
+from_lacks : (z : Option Sizing) (q : ℕ) (ps : Patterns Ref BindId) (xs : List ℕ) (sc : Scope) (n : ℕ) → Not_all_bound ps (map named xs) → All_from z q ps xs sc n → ⊥
+from_lacks z q ps xs sc n lacks (inner, bs, m, h) = lacks z q sc inner n m bs h
 
-as_many : {ps : Patterns Ref BindId} {sc inner : Scope} {n m : ℕ} {bs : Bindings} (xs ys : List ℕ) → All_bind ps (map named xs) sc n bs inner m → length ys ≡ pattern_count ps → length xs ≡ length ys
+as_many : {z : Option Sizing} {q : ℕ} {ps : Patterns Ref BindId} {sc inner : Scope} {n m : ℕ} {bs : Bindings} (xs ys : List ℕ) → rules.All_bind z q ps (map named xs) sc n bs inner m → length ys ≡ pattern_count ps → length xs ≡ length ys
 as_many xs ys h e = sym (named_length xs) ∙ many_bind h ∙ sym e
 
 component_parts : (ps : Patterns Ref BindId) (u : Atom) (xs : List ℕ) → length xs ≡ pattern_count ps → Not_all_bound ps (map named xs) → Not_bound (Tuple_pattern ps) (Scalar_known u)
-component_parts ps u xs e lacks sc inner (n, _, m, b_parts {k = k} ys up h) = from_lacks ps xs sc k lacks (all_again h ys refl xs (as_many ys xs h e) sc k)
+component_parts ps u xs e lacks z q sc inner (n, _, m, b_parts {k = k} ys up h) = from_lacks z (1 + q) ps xs (enter z q (Scalar_known u) sc) k lacks (all_again h ys refl xs (as_many ys xs h e) (enter z q (Scalar_known u) sc) k)
 
 component_fields : (fs : List Text) (ps : Patterns Ref BindId) (u : Atom) (xs : List ℕ) → length xs ≡ pattern_count ps → Not_all_bound ps (map named xs) → Not_bound (Record_pattern fs ps) (Scalar_known u)
-component_fields fs ps u xs e lacks sc inner (n, _, m, b_fields {k = k} ys up q h) = from_lacks ps xs sc k lacks (all_again h ys refl xs (as_many ys xs h e) sc k)
+component_fields fs ps u xs e lacks z q sc inner (n, _, m, b_fields {k = k} ys up r h) = from_lacks z (1 + q) ps xs (enter z q (Scalar_known u) sc) k lacks (all_again h ys refl xs (as_many ys xs h e) (enter z q (Scalar_known u) sc) k)
 
 -- ---- how large a pattern is
 
@@ -178,14 +183,14 @@ module _ (p : Pat) (sc : Scope) (n : ℕ) (before : Bindings) where
   as_pattern {s = s} {after} {next} {r} e h = subst (λ z. Bound_to z s sc n before after next r) (sym e) h
 
   pub bound_name : (b : BindId) (s : Known) (r : Result (Bor Held_scope) Refusal) → p.form ≡ pattern.Bound b → IfOk r (λ inner. scope_of inner.now ≡ name_and b s sc) → IfErr r (λ x. x ≡ Memory) → Bound_to (pattern_of p) s sc n before before n r
-  bound_name b s (Ok inner) is e e' = as_pattern (pattern_bound p b is) (answered [] (sym (append-nil before)) (subst (λ z. Binds (Bound_pattern b) s sc n [] z n) (sym e) b_bound))
+  bound_name b s (Ok inner) is e e' = as_pattern (pattern_bound p b is) (answered [] (sym (append-nil before)) (subst (λ z. Binds (Bound_pattern b) s sc n [] z n) (sym e) (λ q. b_bound)))
   bound_name b s (Err r) is e e' = unanswered (only_memory e')
 
   pub bound_wild : (s : Known) (inner : Bor Held_scope) → p.form ≡ pattern.Wild → scope_of inner.now ≡ sc → Bound_to (pattern_of p) s sc n before before n (Ok inner)
-  bound_wild s inner is e = as_pattern (pattern_wild p is) (answered [] (sym (append-nil before)) (subst (λ z. Binds Wild_pattern s sc n [] z n) (sym e) b_wild))
+  bound_wild s inner is e = as_pattern (pattern_wild p is) (answered [] (sym (append-nil before)) (subst (λ z. Binds Wild_pattern s sc n [] z n) (sym e) (λ q. b_wild)))
 
   pub bound_typed : (q : Bor Pat) (t : Bor TypeExp) (s : Known) (after : Bindings) (next : ℕ) (r : Result (Bor Held_scope) Refusal) → p.form ≡ pattern.Typed q t → Bound_to (pattern_of q.now) s sc n before after next r → Bound_to (pattern_of p) s sc n before after next r
-  bound_typed q t s after next r is h = as_pattern (pattern_typed p q t is) (answered_as (λ bs inner m b. b_typed b) (typed_unbound (pattern_of q.now) _ s) h)
+  bound_typed q t s after next r is h = as_pattern (pattern_typed p q t is) (answered_as (λ bs inner m b i. b_typed (b i)) (typed_unbound (pattern_of q.now) _ s) h)
 
   -- the parts of the value, and then the patterns of the parts
   bound_given : (whole : FlatPattern) (ps : Patterns Ref BindId) (s : Known) (ss : List Known) (mid next : ℕ) (bs between after : Bindings) (r : Result (Bor Held_scope) Refusal) → pattern_of p ≡ whole → between ≡ before ++ bs → Parts_given whole ps s n bs ss mid → All_bound_to ps ss sc mid between after next r → Bound_to (pattern_of p) s sc n before after next r
@@ -224,7 +229,7 @@ module _ (n : ℕ) (before : Bindings) where
   pub tuple_parts : (ps : Patterns Ref BindId) (s : Held_known) (ss : Bor (List Held_known)) → s.form ≡ form.Tuple ss → Given_to (Tuple_pattern ps) ps (known_of s) n before before n (Ok ss)
   tuple_parts ps s ss is = answered [] (sym (append-nil before)) (subst (λ z. Parts_given (Tuple_pattern ps) ps z n [] (map known_of ss.now) n) (sym (known_tuple s ss is))
       record {
-        binds = λ sc inner cs m h. b_tuple (subst (λ z. All_bind ps z sc n cs inner m) (sym (listed_knowns (map known_of ss.now))) h);
+        binds = λ sc inner cs m h q. b_tuple (subst (λ z. All_bind ps z sc n cs inner m) (sym (listed_knowns (map known_of ss.now))) h (1 + q));
         lacks = λ lacks. parts_unbound ps (knowns (map known_of ss.now)) (subst (Not_all_bound ps) (sym (listed_knowns (map known_of ss.now))) lacks);
       })
 
@@ -234,7 +239,7 @@ module _ (n : ℕ) (before : Bindings) where
     where
       given_by : (bs : Bindings) (ss : List Known) (m : ℕ) → Opened (Operate (operation.Parts u)) (length ps) n bs ss m → Parts_given (Tuple_pattern (patterns (map pattern_of ps))) (patterns (map pattern_of ps)) (Scalar_known u) n bs ss m
       given_by _ ss m (opened {xs = xs} g) = record {
-        binds = λ sc inner cs k h. b_parts xs g.upward (subst (λ z. All_bind (patterns (map pattern_of ps)) z sc m cs inner k) g.knowns h);
+        binds = λ sc inner cs k h q. b_parts xs g.upward (subst (λ z. All_bind (patterns (map pattern_of ps)) z sc m cs inner k) g.knowns h (1 + q));
         lacks = λ lacks. component_parts (patterns (map pattern_of ps)) u xs (g.many ∙ sym (patterns_count ps)) (subst (Not_all_bound (patterns (map pattern_of ps))) g.knowns lacks);
       }
 
@@ -252,7 +257,7 @@ module _ (n : ℕ) (before : Bindings) where
     where
       by_fields : (r : Result (Bor (List Held_known)) Refusal) → Fields_to fs (fields_known (map field_of gs.now)) r → Given_to (Record_pattern fs ps) ps (Record_known (fields_known (map field_of gs.now))) n before before n r
       by_fields _ (fields_to {ss = ss} e) = answered [] (sym (append-nil before)) record {
-        binds = λ sc inner cs m h. b_record e h;
+        binds = λ sc inner cs m h q. b_record e (h (1 + q));
         lacks = λ lacks. fields_unbound fs ps (fields_known (map field_of gs.now)) (λ ts q. subst (Not_all_bound ps) (let z : Some (map known_of ss.now) ≡ Some ts = sym e ∙ q in cc) lacks);
       }
       by_fields _ (not_fields h) = unanswered (refused_as (λ never. fields_unbound fs ps (fields_known (map field_of gs.now)) (λ ts q. absurd (never ts q))) h)
@@ -263,7 +268,7 @@ module _ (n : ℕ) (before : Bindings) where
     where
       given_by : (bs : Bindings) (ss : List Known) (m : ℕ) → Opened (Read (Fields_at (field_names fs)) (u ∷ [])) (length (field_names fs)) n bs ss m → Parts_given (Record_pattern (field_names fs) (field_patterns fs)) (field_patterns fs) (Scalar_known u) n bs ss m
       given_by _ ss m (opened {xs = xs} g) = record {
-        binds = λ sc inner cs k h. b_fields xs g.upward g.many (subst (λ z. All_bind (field_patterns fs) z sc m cs inner k) g.knowns h);
+        binds = λ sc inner cs k h q. b_fields xs g.upward g.many (subst (λ z. All_bind (field_patterns fs) z sc m cs inner k) g.knowns h (1 + q));
         lacks = λ lacks. component_fields (field_names fs) (field_patterns fs) u xs (g.many ∙ names_count fs ∙ sym (fields_count fs)) (subst (Not_all_bound (field_patterns fs)) g.knowns lacks);
       }
 
@@ -295,19 +300,19 @@ module _ (ps : List Pat) (ss : List Held_known) (sc : Scope) (n : ℕ) where
   all_lead_on i j mid next before between after p s names inner lt lt' (bound_so_far bs e f) (answered cs q b) = bound_so_far (bs ++ cs) (q ∙ ap (λ z. z ++ cs) e ∙ append_assoc before bs cs) rest
     where
       rest : (last : Scope) (ds : Bindings) (m : ℕ) → All_bind (patterns (map pattern_of (drop (i + 1) ps))) (map known_of (drop (j + 1) ss)) (scope_of inner.now) next ds last m → All_bind (patterns (map pattern_of ps)) (map known_of ss) sc n ((bs ++ cs) ++ ds) last m
-      rest last ds m h = subst (λ z. All_bind (patterns (map pattern_of ps)) (map known_of ss) sc n z last m) (sym (append_assoc bs cs ds)) (f last (cs ++ ds) m (subst (λ z. All_bind (patterns (map pattern_of z)) (map known_of (drop j ss)) names mid (cs ++ ds) last m) (sym (one_more ps i p lt)) (subst (λ z. All_bind (patterns (map pattern_of (get_or ps i p ∷ drop (i + 1) ps))) (map known_of z) names mid (cs ++ ds) last m) (sym (one_more ss j s lt')) (b_more b h))))
+      rest last ds m h = subst (λ z. All_bind (patterns (map pattern_of ps)) (map known_of ss) sc n z last m) (sym (append_assoc bs cs ds)) (f last (cs ++ ds) m (subst (λ z. All_bind (patterns (map pattern_of z)) (map known_of (drop j ss)) names mid (cs ++ ds) last m) (sym (one_more ps i p lt)) (subst (λ z. All_bind (patterns (map pattern_of (get_or ps i p ∷ drop (i + 1) ps))) (map known_of z) names mid (cs ++ ds) last m) (sym (one_more ss j s lt')) (λ q. b_more (b q) (h (q + pattern_numbers (pattern_of (get_or ps i p))))))))
 
   pub all_lead_end : (i j next : ℕ) (before now : Bindings) (inner : Bor Held_scope) → length ps ≤ i → length ss ≤ j → All_lead i j next before now (scope_of inner.now) → All_bound_to (patterns (map pattern_of ps)) (map known_of ss) sc n before now next (Ok inner)
   unfolding patterns
-  all_lead_end i j next before now inner le le' (bound_so_far bs e f) = answered bs e (subst (λ z. All_bind (patterns (map pattern_of ps)) (map known_of ss) sc n z (scope_of inner.now) next) (append-nil bs) (f (scope_of inner.now) [] next (subst (λ z. All_bind (patterns (map pattern_of z)) (map known_of (drop j ss)) (scope_of inner.now) next [] (scope_of inner.now) next) (sym (drop_all i ps le)) (subst (λ z. All_bind (patterns (map pattern_of [])) (map known_of z) (scope_of inner.now) next [] (scope_of inner.now) next) (sym (drop_all j ss le')) b_none))))
+  all_lead_end i j next before now inner le le' (bound_so_far bs e f) = answered bs e (subst (λ z. All_bind (patterns (map pattern_of ps)) (map known_of ss) sc n z (scope_of inner.now) next) (append-nil bs) (f (scope_of inner.now) [] next (subst (λ z. All_bind (patterns (map pattern_of z)) (map known_of (drop j ss)) (scope_of inner.now) next [] (scope_of inner.now) next) (sym (drop_all i ps le)) (subst (λ z. All_bind (patterns (map pattern_of [])) (map known_of z) (scope_of inner.now) next [] (scope_of inner.now) next) (sym (drop_all j ss le')) (λ q. b_none)))))
 
 -- there are not as many of both
 unequal : (ps : List Pat) (ss : List Held_known) → (length ps ≡ length ss → ⊥) → Not_all_bound (patterns (map pattern_of ps)) (map known_of ss)
 unfolding patterns
-unequal [] [] h sc inner n m bs b = h refl
-unequal [] (s ∷ ss) h sc inner n m bs b = elim b [ ]
-unequal (p ∷ ps) [] h sc inner n m bs b = elim b [ ]
-unequal (p ∷ ps) (s ∷ ss) h sc inner n m bs b = rest_unbound (pattern_of p) (patterns (map pattern_of ps)) (known_of s) (map known_of ss) (unequal ps ss (λ e. h (ap suc e))) sc inner n m bs b
+unequal [] [] h z q sc inner n m bs b = h refl
+unequal [] (s ∷ ss) h z q sc inner n m bs b = elim b [ ]
+unequal (p ∷ ps) [] h z q sc inner n m bs b = elim b [ ]
+unequal (p ∷ ps) (s ∷ ss) h z q sc inner n m bs b = rest_unbound (pattern_of p) (patterns (map pattern_of ps)) (known_of s) (map known_of ss) (unequal ps ss (λ e. h (ap suc e))) z q sc inner n m bs b
 
 pub all_bound_unequal : (ps : List Pat) (ss : List Held_known) (sc : Scope) (n : ℕ) (before after : Bindings) (next : ℕ) → (length ps ≡ length ss → ⊥) → All_bound_to (patterns (map pattern_of ps)) (map known_of ss) sc n before after next (Err Lost)
 all_bound_unequal ps ss sc n before after next h = unanswered (lost (unequal ps ss h))

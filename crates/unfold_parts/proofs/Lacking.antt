@@ -1,5 +1,5 @@
 -- What has no way on, by its form: a pattern that does not fit, and data of another shape.
-use Rattle.std.proofs.Common.{◌≡◌, ◌≢◌, ℕ, List, ◌∷◌, Some, refl}
+use Rattle.std.proofs.Common.{◌≡◌, ◌≢◌, ◌+◌, ℕ, List, ◌∷◌, Some, refl}
 use Rattle.fut_scalar.specs.declared.place.BindId.{BindId}
 use Rattle.fut_scalar.specs.declared.place.Place.{Place}
 use Rattle.fut_ast.specs.Sorts.{Text}
@@ -11,6 +11,8 @@ use Rattle.fut_blocks.specs.declared.block.Atom.{Atom}
 use Rattle.unfold.specs.Knowns.{Known, Scalar_known, Tuple_known, Record_known, Function_known, Primitive_known, Knowns, known_and, Known_fields, known_field_and, Scope, listed, record_parts}
 use Rattle.unfold.specs.Shapes.{Shape, Scalar_shape, Tuple_shape, Record_shape, Shapes, shape_and, Field_shapes, field_shape_and, Laid, laid_scalar, laid_tuple, laid_record, All_laid, laid_more, Fields_laid, laid_field}
 use Rattle.unfold.specs.Stuck.{No_scalar, Not_bound}
+use Rattle.fut_flat.specs.Numbers.{pattern_numbers}
+use Rattle.unfold.specs.Telling.{enter}
 use Rattle.unfold.specs.Unfolding.{b_tuple, b_parts, b_record, b_fields, b_typed, b_more}
 use Rattle.unfold_parts.specs.Refused.{Not_all_bound}
 
@@ -23,27 +25,27 @@ No_record s = (fs : Known_fields) → s ≡ Record_known fs → ⊥
 -- ---- patterns
 
 pub tuple_unbound : (ps : Patterns Ref BindId) (s : Known) → No_tuple s → No_scalar s → Not_bound (Tuple_pattern ps) s
-tuple_unbound ps _ lacks other sc inner (n, _, m, b_tuple {ss = ss} b) = lacks ss refl
-tuple_unbound ps _ lacks other sc inner (n, _, m, b_parts {u = u} xs up b) = other u refl
+tuple_unbound ps _ lacks other sizes q sc inner (n, _, m, b_tuple {ss = ss} b) = lacks ss refl
+tuple_unbound ps _ lacks other sizes q sc inner (n, _, m, b_parts {u = u} xs up b) = other u refl
 
 pub record_unbound : (names : List Text) (ps : Patterns Ref BindId) (s : Known) → No_record s → No_scalar s → Not_bound (Record_pattern names ps) s
-record_unbound names ps _ lacks other sc inner (n, bs, m, b_record {known = fs} e b) = lacks fs refl
-record_unbound names ps _ lacks other sc inner (n, _, m, b_fields {u = u} xs up e b) = other u refl
+record_unbound names ps _ lacks other sizes q sc inner (n, bs, m, b_record {known = fs} e b) = lacks fs refl
+record_unbound names ps _ lacks other sizes q sc inner (n, _, m, b_fields {u = u} xs up e b) = other u refl
 
 pub typed_unbound : (p : FlatPattern) (t : FlatType) (s : Known) → Not_bound p s → Not_bound (Typed_pattern p t) s
-typed_unbound p t s lacks sc inner (n, bs, m, b_typed b) = lacks sc inner (n, bs, m, b)
+typed_unbound p t s lacks sizes q sc inner (n, bs, m, b_typed b) = lacks sizes q sc inner (n, bs, m, b)
 
 pub parts_unbound : (ps : Patterns Ref BindId) (ss : Knowns) → Not_all_bound ps (listed ss) → Not_bound (Tuple_pattern ps) (Tuple_known ss)
-parts_unbound ps ss lacks sc inner (n, bs, m, b_tuple b) = lacks sc inner n m bs b
+parts_unbound ps ss lacks sizes q sc inner (n, bs, m, b_tuple b) = lacks sizes (1 + q) (enter sizes q (Tuple_known ss) sc) inner n m bs b
 
 pub fields_unbound : (names : List Text) (ps : Patterns Ref BindId) (fs : Known_fields) → ((ss : List Known) → record_parts names fs ≡ Some ss → Not_all_bound ps ss) → Not_bound (Record_pattern names ps) (Record_known fs)
-fields_unbound names ps fs lacks sc inner (n, bs, m, b_record {ss = ss} e b) = lacks ss e sc inner n m bs b
+fields_unbound names ps fs lacks sizes q sc inner (n, bs, m, b_record {ss = ss} e b) = lacks ss e sizes (1 + q) (enter sizes q (Record_known fs) sc) inner n m bs b
 
 pub first_unbound : (p : FlatPattern) (ps : Patterns Ref BindId) (s : Known) (ss : List Known) → Not_bound p s → Not_all_bound (pattern_and p ps) (s ∷ ss)
-first_unbound p ps s ss lacks sc inner n m _ (b_more {sc' = sc'} {k = k} {bs = bs} b bs') = lacks sc sc' (n, bs, k, b)
+first_unbound p ps s ss lacks sizes q sc inner n m _ (b_more {sc' = sc'} {k = k} {bs = bs} b bs') = lacks sizes q sc sc' (n, bs, k, b)
 
 pub rest_unbound : (p : FlatPattern) (ps : Patterns Ref BindId) (s : Known) (ss : List Known) → Not_all_bound ps ss → Not_all_bound (pattern_and p ps) (s ∷ ss)
-rest_unbound p ps s ss lacks sc inner n m _ (b_more {sc' = sc'} {k = k} {cs = cs} b bs') = lacks sc' inner k m cs bs'
+rest_unbound p ps s ss lacks sizes q sc inner n m _ (b_more {sc' = sc'} {k = k} {cs = cs} b bs') = lacks sizes (q + pattern_numbers p) sc' inner k m cs bs'
 
 -- ---- layouts
 

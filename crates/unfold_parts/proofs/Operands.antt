@@ -128,98 +128,98 @@ no_making {k} q = let z : None ≡ Some k = q in cc
 
 module _ (t : IntType) (at : Place) where
   pub integer_lacks : (m : ℕ) (suffix : Option IntType) (ss : List Known) → (ss ≡ [] → ⊥) → No_operation t (Integer m suffix) at ss
-  integer_lacks m suffix _ lacks n _ _ _ (o_integer e) = lacks refl
-  integer_lacks m suffix _ lacks n _ _ _ (o_made q r le) = no_making q
+  integer_lacks m suffix _ lacks row test n _ _ _ (o_integer e) = lacks refl
+  integer_lacks m suffix _ lacks row test n _ _ _ (o_made q r le) = no_making q
 
   pub truth_lacks : (b : Bool) (ss : List Known) → (ss ≡ [] → ⊥) → No_operation t (Truth b) at ss
-  truth_lacks b _ lacks n _ _ _ o_truth = lacks refl
-  truth_lacks b _ lacks n _ _ _ (o_made q r le) = no_making q
+  truth_lacks b _ lacks row test n _ _ _ o_truth = lacks refl
+  truth_lacks b _ lacks row test n _ _ _ (o_made q r le) = no_making q
 
   pub record_lacks : (names : List Text) (ss : List Known) → named_values names ss ≡ None → No_operation t (Record_of names) at ss
-  record_lacks names ss e n _ _ _ (o_record {known = known} f) = let z : None ≡ Some known = sym e ∙ f in cc
-  record_lacks names ss e n _ _ _ (o_made q r le) = no_making q
+  record_lacks names ss e row test n _ _ _ (o_record {known = known} f) = let z : None ≡ Some known = sym e ∙ f in cc
+  record_lacks names ss e row test n _ _ _ (o_made q r le) = no_making q
 
   pub project_lacks : (f : Text) (s : Known) → part f s ≡ None → No_scalar s → No_operation t (Project f) at (s ∷ [])
-  project_lacks f s e c n _ _ r (o_project g) = let z : None ≡ Some r = sym e ∙ g in cc
-  project_lacks f _ e c n _ _ _ (o_part {u = u} le) = c u refl
-  project_lacks f s e c n _ _ _ (o_made q r le) = no_making q
+  project_lacks f s e c row test n _ _ r (o_project g) = let z : None ≡ Some r = sym e ∙ g in cc
+  project_lacks f _ e c row test n _ _ _ (o_part {u = u} le) = c u refl
+  project_lacks f s e c row test n _ _ _ (o_made q r le) = no_making q
 
   pub project_one : (f : Text) (ss : List Known) → Not_one ss → No_operation t (Project f) at ss
-  project_one f _ lacks n _ _ _ (o_project {s = s} g) = lacks s refl
-  project_one f _ lacks n _ _ _ (o_part {u = u} le) = lacks (Scalar_known u) refl
-  project_one f ss lacks n _ _ _ (o_made q r le) = no_making q
+  project_one f _ lacks row test n _ _ _ (o_project {s = s} g) = lacks s refl
+  project_one f _ lacks row test n _ _ _ (o_part {u = u} le) = lacks (Scalar_known u) refl
+  project_one f ss lacks row test n _ _ _ (o_made q r le) = no_making q
 
   pub replace_two : (f : Text) (ss : List Known) → length ss ≢ 2 → No_operation t (Replace f) at ss
-  replace_two f _ ne n _ _ _ o_replace = ne refl
-  replace_two f _ ne n _ _ _ (o_changed p le) = ne refl
-  replace_two f _ ne n _ _ _ (o_made q r le) = no_making q
+  replace_two f _ ne row test n _ _ _ o_replace = ne refl
+  replace_two f _ ne row test n _ _ _ (o_changed p le) = ne refl
+  replace_two f _ ne row test n _ _ _ (o_made q r le) = no_making q
 
   pub replace_lacks : (f : Text) (u s : Known) → No_record u → No_scalar u → No_operation t (Replace f) at (u ∷ s ∷ [])
-  replace_lacks f _ s lacks c n _ _ _ (o_replace {fs = fs}) = lacks fs refl
-  replace_lacks f _ s lacks c n _ _ _ (o_changed {u = w} p le) = c w refl
-  replace_lacks f u s lacks c n _ _ _ (o_made q r le) = no_making q
+  replace_lacks f _ s lacks c row test n _ _ _ (o_replace {fs = fs}) = lacks fs refl
+  replace_lacks f _ s lacks c row test n _ _ _ (o_changed {u = w} p le) = c w refl
+  replace_lacks f u s lacks c row test n _ _ _ (o_made q r le) = no_making q
 
   pub changed_lacks : (f : Text) (u : Atom) (s : Known) → Not_packed s → No_operation t (Replace f) at (Scalar_known u ∷ s ∷ [])
-  changed_lacks f u s lacks n _ _ _ (o_changed {m = m} {w = w} {bs = bs} p le) = lacks n m bs w p
-  changed_lacks f u s lacks n _ _ _ (o_made q r le) = no_making q
+  changed_lacks f u s lacks row test n _ _ _ (o_changed {m = m} {w = w} {bs = bs} p le) = lacks n m bs w p
+  changed_lacks f u s lacks row test n _ _ _ (o_made q r le) = no_making q
 
   pub negate_lacks : (ss : List Known) → Not_one_scalar ss → No_operation t Negate at ss
-  negate_lacks _ lacks n _ _ _ (o_negate {u = u} le) = lacks u refl
-  negate_lacks _ lacks n _ _ _ (o_made q r le) = no_making q
+  negate_lacks _ lacks row test n _ _ _ (o_negate {u = u} le) = lacks u refl
+  negate_lacks _ lacks row test n _ _ _ (o_made q r le) = no_making q
 
   pub complement_lacks : (ss : List Known) → Not_one_scalar ss → No_operation t Complement at ss
-  complement_lacks _ lacks n _ _ _ (o_complement {u = u} le) = lacks u refl
-  complement_lacks _ lacks n _ _ _ (o_made q r le) = no_making q
+  complement_lacks _ lacks row test n _ _ _ (o_complement {u = u} le) = lacks u refl
+  complement_lacks _ lacks row test n _ _ _ (o_made q r le) = no_making q
 
   pub ascribe_lacks : (u : FlatType) (ss : List Known) → Not_one ss → No_operation t (Ascribe u) at ss
-  ascribe_lacks u _ lacks n _ _ _ (o_ascribe {s = s}) = lacks s refl
-  ascribe_lacks u _ lacks n _ _ _ (o_made q r le) = no_making q
+  ascribe_lacks u _ lacks row test n _ _ _ (o_ascribe {s = s}) = lacks s refl
+  ascribe_lacks u _ lacks row test n _ _ _ (o_made q r le) = no_making q
 
   pub coerce_lacks : (u : FlatType) (ss : List Known) → Not_one ss → No_operation t (Coerce u) at ss
-  coerce_lacks u _ lacks n _ _ _ (o_coerce {s = s}) = lacks s refl
-  coerce_lacks u _ lacks n _ _ _ (o_made q r le) = no_making q
+  coerce_lacks u _ lacks row test n _ _ _ (o_coerce {s = s}) = lacks s refl
+  coerce_lacks u _ lacks row test n _ _ _ (o_made q r le) = no_making q
 
   pub declared_lacks : (u : FlatType) (ss : List Known) → Not_one ss → No_operation t (Declared u) at ss
-  declared_lacks u _ lacks n _ _ _ (o_declared {s = s}) = lacks s refl
-  declared_lacks u _ lacks n _ _ _ (o_made q r le) = no_making q
+  declared_lacks u _ lacks row test n _ _ _ (o_declared {s = s}) = lacks s refl
+  declared_lacks u _ lacks row test n _ _ _ (o_made q r le) = no_making q
 
   pub assert_one : (ss : List Known) → length ss ≢ 1 → No_operation t Assert at ss
-  assert_one _ ne n _ _ _ o_assert = ne refl
-  assert_one _ ne n _ _ _ (o_made q r le) = no_making q
+  assert_one _ ne row test n _ _ _ o_assert = ne refl
+  assert_one _ ne row test n _ _ _ (o_made q r le) = no_making q
 
   pub assert_lacks : (s : Known) → No_scalar s → No_operation t Assert at (s ∷ [])
-  assert_lacks _ lacks n _ _ _ (o_assert {u = u}) = lacks u refl
-  assert_lacks _ lacks n _ _ _ (o_made q r le) = no_making q
+  assert_lacks _ lacks row test n _ _ _ (o_assert {u = u}) = lacks u refl
+  assert_lacks _ lacks row test n _ _ _ (o_made q r le) = no_making q
 
   -- what is made of data that is not packed
   pub array_lacks : (ss : List Known) → Not_all_packed ss → No_operation t Array_of at ss
-  array_lacks ss lacks n _ _ _ (o_made {m = m} {bs = bs} {us = us} q r le) = lacks n m bs us r
+  array_lacks ss lacks row test n _ _ _ (o_made {m = m} {bs = bs} {us = us} q r le) = lacks n m bs us r
 
   pub index_lacks : (ps : List Part) (ss : List Known) → Not_all_packed ss → No_operation t (Index ps) at ss
-  index_lacks ps ss lacks n _ _ _ (o_made {m = m} {bs = bs} {us = us} q r le) = lacks n m bs us r
+  index_lacks ps ss lacks row test n _ _ _ (o_made {m = m} {bs = bs} {us = us} q r le) = lacks n m bs us r
 
   pub update_lacks : (ss : List Known) → Not_all_packed ss → No_operation t Update at ss
-  update_lacks ss lacks n _ _ _ (o_made {m = m} {bs = bs} {us = us} q r le) = lacks n m bs us r
+  update_lacks ss lacks row test n _ _ _ (o_made {m = m} {bs = bs} {us = us} q r le) = lacks n m bs us r
 
   pub range_lacks : (stepped : Bool) (end : End) (ss : List Known) → Not_all_packed ss → No_operation t (Range stepped end) at ss
-  range_lacks stepped end ss lacks n _ _ _ (o_made {m = m} {bs = bs} {us = us} q r le) = lacks n m bs us r
+  range_lacks stepped end ss lacks row test n _ _ _ (o_made {m = m} {bs = bs} {us = us} q r le) = lacks n m bs us r
 
   -- other operations than comparisons
   pub binary_lacks : (o : BinOp) (ss : List Known) → o ≢ binary.Eq → o ≢ binary.Ne → Not_two_scalars ss → No_operation t (Binary o) at ss
-  binary_lacks o _ ne ne' lacks n _ _ _ (o_binary {u = u} {w = w} le) = lacks u w refl
-  binary_lacks _ _ ne ne' lacks n _ _ _ (o_equal e) = ne refl
-  binary_lacks _ _ ne ne' lacks n _ _ _ (o_unequal e le) = ne' refl
-  binary_lacks o _ ne ne' lacks n _ _ _ (o_made q r le) = no_making q
+  binary_lacks o _ ne ne' lacks row test n _ _ _ (o_binary {u = u} {w = w} le) = lacks u w refl
+  binary_lacks _ _ ne ne' lacks row test n _ _ _ (o_equal e) = ne refl
+  binary_lacks _ _ ne ne' lacks row test n _ _ _ (o_unequal e le) = ne' refl
+  binary_lacks o _ ne ne' lacks row test n _ _ _ (o_made q r le) = no_making q
 
   pub equal_lacks : (ss : List Known) → Not_both_compared at ss → No_operation t (Binary binary.Eq) at ss
-  equal_lacks _ lacks n _ _ _ (o_binary {u = u} {w = w} le) = lacks (Scalar_known u) (Scalar_known w) refl n _ _ _ (e_scalars le)
-  equal_lacks _ lacks n n' bs _ (o_equal {s = s} {s' = r} {u = u} e) = lacks s r refl n n' bs u e
-  equal_lacks _ lacks n _ _ _ (o_made q r le) = no_making q
+  equal_lacks _ lacks row test n _ _ _ (o_binary {u = u} {w = w} le) = lacks (Scalar_known u) (Scalar_known w) refl n _ _ _ (e_scalars le)
+  equal_lacks _ lacks row test n n' bs _ (o_equal {s = s} {s' = r} {u = u} e) = lacks s r refl n n' bs u e
+  equal_lacks _ lacks row test n _ _ _ (o_made q r le) = no_making q
 
   pub unequal_lacks : (ss : List Known) → Not_both_compared at ss → No_operation t (Binary binary.Ne) at ss
-  unequal_lacks _ lacks n _ _ _ (o_binary {u = u} {w = w} le) = lacks (Scalar_known u) (Scalar_known w) refl n _ _ _ (e_scalars le)
-  unequal_lacks _ lacks n _ _ _ (o_unequal {n' = n'} {s = s} {s' = r} {bs = bs} {u = u} e le) = lacks s r refl n n' bs u e
-  unequal_lacks _ lacks n _ _ _ (o_made q r le) = no_making q
+  unequal_lacks _ lacks row test n _ _ _ (o_binary {u = u} {w = w} le) = lacks (Scalar_known u) (Scalar_known w) refl n _ _ _ (e_scalars le)
+  unequal_lacks _ lacks row test n _ _ _ (o_unequal {n' = n'} {s = s} {s' = r} {bs = bs} {u = u} e le) = lacks s r refl n n' bs u e
+  unequal_lacks _ lacks row test n _ _ _ (o_made q r le) = no_making q
 
 -- ---- primitives
 module _ (at : Place) where

@@ -30,15 +30,17 @@ use Rattle.fut_flat.specs.declared.prim.Ref.{Ref}
 use Rattle.fut_flat.specs.declared.ty.TypeExp.{TypeExp}
 use Rattle.fut_flat.specs.Erased.{operation_of, texts, type_of}
 use Rattle.fut_flat.specs.Terms.{Operation, Integer, Truth, Tuple_of, Record_of, Binary, Negate, Complement, Project, Replace, Ascribe, Coerce, Declared, Assert, Array_of, Index, Update, Range}
-use Rattle.fut_blocks.proofs.Layers.{binding_of-made, action_of-Operate, action_of-Make}
+use Rattle.fut_blocks.proofs.Layers.{row_of-Unknown, binding_of-made, action_of-Operate, action_of-Make}
 use Rattle.fut_blocks.specs.declared.block.Act.TheVariants as act
 use Rattle.fut_blocks.specs.declared.block.Atom.{Atom}
 use Rattle.fut_blocks.specs.declared.block.Atom.TheVariants as atom
 use Rattle.fut_blocks.specs.declared.block.Making.{Making as Held_making}
 use Rattle.fut_blocks.specs.declared.block.Making.TheVariants as make
 use Rattle.fut_blocks.specs.declared.block.Operation.TheVariants as operation
+use Rattle.fut_blocks.specs.declared.row.RowShape.TheVariants as row_shape
 use Rattle.fut_blocks.specs.declared.block.Step.{roll-Step}
 use Rattle.fut_blocks.specs.Meaning.{fitted}
+use Rattle.fut_blocks.specs.Rows.{Unknown_row}
 use Rattle.fut_blocks.specs.Plain.{Action, Operate, Make, Read, Part_at, Replace_at, making_form, action_of, binding_of}
 use Rattle.fut_meaning.specs.Arrays.{Making, Make_array, Make_index, Make_update, Make_range}
 use Rattle.fut_meaning.specs.Operations.{arity, making, is_of_scalars}
@@ -47,7 +49,9 @@ use Rattle.unfold.proofs.Mirror.{known_scalar, known_tuple, known_record, known_
 use Rattle.unfold.specs.Held.{known_of, field_of, fields_known}
 use Rattle.unfold.specs.Knowns.{Known, Scalar_known, Record_known, Primitive_known, Knowns, listed, knowns, replaced, part}
 use Rattle.unfold.specs.Stuck.{No_operation, No_primitive, No_scalar, no_primitive}
-use Rattle.unfold.specs.Unfolding.{Bindings, step, named, constant, literal_type, Equals, Operates, o_integer, o_truth, o_tuple, o_record, o_binary, o_equal, o_unequal, o_negate, o_complement, o_project, o_part, o_changed, o_made, o_replace, o_ascribe, o_coerce, o_declared, o_assert, Primitive_operates, p_convert, p_min, p_max, p_abs, p_popc, Packs, Packs_all, Applies, a_primitive_waits, a_primitive}
+use Rattle.unfold.specs.Unfolding.{Bindings, step, named, constant, literal_type, Equals, o_integer, o_truth, o_tuple, o_record, o_binary, o_equal, o_unequal, o_negate, o_complement, o_project, o_part, o_changed, o_made, o_replace, o_ascribe, o_coerce, o_declared, o_assert, Primitive_operates, p_convert, p_min, p_max, p_abs, p_popc, Packs, Packs_all, a_primitive_waits, a_primitive}
+use Rattle.unfold.specs.Unfolding.{made_row}
+use Rattle.unfold_parts.specs.Unsized.{Operates, Applies}
 use Rattle.unfold.specs.declared.known.Field.{Field}
 use Rattle.unfold.specs.declared.known.Known.{Known as Held_known}
 use Rattle.unfold.specs.declared.known.KnownForm.TheVariants as form
@@ -295,6 +299,13 @@ same_many ss h = not_one_to (not_one ss h)
 
 -- ---- by act
 
+-- nothing is told of rows
+no_row : (k : Making) → made_row Unknown_row k ≡ Unknown_row
+no_row Make_array = refl
+no_row (Make_index ps) = refl
+no_row Make_update = refl
+no_row (Make_range stepped end) = refl
+
 module _ (t : IntType) (a : Act) (at : Place) (n : ℕ) (before : Bindings) where
   module _ (ss : List Known) (next : ℕ) (after : Bindings) (r : Result Held_known Refusal) where
     as_act : (o : Operation Ref BindId) → operation_of a ≡ o → Operated t o at ss n before after next r → Operated t (operation_of a) at ss n before after next r
@@ -316,18 +327,18 @@ module _ (t : IntType) (a : Act) (at : Place) (n : ℕ) (before : Bindings) wher
     act_replace f e h = as_act (Replace f.now) (ap operation_of e) h
 
     -- what is made of the parts
-    made_as : (o : Operation Ref BindId) (k : Making) (f : List Atom → Action) → operation_of a ≡ o → making o ≡ Some k → ((us : List Atom) → f us ≡ Make k at us) → (Not_all_packed ss → No_operation t o at ss) → Made_to f ss n before after next r → Operated t (operation_of a) at ss n before after next r
+    made_as : (o : Operation Ref BindId) (k : Making) (f : List Atom → Action) → operation_of a ≡ o → making o ≡ Some k → ((us : List Atom) → f us ≡ Make Unknown_row k at us) → (Not_all_packed ss → No_operation t o at ss) → Made_to f ss n before after next r → Operated t (operation_of a) at ss n before after next r
     made_as o k f e q same lacks h = as_act o e (answered_as (λ bs s m x. by_steps bs (known_of s) m x) lacks h)
       where
         one : {us : List Atom} {k' m : ℕ} {cs ds : Bindings} {s : Known} → Packs_all ss n cs us k' → Is_step (f us) k' ds s m → Operates t o at ss n (cs ++ ds) s m
-        one {us} {k'} {cs = cs} p is_step = subst (λ z. Operates t o at ss n (cs ++ step (k' ∷ []) z) (named k') (suc k')) (sym (same us)) (o_made q p (le_refl k'))
+        one {us} {k'} {cs = cs} p is_step = subst (λ z. Operates t o at ss n (cs ++ step (k' ∷ []) z) (named k') (suc k')) (sym (same us ∙ ap (λ z. Make z k at us) (sym (no_row k)))) (o_made q p (le_refl k'))
 
         by_steps : (bs : Bindings) (s : Known) (m : ℕ) → Made f ss n bs s m → Operates t o at ss n bs s m
         by_steps bs s m (made p x e) = subst (λ z. Operates t o at ss n z s m) (sym e) (one p x)
 
-    pub act_array : a ≡ flat.Array → Made_to (making_form make.Array at) ss n before after next r → Operated t (operation_of a) at ss n before after next r
+    pub act_array : a ≡ flat.Array → Made_to (making_form (make.Array row_shape.Unknown) at) ss n before after next r → Operated t (operation_of a) at ss n before after next r
     unfolding making_form
-    act_array e h = made_as Array_of Make_array (making_form make.Array at) (ap operation_of e) refl (λ us. refl) (array_lacks t at ss) h
+    act_array e h = made_as Array_of Make_array (making_form (make.Array row_shape.Unknown) at) (ap operation_of e) refl (λ us. ap (λ z. Make z Make_array at us) row_of-Unknown) (array_lacks t at ss) h
 
     pub act_index : (ps : Bor (List Part)) → a ≡ flat.Index ps → Made_to (making_form (make.Index ps) at) ss n before after next r → Operated t (operation_of a) at ss n before after next r
     unfolding making_form

@@ -21,7 +21,8 @@ use Rattle.unfold.proofs.Mirror.{known_primitive}
 use Rattle.unfold.specs.Held.{known_of}
 use Rattle.unfold.specs.Knowns.{Known, Scalar_known, Primitive_known, knowns, Scope, Tops, local, find}
 use Rattle.unfold.specs.Stuck.{no_such_name, type_name}
-use Rattle.unfold.specs.Unfolding.{Unfolds, u_name, u_primitive, u_constant, constant_of}
+use Rattle.unfold_parts.specs.Unsized.{Unfolds}
+use Rattle.unfold.specs.Unfolding.{u_name, u_primitive, u_constant, constant_of}
 use Rattle.unfold.specs.declared.known.Known.{Known as Held_known}
 use Rattle.unfold.specs.declared.known.KnownForm.TheVariants as form
 use Rattle.unfold_parts.specs.Answers.{Used, used, not_used, Primitive_used}
@@ -34,10 +35,10 @@ found tops sc k = refl
 
 module _ (tops : Tops) (sc : Scope) (b : BindId) (at : Place) (s : Held_known) where
   pub used_local : Some (known_of s) ≡ local sc b.0 → Used tops sc (ref.Bound b) at (Ok s)
-  used_local e = used (λ integer_at lo k n. u_name (found tops sc b.0 ∙ ap (λ z. or_else z (look tops b.0)) (sym e)))
+  used_local e = used (λ integer_at lo k n. u_name refl (found tops sc b.0 ∙ ap (λ z. or_else z (look tops b.0)) (sym e)))
 
   pub used_top : None ≡ local sc b.0 → Some (known_of s) ≡ look tops b.0 → Used tops sc (ref.Bound b) at (Ok s)
-  used_top e q = used (λ integer_at lo k n. u_name (found tops sc b.0 ∙ ap (λ z. or_else z (look tops b.0)) (sym e) ∙ sym q))
+  used_top e q = used (λ integer_at lo k n. u_name refl (found tops sc b.0 ∙ ap (λ z. or_else z (look tops b.0)) (sym e) ∙ sym q))
 
   pub used_primitive : (p : Primitive) → Primitive_used p at (known_of s) → Used tops sc (ref.Prim p) at (Ok s)
   used_primitive p h = used (λ integer_at lo k n. h integer_at tops sc lo k n)
@@ -45,7 +46,7 @@ module _ (tops : Tops) (sc : Scope) (b : BindId) (at : Place) (s : Held_known) w
 module _ (tops : Tops) (sc : Scope) (at : Place) where
   -- a name that is neither local nor defined
   pub used_none : (b : BindId) → None ≡ local sc b.0 → None ≡ look tops b.0 → Used tops sc (ref.Bound b) at (Err Lost)
-  used_none b e q = not_used (lost (λ integer_at lo k. no_such_name (found tops sc b.0 ∙ ap (λ z. or_else z (look tops b.0)) (sym e) ∙ sym q)))
+  used_none b e q = not_used (lost (λ integer_at lo k. no_such_name refl (found tops sc b.0 ∙ ap (λ z. or_else z (look tops b.0)) (sym e) ∙ sym q)))
 
   pub used_type : (t : ScalarType) → Used tops sc (ref.Scalar t) at (Err Lost)
   used_type t = not_used (lost (λ integer_at lo k. type_name))

@@ -23,10 +23,11 @@ use Rattle.fut_blocks.specs.Numbered.{Upward}
 use Rattle.fut_blocks.specs.Plain.{Action, Operate, Read, Fields_at, Replace_at, lets, body_of}
 use Rattle.unfold.specs.Held.{known_of, scope_of, fields_known}
 use Rattle.unfold.specs.Knowns.{Known, Scalar_known, Tuple_known, Record_known, Primitive_known, Knowns, Known_fields, Scope, Tops, listed, knowns}
-use Rattle.unfold.specs.Stuck.{Not_bound, No_operation, No_primitive, Stuck, Stuck_run}
-use Rattle.unfold.specs.Unfolding.{Bindings, step, named, both_hold, Binds, All_bind, Equals, All_equal, Packs, Packs_all, field_knowns, Operates, Primitive_operates, Unfolds, Applies}
+use Rattle.unfold.specs.Stuck.{Not_bound, No_operation, No_primitive}
+use Rattle.unfold.specs.Unfolding.{Bindings, step, named, both_hold, Equals, All_equal, Packs, Packs_all, field_knowns, Primitive_operates}
 use Rattle.unfold.specs.declared.known.Known.{Known as Held_known}
 use Rattle.unfold.specs.declared.known.Scope.{Scope as Held_scope}
+use Rattle.unfold_parts.specs.Unsized.{Binds, All_bind, Operates, Unfolds, Applies, Stuck, Stuck_run}
 use Rattle.unfold_parts.specs.Refused.{Refused, Not_all_bound, Not_packed, Not_all_packed, Not_compared, Not_both_compared, Not_all_compared}
 use Rattle.unfold_parts.specs.declared.equality.Pair.{Pair}
 use Rattle.unfold_parts.specs.declared.new_names.Named.{Named}

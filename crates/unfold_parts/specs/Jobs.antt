@@ -6,6 +6,7 @@ use Rattle.fut_flat.specs.declared.prim.Primitive.{Primitive}
 use Rattle.fut_meaning.specs.Datums.{takes}
 use Rattle.fut_meaning.specs.Operations.{parameters_of}
 use Rattle.fut_blocks.specs.declared.block.Atom.{Atom}
+use Rattle.fut_blocks.specs.Rows.{Unknown_row}
 use Rattle.fut_blocks.specs.Plain.{Job as Job_action, lets}
 use Rattle.unfold.specs.Held.{known_of}
 use Rattle.unfold.specs.Knowns.{Known}
@@ -36,5 +37,5 @@ Begun_to p ss n = Answered (Begins p ss n) (No_arguments p ss)
 
 -- the steps behind the first ones give the result of the function, and those that pack it stand behind them
 pub data Ended_to (mark : ℕ) (p : Primitive) (at : Place) (ws : List Atom) (xs : List ℕ) (r : Known) (n : ℕ) (before after : Bindings) (next : ℕ) : Result Held_known Refusal → Type 0 where
-  ended_to : {s : Held_known} {m : ℕ} {ds : Bindings} {w : Atom} → Packs r n ds w m → ((outside inside : Bindings) → length outside ≡ mark → before ≡ outside ++ inside → after ≡ outside ++ step (m ∷ []) (Job_action p at ws xs (lets (inside ++ ds) (w ∷ [])))) → known_of s ≡ named m → next ≡ suc m → Ended_to mark p at ws xs r n before after next (Ok s)
+  ended_to : {s : Held_known} {m : ℕ} {ds : Bindings} {w : Atom} → Packs r n ds w m → ((outside inside : Bindings) → length outside ≡ mark → before ≡ outside ++ inside → after ≡ outside ++ step (m ∷ []) (Job_action Unknown_row p at ws xs (lets (inside ++ ds) (w ∷ [])))) → known_of s ≡ named m → next ≡ suc m → Ended_to mark p at ws xs r n before after next (Ok s)
   not_ended : {x : Refusal} → Refused (Not_packed r) x → Ended_to mark p at ws xs r n before after next (Err x)

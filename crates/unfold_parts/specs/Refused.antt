@@ -1,9 +1,10 @@
 -- Why a call of unfolding refuses, and what lacks a way on.
-use Rattle.std.specs.Prelude.{◌≡◌, ◌∷◌, [], ℕ, List}
+use Rattle.std.specs.Prelude.{◌≡◌, ◌∷◌, [], ℕ, List, Option}
 use Rattle.fut_scalar.specs.declared.place.BindId.{BindId}
 use Rattle.fut_scalar.specs.declared.place.Place.{Place}
 use Rattle.fut_flat.specs.declared.prim.Ref.{Ref}
 use Rattle.fut_flat.specs.Terms.{Patterns}
+use Rattle.fut_meaning.specs.Found.{Sizing}
 use Rattle.fut_blocks.specs.declared.block.Atom.{Atom}
 use Rattle.unfold.specs.Knowns.{Known, Knowns, Scope}
 use Rattle.unfold.specs.Unfolding.{Bindings, All_bind, Equals, All_equal, Packs, Packs_all}
@@ -17,7 +18,7 @@ pub data Refused (Cause : Type 0) : Refusal → Type 0 where
 
 -- some part has not the form of its pattern, or there are not as many of both
 abbrev pub Not_all_bound : Patterns Ref BindId → List Known → Type 0
-Not_all_bound ps ss = (sc inner : Scope) (n m : ℕ) (bs : Bindings) → All_bind ps ss sc n bs inner m → ⊥
+Not_all_bound ps ss = (sizes : Option Sizing) (q : ℕ) (sc inner : Scope) (n m : ℕ) (bs : Bindings) → All_bind sizes q ps ss sc n bs inner m → ⊥
 
 -- a function, or what holds one, is no component
 abbrev pub Not_packed : Known → Type 0

@@ -13,7 +13,7 @@ use crate::stepped::made;
 use crate::steps::Unfolding;
 use bumpalo::Bump;
 use bumpalo::collections::into_bump_slice;
-use fut_blocks::{Act, Atom};
+use fut_blocks::{Act, Atom, RowShape};
 use fut_flat::Primitive;
 use fut_primitives::line_of;
 use fut_scalar::Place;
@@ -138,6 +138,7 @@ pub fn end_job<'a>(
             Act::Primitive {
                 primitive,
                 place,
+                row: RowShape::Unknown,
                 data: job.atoms,
                 params: job.params,
                 body,

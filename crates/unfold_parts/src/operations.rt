@@ -19,7 +19,7 @@ use crate::records::{record_of, replaced};
 use crate::refusal::Refusal;
 use crate::stepped::{binary, computed, made, unary};
 use crate::steps::Unfolding;
-use fut_blocks::{Act as StepAct, Atom, Making, Operation, Step};
+use fut_blocks::{Act as StepAct, Atom, Making, Operation, RowShape, Step};
 use fut_flat::Act;
 use fut_scalar::{BinOp, IntType, Place, Scalar, UnOp};
 use unfold::{Known, KnownForm};
@@ -251,7 +251,7 @@ pub fn operate<'a>(
         Act::Coerce(_) => same(parts),
         Act::Declared(_) => same(parts),
         Act::Assert => assert_first(work, ty, mark, parts),
-        Act::Array => make(work, Making::Array, mark, parts),
+        Act::Array => make(work, Making::Array(RowShape::Unknown), mark, parts),
         Act::Index(asked) => make(work, Making::Index(asked), mark, parts),
         Act::Update => make(work, Making::Update, mark, parts),
         Act::Range { stepped, end } => make(work, Making::Range { stepped, end }, mark, parts),

@@ -16,8 +16,8 @@ use Rattle.fut_flat.specs.Terms.{Apply, If, Lambda, Strict}
 use Rattle.fut_flat.proofs.ErasedForms.{loop_of, term_use, term_strict, term_lambda, term_apply, term_if, term_loop}
 use Rattle.unfold.specs.Held.{known_of}
 use Rattle.unfold.specs.Knowns.{Function_known, Scope}
-use Rattle.unfold.specs.Stuck.{No_operation, Stuck, Stuck_all, no_operation, stuck_application, stuck_argument, stuck_function, stuck_parts}
-use Rattle.unfold.specs.Unfolding.{Unfolds, Unfold_all, Operates, u_strict, u_lambda, u_apply}
+use Rattle.unfold.specs.Stuck.{No_operation, no_operation, stuck_application, stuck_argument, stuck_function, stuck_parts}
+use Rattle.unfold.specs.Unfolding.{u_strict, u_lambda, u_apply}
 use Rattle.unfold.specs.declared.known.Known.{Known as Held_known}
 use Rattle.unfold_parts.specs.Answers.{answered, used}
 use Rattle.unfold_parts.specs.Refused.{no_memory}
@@ -33,6 +33,7 @@ use Rattle.unfold_program.specs.declared.walked.Walked.{Walked}
 use Rattle.unfold_program.specs.declared.walked.WalkedScalar.{WalkedScalar}
 use Rattle.unfold_program.specs.Answers.{Unfolded, unfolded, refused, All_unfolded, all_unfolded, all_refused, Applied, applied, not_applied, Use_known, use_known, no_use, Lambda_known, lambda_known, no_lambda, Scalar_to, scalar_to, no_scalar, stuck_term, other_value, Scalar_unfolded, scalar_unfolded, no_scalar_unfolded, Walked_to, walked_to, not_walked, Operated_to, operated_to, not_operated, defined, told}
 use Rattle.unfold_program.proofs.Growing.{grown, not_grown, moved, stuck_at, known_as}
+use Rattle.unfold_parts.specs.Unsized.{Operates, Stuck, Stuck_all, Unfold_all, Unfolds}
 
 pub lambda_end : (sc : Scope) (inside first next : ℕ) (ps : List Pat) (e : FlatTerm) (s : Result Held_known Refusal) (r : Result Walked Refusal) → first ≡ inside + all_pattern_numbers (patterns (map pattern_of ps)) → next ≡ first + numbers e → IfOk s (λ k. known_of k ≡ Function_known (patterns (map pattern_of ps)) e first sc) → IfErr s (λ x. x ≡ Memory) → Walked_to next s r → Lambda_known sc inside (patterns (map pattern_of ps)) e r
 lambda_end sc inside first next ps e _ _ q q' is m walked_to = lambda_known (is ∙ ap (λ z. Function_known (patterns (map pattern_of ps)) e z sc) q) (omega (arith, q, q'))

@@ -9,8 +9,8 @@ use Rattle.fut_blocks.specs.Plain as act
 use Rattle.unfold.specs.Held.{known_of}
 use Rattle.unfold.specs.Knowns.{Known, Scalar_known, Scope}
 use Rattle.unfold.specs.Shapes.{Scalar_shape, laid_scalar}
-use Rattle.unfold.specs.Stuck.{No_data, Stuck, else_function, no_condition, stuck_condition, stuck_else, stuck_then, then_function}
-use Rattle.unfold.specs.Unfolding.{Bindings, Unfolds, step, u_if, u_packed}
+use Rattle.unfold.specs.Stuck.{No_data, else_function, no_condition, stuck_condition, stuck_else, stuck_then, then_function}
+use Rattle.unfold.specs.Unfolding.{Bindings, step, u_if, u_packed}
 use Rattle.fut_blocks.specs.declared.block.Atom.{Atom}
 use Rattle.unfold_parts.specs.Answers.{Cut}
 use Rattle.unfold_parts.specs.States.{steps_of}
@@ -24,6 +24,7 @@ use Rattle.unfold_program.specs.declared.walked.Walked.{Walked}
 use Rattle.unfold_program.specs.declared.walked.WalkedScalar.{WalkedScalar}
 use Rattle.unfold_program.specs.Answers.{Unfolded, unfolded, refused, Becomes, stays, becomes_one, Closed_to, closed_to, other_form, not_closed, No_block, stuck_inside, gives_function, Blocked_to, blocked_to, block_differs, not_blocked, Stepped_to, stepped_to, not_stepped, is_component, Asked, asked_one, asked_same, Branches_stuck, Branches_to, branches_to, branches_differ, no_branches, Scalar_unfolded, scalar_unfolded, no_scalar_unfolded, Not_scalar, stuck_term, other_value, agreed, defined, told}
 use Rattle.unfold_program.proofs.Growing.{grown, moved, stuck_at, ending}
+use Rattle.unfold_parts.specs.Unsized.{Stuck, Unfolds}
 
 module _ (c : Context) (sc : Scope) (lo : ℕ) (t : FlatTerm) where
   -- what is known may be made one component

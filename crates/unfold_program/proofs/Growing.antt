@@ -20,9 +20,9 @@ use Rattle.fut_blocks.specs.Plain.{Action, action_of, binding_of, body_of, lets}
 use Rattle.unfold.specs.Held.{known_of, scope_of}
 use Rattle.unfold.specs.Knowns.{Function_known, Known, Primitive_known, Record_known, Scalar_known, Scope, Tops, Tuple_known}
 use Rattle.unfold.specs.Shapes.{Laid, laid_scalar}
-use Rattle.unfold.specs.Stuck.{Not_bound, Stuck, Stuck_run, is_function, no_function, no_parameter}
+use Rattle.unfold.specs.Stuck.{Not_bound, is_function, no_function, no_parameter}
 use Rattle.fut_scalar.specs.declared.scalar.Scalar.TheVariants as scalar
-use Rattle.unfold.specs.Unfolding.{Bindings, Packs, Unfolds, constant}
+use Rattle.unfold.specs.Unfolding.{Bindings, Packs, constant}
 use Rattle.unfold.specs.declared.known.Function.{Function}
 use Rattle.unfold.specs.declared.known.Known.{Known as Held_known}
 use Rattle.unfold.specs.declared.known.KnownForm.TheVariants as form
@@ -45,6 +45,7 @@ use Rattle.unfold_program.specs.declared.walked.Branch.{Branch}
 use Rattle.unfold_program.specs.declared.walked.Walked.{Walked}
 use Rattle.unfold_program.specs.declared.walked.WalkedScalar.{WalkedScalar}
 use Rattle.unfold_program.specs.Answers.{Stepped_to, stepped_to, not_stepped, is_component, Becomes, stays, becomes_one, Packed_walk, packed_walk, not_packed_walk, Closed_to, closed_to, other_form, not_closed, Packed_closed, Scalar_closed, scalar_closed, not_scalar_closed, Walked_to, walked_to, not_walked, Operated_to, operated_to, not_operated, Use_known, use_known, no_use, Argued, argued, not_argued, defined, told}
+use Rattle.unfold_parts.specs.Unsized.{Stuck, Stuck_run, Unfolds}
 
 module _ {A : Type 0} where
   pub grown : (a b c bs cs : List A) → b ≡ a ++ bs → c ≡ b ++ cs → c ≡ a ++ (bs ++ cs)

@@ -16,8 +16,8 @@ use Rattle.fut_blocks.specs.Plain.{body_of, lets}
 use Rattle.fut_blocks.specs.Plain as act
 use Rattle.unfold.specs.Held.{known_of, scope_of}
 use Rattle.unfold.specs.Knowns.{Known, Scope}
-use Rattle.unfold.specs.Stuck.{Binds_to, No_data, Not_bound, Turn_names, carried, first_function, no_count, no_row, no_rows, no_test, no_turn, stuck_body, stuck_count, stuck_first, stuck_rows, stuck_test, stuck_turns, turn_counted, turn_function, turn_row, turn_tested}
-use Rattle.unfold.specs.Unfolding.{Binds, Unfolds, step, u_counted, u_over, u_packed, u_while}
+use Rattle.unfold.specs.Stuck.{No_data, Not_bound, carried, first_function, no_count, no_row, no_rows, no_test, no_turn, stuck_body, stuck_count, stuck_first, stuck_rows, stuck_test, stuck_turns, turn_counted, turn_function, turn_row, turn_tested}
+use Rattle.unfold.specs.Unfolding.{step, u_counted, u_over, u_packed, u_while}
 use Rattle.unfold.specs.declared.known.Scope.{Scope as Held_scope}
 use Rattle.unfold_parts.specs.Answers.{answered, unanswered, Bound_to, Cut, Named_as, named_as, not_named}
 use Rattle.unfold_parts.specs.Layouts.{shape_of}
@@ -34,6 +34,7 @@ use Rattle.unfold_program.specs.declared.walked.Walked.{Walked}
 use Rattle.unfold_program.specs.declared.walked.WalkedScalar.{WalkedScalar}
 use Rattle.unfold_program.specs.Answers.{Unfolded, unfolded, refused, Not_scalar, stuck_term, other_value, Scalar_unfolded, scalar_unfolded, no_scalar_unfolded, Entered_to, entered_to, not_entered, Turn_bound_to, turn_bound_to, not_turn_bound, No_row_names, no_value_names, no_names_of_row, Row_bound_to, row_bound_to, not_row_bound, Stepped_to, stepped_to, not_stepped, Packed_walk, packed_walk, not_packed_walk, Loop_stuck, Looped_to, looped_to, turns_differ, not_looped, Tried_to, tried_to, has_to_pack, not_tried, No_truth, no_names_of_value, stuck_truth, other_truth, Tested_to, tested_to, not_tested, Scalar_closed, scalar_closed, not_scalar_closed, No_block, stuck_inside, gives_function, Blocked_to, blocked_to, block_differs, not_blocked, agreed, defined, told}
 use Rattle.unfold_program.proofs.Growing.{grown, moved, stuck_at, ending, known_as}
+use Rattle.unfold_parts.specs.Unsized.{bound_at, Binds, Binds_to, Turn_names, Unfolds}
 
 -- ---- a loop around its turns
 
@@ -111,8 +112,8 @@ module _ (c : Context) (sc : Scope) (l : LoopTree) (turns : FlatTurns) (first : 
 
     -- no block is made of the body
     body_stuck : {inside inner : Scope} {at : ℕ} → at ≡ first.at + turn_numbers turns → Entered_to (known_of first.known) n n' (Ok en) → Binds_to (pattern_of l.pat) (known_of en.known) sc inside → ((lo : ℕ) → first.at ≡ 1 + lo + pattern_numbers (pattern_of l.pat) + numbers (term_of l.first) → Turn_names (told c) (defined c) sc inside (1 + lo + pattern_numbers (pattern_of l.pat) + numbers (term_of l.first)) turns inner) → No_block c inner at (term_of l.body) → Loop_stuck c sc l turns first old
-    body_stuck k (entered_to la up lt) b names (stuck_inside z) lo i bs at v = stuck_body (carried v la lt) b (names lo at) (stuck_at c (omega (arith, k, at)) z)
-    body_stuck k (entered_to la up lt) b names (gives_function u lacks) lo i bs at v = turn_function (carried v la lt) b (names lo at) (moved c (omega (arith, k, at)) u) lacks
+    body_stuck k (entered_to la up lt) b names (stuck_inside z) lo i bs at v = stuck_body (carried v la lt) (bound_at b (1 + lo)) (names lo at) (stuck_at c (omega (arith, k, at)) z)
+    body_stuck k (entered_to la up lt) b names (gives_function u lacks) lo i bs at v = turn_function (carried v la lt) (bound_at b (1 + lo)) (names lo at) (moved c (omega (arith, k, at)) u) lacks
 
     -- and so where there are no names for what it gives
     unstepped : (r : Refusal) → Entered_to (known_of first.known) n n' (Ok en) → Refused (No_data (known_of first.known)) r → Looped_to c sc l turns first old new (Err r)
@@ -166,7 +167,7 @@ module _ (c : Context) (sc : Scope) (l : LoopTree) (i : BindId) (count : FlatTer
           looped_to (record {
             steps = cs ++ step xs (act.For en.params.now en.first.now y k.atom (lets (es ++ ds) ws));
             grown = grown (steps_of old) (steps_of m1) (steps_of new) cs _ g (gs ∙ ap (λ z. z ++ step xs (act.For en.params.now en.first.now y k.atom (body_of e.block.now))) (t.0 ∙ same) ∙ ap (λ z. steps_of m1 ++ step xs z) (ap (λ z. act.For en.params.now en.first.now y k.atom z) (t.1)));
-            unfolds = λ lo n0 bs at v. u_counted en.params.now xs v la (moved c (omega (arith, q, at)) p) up lt (name_low nm) b' (moved c (omega (arith, q, at, h)) u') lb up' lx;
+            unfolds = λ lo n0 bs at v. u_counted en.params.now xs v la (moved c (omega (arith, q, at)) p) up lt (name_low nm) (b' (1 + lo)) (moved c (omega (arith, q, at, h)) u') lb up' lx;
             behind = omega (arith, q, h, hb);
           })
       counted_end m5 new e _ at_mark same nm (scalar_unfolded cs g p h) (entered_to la up lt) (turn_bound_to es g' b is) (blocked_to ds ws f u lb hb) (not_stepped x) = unstepped c sc l (Counted i count) first old new m1.next m2.next en _ (entered_to la up lt) x
@@ -187,12 +188,12 @@ module _ (c : Context) (sc : Scope) (l : LoopTree) (row : FlatPattern) (rows : F
       where
         none : No_row_names (pattern_of l.pat) row y sc (known_of en.known) → Loop_stuck c sc l (Over row rows) first old
         none (no_value_names lacks) lo i bs at v = no_turn (carried v la lt) lacks
-        none (no_names_of_row b lacks) lo i bs at v = no_row (carried v la lt) b lacks
+        none (no_names_of_row b lacks) lo i bs at v = no_row (carried v la lt) (bound_at b (1 + lo)) lacks
 
     module _ (mark : ℕ) (inner : Bor Held_scope) where
       pub row_body_err : (m5 new : Unfolding) (r : Refusal) → Scalar_unfolded c sc counting rows old m1 (Ok k) → Entered_to (known_of first.known) m1.next m2.next (Ok en) → Row_bound_to (pattern_of l.pat) row y sc (known_of en.known) m3 m4 (Ok inner) → Blocked_to c (scope_of inner.now) mark k.at (term_of l.body) (known_of first.known) m4 m5 (Err r) → Looped_to c sc l (Over row rows) first old new (Err r)
       row_body_err m5 new r (scalar_unfolded cs g p h) en_to (row_bound_to {k = m} es fs g' b b') (not_blocked x) =
-          not_looped (refused_as (body_stuck c sc l (Over row rows) first old new m1.next m2.next en (omega (arith, q, h)) en_to (m3.next, es, m, b) (λ lo at. turn_row y (moved c (omega (arith, q, at)) p) (m, fs, m4.next, b'))) x)
+          not_looped (refused_as (body_stuck c sc l (Over row rows) first old new m1.next m2.next en (omega (arith, q, h)) en_to (m3.next, es, m, b) (λ lo at. turn_row y (moved c (omega (arith, q, at)) p) (m, fs, m4.next, b' _))) x)
 
       pub row_differs : (new : Unfolding) → steps_of m3 ≡ steps_of m1 → Scalar_unfolded c sc counting rows old m1 (Ok k) → Row_bound_to (pattern_of l.pat) row y sc (known_of en.known) m3 m4 (Ok inner) → Blocked_to c (scope_of inner.now) mark k.at (term_of l.body) (known_of first.known) m4 new (Ok None) → Looped_to c sc l (Over row rows) first old new (Ok None)
       row_differs new same (scalar_unfolded cs g p h) (row_bound_to es fs g' b b') (block_differs ds none g'') =
@@ -205,7 +206,7 @@ module _ (c : Context) (sc : Scope) (l : LoopTree) (row : FlatPattern) (rows : F
           looped_to (record {
             steps = cs ++ step xs (act.Over en.params.now en.first.now y k.atom (lets (es ++ (fs ++ ds)) ws));
             grown = grown (steps_of old) (steps_of m1) (steps_of new) cs _ g (gs ∙ ap (λ z. z ++ step xs (act.Over en.params.now en.first.now y k.atom (body_of e.block.now))) (t.0 ∙ same) ∙ ap (λ z. steps_of m1 ++ step xs z) (ap (λ z. act.Over en.params.now en.first.now y k.atom z) (t.1 ∙ ap (λ z. lets z ws) (append_assoc es fs ds))));
-            unfolds = λ lo n0 bs at v. u_over en.params.now xs v la (moved c (omega (arith, q, at)) p) up lt (name_low nm) b'' b' (moved c (omega (arith, q, at, h)) u) lb up' lx;
+            unfolds = λ lo n0 bs at v. u_over en.params.now xs v la (moved c (omega (arith, q, at)) p) up lt (name_low nm) (b'' (1 + lo)) (b' _) (moved c (omega (arith, q, at, h)) u) lb up' lx;
             behind = omega (arith, q, h, hb);
           })
       row_end m5 new e _ at_mark same nm (scalar_unfolded cs g p h) (entered_to la up lt) (row_bound_to es fs g' b b') (blocked_to ds ws f u lb hb) (not_stepped x) = unstepped c sc l (Over row rows) first old new m1.next m2.next en _ (entered_to la up lt) x
@@ -240,8 +241,8 @@ module _ (c : Context) (sc : Scope) (l : LoopTree) (test : FlatTerm) (first : Wa
     where
       none : No_truth c sc (pattern_of l.pat) first.at test (known_of en.known) → Loop_stuck c sc l (While test) first old
       none (no_names_of_value lacks) lo i bs at v = no_turn (carried v la lt) lacks
-      none (stuck_truth b w) lo i bs at v = stuck_test (carried v la lt) b (stuck_at c at w)
-      none (other_truth b u lacks) lo i bs at v = no_test (carried v la lt) b (moved c at u) lacks
+      none (stuck_truth b w) lo i bs at v = stuck_test (carried v la lt) (bound_at b (1 + lo)) (stuck_at c at w)
+      none (other_truth b u lacks) lo i bs at v = no_test (carried v la lt) (bound_at b (1 + lo)) (moved c at u) lacks
 
   module _ (m3 : Unfolding) (t : Branch) where
     pub while_unbound : (new : Unfolding) (r : Refusal) → Entered_to (known_of first.known) old.next m1.next (Ok en) → Bound_to (pattern_of l.pat) (known_of en.known) sc m2.next (steps_of m2) (steps_of m3) m3.next (Err r) → Looped_to c sc l (While test) first old new (Err r)
@@ -262,7 +263,7 @@ module _ (c : Context) (sc : Scope) (l : LoopTree) (test : FlatTerm) (first : Wa
           looped_to (record {
             steps = step xs (act.While l.mark en.params.now en.first.now (lets (es ++ cs) (w ∷ [])) (lets (fs ++ ds) ws));
             grown = gs ∙ ap (λ y. y ++ step xs (act.While l.mark en.params.now en.first.now (body_of t.block.now) (body_of e.block.now))) (z.0 ∙ before) ∙ ap (λ y. steps_of old ++ step xs y) (ap (λ y. act.While l.mark en.params.now en.first.now y (body_of e.block.now)) is ∙ ap (λ y. act.While l.mark en.params.now en.first.now (lets (es ++ cs) (w ∷ [])) y) (z.1));
-            unfolds = λ lo n0 bs at v. u_while en.params.now xs v la up lt b (moved c at u) b' (moved c (omega (arith, h, at)) u') lb up' lx;
+            unfolds = λ lo n0 bs at v. u_while en.params.now xs v la up lt (b (1 + lo)) (moved c at u) (b' (1 + lo)) (moved c (omega (arith, h, at)) u') lb up' lx;
             behind = omega (arith, h, hb);
           })
       while_end m4 new e _ at_mark before (entered_to la up lt) (tested_to es cs same b u is h) (answered fs g b') (blocked_to ds ws f u' lb hb) (not_stepped x) = unstepped c sc l (While test) first old new old.next m1.next en _ (entered_to la up lt) x

@@ -13,8 +13,8 @@ use Rattle.fut_flat.specs.Terms.{Strict, Declared, no_term, term_and}
 use Rattle.fut_flat.proofs.ErasedForms.{row_of, term_strict, term_lets}
 use Rattle.unfold.specs.Held.{known_of}
 use Rattle.unfold.specs.Knowns.{Scope}
-use Rattle.unfold.specs.Stuck.{Stuck, stuck_here, stuck_parts}
-use Rattle.unfold.specs.Unfolding.{Unfolds, u_strict, u_more, u_none, o_declared}
+use Rattle.unfold.specs.Stuck.{stuck_here, stuck_parts}
+use Rattle.unfold.specs.Unfolding.{u_strict, u_more, u_none, o_declared}
 use Rattle.unfold_parts.proofs.Refusing.{refused_as}
 use Rattle.unfold_parts.specs.Refused.{no_memory}
 use Rattle.unfold_parts.specs.declared.refusal.Refusal.{Refusal}
@@ -23,6 +23,7 @@ use Rattle.unfold_program.specs.declared.peel.Peeled.{Peeled}
 use Rattle.unfold_program.specs.declared.walked.Context.{Context}
 use Rattle.unfold_program.specs.declared.walked.Walked.{Walked}
 use Rattle.unfold_program.specs.Answers.{is_declared, Peels, bare, declared, Peeled_to, peeled_to, not_peeled, Unfolded, unfolded, refused, defined, told}
+use Rattle.unfold_parts.specs.Unsized.{Stuck, Unfolds}
 
 pub peel_bare : (lo inside : ℕ) (e : Bor Exp) → Peeled_to lo (term_of e.now) (Ok (record { exp = e; at = lo; inside = inside }))
 peel_bare lo inside e = peeled_to bare

@@ -19,10 +19,10 @@ use Rattle.unfold_reach.proofs.Lists.{drop_end, one_more}
 use Rattle.unfold_reach.specs.Reach.{Reached, reached, is_set, named_term}
 use Rattle.unfold.specs.Held.{known_of}
 use Rattle.unfold.specs.Knowns.{Known, Tuple_known, Knowns, knowns, listed, no_name, Scalar_known, Scope, Tops}
-use Rattle.unfold.specs.Programs.{Definitions_unfold, d_none, d_reached, d_other}
+use Rattle.unfold.specs.Programs.{d_none, d_reached, d_other}
 use Rattle.unfold.specs.Shapes.{All_laid, Laid, Scalar_shape, Shapes, Tuple_shape, laid_more, laid_none, laid_scalar, laid_tuple}
-use Rattle.unfold.specs.Stuck.{Definitions_stuck, Program_stuck, Stuck, Stuck_runs, in_definitions, in_entry, no_entry, no_result, stuck_definition, stuck_next, stuck_on, stuck_other, stuck_run}
-use Rattle.unfold.specs.Unfolding.{Applies_all, a_none, a_more, Bindings, Unfolds, names}
+use Rattle.unfold.specs.Stuck.{in_definitions, in_entry, no_entry, no_result, stuck_definition, stuck_next, stuck_on, stuck_other, stuck_run}
+use Rattle.unfold.specs.Unfolding.{a_none, a_more, Bindings, names}
 use Rattle.unfold.specs.declared.known.Known.{Known as Held_known}
 use Rattle.unfold.specs.declared.known.KnownForm.TheVariants as form
 use Rattle.unfold.proofs.Mirror.{known_tuple}
@@ -47,6 +47,7 @@ use Rattle.unfold_program.specs.declared.walked.Walked.{Walked}
 use Rattle.unfold_program.specs.Answers.{All_applied, all_applied, not_all_applied, Applied, applied, not_applied, Unfolded, unfolded, refused, defined, told}
 use Rattle.unfold_program.specs.Whole.{scalars, Are_scalars, Given_to, given_to, not_given, Defined_to, passed_over, defined_to, not_defined, Definitions_to, definitions_to, no_definitions, Entry_stuck, not_known, stuck_there, no_data_there, Entry_to, entry_to, not_entered, Finished, finished, not_finished, Unfolds_to, unfolds_to, no_program}
 use Rattle.unfold_program.proofs.Growing.{grown, not_grown, moved, stuck_at}
+use Rattle.unfold_parts.specs.Unsized.{Applies_all, Definitions_stuck, Definitions_unfold, Program_stuck, Stuck, Stuck_runs, Unfolds}
 
 -- ---- parameters
 

@@ -13,8 +13,8 @@ use Rattle.fut_flat.proofs.ErasedForms.{row_of, row_is, term_lets}
 use Rattle.flat_numbers.proofs.PatternNumbers.{drop_end, one_more}
 use Rattle.unfold.specs.Held.{known_of, scope_of}
 use Rattle.unfold.specs.Knowns.{Known, Scope}
-use Rattle.unfold.specs.Stuck.{Stuck, Stuck_all, no_pattern_of, stuck_behind, stuck_here, stuck_later, stuck_value}
-use Rattle.unfold.specs.Unfolding.{Bindings, Unfold_all, Unfolds, u_let, u_more, u_none}
+use Rattle.unfold.specs.Stuck.{no_pattern_of, stuck_behind, stuck_here, stuck_later, stuck_value}
+use Rattle.unfold.specs.Unfolding.{Bindings, u_let, u_more, u_none}
 use Rattle.unfold.specs.declared.known.Known.{Known as Held_known}
 use Rattle.unfold.specs.declared.known.Scope.{Scope as Held_scope}
 use Rattle.unfold_parts.specs.Answers.{answered, unanswered, Bound_to}
@@ -27,6 +27,7 @@ use Rattle.unfold_program.specs.declared.walked.Row.{Row as Held_row}
 use Rattle.unfold_program.specs.declared.walked.Walked.{Walked}
 use Rattle.unfold_program.specs.Answers.{Unfolded, unfolded, refused, All_unfolded, all_unfolded, all_refused, Leads, Row_unfolded, row_unfolded, row_refused, defined, told}
 use Rattle.unfold_program.proofs.Growing.{grown, not_grown, moved, stuck_at}
+use Rattle.unfold_parts.specs.Unsized.{Stuck, Stuck_all, Unfold_all, Unfolds}
 
 -- ---- parts
 
@@ -83,8 +84,8 @@ module _ (c : Context) (row : Held_row) (l : LetTree) (old new : Unfolding) wher
 
       one : (body : FlatTerm) → Leads c (scope_of row.scope.now) row.at (this body) old.next (bs ++ es) (scope_of inner.now) r.at body new.next
       one body = record {
-        unfolds = λ cs s m v. subst (λ z. Unfolds (told c) (defined c) (scope_of row.scope.now) row.at (this body) old.next z s m) (sym (append_assoc bs es cs)) (u_let (moved c (omega (arith, q, q')) u) b (moved c (omega (arith, q, q', h)) v));
-        stuck = λ w. stuck_behind (moved c (omega (arith, q, q')) u) (mid.next, es, new.next, b) (stuck_at c (omega (arith, q, q', h)) w);
+        unfolds = λ cs s m v. subst (λ z. Unfolds (told c) (defined c) (scope_of row.scope.now) row.at (this body) old.next z s m) (sym (append_assoc bs es cs)) (u_let (moved c (omega (arith, q, q')) u) (b _) (moved c (omega (arith, q, q', h)) v));
+        stuck = λ w. stuck_behind (moved c (omega (arith, q, q')) u) (mid.next, es, new.next, b _) (stuck_at c (omega (arith, q, q', h)) w);
         behind = omega (arith, q, q', h);
       }
 

@@ -10,8 +10,8 @@ use Rattle.fut_flat.specs.Erased.{pattern_of, patterns, term_of}
 use Rattle.fut_meaning.specs.Operations.{parameters_of}
 use Rattle.unfold.specs.Held.{known_of, scope_of}
 use Rattle.unfold.specs.Knowns.{Function_known, Known, Knowns, Primitive_known, knowns, listed}
-use Rattle.unfold.specs.Stuck.{No_arguments, Stuck, Stuck_run, Stuck_runs, is_function, job_function, no_arguments, no_function, stuck_job, stuck_result, the_function}
-use Rattle.unfold.specs.Unfolding.{Applies, Applies_all, Binds, Bindings, a_body, a_job, a_waits, data_known, named, step}
+use Rattle.unfold.specs.Stuck.{No_arguments, is_function, job_function, no_arguments, no_function, stuck_job, stuck_result, the_function}
+use Rattle.unfold.specs.Unfolding.{Bindings, a_body, a_job, a_waits, data_known, named, step}
 use Rattle.unfold.specs.declared.known.Field.{Field}
 use Rattle.unfold.specs.declared.known.Function.{Function}
 use Rattle.unfold.specs.declared.known.Known.{Known as Held_known}
@@ -27,6 +27,7 @@ use Rattle.unfold_parts.specs.declared.primitives.Applied.TheVariants as step_fo
 use Rattle.unfold_parts.proofs.Packs.{unpacked_no_data}
 use Rattle.fut_blocks.specs.Plain as act
 use Rattle.fut_blocks.specs.Plain.{lets}
+use Rattle.fut_blocks.specs.Rows.{Unknown_row}
 use Rattle.unfold_parts.proofs.Refusing.{only_memory, refused_as}
 use Rattle.unfold_parts.specs.Refused.{lost}
 use Rattle.unfold_parts.specs.States.{steps_of}
@@ -37,6 +38,7 @@ use Rattle.unfold_program.specs.declared.walked.Context.{Context}
 use Rattle.unfold_program.specs.declared.walked.Walked.{Walked}
 use Rattle.unfold_program.specs.Answers.{Unfolded, unfolded, refused, Applied, applied, not_applied, All_applied, all_applied, not_all_applied, Job_applied, Argued, argued, not_argued, written, defined, told}
 use Rattle.unfold_program.proofs.Growing.{grown}
+use Rattle.unfold_parts.specs.Unsized.{Applies, Applies_all, Binds, Stuck, Stuck_run, Stuck_runs}
 
 back : (f g : KnownForm) → out-KnownForm f ≡ out-KnownForm g → f ≡ g
 back f g q = sym (roll-out-KnownForm f) ∙ ap roll-KnownForm q ∙ roll-out-KnownForm g
@@ -116,9 +118,9 @@ module _ (c : Context) (p : Primitive) (at : Place) (ss : List Known) (old m1 : 
       job_end new _ (answered bs g b) (all_applied cs g' a) (ended_to {s = h} {m} {ds} {w} pk f is n) gs s e ready =
           let full = subst (Is_ready p) e ready in
           let whole = a_job {x = m} j.params.now full.full full.arrays (subst (λ z. data_known (parameters_of p) z ≡ Some b.arguments) e b.are_data) b.packs b.named.upward b.named.many (applied_on_names gs s e b a) pk (omega arith) in
-          applied (bs ++ step (m ∷ []) (act.Job p at j.atoms.now j.params.now (lets (cs ++ ds) (w ∷ []))))
-          (f (steps_of m1) cs (sym q) g' ∙ ap (λ z. z ++ step (m ∷ []) (act.Job p at j.atoms.now j.params.now (lets (cs ++ ds) (w ∷ [])))) g ∙ append_assoc (steps_of old) bs _)
-          (subst (λ z. Applies (told c) (defined c) (Primitive_known p at gs) s old.next (bs ++ step (m ∷ []) (act.Job p at j.atoms.now j.params.now (lets (cs ++ ds) (w ∷ [])))) (known_of h) z) (sym n) (subst (λ z. Applies (told c) (defined c) (Primitive_known p at gs) s old.next (bs ++ step (m ∷ []) (act.Job p at j.atoms.now j.params.now (lets (cs ++ ds) (w ∷ [])))) z (suc m)) (sym is) whole))
+          applied (bs ++ step (m ∷ []) (act.Job Unknown_row p at j.atoms.now j.params.now (lets (cs ++ ds) (w ∷ []))))
+          (f (steps_of m1) cs (sym q) g' ∙ ap (λ z. z ++ step (m ∷ []) (act.Job Unknown_row p at j.atoms.now j.params.now (lets (cs ++ ds) (w ∷ [])))) g ∙ append_assoc (steps_of old) bs _)
+          (subst (λ z. Applies (told c) (defined c) (Primitive_known p at gs) s old.next (bs ++ step (m ∷ []) (act.Job Unknown_row p at j.atoms.now j.params.now (lets (cs ++ ds) (w ∷ [])))) (known_of h) z) (sym n) (subst (λ z. Applies (told c) (defined c) (Primitive_known p at gs) s old.next (bs ++ step (m ∷ []) (act.Job Unknown_row p at j.atoms.now j.params.now (lets (cs ++ ds) (w ∷ [])))) z (suc m)) (sym is) whole))
       job_end new _ (answered bs g b) (all_applied cs g' a) (not_ended x) gs s e ready =
           let full = subst (Is_ready p) e ready in
           not_applied (refused_as (λ lacks. job_function j.params.now full.full full.arrays b.named.many (applied_on_names gs s e b a) (unpacked_no_data (known_of k) lacks)) x)
@@ -141,7 +143,7 @@ module _ (c : Context) (s : Known) (old : Unfolding) (h : Held_known) (f : Bor F
         waits : (ps : List Pat) → 1 < length ps → Binds (pattern_of (get_or ps 0 d)) s (scope_of f.now.scope.now) old.next bs (scope_of inner.now) mid.next → Applies (told c) (defined c) (Function_known (patterns (map pattern_of ps)) (term_of f.now.body.now) f.now.first (scope_of f.now.scope.now)) s old.next bs (Function_known (patterns (map pattern_of (drop 1 ps))) (term_of f.now.body.now) f.now.first (scope_of inner.now)) mid.next
         waits [] some b = absurd (omega (arith, some))
         waits (p ∷ []) some b = absurd (omega (arith, some))
-        waits (p ∷ q ∷ ps) some b = a_waits b
+        waits (p ∷ q ∷ ps) some b = a_waits (b _)
 
     -- or its body is unfolded
     pub apply_runs : (new : Unfolding) (r : Walked) → Argued f.now s old mid (Ok inner) → length f.now.parameters.now ≤ 1 → Unfolded c (scope_of inner.now) f.now.first (term_of f.now.body.now) mid new (Ok r) → Applied c (known_of h) s old new (Ok r.known)
@@ -150,7 +152,7 @@ module _ (c : Context) (s : Known) (old : Unfolding) (h : Held_known) (f : Bor F
       where
         runs : (ps : List Pat) → (length ps ≡ 0 → ⊥) → length ps ≤ 1 → Binds (pattern_of (get_or ps 0 d)) s (scope_of f.now.scope.now) old.next es (scope_of inner.now) mid.next → Applies (told c) (defined c) (Function_known (patterns (map pattern_of ps)) (term_of f.now.body.now) f.now.first (scope_of f.now.scope.now)) s old.next (es ++ bs) (known_of r.known) new.next
         runs [] nonempty few b = absurd (nonempty refl)
-        runs (p ∷ []) nonempty few b = a_body b u
+        runs (p ∷ []) nonempty few b = a_body (b _) u
         runs (p ∷ q ∷ ps) nonempty few b = absurd (omega (arith, few))
 
     pub apply_stuck : (new : Unfolding) (r : Refusal) → Argued f.now s old mid (Ok inner) → length f.now.parameters.now ≤ 1 → Unfolded c (scope_of inner.now) f.now.first (term_of f.now.body.now) mid new (Err r) → Applied c (known_of h) s old new (Err r)
@@ -159,7 +161,7 @@ module _ (c : Context) (s : Known) (old : Unfolding) (h : Held_known) (f : Bor F
       where
         stuck_there : (ps : List Pat) → (length ps ≡ 0 → ⊥) → length ps ≤ 1 → Binds (pattern_of (get_or ps 0 d)) s (scope_of f.now.scope.now) old.next es (scope_of inner.now) mid.next → Stuck (told c) (defined c) (scope_of inner.now) f.now.first (term_of f.now.body.now) → Stuck_run (told c) (defined c) (Function_known (patterns (map pattern_of ps)) (term_of f.now.body.now) f.now.first (scope_of f.now.scope.now)) s
         stuck_there [] nonempty few b w = absurd (nonempty refl)
-        stuck_there (p ∷ []) nonempty few b w = stuck_result (old.next, es, mid.next, b) w
+        stuck_there (p ∷ []) nonempty few b w = stuck_result (old.next, es, mid.next, b _) w
         stuck_there (p ∷ q ∷ ps) nonempty few b w = absurd (omega (arith, few))
 
     pub apply_walks : (new : Unfolding) (r : Result (Unit {0}) Refusal) (w : Walked) → Argued f.now s old mid (Ok inner) → length f.now.parameters.now ≤ 1 → Unfolded c (scope_of inner.now) f.now.first (term_of f.now.body.now) mid new (written r w) → Applied c (known_of h) s old new (written r w.known)

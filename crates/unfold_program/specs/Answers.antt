@@ -23,8 +23,8 @@ use Rattle.fut_blocks.specs.Plain.{Action, Body, body_of}
 use Rattle.unfold.specs.Held.{function_of, known_of, scope_of}
 use Rattle.unfold.specs.Knowns.{Function_known, Known, Knowns, Primitive_known, Scalar_known, Scope, Tops, listed, name_and}
 use Rattle.unfold.specs.Shapes.{Laid}
-use Rattle.unfold.specs.Stuck.{Binds_to, No_data, No_operation, No_scalar, Not_bound, Stuck, Stuck_all, Stuck_run, Stuck_runs}
-use Rattle.unfold.specs.Unfolding.{Applies, Applies_all, Bindings, Binds, Packs, Unfold_all, Unfolds, constant, named, names, step}
+use Rattle.unfold.specs.Stuck.{No_data, No_operation, No_scalar, Not_bound}
+use Rattle.unfold.specs.Unfolding.{Bindings, Packs, constant, named, names, step}
 use Rattle.unfold.specs.declared.known.Function.{Function}
 use Rattle.unfold.specs.declared.known.Known.{Known as Held_known}
 use Rattle.unfold.specs.declared.known.Scope.{Scope as Held_scope}
@@ -46,6 +46,7 @@ use Rattle.unfold_program.specs.declared.walked.Parts.{Parts}
 use Rattle.unfold_program.specs.declared.walked.Branch.{Branch}
 use Rattle.unfold_program.specs.declared.walked.Row.{Row}
 use Rattle.unfold_program.specs.declared.walked.Entered.{Entered}
+use Rattle.unfold_parts.specs.Unsized.{Applies, Applies_all, Binds, Binds_to, Stuck, Stuck_all, Stuck_run, Stuck_runs, Unfold_all, Unfolds}
 
 -- ---- declared types around a term
 

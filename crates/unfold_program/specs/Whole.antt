@@ -13,10 +13,9 @@ use Rattle.fut_blocks.specs.Numbered.{Upward}
 use Rattle.fut_blocks.specs.Plain.{body_of, lets}
 use Rattle.unfold.specs.Held.{known_of}
 use Rattle.unfold.specs.Knowns.{Known, knowns, no_name}
-use Rattle.unfold.specs.Programs.{Definitions_unfold, Program_unfolds}
 use Rattle.unfold.specs.Shapes.{All_laid, Laid, Scalar_shape, Shape, Shapes, no_shape, shape_and}
-use Rattle.unfold.specs.Stuck.{Definitions_stuck, No_data, Program_stuck, Stuck, Stuck_runs}
-use Rattle.unfold.specs.Unfolding.{Applies_all, Bindings, Unfolds, names}
+use Rattle.unfold.specs.Stuck.{No_data}
+use Rattle.unfold.specs.Unfolding.{Bindings, names}
 use Rattle.unfold.specs.declared.known.Known.{Known as Held_known}
 use Rattle.unfold_parts.specs.Layouts.{shape_of}
 use Rattle.unfold_parts.specs.Refused.{Refused}
@@ -29,6 +28,7 @@ use Rattle.unfold_program.specs.declared.program.Given.{Given}
 use Rattle.unfold_program.specs.declared.program.Made.{Made}
 use Rattle.unfold_program.specs.declared.walked.Context.{Context}
 use Rattle.unfold_program.specs.Answers.{All_applied, defined, told}
+use Rattle.unfold_parts.specs.Unsized.{Applies_all, Definitions_stuck, Definitions_unfold, Program_stuck, Program_unfolds, Stuck, Stuck_runs, Unfolds}
 
 -- so many scalars
 abbrev pub scalars : ℕ → Shapes

@@ -9,8 +9,8 @@ use Rattle.fut_flat.specs.declared.program.Flat.{Flat}
 use Rattle.fut_meaning.specs.Flats.{named_terms, flat_tops}
 use Rattle.fut_blocks.specs.declared.block.Program.{Program}
 use Rattle.typed_programs.specs.Typed.{integer_at}
-use Rattle.unfold.specs.Programs.{Program_unfolds}
-use Rattle.unfold.specs.Stuck.{Program_stuck}
+use Rattle.unfold_parts.specs.Unsized.{Program_unfolds}
+use Rattle.unfold_parts.specs.Unsized.{Program_stuck}
 use Rattle.unfold_program.specs.Whole.{scalars, Unfolds_to, unfolds_to, no_program}
 use Rattle.unfold_parts.specs.Refused.{lost}
 use Rattle.unfold_parts.specs.declared.refusal.Refusal.{Refusal}

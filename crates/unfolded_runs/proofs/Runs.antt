@@ -1,5 +1,5 @@
 -- What the blocks of a typed program allow, its files allow, and the other way round; and the files allow some outcome.
-use Rattle.std.proofs.Common.{◌≡◌, ℕ, List, [], ◌∷◌, Bool, true, false, map, refl, sym, ap, subst, inl, inr}
+use Rattle.std.proofs.Common.{◌≡◌, ℕ, List, [], ◌∷◌, Bool, true, false, None, map, refl, sym, ap, subst, inl, inr}
 use Rattle.fut_scalar.specs.declared.place.BindId.{BindId}
 use Rattle.fut_scalar.specs.declared.report.Report.{Report}
 use Rattle.fut_scalar.specs.declared.scalar.IntType.{IntType}
@@ -31,6 +31,8 @@ use Rattle.elab_scopes.specs.Programs.{resolve_program}
 use Rattle.elab_laws.specs.Answers.{Files_allow}
 use Rattle.elab_laws.specs.Sourced.{No_sizes as None_sized, named_values}
 use Rattle.elab_laws.specs.Sizeless.{Sizeless, All_sizeless, Turns_sizeless, Definitions_sizeless}
+use Rattle.elab_laws.specs.Sized.{Sizes_are_told}
+use Rattle.elab_laws.proofs.Sizes.{sizeless_told}
 use Rattle.elab_laws.proofs.Programs.{same_results, same_reports}
 use Rattle.type_soundness.specs.Meant.{No_sizes, Meant, All_meant, Turns_meant}
 use Rattle.type_soundness.specs.Programs.{Result_fits, Definitions_meant}
@@ -115,8 +117,8 @@ module _ {flat : Flat} {inference : Inference} {integers : List IntType} {entry 
   some : Some_outcome Flat_allows
   some = has_outcome N typed.some.1.names _ known.kinds known.types (unsized (integer_at integers)) tight budget flat known.typed entry _ used.result values entry_used (arguments_fit N (unsized (integer_at integers)) (plain tight) budget true params arguments of)
 
-  no_size : Definitions_sizeless (program_of flat).definitions
-  no_size = definitions_sizeless flat.definitions.now known.typed.meant
+  no_size : Sizes_are_told None 0 (program_of flat).definitions
+  no_size = sizeless_told 0 (program_of flat).definitions (definitions_sizeless flat.definitions.now known.typed.meant)
 
   abbrev Named_means : Out FlatValue → ℕ → Type 0
   Named_means = Rattle.fut_meaning.specs.Programs.Program_means (flat_names (unsized (integer_at integers))) (plain tight) budget (flat_tops 0 (named_values (program_of flat).definitions)) entry.0 (all_values arguments)
@@ -134,10 +136,10 @@ module _ {flat : Flat} {inference : Inference} {integers : List IntType} {entry 
 
   module _ (ps : List SourceProgram) (resolved : resolve_program ps ≡ Ok (program_of flat)) where
     result_of : (d : Datum) (f : ℕ) → Flat_allows (Val (as_value d)) f → Files_allow ps (program_of flat) (unsized (integer_at integers)) budget entry.0 arguments tight (Gives d) f
-    result_of d f x = (same_results ps (program_of flat) resolved no_size (unsized (integer_at integers)) tight budget entry.0 arguments d f).0 (to_named (Val (as_value d)) f x)
+    result_of d f x = (same_results ps (program_of flat) resolved (unsized (integer_at integers)) no_size tight budget entry.0 arguments d f).0 (to_named (Val (as_value d)) f x)
 
     report_of : (k : Report) (f : ℕ) → Flat_allows (Fail k) f → Files_allow ps (program_of flat) (unsized (integer_at integers)) budget entry.0 arguments tight (Fails k) f
-    report_of k f x = (same_reports ps (program_of flat) resolved no_size (unsized (integer_at integers)) tight budget entry.0 arguments k f).0 (to_named (Fail k) f x)
+    report_of k f x = (same_reports ps (program_of flat) resolved (unsized (integer_at integers)) no_size tight budget entry.0 arguments k f).0 (to_named (Fail k) f x)
 
     answer_of : (o : Out FlatValue) (f : ℕ) → Flat_allows o f → (answer : Answer) × (words : ℕ) × Answer_is_of tuple results answer × Files_allow ps (program_of flat) (unsized (integer_at integers)) budget entry.0 arguments tight answer words
     answer_of (Val v) f x =
@@ -157,7 +159,7 @@ module _ {flat : Flat} {inference : Inference} {integers : List IntType} {entry 
   Allows = Flat_allows r.typed r.usable tight budget arguments of
 
   flat_allows : (o : Out (List Component)) (f : ℕ) → Program_means tight budget p arguments o f → Right (Is_value h) Allows o f
-  flat_allows o f x = adds_no_outcome tight (integer_at integers) budget (named_terms flat) entry hs h p r.unfolds (as_values (datums arguments)) arguments split o f x
+  flat_allows o f x = adds_no_outcome tight (unsized (integer_at integers)) budget (named_terms flat) entry hs h p r.unfolds (as_values (datums arguments)) arguments split o f x
 
   wrong_never : (f : ℕ) → Right (Is_value h) Allows Wrong f → ⊥
   wrong_never f (right o x s) = same s (safe r.typed r.usable tight budget arguments of o f x)
@@ -204,15 +206,15 @@ module _ {flat : Flat} {inference : Inference} {integers : List IntType} {entry 
         same same_report x = x
 
     allowed : (o : Out FlatValue) (f : ℕ) → Named_means r.typed r.usable tight budget arguments of o f → Left (Is_value h) (Program_means tight budget p arguments) o f
-    allowed o f m = loses_no_outcome tight (integer_at integers) budget (named_terms flat) entry hs h p r.unfolds (as_values (datums arguments)) arguments split o f (from_named r.typed r.usable tight budget arguments of o f m)
+    allowed o f m = loses_no_outcome tight (unsized (integer_at integers)) budget (named_terms flat) entry hs h p r.unfolds (as_values (datums arguments)) arguments split o f (from_named r.typed r.usable tight budget arguments of o f m)
 
     result_comes : (d : Datum) (f : ℕ) → Files_allow ps (program_of flat) (unsized (integer_at integers)) budget entry.0 arguments tight (Gives d) f → (vs : List Datum) × (opened tuple vs ≡ components_of tuple d) × Program_means tight budget p arguments (Val vs) f
     result_comes d f a =
-        let m = (same_results ps (program_of flat) resolved (no_size r.typed r.usable tight budget arguments of) (unsized (integer_at integers)) tight budget entry.0 arguments d f).1 a in
+        let m = (same_results ps (program_of flat) resolved (unsized (integer_at integers)) (no_size r.typed r.usable tight budget arguments of) tight budget entry.0 arguments d f).1 a in
         came d f (from_named r.typed r.usable tight budget arguments of (Val (as_value d)) f m) (allowed (Val (as_value d)) f m)
 
     report_comes : (k : Report) (f : ℕ) → Files_allow ps (program_of flat) (unsized (integer_at integers)) budget entry.0 arguments tight (Fails k) f → Program_means tight budget p arguments (Fail k) f
-    report_comes k f a = failed k f (allowed (Fail k) f ((same_reports ps (program_of flat) resolved (no_size r.typed r.usable tight budget arguments of) (unsized (integer_at integers)) tight budget entry.0 arguments k f).1 a))
+    report_comes k f a = failed k f (allowed (Fail k) f ((same_reports ps (program_of flat) resolved (unsized (integer_at integers)) (no_size r.typed r.usable tight budget arguments of) tight budget entry.0 arguments k f).1 a))
 
   pub run_is : Runs_as flat integers entry tuple results p tight budget arguments
   run_is = record {

@@ -8,10 +8,12 @@ use Rattle.fut_flat.specs.declared.program.Flat.{Flat}
 use Rattle.fut_typing.specs.Names.{count}
 use Rattle.fut_meaning.specs.Comes.{Program_lost}
 use Rattle.fut_meaning.specs.Flats.{flat_tops, named_terms}
+use Rattle.fut_meaning.specs.Found.{unsized}
 use Rattle.type_infer.specs.Inferring.{Told_by}
 use Rattle.type_scopes.specs.declared.Inference.{Inference}
 use Rattle.unfold_laws.specs.Shaped.{Of_shape, All_of_shapes, array_of_shape, none_of_shapes, more_of_shapes, scalar_of_shape}
 use Rattle.unfold_laws.proofs.Unstuck.{unfolding_never_stuck}
+use Rattle.type_soundness.proofs.Programs.{is_sized}
 use Rattle.type_soundness.proofs.Unlost.{walks_never_lost}
 use Rattle.fut_types.specs.Types.{scalar_ty}
 use Rattle.fut_types.specs.declared.Kind.TheVariants as kind
@@ -21,7 +23,7 @@ use Rattle.fut_typing.specs.Program.{program_of as typing_of}
 use Rattle.fut_typing.specs.Exact.{scope_behind}
 use Rattle.typed_programs.specs.EntryTypes.{array_ty, data_tys}
 use Rattle.unfold.specs.Shapes.{Scalar_shape}
-use Rattle.unfold.specs.Stuck.{Program_stuck}
+use Rattle.unfold_parts.specs.Unsized.{Program_stuck}
 use Rattle.unfold_program.specs.Whole.{scalars}
 use Rattle.unfolded_runs.specs.Claims.{Is_usable}
 use Rattle.typed_programs.specs.Typed.{Typed_by, integer_at}
@@ -57,6 +59,6 @@ never_stuck flat inference integers entry params tuple results told usable stuck
     let N = told.some.0 in
     let known = told.holds N told.some.1 in
     let used = usable.usable.entry usable.definition N told.some.1 known.kinds known.types known.typed.typed known.comes in
-    unfolding_never_stuck N told.some.1.names known.kinds known.types (integer_at integers) flat known.typed entry (data_tys params) used.result
+    unfolding_never_stuck N told.some.1.names known.kinds known.types (unsized (integer_at integers)) flat (is_sized known.typed) entry (data_tys params) used.result
     (subst (λ z. (scope_behind N kind.Data (typing_of flat) 0 nothing).uses z known.kinds known.types (arrows (data_tys params) used.result)) usable.is used.used) (usable.usable.gives_data known.kinds used.result used.results_are)
     (scalars (length params)) (scalars_are params) stuck

@@ -23,7 +23,7 @@ use Rattle.type_infer.specs.Inferring.{Told_by}
 use Rattle.type_scopes.specs.declared.Inference.{Inference}
 use Rattle.typed_programs.specs.Entries.{May_be_used}
 use Rattle.typed_programs.specs.Typed.{Typed_by, integer_at}
-use Rattle.unfold.specs.Programs.{Program_unfolds}
+use Rattle.unfold_parts.specs.Unsized.{Program_unfolds}
 use Rattle.unfold.specs.Shapes.{Shape, Shapes, All_split}
 use Rattle.unfolded_runs.specs.Results.{Are_arguments, components_of, opened}
 

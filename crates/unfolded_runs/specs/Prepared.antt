@@ -10,7 +10,7 @@ use Rattle.fut_meaning.specs.Flats.{named_terms, flat_tops}
 use Rattle.fut_meaning.specs.Measures.{Measures}
 use Rattle.fut_blocks.specs.declared.block.Program.{Program}
 use Rattle.typed_programs.specs.Typed.{integer_at}
-use Rattle.unfold.specs.Programs.{Program_unfolds}
+use Rattle.unfold_parts.specs.Unsized.{Program_unfolds}
 use Rattle.unfold.specs.Shapes.{Shape}
 use Rattle.unfold_program.specs.Whole.{scalars}
 use Rattle.unfolded_runs.specs.declared.preparing.PrepareErr.{PrepareErr}

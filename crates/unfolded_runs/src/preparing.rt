@@ -6,7 +6,7 @@ ghost use Rattle.fut_meaning.specs.Flats.{flat_tops, named_terms};
 ghost use Rattle.fut_meaning.specs.Measures.{Measures};
 ghost use Rattle.typed_programs.specs.Known.{Is_known};
 ghost use Rattle.typed_programs.specs.Typed.{integer_at};
-ghost use Rattle.unfold.specs.Stuck.{Program_stuck};
+ghost use Rattle.unfold_parts.specs.Unsized.{Program_stuck};
 ghost use Rattle.unfold_program.specs.Whole.{scalars};
 ghost use Rattle.unfolded_runs.specs.Claims.{Is_usable};
 ghost use Rattle.unfolded_runs.specs.Prepared.{Is_blocks, Is_past, Is_prepared};

@@ -1,0 +1,3 @@
+pub mod PartForms
+pub mod FieldForms
+pub mod Worths

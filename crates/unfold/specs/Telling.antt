@@ -1,0 +1,395 @@
+-- What the meaning finds of sizes in values that were entered, and what it lets functions tell of their results, found in what
+-- is known of them before the program runs: the same search on rows in place of shapes. Where a shape is not known, what is
+-- sought may stand in several places, of which the first that is there counts when the program runs.
+use Rattle.std.specs.Prelude.{ℕ, zero, suc, ◌-◌, ◌++◌, Bool, true, false, ◌&&◌, cond, nat_eq, List, [], ◌∷◌, map, Option, Some, None}
+use Rattle.fut_scalar.specs.declared.scalar.IntType.TheVariants.{I32, I64}
+use Rattle.fut_scalar.specs.declared.scalar.ScalarType.TheVariants as sort
+use Rattle.fut_ast.specs.Sorts.{Text}
+use Rattle.fut_flat.specs.declared.prim.Primitive.{Primitive}
+use Rattle.fut_flat.specs.declared.prim.Primitive.TheVariants as prim
+use Rattle.fut_flat.specs.Numbers.{all_pattern_numbers}
+use Rattle.fut_types.specs.declared.Head.{Head}
+use Rattle.fut_types.specs.declared.Head.TheVariants as head
+use Rattle.sized_types.specs.Sizes.{Free, Const, Name, Dim, At, Bound, Variable, is_variable, Size, Hole, Open, Level, Built, Fun, Sizes, no_size, size_and, is_dim}
+use Rattle.sized_types.specs.Standing.{is_known, gives_chosen}
+use Rattle.fut_meaning.specs.Found.{Sizing}
+use Rattle.fut_meaning.specs.Telling.{nodes_from}
+use Rattle.fut_meaning.specs.Values.{is_before}
+use Rattle.fut_blocks.specs.declared.block.Atom.{Atom}
+use Rattle.fut_blocks.specs.Rows.{Row, Unknown_row, Scalar_row, Tuple_row, Record_row, Array_row, Shape_of, Rows_of, Part_of, Field_of, Unzipped_row, First_of, Rows, no_row, row_and, Named_rows, no_named_row, named_row_and, Extent, Reading, Exactly, Worth_of, Length_of, Size_test, Any_size, Array_test, Tuple_test, Record_test, Size_tests, no_test, test_and, Named_tests, no_named_test, named_test_and, rows, extent}
+use Rattle.unfold.specs.Knowns.{Known, Scalar_known, Tuple_known, Record_known, Function_known, Primitive_known, Knowns, no_known, known_and, Known_fields, no_known_field, known_field_and, Scope, no_name, branch, entry}
+
+-- the first that is there, or else what nothing has given
+abbrev pub or_unknown : List Row → Row
+or_unknown rs = First_of (rows (rs ++ Unknown_row ∷ []))
+
+-- ---- where a sized type has its levels and type variables, in data of a shape
+
+abbrev pub in_head : {A : Type 0} → Head → List A → (ℕ → List A) → List A
+in_head head.Tuple parts named = parts
+in_head (head.Record n) parts named = named n
+in_head h parts named = []
+
+module _ (fields : ℕ → List Text) {A : Type 0} (at_level : Dim → Row → List A) (at_hole : Variable → Row → List A) where
+  -- all places, in their order
+  unfoldable mutual
+    pub sought : Size → Row → List A
+    sought (Hole v) r = at_hole v r
+    sought (Open n v u) r = []
+    sought (Level d t) r = at_level d r ++ sought t (Rows_of r)
+    sought (Built h ts) r = in_head h (all_sought 0 ts r) (λ n. named_sought (fields n) ts r)
+    sought (Fun k p q) r = []
+
+    pub all_sought : ℕ → Sizes → Row → List A
+    all_sought k no_size r = []
+    all_sought k (size_and t ts) r = sought t (Part_of k r) ++ all_sought (suc k) ts r
+
+    pub named_sought : List Text → Sizes → Row → List A
+    named_sought fs no_size r = []
+    named_sought [] (size_and t ts) r = []
+    named_sought (f ∷ fs) (size_and t ts) r = sought t (Field_of f r) ++ named_sought fs ts r
+
+abbrev pub length_if : Dim → Dim → Row → List Reading
+length_if x d r = cond (is_dim d x) (Length_of r ∷ []) []
+
+abbrev pub row_if : Variable → Variable → Row → List Row
+row_if x v r = cond (is_variable v x) (r ∷ []) []
+
+abbrev pub size_in : (ℕ → List Text) → Dim → Size → Row → List Reading
+size_in fields x = sought fields (length_if x) (λ v r. [])
+
+abbrev pub type_in : (ℕ → List Text) → Variable → Size → Row → List Row
+type_in fields x = sought fields (λ d r. []) (row_if x)
+
+-- ---- data of a sized type, where sizes have these extents and type variables stand for these rows
+
+abbrev pub with_named : Text → Row → Named_rows → Named_rows
+with_named f r no_named_row = named_row_and f r no_named_row
+with_named f r (named_row_and g q rs) = cond (is_before f g) (named_row_and f r (named_row_and g q rs)) (named_row_and g q (with_named f r rs))
+
+-- in order of the names
+abbrev pub named_rows : List Text → Rows → Named_rows
+named_rows [] rs = no_named_row
+named_rows (f ∷ fs) no_row = no_named_row
+named_rows (f ∷ fs) (row_and r rs) = with_named f r (named_rows fs rs)
+
+abbrev pub headed : Head → Rows → (ℕ → Named_rows) → Row
+headed (head.Scalar s) rs named = Scalar_row s
+headed head.Tuple rs named = Tuple_row rs
+headed (head.Record n) rs named = Record_row (named n)
+headed h rs named = Unknown_row
+
+unfoldable mutual
+  pub told_row : (ℕ → List Text) → (Dim → Extent) → (Variable → Row) → Size → Row
+  told_row fields number type (Hole v) = type v
+  told_row fields number type (Open n v u) = Unknown_row
+  told_row fields number type (Level d t) = Array_row (number d) (told_row fields number type t)
+  told_row fields number type (Built h ts) = headed h (told_rows fields number type ts) (λ n. named_rows (fields n) (told_rows fields number type ts))
+  told_row fields number type (Fun k p r) = Unknown_row
+
+  pub told_rows : (ℕ → List Text) → (Dim → Extent) → (Variable → Row) → Sizes → Rows
+  told_rows fields number type no_size = no_row
+  told_rows fields number type (size_and t ts) = row_and (told_row fields number type t) (told_rows fields number type ts)
+
+-- in the result of a function type, whose parameter's data has a shape: the sizes that the caller chooses stand in that
+abbrev pub pushed : (ℕ → List Text) → Size → Row → (Dim → Extent) → Dim → Extent
+pushed fields p r number (At d) = number (At d)
+pushed fields p r number (Bound zero i) = extent (size_in fields (Bound 0 i) p r)
+pushed fields p r number (Bound (suc j) i) = number (Bound j i)
+
+abbrev pub typed_by : (ℕ → List Text) → Size → Row → (Variable → Row) → Variable → Row
+typed_by fields p r type v = First_of (rows (type_in fields v p r ++ type v ∷ []))
+
+-- what a function of a sized type gives for arguments of these shapes
+unfoldable pub result_row : (ℕ → List Text) → (Dim → Extent) → (Variable → Row) → Size → List Row → Row
+result_row fields number type t [] = told_row fields number type t
+result_row fields number type (Fun k p r) (h ∷ hs) = result_row fields (pushed fields p h number) (typed_by fields p h type) r hs
+result_row fields number type t (h ∷ hs) = Unknown_row
+
+-- ---- what is found: where the integers stand that sizes are worth, and what type variables stand for
+
+pub record Found : Type 0 where
+  pub size : Free → List Reading
+  pub type : Variable → List Row
+
+abbrev pub nothing_found : Found
+nothing_found = record { size = λ d. []; type = λ v. [] }
+
+-- a constant is worth itself
+abbrev pub worth : Found → Dim → List Reading
+worth W (At (Const c)) = Exactly c ∷ []
+worth W (At d) = W.size d
+worth W (Bound j i) = []
+
+abbrev pub number : Found → Dim → Extent
+number W d = extent (worth W d)
+
+abbrev pub row_found : Found → Variable → Row
+row_found W v = or_unknown (W.type v)
+
+-- data of a sized type has a shape
+abbrev pub with_data : (ℕ → List Text) → Size → Row → Found → Found
+with_data fields t r W = record { size = λ d. size_in fields (At d) t r ++ W.size d; type = λ v. type_in fields v t r ++ W.type v }
+
+-- a function's parameter, where each size that the caller chooses is 0
+abbrev pub chosen_none : Dim → Extent
+chosen_none (At (Const c)) = extent (Exactly c ∷ [])
+chosen_none d = extent []
+
+abbrev pub chosen_row : (ℕ → List Text) → Size → Row
+chosen_row fields p = told_row fields chosen_none (λ v. Unknown_row) p
+
+abbrev pub if_told : Bool → Found → Found → Found
+if_told true told W = told
+if_told false told W = W
+
+-- a function of a sized type tells this of its results
+unfoldable pub with_results : (ℕ → List Text) → Size → (List Row → Row) → Found → Found
+with_results fields (Fun k p r) tell W = if_told (is_known p && gives_chosen k r) (with_data fields r (tell (chosen_row fields p ∷ [])) W) W
+with_results fields t tell W = W
+
+abbrev pub named_worth : (ℕ → ℕ) → ℕ → List Reading → Free → List Reading
+named_worth home q gs (Name b) = cond (nat_eq (home b) q) gs []
+named_worth home q gs d = []
+
+-- the name that the pattern at a node binds is worth this
+abbrev pub with_worth : (ℕ → ℕ) → ℕ → List Reading → Found → Found
+with_worth home q gs W = record { size = λ d. named_worth home q gs d ++ W.size d; type = W.type }
+
+-- ---- primitives
+
+-- data that a primitive has as an argument: its shape, and what it is worth as a size
+abbrev pub Argument : Type 0
+Argument = Row × List Reading
+
+-- what the result is, or so many rows of what its function tells for arguments of these shapes
+pub data Telling : Type 0 where
+  Of_row : Row → Telling
+  Of_rows : Extent → List Row → Telling
+
+abbrev pub by_function : (List Row → Row) → Telling → Row
+by_function f (Of_row r) = r
+by_function f (Of_rows e rs) = Array_row e (f rs)
+
+abbrev pub rows_in : Row → Row
+rows_in r = or_unknown (Rows_of r ∷ [])
+
+abbrev pub length_of : Row → Extent
+length_of r = extent (Length_of r ∷ [])
+
+abbrev pub argument_row : Argument → Row
+argument_row a = rows_in a.0
+
+abbrev pub i64_row : Row
+i64_row = Scalar_row (sort.Int I64)
+
+abbrev pub same_row : List Argument → Telling
+same_row (a ∷ []) = Of_row a.0
+same_row bs = Of_row Unknown_row
+
+abbrev pub mapped_rows : List Argument → Telling
+mapped_rows [] = Of_row Unknown_row
+mapped_rows (a ∷ bs) = Of_rows (length_of a.0) (map argument_row (a ∷ bs))
+
+abbrev pub first_row : List Argument → Telling
+first_row [] = Of_row Unknown_row
+first_row (a ∷ bs) = Of_row a.0
+
+abbrev pub last_row : List Argument → Telling
+last_row [] = Of_row Unknown_row
+last_row (a ∷ []) = Of_row a.0
+last_row (a ∷ b ∷ bs) = last_row (b ∷ bs)
+
+abbrev pub element_row : List Argument → Telling
+element_row (a ∷ []) = Of_row (rows_in a.0)
+element_row bs = Of_row Unknown_row
+
+abbrev pub zipped_row : List Argument → Telling
+zipped_row [] = Of_row Unknown_row
+zipped_row (a ∷ bs) = Of_row (Array_row (length_of a.0) (Tuple_row (rows (map argument_row (a ∷ bs)))))
+
+abbrev pub unzipped_row : List Argument → Telling
+unzipped_row (a ∷ []) = Of_row (Unzipped_row (length_of a.0) (rows_in a.0))
+unzipped_row bs = Of_row Unknown_row
+
+abbrev pub replicated : List Argument → Telling
+replicated (n ∷ a ∷ []) = Of_row (Array_row (extent n.1) a.0)
+replicated bs = Of_row Unknown_row
+
+abbrev pub counted : List Argument → Telling
+counted (n ∷ []) = Of_row (Array_row (extent n.1) i64_row)
+counted bs = Of_row Unknown_row
+
+abbrev pub tabulated : List Argument → Telling
+tabulated (n ∷ []) = Of_rows (extent n.1) (i64_row ∷ [])
+tabulated bs = Of_row Unknown_row
+
+abbrev pub indices_row : List Argument → Telling
+indices_row (a ∷ []) = Of_row (Array_row (length_of a.0) i64_row)
+indices_row bs = Of_row Unknown_row
+
+abbrev pub unflattened : List Argument → Telling
+unflattened (n ∷ m ∷ a ∷ []) = Of_row (Array_row (extent n.1) (Array_row (extent m.1) (rows_in a.0)))
+unflattened bs = Of_row Unknown_row
+
+abbrev pub transposed : List Argument → Telling
+transposed (a ∷ []) = Of_row (Array_row (length_of (rows_in a.0)) (Array_row (length_of a.0) (rows_in (rows_in a.0))))
+transposed bs = Of_row Unknown_row
+
+-- one line a primitive, as the meaning has it
+unfoldable pub primitive_tells : Primitive → List Argument → Telling
+primitive_tells prim.Map bs = mapped_rows bs
+primitive_tells prim.Map2 bs = mapped_rows bs
+primitive_tells prim.Map3 bs = mapped_rows bs
+primitive_tells prim.Map4 bs = mapped_rows bs
+primitive_tells prim.Map5 bs = mapped_rows bs
+primitive_tells prim.Reduce bs = first_row bs
+primitive_tells prim.ReduceComm bs = first_row bs
+primitive_tells prim.Scan bs = last_row bs
+primitive_tells prim.Scatter bs = first_row bs
+primitive_tells prim.ReduceByIndex bs = first_row bs
+primitive_tells prim.Zip bs = zipped_row bs
+primitive_tells prim.Zip3 bs = zipped_row bs
+primitive_tells prim.Unzip bs = unzipped_row bs
+primitive_tells prim.Unzip3 bs = unzipped_row bs
+primitive_tells prim.Iota bs = counted bs
+primitive_tells prim.Replicate bs = replicated bs
+primitive_tells prim.Tabulate bs = tabulated bs
+primitive_tells prim.Indices bs = indices_row bs
+primitive_tells prim.Length bs = Of_row i64_row
+primitive_tells prim.Null bs = Of_row (Scalar_row sort.Bool)
+primitive_tells prim.Head bs = element_row bs
+primitive_tells prim.Last bs = element_row bs
+primitive_tells prim.Reverse bs = same_row bs
+primitive_tells prim.Rotate bs = last_row bs
+primitive_tells prim.Unflatten bs = unflattened bs
+primitive_tells prim.Transpose bs = transposed bs
+primitive_tells prim.Copy bs = same_row bs
+primitive_tells (prim.Convert to from) bs = Of_row (Scalar_row to)
+primitive_tells (prim.Min t) bs = Of_row (Scalar_row (sort.Int t))
+primitive_tells (prim.Max t) bs = Of_row (Scalar_row (sort.Int t))
+primitive_tells (prim.Abs t) bs = Of_row (Scalar_row (sort.Int t))
+primitive_tells (prim.Popc t) bs = Of_row (Scalar_row (sort.Int I32))
+primitive_tells (prim.Fold k t) bs = Of_row (Scalar_row (sort.Int t))
+primitive_tells p bs = Of_row Unknown_row
+
+-- ---- what is known of values
+
+-- where a value's worth as a size stands
+abbrev pub known_worth : Known → List Reading
+known_worth (Scalar_known u) = Worth_of u ∷ []
+known_worth s = []
+
+-- the shape of a value; that of a function is not known
+unfoldable mutual
+  pub known_row : Known → Row
+  known_row (Scalar_known u) = Shape_of u
+  known_row (Tuple_known ss) = Tuple_row (known_rows ss)
+  known_row (Record_known fs) = Record_row (field_rows fs)
+  known_row (Function_known ps e lo sc) = Unknown_row
+  known_row (Primitive_known p at ss) = Unknown_row
+
+  pub known_rows : Knowns → Rows
+  known_rows no_known = no_row
+  known_rows (known_and s ss) = row_and (known_row s) (known_rows ss)
+
+  pub field_rows : Known_fields → Named_rows
+  field_rows no_known_field = no_named_row
+  field_rows (known_field_and f s fs) = named_row_and f (known_row s) (field_rows fs)
+
+abbrev pub is_function : Known → Bool
+is_function (Function_known ps e lo sc) = true
+is_function (Primitive_known p at ss) = true
+is_function s = false
+
+-- the arguments of a primitive that are data, and those that are still to come
+unfoldable pub data_told : Knowns → List Argument → List Argument
+data_told no_known bs = bs
+data_told (known_and s ss) bs = cond (is_function s) (data_told ss bs) ((known_row s, known_worth s) ∷ data_told ss bs)
+
+abbrev pub to_come : List Row → List Argument
+to_come [] = []
+to_come (r ∷ rs) = (r, []) ∷ to_come rs
+
+module _ (Z : Sizing) where
+  -- what a function gives whose parameters' patterns stand at these nodes, and whose body's first is `lo`
+  unfoldable pub closure_tells : List ℕ → ℕ → List Row → Found → Row
+  closure_tells [] lo rs W = result_row Z.fields (number W) (row_found W) (Z.size_at lo) rs
+  closure_tells (q ∷ qs) lo [] W = Unknown_row
+  closure_tells (q ∷ qs) lo (r ∷ rs) W = closure_tells qs lo rs (with_data Z.fields (Z.size_at q) r W)
+
+  unfoldable mutual
+    -- what is found under these names
+    pub found : Scope → Found
+    found no_name = nothing_found
+    found (branch b s even odd) = nothing_found
+    found (entry q s sc) = with_worth Z.home q (known_worth s) (with_data Z.fields (Z.size_at q) (known_row s) (with_results Z.fields (Z.size_at q) (tells s) (found sc)))
+
+    -- what a function gives for arguments of these shapes
+    pub tells : Known → List Row → Row
+    tells (Scalar_known u) rs = Unknown_row
+    tells (Tuple_known ss) rs = Unknown_row
+    tells (Record_known fs) rs = Unknown_row
+    tells (Function_known ps e lo sc) rs = closure_tells (nodes_from ps (lo - all_pattern_numbers ps)) lo rs (found sc)
+    tells (Primitive_known p at ss) rs = by_function (function_tells ss) (primitive_tells p (data_told ss (to_come rs)))
+
+    -- by the one function among the arguments of a primitive
+    pub function_tells : Knowns → List Row → Row
+    function_tells no_known rs = Unknown_row
+    function_tells (known_and s ss) rs = cond (is_function s) (tells s rs) (function_tells ss rs)
+
+-- the rows of the arguments of a primitive's function, where it has these data
+abbrev pub rows_for : Primitive → List Atom → List Row
+rows_for prim.Tabulate us = i64_row ∷ []
+rows_for p us = map (λ u. rows_in (Shape_of u)) us
+
+-- ---- the sizes that data has to have
+
+abbrev pub head_test : Head → Size_tests → (ℕ → Named_tests) → Size_test
+head_test head.Tuple parts named = Tuple_test parts
+head_test (head.Record n) parts named = Record_test (named n)
+head_test h parts named = Any_size
+
+unfoldable mutual
+  pub size_test : (ℕ → List Text) → Found → Size → Size_test
+  size_test fields W (Hole v) = Any_size
+  size_test fields W (Open n v u) = Any_size
+  size_test fields W (Level d t) = Array_test (number W d) (size_test fields W t)
+  size_test fields W (Built h ts) = head_test h (size_tests fields W ts) (λ n. named_tests fields W (fields n) ts)
+  size_test fields W (Fun k p r) = Any_size
+
+  pub size_tests : (ℕ → List Text) → Found → Sizes → Size_tests
+  size_tests fields W no_size = no_test
+  size_tests fields W (size_and t ts) = test_and (size_test fields W t) (size_tests fields W ts)
+
+  pub named_tests : (ℕ → List Text) → Found → List Text → Sizes → Named_tests
+  named_tests fields W fs no_size = no_named_test
+  named_tests fields W [] (size_and t ts) = no_named_test
+  named_tests fields W (f ∷ fs) (size_and t ts) = named_test_and f (size_test fields W t) (named_tests fields W fs ts)
+
+-- ---- where there is a sizing
+
+-- the row of an array literal at a node without elements
+abbrev pub literal_row : Option Sizing → Scope → ℕ → Row
+literal_row None sc lo = Unknown_row
+literal_row (Some Z) sc lo = Rows_of (told_row Z.fields (number (found Z sc)) (row_found (found Z sc)) (Z.size_at lo))
+
+-- a result of the function of a primitive with these data
+abbrev pub function_row : Option Sizing → Primitive → Known → List Atom → Row
+function_row None p f us = Unknown_row
+function_row (Some Z) p f us = tells Z f (rows_for p us)
+
+-- the sizes of the type at a node
+abbrev pub test_at : Option Sizing → Scope → ℕ → Option Size_test
+test_at None sc lo = None
+test_at (Some Z) sc lo = Some (size_test Z.fields (found Z sc) (Z.size_at lo))
+
+-- where a number is that of a size, what the size is worth
+abbrev pub size_used : Option Sizing → Scope → ℕ → Option Extent
+size_used None sc k = None
+size_used (Some Z) sc k = cond (Z.is_size k) (Some (number (found Z sc) (At (Name k)))) None
+
+-- the names, where a pattern at a node was entered with what is known
+abbrev pub enter : Option Sizing → ℕ → Known → Scope → Scope
+enter None q s sc = sc
+enter (Some Z) q s sc = entry q s sc

@@ -1,0 +1,435 @@
+-- Where all atoms of what was entered under names have a property, so have those of the rows, extents and tests that are found there.
+use Rattle.std.proofs.Common.{Bool, true, false, cond, ◌++◌, ℕ, zero, suc, ◌-◌, List, [], ◌∷◌, map, Option, Some, None, nat_eq, ◌&&◌}
+use Rattle.fut_ast.specs.Sorts.{Text}
+use Rattle.fut_flat.specs.declared.prim.Primitive.{Primitive}
+use Rattle.fut_flat.specs.declared.prim.Primitive.TheVariants as prim
+use Rattle.fut_flat.specs.Numbers.{all_pattern_numbers}
+use Rattle.fut_types.specs.declared.Head.{Head}
+use Rattle.fut_types.specs.declared.Head.TheVariants as head
+use Rattle.sized_types.specs.Sizes.{Free, Const, Name, Dim, At, Bound, Variable, is_variable, Size, Hole, Open, Level, Built, Fun, Sizes, no_size, size_and, is_dim}
+use Rattle.sized_types.specs.Standing.{is_known, gives_chosen}
+use Rattle.fut_meaning.specs.Found.{Sizing}
+use Rattle.fut_meaning.specs.Telling.{nodes_from}
+use Rattle.fut_meaning.specs.Values.{is_before}
+use Rattle.fut_meaning.proofs.Safe.{Every}
+use Rattle.fut_blocks.specs.declared.block.Atom.{Atom}
+use Rattle.fut_blocks.specs.Rows.{Row, Unknown_row, Shape_of, Rows_of, Part_of, Field_of, Size_tests, Named_tests, Rows, no_row, row_and, Named_rows, no_named_row, named_row_and, Extent, Reading, Length_of, rows, extent}
+use Rattle.fut_types.specs.Types.{Tys, none, more}
+use Rattle.type_soundness.proofs.Making.{every_more}
+use Rattle.unfold.specs.Knowns.{Known, Scalar_known, Tuple_known, Record_known, Function_known, Primitive_known, Knowns, no_known, known_and, Known_fields, no_known_field, known_field_and, Scope, no_name, branch, entry}
+use Rattle.unfold.specs.Telling.{or_unknown, in_head, sought, all_sought, named_sought, length_if, row_if, size_in, type_in, with_named, named_rows, headed, told_row, told_rows, pushed, typed_by, result_row, Found, nothing_found, worth, number, row_found, with_data, chosen_none, chosen_row, if_told, with_results, named_worth, with_worth, Argument, Telling, Of_row, Of_rows, by_function, rows_in, argument_row, same_row, mapped_rows, first_row, last_row, element_row, zipped_row, unzipped_row, replicated, counted, tabulated, indices_row, unflattened, transposed, primitive_tells, known_worth, known_row, known_rows, field_rows, is_function, data_told, to_come, closure_tells, found, tells, function_tells, rows_for, head_test, size_test, size_tests, named_tests, literal_row, function_row, test_at, size_used, enter}
+use Rattle.unfold_laws.specs.Entered.{All_in_known, All_in_knowns, All_in_known_fields, All_entered}
+use Rattle.unfold_laws.specs.Typed.{Types, Are, Stands}
+use Rattle.unfold_laws.specs.Standing.{All_in_row, All_in_rows, All_in_fields, All_in_extent, All_in_reading, All_in_test, All_in_tests, All_in_field_tests}
+
+-- of what there may be
+abbrev pub On_some : {A : Type 0} → (A → Type 0) → Option A → Type 0
+On_some Q None = Unit {0}
+On_some Q (Some a) = Q a
+
+one_if : {A : Type 0} (Q : A → Type 0) (b : Bool) (x : A) → Q x → Every Q (cond b (x ∷ []) [])
+one_if Q true x h = (h, tt)
+one_if Q false x h = tt
+
+all_if : {A : Type 0} (Q : A → Type 0) (b : Bool) (x y : A) → Q x → Q y → Q (cond b x y)
+all_if Q true x y h k = h
+all_if Q false x y h k = k
+
+every_if : {A : Type 0} (Q : A → Type 0) (b : Bool) (xs : List A) → Every Q xs → Every Q (cond b xs [])
+every_if Q true xs h = h
+every_if Q false xs h = tt
+
+in_head_all : {A : Type 0} (Q : A → Type 0) (h : Head) (parts : List A) (named : ℕ → List A) → Every Q parts → ((n : ℕ) → Every Q (named n)) → Every Q (in_head h parts named)
+in_head_all Q head.Tuple parts named p n = p
+in_head_all Q (head.Record k) parts named p n = n k
+in_head_all Q h parts named p n = tt
+
+module _ (P : Atom → Type 0) where
+  abbrev Row_all : Row → Type 0
+  Row_all r = All_in_row P r
+
+  abbrev Reading_all : Reading → Type 0
+  Reading_all g = All_in_reading P g
+
+  -- ---- lists as rows and extents
+  rows_all : (rs : List Row) → Every Row_all rs → All_in_rows P (rows rs)
+  rows_all [] h = tt
+  rows_all (r ∷ rs) h = (h.0, rows_all rs h.1)
+
+  extent_all : (gs : List Reading) → Every Reading_all gs → All_in_extent P (extent gs)
+  extent_all [] h = tt
+  extent_all (g ∷ gs) h = (h.0, extent_all gs h.1)
+
+  or_unknown_all : (rs : List Row) → Every Row_all rs → Row_all (or_unknown rs)
+  or_unknown_all rs h = rows_all (rs ++ Unknown_row ∷ []) (every_more Row_all rs (Unknown_row ∷ []) h (tt, tt))
+
+  -- ---- what is sought
+  module _ {A : Type 0} (Q : A → Type 0) (fields : ℕ → List Text) (at_level : Dim → Row → List A) (at_hole : Variable → Row → List A) (level : (d : Dim) (r : Row) → Row_all r → Every Q (at_level d r)) (hole : (v : Variable) (r : Row) → Row_all r → Every Q (at_hole v r)) where
+    mutual
+      unfolding sought all_sought named_sought
+
+      sought_of : (t : Size) (r : Row) → Row_all r → Every Q (sought fields at_level at_hole t r)
+      sought_of (Hole v) r h = hole v r h
+      sought_of (Open n v u) r h = tt
+      sought_of (Level d t) r h = every_more Q (at_level d r) _ (level d r h) (sought_of t (Rows_of r) h)
+      sought_of (Built k ts) r h = in_head_all Q k _ _ (parts_of 0 ts r h) (λ n. fields_of (fields n) ts r h)
+      sought_of (Fun k p q) r h = tt
+
+      parts_of : (k : ℕ) (ts : Sizes) (r : Row) → Row_all r → Every Q (all_sought fields at_level at_hole k ts r)
+      parts_of k no_size r h = tt
+      parts_of k (size_and t ts) r h = every_more Q _ _ (sought_of t (Part_of k r) h) (parts_of (suc k) ts r h)
+
+      fields_of : (fs : List Text) (ts : Sizes) (r : Row) → Row_all r → Every Q (named_sought fields at_level at_hole fs ts r)
+      fields_of fs no_size r h = tt
+      fields_of [] (size_and t ts) r h = tt
+      fields_of (f ∷ fs) (size_and t ts) r h = every_more Q _ _ (sought_of t (Field_of f r) h) (fields_of fs ts r h)
+
+  module _ (fields : ℕ → List Text) where
+    size_in_all : (x : Dim) (t : Size) (r : Row) → Row_all r → Every Reading_all (size_in fields x t r)
+    size_in_all x t r h = sought_of Reading_all fields (length_if x) (λ v r. []) (λ d r k. one_if Reading_all (is_dim d x) (Length_of r) k) (λ v r k. tt) t r h
+
+    type_in_all : (x : Variable) (t : Size) (r : Row) → Row_all r → Every Row_all (type_in fields x t r)
+    type_in_all x t r h = sought_of Row_all fields (λ d r. []) (row_if x) (λ d r k. tt) (λ v r k. one_if Row_all (is_variable v x) r k) t r h
+
+    -- ---- rows of sized types
+    with_named_all : (f : Text) (r : Row) (fs : Named_rows) → Row_all r → All_in_fields P fs → All_in_fields P (with_named f r fs)
+    with_named_all f r no_named_row h k = (h, tt)
+    with_named_all f r (named_row_and g q fs) h k = all_if (All_in_fields P) (is_before f g) (named_row_and f r (named_row_and g q fs)) (named_row_and g q (with_named f r fs)) (h, k) (k.0, with_named_all f r fs h k.1)
+
+    named_rows_all : (fs : List Text) (rs : Rows) → All_in_rows P rs → All_in_fields P (named_rows fs rs)
+    named_rows_all [] rs h = tt
+    named_rows_all (f ∷ fs) no_row h = tt
+    named_rows_all (f ∷ fs) (row_and r rs) h = with_named_all f r (named_rows fs rs) h.0 (named_rows_all fs rs h.1)
+
+    headed_all : (k : Head) (rs : Rows) (named : ℕ → Named_rows) → All_in_rows P rs → ((n : ℕ) → All_in_fields P (named n)) → Row_all (headed k rs named)
+    headed_all (head.Scalar s) rs named h n = tt
+    headed_all head.Tuple rs named h n = h
+    headed_all (head.Record m) rs named h n = n m
+    headed_all k rs named h n = tt
+
+    module _ (of_dims : Dim → Extent) (type : Variable → Row) (dims : (d : Dim) → All_in_extent P (of_dims d)) (types : (v : Variable) → Row_all (type v)) where
+      mutual
+        unfolding told_row told_rows
+
+        told_all : (t : Size) → Row_all (told_row fields of_dims type t)
+        told_all (Hole v) = types v
+        told_all (Open n v u) = tt
+        told_all (Level d t) = (dims d, told_all t)
+        told_all (Built k ts) = headed_all k (told_rows fields of_dims type ts) _ (all_told ts) (λ n. named_rows_all (fields n) (told_rows fields of_dims type ts) (all_told ts))
+        told_all (Fun k p r) = tt
+
+        all_told : (ts : Sizes) → All_in_rows P (told_rows fields of_dims type ts)
+        all_told no_size = tt
+        all_told (size_and t ts) = (told_all t, all_told ts)
+
+    pushed_all : (p : Size) (r : Row) (of_dims : Dim → Extent) → Row_all r → ((d : Dim) → All_in_extent P (of_dims d)) → (d : Dim) → All_in_extent P (pushed fields p r of_dims d)
+    pushed_all p r of_dims h n (At d) = n (At d)
+    pushed_all p r of_dims h n (Bound zero i) = extent_all (size_in fields (Bound 0 i) p r) (size_in_all (Bound 0 i) p r h)
+    pushed_all p r of_dims h n (Bound (suc j) i) = n (Bound j i)
+
+    typed_by_all : (p : Size) (r : Row) (type : Variable → Row) → Row_all r → ((v : Variable) → Row_all (type v)) → (v : Variable) → Row_all (typed_by fields p r type v)
+    typed_by_all p r type h n v = rows_all (type_in fields v p r ++ type v ∷ []) (every_more Row_all (type_in fields v p r) (type v ∷ []) (type_in_all v p r h) (n v, tt))
+
+    result_all : (t : Size) (rs : List Row) (of_dims : Dim → Extent) (type : Variable → Row) → ((d : Dim) → All_in_extent P (of_dims d)) → ((v : Variable) → Row_all (type v)) → Every Row_all rs → Row_all (result_row fields of_dims type t rs)
+    unfolding result_row
+    result_all (Hole v) [] of_dims type d n h = told_all of_dims type d n (Hole v)
+    result_all (Open k v u) [] of_dims type d n h = told_all of_dims type d n (Open k v u)
+    result_all (Level x t) [] of_dims type d n h = told_all of_dims type d n (Level x t)
+    result_all (Built k ts) [] of_dims type d n h = told_all of_dims type d n (Built k ts)
+    result_all (Fun k p t) [] of_dims type d n h = told_all of_dims type d n (Fun k p t)
+    result_all (Fun k p t) (r ∷ rs) of_dims type d n h = result_all t rs (pushed fields p r of_dims) (typed_by fields p r type) (pushed_all p r of_dims h.0 d) (typed_by_all p r type h.0 n) h.1
+    result_all (Hole v) (r ∷ rs) of_dims type d n h = tt
+    result_all (Open k v u) (r ∷ rs) of_dims type d n h = tt
+    result_all (Level x t) (r ∷ rs) of_dims type d n h = tt
+    result_all (Built k ts) (r ∷ rs) of_dims type d n h = tt
+
+  -- ---- what is found
+  record Found_all (W : Found) : Type 0 where
+    sizes : (d : Free) → Every Reading_all (W.size d)
+    types : (v : Variable) → Every Row_all (W.type v)
+
+  nothing_all : Found_all nothing_found
+  nothing_all = record { sizes = λ d. tt; types = λ v. tt }
+
+  worth_all : (W : Found) → Found_all W → (d : Dim) → Every Reading_all (worth W d)
+  worth_all W f (At (Const c)) = (tt, tt)
+  worth_all W f (At d) = f.sizes d
+  worth_all W f (Bound j i) = tt
+
+  number_all : (W : Found) → Found_all W → (d : Dim) → All_in_extent P (number W d)
+  number_all W f d = extent_all (worth W d) (worth_all W f d)
+
+  row_found_all : (W : Found) → Found_all W → (v : Variable) → Row_all (row_found W v)
+  row_found_all W f v = or_unknown_all (W.type v) (f.types v)
+
+  module _ (fields : ℕ → List Text) where
+    with_data_all : (t : Size) (r : Row) (W : Found) → Row_all r → Found_all W → Found_all (with_data fields t r W)
+    with_data_all t r W h f = record {
+      sizes = λ d. every_more Reading_all (size_in fields (At d) t r) (W.size d) (size_in_all fields (At d) t r h) (f.sizes d);
+      types = λ v. every_more Row_all (type_in fields v t r) (W.type v) (type_in_all fields v t r h) (f.types v);
+    }
+
+    none_all : (d : Dim) → All_in_extent P (chosen_none d)
+    none_all (At (Const c)) = (tt, tt)
+    none_all d = tt
+
+    chosen_all : (p : Size) → Row_all (chosen_row fields p)
+    chosen_all p = told_all fields chosen_none (λ v. Unknown_row) none_all (λ v. tt) p
+
+    results_all : (t : Size) (tell : List Row → Row) (W : Found) → ((rs : List Row) → Every Row_all rs → Row_all (tell rs)) → Found_all W → Found_all (with_results fields t tell W)
+    unfolding with_results
+    results_all (Fun k p r) tell W told f = if_told_all (is_known p && gives_chosen k r) (with_data fields r (tell (chosen_row fields p ∷ [])) W) W (with_data_all r (tell (chosen_row fields p ∷ [])) W (told (chosen_row fields p ∷ []) (chosen_all p, tt)) f) f
+      where
+        if_told_all : (b : Bool) (V W : Found) → Found_all V → Found_all W → Found_all (if_told b V W)
+        if_told_all true V W f g = f
+        if_told_all false V W f g = g
+    results_all (Hole v) tell W told f = f
+    results_all (Open n v u) tell W told f = f
+    results_all (Level d t) tell W told f = f
+    results_all (Built k ts) tell W told f = f
+
+  named_worth_all : (home : ℕ → ℕ) (q : ℕ) (gs : List Reading) → Every Reading_all gs → (d : Free) → Every Reading_all (named_worth home q gs d)
+  named_worth_all home q gs h (Name b) = every_if Reading_all (nat_eq (home b) q) gs h
+  named_worth_all home q gs h d = tt
+
+  with_worth_all : (home : ℕ → ℕ) (q : ℕ) (gs : List Reading) (W : Found) → Every Reading_all gs → Found_all W → Found_all (with_worth home q gs W)
+  with_worth_all home q gs W h f = record { sizes = λ d. every_more Reading_all (named_worth home q gs d) (W.size d) (named_worth_all home q gs h d) (f.sizes d); types = f.types }
+
+  -- ---- primitives
+  abbrev Argument_all : Argument → Type 0
+  Argument_all a = Row_all a.0 × Every Reading_all a.1
+
+  abbrev Telling_all : Telling → Type 0
+  Telling_all (Of_row r) = Row_all r
+  Telling_all (Of_rows e rs) = All_in_extent P e × Every Row_all rs
+
+  by_function_all : (f : List Row → Row) (t : Telling) → ((rs : List Row) → Every Row_all rs → Row_all (f rs)) → Telling_all t → Row_all (by_function f t)
+  by_function_all f (Of_row r) told h = h
+  by_function_all f (Of_rows e rs) told h = (h.0, told rs h.1)
+
+  rows_in_all : (r : Row) → Row_all r → Row_all (rows_in r)
+  rows_in_all r h = (h, (tt, tt))
+
+  arguments_all : (bs : List Argument) → Every Argument_all bs → Every Row_all (map argument_row bs)
+  arguments_all [] h = tt
+  arguments_all (a ∷ bs) h = (rows_in_all a.0 h.0.0, arguments_all bs h.1)
+
+  last_all : (bs : List Argument) → Every Argument_all bs → Telling_all (last_row bs)
+  last_all [] h = tt
+  last_all (a ∷ []) h = h.0.0
+  last_all (a ∷ b ∷ bs) h = last_all (b ∷ bs) h.1
+
+  same_all : (bs : List Argument) → Every Argument_all bs → Telling_all (same_row bs)
+  same_all [] h = tt
+  same_all (a ∷ []) h = h.0.0
+  same_all (a ∷ b ∷ bs) h = tt
+
+  first_all : (bs : List Argument) → Every Argument_all bs → Telling_all (first_row bs)
+  first_all [] h = tt
+  first_all (a ∷ bs) h = h.0.0
+
+  mapped_all : (bs : List Argument) → Every Argument_all bs → Telling_all (mapped_rows bs)
+  mapped_all [] h = tt
+  mapped_all (a ∷ bs) h = ((h.0.0, tt), arguments_all (a ∷ bs) h)
+
+  element_all : (bs : List Argument) → Every Argument_all bs → Telling_all (element_row bs)
+  element_all [] h = tt
+  element_all (a ∷ []) h = rows_in_all a.0 h.0.0
+  element_all (a ∷ b ∷ bs) h = tt
+
+  zipped_all : (bs : List Argument) → Every Argument_all bs → Telling_all (zipped_row bs)
+  zipped_all [] h = tt
+  zipped_all (a ∷ bs) h = ((h.0.0, tt), rows_all (map argument_row (a ∷ bs)) (arguments_all (a ∷ bs) h))
+
+  unzipped_all : (bs : List Argument) → Every Argument_all bs → Telling_all (unzipped_row bs)
+  unzipped_all [] h = tt
+  unzipped_all (a ∷ []) h = ((h.0.0, tt), rows_in_all a.0 h.0.0)
+  unzipped_all (a ∷ b ∷ bs) h = tt
+
+  replicated_all : (bs : List Argument) → Every Argument_all bs → Telling_all (replicated bs)
+  replicated_all [] h = tt
+  replicated_all (n ∷ []) h = tt
+  replicated_all (n ∷ a ∷ []) h = (extent_all n.1 h.0.1, h.1.0.0)
+  replicated_all (n ∷ a ∷ b ∷ bs) h = tt
+
+  counted_all : (bs : List Argument) → Every Argument_all bs → Telling_all (counted bs)
+  counted_all [] h = tt
+  counted_all (n ∷ []) h = (extent_all n.1 h.0.1, tt)
+  counted_all (n ∷ b ∷ bs) h = tt
+
+  tabulated_all : (bs : List Argument) → Every Argument_all bs → Telling_all (tabulated bs)
+  tabulated_all [] h = tt
+  tabulated_all (n ∷ []) h = (extent_all n.1 h.0.1, (tt, tt))
+  tabulated_all (n ∷ b ∷ bs) h = tt
+
+  indices_all : (bs : List Argument) → Every Argument_all bs → Telling_all (indices_row bs)
+  indices_all [] h = tt
+  indices_all (a ∷ []) h = ((h.0.0, tt), tt)
+  indices_all (a ∷ b ∷ bs) h = tt
+
+  unflattened_all : (bs : List Argument) → Every Argument_all bs → Telling_all (unflattened bs)
+  unflattened_all [] h = tt
+  unflattened_all (n ∷ []) h = tt
+  unflattened_all (n ∷ m ∷ []) h = tt
+  unflattened_all (n ∷ m ∷ a ∷ []) h = (extent_all n.1 h.0.1, (extent_all m.1 h.1.0.1, rows_in_all a.0 h.1.1.0.0))
+  unflattened_all (n ∷ m ∷ a ∷ b ∷ bs) h = tt
+
+  transposed_all : (bs : List Argument) → Every Argument_all bs → Telling_all (transposed bs)
+  transposed_all [] h = tt
+  transposed_all (a ∷ []) h = ((rows_in_all a.0 h.0.0, tt), ((h.0.0, tt), rows_in_all (rows_in a.0) (rows_in_all a.0 h.0.0)))
+  transposed_all (a ∷ b ∷ bs) h = tt
+
+  primitive_all : (p : Primitive) (bs : List Argument) → Every Argument_all bs → Telling_all (primitive_tells p bs)
+  unfolding primitive_tells
+  primitive_all prim.Map bs h = mapped_all bs h
+  primitive_all prim.Map2 bs h = mapped_all bs h
+  primitive_all prim.Map3 bs h = mapped_all bs h
+  primitive_all prim.Map4 bs h = mapped_all bs h
+  primitive_all prim.Map5 bs h = mapped_all bs h
+  primitive_all prim.Reduce bs h = first_all bs h
+  primitive_all prim.ReduceComm bs h = first_all bs h
+  primitive_all prim.Scan bs h = last_all bs h
+  primitive_all prim.Scatter bs h = first_all bs h
+  primitive_all prim.ReduceByIndex bs h = first_all bs h
+  primitive_all prim.Zip bs h = zipped_all bs h
+  primitive_all prim.Zip3 bs h = zipped_all bs h
+  primitive_all prim.Unzip bs h = unzipped_all bs h
+  primitive_all prim.Unzip3 bs h = unzipped_all bs h
+  primitive_all prim.Iota bs h = counted_all bs h
+  primitive_all prim.Replicate bs h = replicated_all bs h
+  primitive_all prim.Tabulate bs h = tabulated_all bs h
+  primitive_all prim.Indices bs h = indices_all bs h
+  primitive_all prim.Head bs h = element_all bs h
+  primitive_all prim.Last bs h = element_all bs h
+  primitive_all prim.Reverse bs h = same_all bs h
+  primitive_all prim.Rotate bs h = last_all bs h
+  primitive_all prim.Unflatten bs h = unflattened_all bs h
+  primitive_all prim.Transpose bs h = transposed_all bs h
+  primitive_all prim.Copy bs h = same_all bs h
+  primitive_all p bs h = tt
+
+  -- ---- what is known of values
+  worth_known : (s : Known) → All_in_known P s → Every Reading_all (known_worth s)
+  worth_known (Scalar_known u) h = (h, tt)
+  worth_known (Tuple_known ss) h = tt
+  worth_known (Record_known fs) h = tt
+  worth_known (Function_known ps e lo sc) h = tt
+  worth_known (Primitive_known p at ss) h = tt
+
+  mutual
+    unfolding known_row known_rows field_rows
+
+    pub row_known : (s : Known) → All_in_known P s → Row_all (known_row s)
+    row_known (Scalar_known u) h = h
+    row_known (Tuple_known ss) h = rows_known ss h
+    row_known (Record_known fs) h = fields_known fs h
+    row_known (Function_known ps e lo sc) h = tt
+    row_known (Primitive_known p at ss) h = tt
+
+    rows_known : (ss : Knowns) → All_in_knowns P ss → All_in_rows P (known_rows ss)
+    rows_known no_known h = tt
+    rows_known (known_and s ss) h = (row_known s h.0, rows_known ss h.1)
+
+    fields_known : (fs : Known_fields) → All_in_known_fields P fs → All_in_fields P (field_rows fs)
+    fields_known no_known_field h = tt
+    fields_known (known_field_and f s fs) h = (row_known s h.0, fields_known fs h.1)
+
+  data_all : (ss : Knowns) (bs : List Argument) → All_in_knowns P ss → Every Argument_all bs → Every Argument_all (data_told ss bs)
+  unfolding data_told
+  data_all no_known bs h k = k
+  data_all (known_and s ss) bs h k = all_if (Every Argument_all) (is_function s) (data_told ss bs) ((known_row s, known_worth s) ∷ data_told ss bs) (data_all ss bs h.1 k) ((row_known s h.0, worth_known s h.0), data_all ss bs h.1 k)
+
+  to_come_all : (rs : List Row) → Every Row_all rs → Every Argument_all (to_come rs)
+  to_come_all [] h = tt
+  to_come_all (r ∷ rs) h = ((h.0, tt), to_come_all rs h.1)
+
+  module _ (Z : Sizing) where
+    closure_all : (qs : List ℕ) (lo : ℕ) (rs : List Row) (W : Found) → Found_all W → Every Row_all rs → Row_all (closure_tells Z qs lo rs W)
+    unfolding closure_tells
+    closure_all [] lo rs W f h = result_all Z.fields (Z.size_at lo) rs (number W) (row_found W) (number_all W f) (row_found_all W f) h
+    closure_all (q ∷ qs) lo [] W f h = tt
+    closure_all (q ∷ qs) lo (r ∷ rs) W f h = closure_all qs lo rs (with_data Z.fields (Z.size_at q) r W) (with_data_all Z.fields (Z.size_at q) r W h.0 f) h.1
+
+    mutual
+      unfolding found tells function_tells
+
+      found_all : (sc : Scope) → All_entered P sc → Found_all (found Z sc)
+      found_all no_name h = nothing_all
+      found_all (branch b s even odd) h = nothing_all
+      found_all (entry q s sc) h =
+          let W : Found = with_results Z.fields (Z.size_at q) (tells Z s) (found Z sc) in
+          with_worth_all Z.home q (known_worth s) (with_data Z.fields (Z.size_at q) (known_row s) W) (worth_known s h.0)
+          (with_data_all Z.fields (Z.size_at q) (known_row s) W (row_known s h.0) (results_all Z.fields (Z.size_at q) (tells Z s) (found Z sc) (λ rs k. tells_all s rs h.0 k) (found_all sc h.1)))
+
+      tells_all : (s : Known) (rs : List Row) → All_in_known P s → Every Row_all rs → Row_all (tells Z s rs)
+      tells_all (Scalar_known u) rs h k = tt
+      tells_all (Tuple_known ss) rs h k = tt
+      tells_all (Record_known fs) rs h k = tt
+      tells_all (Function_known ps e lo sc) rs h k = closure_all (nodes_from ps (lo - all_pattern_numbers ps)) lo rs (found Z sc) (found_all sc h) k
+      tells_all (Primitive_known p at ss) rs h k = by_function_all (function_tells Z ss) (primitive_tells p (data_told ss (to_come rs))) (λ qs l. function_all ss qs h l) (primitive_all p (data_told ss (to_come rs)) (data_all ss (to_come rs) h (to_come_all rs k)))
+
+      function_all : (ss : Knowns) (rs : List Row) → All_in_knowns P ss → Every Row_all rs → Row_all (function_tells Z ss rs)
+      function_all no_known rs h k = tt
+      function_all (known_and s ss) rs h k = all_if Row_all (is_function s) (tells Z s rs) (function_tells Z ss rs) (tells_all s rs h.0 k) (function_all ss rs h.1 k)
+
+  atoms_rows : (us : List Atom) → Every P us → Every Row_all (map (λ u. rows_in (Shape_of u)) us)
+  atoms_rows [] h = tt
+  atoms_rows (u ∷ us) h = (rows_in_all (Shape_of u) h.0, atoms_rows us h.1)
+
+  rows_for_all : (p : Primitive) (us : List Atom) → Every P us → Every Row_all (rows_for p us)
+  rows_for_all prim.Tabulate us h = (tt, tt)
+  rows_for_all p us h = atoms_rows us h
+
+  -- ---- tests
+  head_test_all : (k : Head) (parts : Size_tests) (named : ℕ → Named_tests) → All_in_tests P parts → ((n : ℕ) → All_in_field_tests P (named n)) → All_in_test P (head_test k parts named)
+  head_test_all head.Tuple parts named h n = h
+  head_test_all (head.Record m) parts named h n = n m
+  head_test_all k parts named h n = tt
+
+  module _ (fields : ℕ → List Text) (W : Found) (f : Found_all W) where
+    mutual
+      unfolding size_test size_tests named_tests
+
+      test_all : (t : Size) → All_in_test P (size_test fields W t)
+      test_all (Hole v) = tt
+      test_all (Open n v u) = tt
+      test_all (Level d t) = (number_all W f d, test_all t)
+      test_all (Built k ts) = head_test_all k (size_tests fields W ts) _ (tests_all ts) (λ n. field_tests_all (fields n) ts)
+      test_all (Fun k p r) = tt
+
+      tests_all : (ts : Sizes) → All_in_tests P (size_tests fields W ts)
+      tests_all no_size = tt
+      tests_all (size_and t ts) = (test_all t, tests_all ts)
+
+      field_tests_all : (fs : List Text) (ts : Sizes) → All_in_field_tests P (named_tests fields W fs ts)
+      field_tests_all fs no_size = tt
+      field_tests_all [] (size_and t ts) = tt
+      field_tests_all (g ∷ fs) (size_and t ts) = (test_all t, field_tests_all fs ts)
+
+  -- ---- where there is a sizing
+  pub literal_row_all : (z : Option Sizing) (sc : Scope) (lo : ℕ) → All_entered P sc → Row_all (literal_row z sc lo)
+  literal_row_all None sc lo h = tt
+  literal_row_all (Some Z) sc lo h = let f = found_all Z sc h in told_all Z.fields (number (found Z sc)) (row_found (found Z sc)) (number_all (found Z sc) f) (row_found_all (found Z sc) f) (Z.size_at lo)
+
+  pub function_row_all : (z : Option Sizing) (p : Primitive) (s : Known) (us : List Atom) → All_in_known P s → Every P us → Row_all (function_row z p s us)
+  function_row_all None p s us h k = tt
+  function_row_all (Some Z) p s us h k = tells_all Z s (rows_for p us) h (rows_for_all p us k)
+
+  pub test_at_all : (z : Option Sizing) (sc : Scope) (lo : ℕ) → All_entered P sc → On_some (All_in_test P) (test_at z sc lo)
+  test_at_all None sc lo h = tt
+  test_at_all (Some Z) sc lo h = test_all Z.fields (found Z sc) (found_all Z sc h) (Z.size_at lo)
+
+  pub size_used_all : (z : Option Sizing) (sc : Scope) (k : ℕ) → All_entered P sc → On_some (All_in_extent P) (size_used z sc k)
+  size_used_all None sc k h = tt
+  size_used_all (Some Z) sc k h = all_if (On_some (All_in_extent P)) (Z.is_size k) (Some (number (found Z sc) (At (Name k)))) None (number_all (found Z sc) (found_all Z sc h) (At (Name k))) tt
+
+  pub enter_all : (z : Option Sizing) (q : ℕ) (s : Known) (sc : Scope) → All_in_known P s → All_entered P sc → All_entered P (enter z q s sc)
+  enter_all None q s sc h k = k
+  enter_all (Some Z) q s sc h k = (h, k)
+
+-- atoms of types stand for data
+pub are_stand : (G : Types) (us : List Atom) (ts : Tys) → Are G us ts → Every (Stands G) us
+are_stand G [] none h = tt
+are_stand G [] (more t ts) h = absurd h
+are_stand G (u ∷ us) none h = absurd h
+are_stand G (u ∷ us) (more t ts) h = ((t, h.0), are_stand G us ts h.1)
