@@ -32,7 +32,8 @@ use Rattle.sized_meaning.specs.Worth.{Worth, free, no_frames, push}
 use Rattle.sized_meaning.specs.Shapes.{Meant}
 use Rattle.sized_meaning.specs.Finding.{One_kind_each}
 use Rattle.sized_meaning.specs.Fits.{Gives, word, Fits}
-use Rattle.sized_meaning.specs.Law.{Sound, Plain_term, World, told, FlatTask, means, calls, Beyond as Out_beyond, Env_fits, Result as Res}
+use Rattle.fut_meaning.specs.Telling.{size_value}
+use Rattle.sized_meaning.specs.Law.{Sound, No_size_use, Plain_term, World, told, FlatTask, means, calls, Beyond as Out_beyond, Env_fits, Result as Res}
 use Rattle.sized_meaning.proofs.Ways.{gives_as}
 use Rattle.sized_meaning.proofs.Outcomes.{gives_exact, gives_then, gives_all, is_exactly}
 use Rattle.sized_meaning.proofs.Reading.{Any_position, each_as, fits_same, fits_opened, opened_fits}
@@ -103,18 +104,18 @@ module _ (N : Names) (types : Sub) (τ : Meant) (W : World) (S : Sound N types W
   unfolding word
   literal_word c i v e q l = ap word e ∙ ap (λ j. word (Scalar_value (integer j (pos c)))) q ∙ ap (λ z. count_of (integer_of I64 z)) (mod-eq_of_lt (let z : c < 2 ^ 64 = omega (arith, l) in z)) ∙ ap count_of (to_z_pos w64 c l)
 
-  pub argument_worth : (e : FlatTerm) (lo mid i : ℕ) (G : Context) (env : FlatEnv) (d : Free) → Plain_term N types W e mid → Is_value N types W.sizing.size_at W.sizing.home e mid G d ⊎ (d ≡ Unknown lo i) → (v : FlatValue) (f : ℕ) → means W (Evaluate env mid e) (Val v) f → Worth_of lo i G env d v
+  pub argument_worth : (e : FlatTerm) (lo mid i : ℕ) (G : Context) (env : FlatEnv) (d : Free) → Plain_term N types W e mid → No_size_use N types W e → Is_value N types W.sizing.size_at W.sizing.home e mid G d ⊎ (d ≡ Unknown lo i) → (v : FlatValue) (f : ℕ) → means W (Evaluate env mid e) (Val v) f → Worth_of lo i G env d v
   unfolding flat_names
-  argument_worth e lo mid i G env d p (inr a) v f r = inl a
-  argument_worth (Use (ref.Bound x) at j) lo mid i G env d p (inl a) v f r = inr (inl (x.0, a.0, a.1, is_exactly 0 (flat_look W.tops env x.0) (Val v) f (open_up ((flat_names (told W)).lang W.tops) (plain W.tight) W.budget (Evaluate env mid (Use (ref.Bound x) at j)) (Val v) f r)))
-  argument_worth (Use (ref.Prim x) at j) lo mid i G env d p (inl a) v f r = absurd a
-  argument_worth (Strict (Integer c t) mark no_term) lo mid i G env d p (inl a) v f r = inr (inr (c, a.0, literal_word c (literal_type t mid) v (literal_value c t mark mid env (Val v) f r) (literal_typed c t mark mid p a.1) a.2))
-  argument_worth (Strict o mark ts) lo mid i G env d p (inl a) v f r = absurd a
-  argument_worth (Lambda ps b) lo mid i G env d p (inl a) v f r = absurd a
-  argument_worth (Apply g b) lo mid i G env d p (inl a) v f r = absurd a
-  argument_worth (Let b x y) lo mid i G env d p (inl a) v f r = absurd a
-  argument_worth (If x y z) lo mid i G env d p (inl a) v f r = absurd a
-  argument_worth e lo mid i G env d p (inl a) v f r = absurd p
+  argument_worth e lo mid i G env d p u (inr a) v f r = inl a
+  argument_worth (Use (ref.Bound x) at j) lo mid i G env d p u (inl a) v f r = inr (inl (x.0, a.0, a.1, subst (λ c. cond c (Val (size_value W.sizing env x.0)) (flat_look W.tops env x.0) ≡ Val v) u (is_exactly 0 (cond (W.sizing.is_size x.0) (Val (size_value W.sizing env x.0)) (flat_look W.tops env x.0)) (Val v) f (open_up ((flat_names (told W)).lang W.tops) (plain W.tight) W.budget (Evaluate env mid (Use (ref.Bound x) at j)) (Val v) f r))))
+  argument_worth (Use (ref.Prim x) at j) lo mid i G env d p u (inl a) v f r = absurd a
+  argument_worth (Strict (Integer c t) mark no_term) lo mid i G env d p u (inl a) v f r = inr (inr (c, a.0, literal_word c (literal_type t mid) v (literal_value c t mark mid env (Val v) f r) (literal_typed c t mark mid p a.1) a.2))
+  argument_worth (Strict o mark ts) lo mid i G env d p u (inl a) v f r = absurd a
+  argument_worth (Lambda ps b) lo mid i G env d p u (inl a) v f r = absurd a
+  argument_worth (Apply g b) lo mid i G env d p u (inl a) v f r = absurd a
+  argument_worth (Let b x y) lo mid i G env d p u (inl a) v f r = absurd a
+  argument_worth (If x y z) lo mid i G env d p u (inl a) v f r = absurd a
+  argument_worth e lo mid i G env d p u (inl a) v f r = absurd a
 
   module _ (e : FlatTerm) (lo mid hi : ℕ) (G : Context) (env : FlatEnv) (A : Applies N types W.sizing.size_at W.sizing.home e lo mid hi G) (lt : lo < mid) (le : mid ≤ hi) (h v : FlatValue) (worth : Worth_of lo (A.base + A.chosen) G env (A.inside A.chosen) v) where
     -- the function and its argument at one and the same time

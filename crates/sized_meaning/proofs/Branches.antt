@@ -176,7 +176,7 @@ module _ (fields : ℕ → List Text) where
 mutual
   unfolding levels all_levels
 
-  same_levels : {t u : Size} → Same_form t u → levels t ≡ levels u
+  pub same_levels : {t u : Size} → Same_form t u → levels t ≡ levels u
   same_levels same_hole = refl
   same_levels (same_level q) = ap (λ n. 1 + n) (same_levels q)
   same_levels (same_built q) = all_same_levels q

@@ -58,7 +58,7 @@ module _ (m : Worth) (at : ℕ) where
   mutual
     unfolding agree all_agree
 
-    agreed : {t u : Size} → Same_form t u → (z : Unit {0}) → agree at t u ≡ Ok z → Alike m m u t
+    pub agreed : {t u : Size} → Same_form t u → (z : Unit {0}) → agree at t u ≡ Ok z → Alike m m u t
     agreed same_hole z e = alike_hole
     agreed (same_level {d} {e} {t} {u} q) z w = let r = then_ok (compare at d e) (λ z. agree at t u) z w in alike_level (ap (size_number m no_frames) (sym (compared at d e r.0 r.1))) (agreed q z r.2)
     agreed (same_built q) z e = alike_built (all_agreed q z e)

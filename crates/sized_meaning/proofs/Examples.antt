@@ -1,11 +1,14 @@
 -- Sizings that meet their rules.
-use Rattle.std.proofs.Common.{◌≡◌, ◌⊎◌, ℕ, zero, suc, ◌+◌, ◌<◌, [], true, false, Option, Some, None, refl, ap, arith, inl, inr}
+use Rattle.std.proofs.Common.{◌≡◌, ◌⊎◌, ℕ, zero, suc, ◌+◌, ◌<◌, [], ◌∷◌, true, false, Option, Some, None, refl, ap, arith, inl, inr, Bool, cond, nat_eq, sym, subst, eqb-true}
 use Rattle.fut_scalar.specs.declared.place.Place.{Place}
 use Rattle.fut_scalar.specs.declared.scalar.IntType.TheVariants as int
 use Rattle.fut_scalar.specs.declared.scalar.ScalarType.TheVariants as scalar
 use Rattle.fut_flat.specs.declared.prim.Primitive.TheVariants as prim
 use Rattle.fut_flat.specs.declared.prim.Ref.TheVariants as ref
-use Rattle.fut_flat.specs.Terms.{Integer, Use, Strict, Apply, no_term}
+use Rattle.fut_flat.specs.Terms.{Bound_pattern, Tuple_pattern, no_pattern, pattern_and, Integer, Tuple_of, Use, Strict, Apply, Let, no_term, term_and}
+use Rattle.fut_types.specs.declared.Head.TheVariants as head
+use Rattle.fut_sizes.specs.Agreeing.{is_among}
+use Rattle.sized_types.specs.Standing.{stands}
 use Rattle.fut_flat.specs.Erased.{FlatTerm}
 use Rattle.fut_types.specs.Types.{Sub}
 use Rattle.fut_typing.specs.Names.{Names, AreNames}
@@ -18,9 +21,9 @@ use Rattle.fut_sizes.specs.Operations.{operation}
 use Rattle.fut_sizes.specs.Primitives.{scalar_size, prim_size, sized_type}
 use Rattle.fut_sizes.specs.Scopes.{i64_size}
 use Rattle.fut_sizes.specs.Scoping.{Context}
-use Rattle.sized_types.specs.Sizes.{Free, Const, Name, Unknown, Dim, At, Bound, Variable, Size, Hole, Level, Fun, replaced, all_replaced, erased, all_erased}
+use Rattle.sized_types.specs.Sizes.{Free, Const, Name, Unknown, Dim, At, Bound, Variable, Size, Hole, Level, Built, Fun, no_size, size_and, takes, replaced, all_replaced, erased, all_erased}
 use Rattle.fut_sizes.specs.Suiting.{Each, Each_all, Data, suits_same}
-use Rattle.fut_sizes.specs.Rules.{Outside, Filled_use, filled, all_filled, Applies, Sized}
+use Rattle.fut_sizes.specs.Rules.{Inside, Away, Pattern_takes, Outside, Filled_use, filled, all_filled, Applies, Sized}
 use Rattle.sized_meaning.specs.Worth.{Worth}
 use Rattle.sized_meaning.specs.Shapes.{exactly}
 use Rattle.sized_meaning.specs.Finding.{One_shape_each, Well_formed}
@@ -112,7 +115,7 @@ abbrev five_types : Sub
 five_types n = erased (five_sizes n)
 
 abbrev five_world : FlatTops → World
-five_world tops = record { integer_at = λ n. int.I64; sizing = record { size_at = five_sizes; home = home; fields = λ n. [] }; tops = tops; tight = false; budget = 0 }
+five_world tops = record { integer_at = λ n. int.I64; sizing = record { size_at = five_sizes; home = home; fields = λ n. []; is_size = λ b. false; used = λ n. None }; tops = tops; tight = false; budget = 0 }
 
 abbrev nothing_known : Context
 nothing_known = record { sizes = λ b. None; schemes = λ b. None; general = λ b v. false; finds = λ d. false; finds_types = λ v. false }
@@ -177,8 +180,91 @@ module _ (N : Names) (named : AreNames N) (τ : Variable → Shape) (one : One_s
 
   five_plain : Plain_term N five_types (five_world tops) iota_five 0
   unfolding erased all_erased
-  five_plain = (tt, (refl, tt))
+  five_plain = (tt, (refl, tt), tt)
 
   -- each value that it gives is an array of five numbers
   iota_gives_five : (m : Worth) → Gives (Result N five_types (exactly τ) (five_world tops) 0 3 m (Level (At (Const 5)) i64_size)) (means (five_world tops) (Evaluate (base tt) 0 iota_five))
   iota_gives_five m = values_have_their_sizes N five_types τ (five_world tops) iota_five 0 nothing_known (base tt) m five_sound one five_plain five_sized (five_env m)
+
+-- ---- `let (a, b) = (k, k) in a`: 0 is the let, 1 to 3 are the pattern and its parts a and b, 4 is the pair, 5 to 7 are uses; in the
+-- scope are the size n and k, an array of that size
+
+abbrev halves : FlatTerm
+halves = Let (record { pattern = Tuple_pattern (pattern_and (Bound_pattern (record { 0 = 2 })) (pattern_and (Bound_pattern (record { 0 = 3 })) no_pattern)); parameters = []; sizes = []; is_function = false })
+    (Strict Tuple_of here (term_and (name 1) (term_and (name 1) no_term))) (name 2)
+
+abbrev row_of_n : Size
+row_of_n = array (At (Name 0))
+
+abbrev two_rows : Size
+two_rows = Built head.Tuple (size_and row_of_n (size_and row_of_n no_size))
+
+abbrev half_sizes : ℕ → Size
+half_sizes zero = row_of_n
+half_sizes (suc zero) = two_rows
+half_sizes (suc (suc zero)) = row_of_n
+half_sizes (suc (suc (suc zero))) = row_of_n
+half_sizes (suc (suc (suc (suc zero)))) = two_rows
+half_sizes (suc (suc (suc (suc (suc k))))) = row_of_n
+
+abbrev half_home : ℕ → ℕ
+half_home zero = 10
+half_home (suc zero) = 10
+half_home (suc (suc zero)) = 2
+half_home (suc (suc (suc zero))) = 3
+half_home (suc (suc (suc (suc b)))) = 10
+
+abbrev half_known : ℕ → Option Size
+half_known zero = None
+half_known (suc zero) = Some row_of_n
+half_known (suc (suc k)) = None
+
+abbrev half_context : Context
+half_context = record { sizes = half_known; schemes = λ b. None; general = λ b v. false; finds = λ d. false; finds_types = λ v. false }
+
+module _ (N : Names) (types : Sub) (tops : FlatTops) where
+  half_elsewhere : (lo hi : ℕ) → hi < 10 → Outside N types half_sizes half_home lo hi (Name 0)
+  half_elsewhere lo hi l i = let x = i.1 in omega (arith, l, x)
+
+  half_bound : (c : ℕ) → is_among (2 ∷ 3 ∷ []) c ≡ true → Inside N types half_sizes half_home 1 4 (Name c)
+  half_bound c e = first (nat_eq c 2) refl e
+    where
+      second : (b : Bool) → nat_eq c 3 ≡ b → cond b true false ≡ true → Inside N types half_sizes half_home 1 4 (Name c)
+      second true q e = subst (λ n. Inside N types half_sizes half_home 1 4 (Name n)) (sym (eqb-true c 3 q)) (omega arith, omega arith)
+      second false q e = absurd (let z : false ≡ true = e in cc)
+
+      first : (b : Bool) → nat_eq c 2 ≡ b → cond b true (cond (nat_eq c 3) true false) ≡ true → Inside N types half_sizes half_home 1 4 (Name c)
+      first true q e = subst (λ n. Inside N types half_sizes half_home 1 4 (Name n)) (sym (eqb-true c 2 q)) (omega arith, omega arith)
+      first false q e = second (nat_eq c 3) refl e
+
+  -- an array of n rows, or two, mention nothing that is made here
+  row_away : (lo hi : ℕ) → hi < 10 → Away N types half_sizes half_home lo hi row_of_n
+  unfolding Each Each_all
+  row_away lo hi l = (half_elsewhere lo hi l, tt)
+
+  rows_away : (lo hi : ℕ) → hi < 10 → Away N types half_sizes half_home lo hi two_rows
+  unfolding Each Each_all
+  rows_away lo hi l = ((half_elsewhere lo hi l, tt), ((half_elsewhere lo hi l, tt), tt))
+
+  half_used : Sized N types half_sizes half_home (name 1) 5 half_context
+  half_used = inl (row_of_n, refl, suits_same)
+
+  halves_sized : Sized N types half_sizes half_home halves 0 half_context
+  unfolding Each Each_all replaced all_replaced operation Pattern_takes takes stands
+  halves_sized = (
+    ((inl (row_of_n, refl, suits_same), row_away 6 7 (omega arith), (inl (row_of_n, refl, suits_same), row_away 7 7 (omega arith), tt)), refl),
+    inl (
+      record {
+        what = λ c. Name c;
+        taken = (refl, size_and row_of_n (size_and row_of_n no_size), refl, (refl, (refl, tt)));
+        sizes_met = λ c e. absurd (let z : false ≡ true = e in cc);
+        bound = half_bound;
+        value_away = rows_away 1 4 (omega arith);
+        body_away = rows_away 7 8 (omega arith);
+        own_away = row_away 0 1 (omega arith);
+        no_parameter = refl;
+        result = refl;
+      },
+      inl (row_of_n, refl, suits_same),
+    ),
+  )

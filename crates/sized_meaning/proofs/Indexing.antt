@@ -71,7 +71,7 @@ cutted at (x ∷ ps) (Pick_at (pos i) ∷ qs) h p = tested (nat_le (suc i) (size
     tested false rest = tt
 cutted at ps qs h p = absurd p
 
-row_there : (P Q : Datum → Type 0) (xs : List Datum) (i : ℕ) (k : Datum → Out Datum) → Every P xs → ((d : Datum) → P d → Out_fits Q (k d)) → Out_fits Q (row_or_wrong (slice_get xs i) k)
+pub row_there : (P Q : Datum → Type 0) (xs : List Datum) (i : ℕ) (k : Datum → Out Datum) → Every P xs → ((d : Datum) → P d → Out_fits Q (k d)) → Out_fits Q (row_or_wrong (slice_get xs i) k)
 row_there P Q [] i k e go = tt
 row_there P Q (x ∷ xs) zero k e go = go x e.0
 row_there P Q (x ∷ xs) (suc i) k e go = row_there P Q xs i k e.1 go

@@ -1,33 +1,42 @@
 -- Each value that a sized term may give is of its sized type.
-use Rattle.std.proofs.Common.{◌≡◌, ◌⊎◌, ℕ, ◌+◌, ◌≤◌, List, [], ◌∷◌, ◌++◌, Bool, true, false, cond, Option, Some, None, Ok, refl, sym, ap, ◌∙◌, subst, arith, inl, inr, eq-eqb}
+use Rattle.std.proofs.Common.{◌≡◌, ◌⊎◌, ℕ, ◌+◌, ◌≤◌, List, [], ◌∷◌, Bool, true, false, cond, Option, Some, None, Ok, refl, sym, ◌∙◌, subst, arith, inl, inr}
 use Rattle.fut_scalar.specs.declared.place.BindId.{BindId}
 use Rattle.fut_scalar.specs.declared.place.Place.{Place}
 use Rattle.fut_flat.specs.declared.prim.Ref.{Ref}
 use Rattle.fut_flat.specs.declared.prim.Ref.TheVariants as ref
-use Rattle.fut_flat.specs.Numbers.{pattern_numbers, all_pattern_numbers, own_numbers, numbers, all_numbers}
-use Rattle.fut_flat.specs.Terms.{Typed_pattern, Bound_pattern, pattern_and, Binding, Operation, Binary, Project, Use, Strict, Lambda, Apply, Let, If, Terms, no_term, term_and}
-use Rattle.fut_flat.specs.Erased.{FlatTerm, FlatPattern, FlatType}
-use Rattle.fut_types.specs.Types.{Sub}
+use Rattle.fut_flat.specs.Numbers.{pattern_numbers, all_pattern_numbers, own_numbers, numbers, all_numbers, turn_numbers}
+use Rattle.fut_flat.specs.Terms.{Typed_pattern, Bound_pattern, Wild_pattern, Tuple_pattern, Record_pattern, pattern_and, Binding, Operation, Binary, Project, Use, Strict, Lambda, Apply, Let, If, Loop, Terms, no_term, term_and, Counted, Over, While}
+use Rattle.fut_flat.specs.Erased.{FlatTerm, FlatTurns, FlatPattern}
+use Rattle.fut_scalar.specs.declared.report.FailKind.TheVariants as kind
+use Rattle.fut_scalar.specs.declared.report.Report.{Report}
+use Rattle.fut_scalar.specs.declared.scalar.IntType.{IntType}
+use Rattle.fut_scalar.specs.declared.scalar.Scalar.TheVariants as scalar
+use Rattle.fut_scalar.specs.declared.scalar.ScalarType.TheVariants as sort
+use Rattle.fut_types.specs.Types.{Sub, scalar_ty}
 use Rattle.fut_typing.specs.Names.{Names}
-use Rattle.fut_meaning.specs.Accessors.{bound, truth_of}
+use Rattle.fut_meaning.specs.Accessors.{bound, truth_of, turns_of}
+use Rattle.fut_meaning.specs.Arrays.{rows_of}
+use Rattle.fut_meaning.specs.Datums.{as_value, datum_of}
+use Rattle.fut_meaning.specs.Telling.{size_value}
+use Rattle.fut_meaning.proofs.Safe.{Every}
 use Rattle.fut_meaning.specs.Flats.{FlatValue, FlatEnv, flat_look, flat_names}
-use Rattle.fut_meaning.specs.Meaning.{placed, plain, row_told, fits_type, Of_literal}
-use Rattle.fut_meaning.specs.Operations.{operated}
-use Rattle.fut_meaning.specs.Outcomes.{Val, Rel, the, Then, choose, each_of}
-use Rattle.fut_meaning.specs.Values.{Closure, bind, entered, Evaluate, values}
-use Rattle.sized_types.specs.Sizes.{Free, Name, Size, Sizes, no_size, size_and, renamed}
-use Rattle.fut_sizes.specs.Agreeing.{leave, is_among}
+use Rattle.fut_meaning.specs.Meaning.{placed, plain, row_told, fits_type, Of_literal, looped, counts}
+use Rattle.fut_meaning.specs.Operations.{report, operated}
+use Rattle.fut_meaning.specs.Outcomes.{Val, Rel, and_then, the, Then, choose, each_of, turns, while_turns}
+use Rattle.fut_meaning.specs.Values.{Scalar_value, Closure, bind, entered, Evaluate, values}
+use Rattle.sized_types.specs.Sizes.{Free, Const, Name, Own, Unknown, Slot, Dim, Size, Level, Sizes, no_size, size_and, renamed}
+use Rattle.fut_sizes.specs.Agreeing.{is_among}
 use Rattle.fut_sizes.specs.Operations.{operation}
-use Rattle.fut_sizes.specs.Scopes.{names}
-use Rattle.fut_sizes.specs.Scoping.{Context, with_name, with_entered, with_size_names, with_pattern}
-use Rattle.fut_sizes.specs.Sizing.{all_part_names, bind_ids}
-use Rattle.fut_sizes.specs.Suiting.{Suits}
-use Rattle.fut_sizes.specs.Rules.{taken_by, Inside, Away, Pattern_takes, Filled_use, part_sizes, Let_sized, Branches, General_form, Generalised, with_general, Sized, All_sized}
+use Rattle.fut_sizes.specs.Scopes.{i64_size, names}
+use Rattle.fut_sizes.specs.Scoping.{Context, with_name, with_size_names, with_pattern}
+use Rattle.fut_sizes.specs.Sizing.{all_part_names, bind_ids, row_of}
+use Rattle.fut_sizes.specs.Suiting.{Each, Scoped, Data, Suits}
+use Rattle.fut_sizes.specs.Rules.{taken_by, Away, Pattern_takes, Filled_use, part_sizes, Let_sized, Loops, Branches, General_form, Generalised, with_general, counter, Sized, All_sized, Turns_sized}
 use Rattle.sized_meaning.specs.Worth.{Worth, no_frames}
-use Rattle.sized_meaning.specs.Shapes.{Meant, exactly}
+use Rattle.sized_meaning.specs.Shapes.{Meant, exactly, Has_datum}
 use Rattle.sized_meaning.specs.Finding.{One_kind_each}
-use Rattle.sized_meaning.specs.Fits.{Gives, word, Fits, All_fit}
-use Rattle.sized_meaning.specs.Law.{Sound, may_be_number, Named, No_lambda, Plain_operation, Plain_term, Plain_terms, World, told, means, calls, Beyond as Out_beyond, Env_fits, Result as Res, ValuesHaveTheirSizes}
+use Rattle.sized_meaning.specs.Fits.{Out_fits, Gives, Fits, All_fit}
+use Rattle.sized_meaning.specs.Law.{Sound, Name_home, Simple, Nodes_away, Sizes_apart, No_lambda, Plain_operation, Plain_term, Plain_terms, Plain_turns, World, told, means, calls, Beyond as Out_beyond, Env_fits, Result as Res, ValuesHaveTheirSizes}
 use Rattle.sized_meaning.proofs.Ways.{gives_as}
 use Rattle.sized_meaning.proofs.Outcomes.{gives_exact, gives_then, gives_all, gives_more, out_of}
 use Rattle.sized_meaning.proofs.Suiting.{at_node, suits_fits}
@@ -36,12 +45,14 @@ use Rattle.sized_meaning.proofs.Operations.{operation_fits}
 use Rattle.fut_meaning.specs.Operations.{primitive_use}
 use Rattle.sized_meaning.proofs.Primitives.{primitive_fits}
 use Rattle.sized_meaning.proofs.Applications.{evaluates, Worth_of, argument_worth, called, together}
-use Rattle.sized_meaning.proofs.Functions.{closure_fits, no_parts_named, Body_law}
-use Rattle.sized_meaning.proofs.Lets.{named_as, One_name, valued, with_value, let_result}
+use Rattle.sized_meaning.proofs.Functions.{closure_fits, Body_law}
+use Rattle.sized_meaning.proofs.Patterns.{kept, named_by, nodes_away}
+use Rattle.sized_meaning.proofs.Lets.{taking, Taken_value, taken_env, let_result}
+use Rattle.sized_meaning.proofs.Loops.{Loop_known, Turn_now, each_lacking, gives_turns, gives_while, starts, ends, while_turn, counted_turn, row_turn, scalar_is, counted_type, any_counts, rows_out, row_apart, row_formed}
 use Rattle.sized_meaning.proofs.Branches.{same_form, all_of, first_branch, second_branch}
 use Rattle.sized_meaning.proofs.Alike.{Alike, alike_fits}
 use Rattle.sized_meaning.proofs.Scalars.{out_any}
-use Rattle.sized_meaning.proofs.Environments.{beyond_node, outside_narrower, fits_away, env_moves}
+use Rattle.sized_meaning.proofs.Environments.{beyond_node, outside_narrower, away_narrower, fits_away, env_moves}
 
 is_none : Option Size → Type 0
 is_none None = Unit {0}
@@ -178,50 +189,64 @@ module _ (N : Names) (types : Sub) (τ : Meant) (W : World) (S : Sound N types W
   narrowed : (lo hi lo' hi' : ℕ) (G : Context) (env : FlatEnv) → lo ≤ lo' → hi' ≤ hi → Worths lo hi G env → Worths lo' hi' G env
   narrowed lo hi lo' hi' G env l l' w = (w.0, env_moves N types τ W lo hi lo' hi' w.0 w.0 G env l l' (λ d o. refl) w.1)
 
-  let_gives : (x : BindId) (v e : FlatTerm) (lo mid at hi : ℕ) (G : Context) (env : FlatEnv) → 1 + lo + 1 ≡ mid → mid + numbers v ≡ at → at + numbers e ≡ hi → ((c : ℕ) → W.sizing.home c ≡ 1 + lo → may_be_number (W.sizing.size_at (1 + lo)) ≡ true → c ≡ x.0) → Plain_term N types W v mid → Plain_term N types W e at → Law v → Law e → Sized N types W.sizing.size_at W.sizing.home v mid G → Sized N types W.sizing.size_at W.sizing.home e at (with_name x.0 (s (1 + lo)) (with_entered (s (1 + lo)) G)) → One_name N types τ W S one x.0 lo mid at hi
-      → Gives (All_results lo hi G env (s lo)) (Then (means W (Evaluate env mid v)) (λ w. Then (the (Val (bind x w (entered (1 + lo) w env)))) (λ inner. means W (Evaluate inner at e))))
-  let_gives x v e lo mid at hi G env z z' z'' simple plain_v plain_e law_v law_e sized_v sized_e L =
+  -- ---- lets
+
+  same_types : (d : Free) (what : ℕ → Free) → taken_by what [] d ≡ d
+  same_types (Const c) what = refl
+  same_types (Name b) what = refl
+  same_types (Own n i) what = refl
+  same_types (Unknown n i) what = refl
+  same_types (Slot i) what = refl
+
+  top_taken : (what : Free → Free) (p : FlatPattern) (q : ℕ) (t : Size) → Pattern_takes N types W.sizing.size_at W.sizing.home what p q t → renamed what (s q) ≡ t
+  unfolding Pattern_takes
+  top_taken what (Bound_pattern b) q t k = k
+  top_taken what Wild_pattern q t k = k
+  top_taken what (Tuple_pattern ps) q t k = k.0
+  top_taken what (Record_pattern fs ps) q t k = k.0
+  top_taken what (Typed_pattern p e) q t k = top_taken what p q t k
+
+  nodes_of : (sizes : List BindId) (p : FlatPattern) (q at hi : ℕ) (t : Size) (what : ℕ → Free) → Sizes_apart N types W at hi sizes p q → Pattern_takes N types W.sizing.size_at W.sizing.home (taken_by what (bind_ids sizes)) p q t
+      → (renamed (taken_by what []) (s q) ≡ t → Away N types W.sizing.size_at W.sizing.home at hi t) → Nodes_away N types W at hi p q
+  nodes_of [] p q at hi t what apart k away = nodes_away N types τ W at hi (taken_by what []) (λ d. same_types d what) p q t k (away (top_taken (taken_by what []) p q t k))
+  nodes_of (b ∷ bs) p q at hi t what apart k away = apart.1
+
+  apart_of : (sizes : List BindId) (p : FlatPattern) (q at hi : ℕ) → Sizes_apart N types W at hi sizes p q → (c : ℕ) → is_among (bind_ids sizes) c ≡ true → is_among (names p) c ≡ false
+  apart_of [] p q at hi h c e = absurd (let z : false ≡ true = e in cc)
+  apart_of (b ∷ bs) p q at hi h c e = h.0 c e
+
+  let_taken : (b : Binding Ref BindId) (lo mid at hi : ℕ) → Simple W.sizing b.pattern (1 + lo) → Sizes_apart N types W at hi b.sizes b.pattern (1 + lo) → Let_sized N types W.sizing.size_at W.sizing.home b lo mid at hi → Taken_value N types τ W S one b.pattern b.sizes lo mid at hi (s mid)
+  let_taken b lo mid at hi simple apart L = record {
+    simple = simple;
+    what = L.what;
+    taken = L.taken;
+    sizes_met = L.sizes_met;
+    sizes_apart = apart_of b.sizes b.pattern (1 + lo) at hi apart;
+    bound_here = L.bound;
+    value_away = L.value_away;
+    nodes = nodes_of b.sizes b.pattern (1 + lo) at hi (s mid) L.what apart L.taken (λ e. subst (Away N types W.sizing.size_at W.sizing.home at hi) (sym (kept (taken_by L.what []) (λ d. same_types d L.what) (s (1 + lo))) ∙ e) L.body_away);
+  }
+
+  let_gives : (b : Binding Ref BindId) (v e : FlatTerm) (lo mid at hi : ℕ) (G : Context) (env : FlatEnv) → mid ≡ 1 + lo + pattern_numbers b.pattern → mid + numbers v ≡ at → at + numbers e ≡ hi → Simple W.sizing b.pattern (1 + lo) → Sizes_apart N types W at hi b.sizes b.pattern (1 + lo)
+      → Plain_term N types W v mid → Plain_term N types W e at → Law v → Law e → Sized N types W.sizing.size_at W.sizing.home v mid G → Let_sized N types W.sizing.size_at W.sizing.home b lo mid at hi × Sized N types W.sizing.size_at W.sizing.home e at (with_pattern W.sizing.size_at b.pattern (1 + lo) (with_size_names (bind_ids b.sizes) G))
+      → Gives (All_results lo hi G env (s lo)) (Then (means W (Evaluate env mid v)) (λ w. Then (the (bound (1 + lo) b.pattern w env)) (λ inner. means W (Evaluate inner at e))))
+  let_gives b v e lo mid at hi G env z z' z'' simple apart plain_v plain_e law_v law_e sized_v q =
       gives_then (All_results mid at G env (s mid)) (All_results lo hi G env (s lo)) _ _
       (subst (λ n. Gives (All_results mid n G env (s mid)) (means W (Evaluate env mid v))) z' (law_v mid G env plain_v sized_v))
-      (λ w hw. gives_then (λ inner. Gives (All_results lo hi G env (s lo)) (means W (Evaluate inner at e))) (All_results lo hi G env (s lo)) _ _
-      (gives_exact (λ inner. Gives (All_results lo hi G env (s lo)) (means W (Evaluate inner at e))) 0 (Val (bind x w (entered (1 + lo) w env))) (body w hw))
-      (λ inner g. g))
+      (λ w hw. gives_all (λ X u. R_of lo hi X.0 (s lo) u) (Then (the (bound (1 + lo) b.pattern w env)) (λ inner. means W (Evaluate inner at e))) (λ X. body w hw X))
     where
-      body : (w : FlatValue) → All_results mid at G env (s mid) w → Gives (All_results lo hi G env (s lo)) (means W (Evaluate (bind x w (entered (1 + lo) w env)) at e))
-      body w hw = gives_all (λ X u. R_of lo hi X.0 (s lo) u) (means W (Evaluate (bind x w (entered (1 + lo) w env)) at e))
-          (λ X. let m' = named_as x.0 (word w) (valued N types τ W S one lo mid at hi x G env L simple (sym z) (omega (arith, z)) (omega (arith, z')) (omega (arith, z'')) (omega (arith, z, z', z'')) w hw X.0 X.1).now in
-          let E' : Env_of at hi m' (with_name x.0 (s (1 + lo)) (with_entered (s (1 + lo)) G)) (bind x w (entered (1 + lo) w env)) = with_value N types τ W S one lo mid at hi x G env L simple (sym z) (omega (arith, z)) (omega (arith, z')) (omega (arith, z'')) (omega (arith, z, z', z'')) w hw X.0 X.1 in
-          gives_as (All_results at hi (with_name x.0 (s (1 + lo)) (with_entered (s (1 + lo)) G)) (bind x w (entered (1 + lo) w env)) (s at)) (R_of lo hi X.0 (s lo)) (means W (Evaluate (bind x w (entered (1 + lo) w env)) at e))
-          (subst (λ n. Gives (All_results at n (with_name x.0 (s (1 + lo)) (with_entered (s (1 + lo)) G)) (bind x w (entered (1 + lo) w env)) (s at)) (means W (Evaluate (bind x w (entered (1 + lo) w env)) at e))) z'' (law_e at (with_name x.0 (s (1 + lo)) (with_entered (s (1 + lo)) G)) (bind x w (entered (1 + lo) w env)) plain_e sized_e))
-          (λ u r. let_result N types τ W S one lo mid at hi x G env L simple (sym z) (omega (arith, z)) (omega (arith, z')) (omega (arith, z'')) (omega (arith, z, z', z'')) w hw X.0 X.1 u (r (m', E'))))
-
-  -- what is known of a let of this pattern, with these names of sizes
-  record Let_facts (p : FlatPattern) (sizes : List BindId) (lo mid at hi : ℕ) : Type 0 where
-    what : ℕ → Free
-    taken : Pattern_takes N types W.sizing.size_at W.sizing.home (taken_by what (bind_ids sizes)) p (1 + lo) (s mid)
-    bound_here : (c : ℕ) → is_among (names p ++ bind_ids sizes) c ≡ true → Inside N types W.sizing.size_at W.sizing.home (1 + lo) mid (Name c)
-    value_away : Away N types W.sizing.size_at W.sizing.home (1 + lo) mid (s mid)
-    body_away : Away N types W.sizing.size_at W.sizing.home at hi (s (1 + lo))
-    own_away : Away N types W.sizing.size_at W.sizing.home lo (1 + lo) (s at)
-    result : s lo ≡ renamed (leave lo (names p ++ bind_ids sizes)) (s at)
-
-  one_name : (x : BindId) (lo mid at hi : ℕ) → Let_facts (Bound_pattern x) [] lo mid at hi → One_name N types τ W S one x.0 lo mid at hi
-  unfolding Pattern_takes
-  one_name x lo mid at hi L = record { what = L.what; takes = L.taken; bound_here = L.bound_here x.0 (ap (λ b. cond b true false) (eq-eqb x.0 x.0 refl)); value_away = L.value_away; body_away = L.body_away; own_away = L.own_away; result = L.result }
-
-  typed_facts : (p : FlatPattern) (t : FlatType) (sizes : List BindId) (lo mid at hi : ℕ) → Let_facts (Typed_pattern p t) sizes lo mid at hi → Let_facts p sizes lo mid at hi
-  unfolding Pattern_takes
-  typed_facts p t sizes lo mid at hi L = record { what = L.what; taken = L.taken; bound_here = L.bound_here; value_away = L.value_away; body_away = L.body_away; own_away = L.own_away; result = L.result }
-
-  let_any : (p : FlatPattern) (sizes : List BindId) (v e : FlatTerm) (lo mid at hi : ℕ) (G : Context) (env : FlatEnv) → Named W.sizing p (1 + lo) → sizes ≡ [] → Plain_term N types W v mid → Plain_term N types W e at → Law v → Law e → 1 + lo + pattern_numbers p ≡ mid → mid + numbers v ≡ at → at + numbers e ≡ hi → Sized N types W.sizing.size_at W.sizing.home v mid G
-      → Let_facts p sizes lo mid at hi × Sized N types W.sizing.size_at W.sizing.home e at (with_pattern W.sizing.size_at p (1 + lo) (with_size_names (bind_ids sizes) G))
-      → Gives (All_results lo hi G env (s lo)) (Then (means W (Evaluate env mid v)) (λ w. Then (the (bound (1 + lo) p w env)) (λ inner. means W (Evaluate inner at e))))
-  unfolding bound
-  let_any (Bound_pattern x) sizes v e lo mid at hi G env named none plain_v plain_e law_v law_e z z' z'' sized_v q =
-      let facts : Let_facts (Bound_pattern x) [] lo mid at hi × Sized N types W.sizing.size_at W.sizing.home e at (with_pattern W.sizing.size_at (Bound_pattern x) (1 + lo) (with_size_names (bind_ids []) G)) = subst (λ y. Let_facts (Bound_pattern x) y lo mid at hi × Sized N types W.sizing.size_at W.sizing.home e at (with_pattern W.sizing.size_at (Bound_pattern x) (1 + lo) (with_size_names (bind_ids y) G))) none q in
-      let_gives x v e lo mid at hi G env z z' z'' named plain_v plain_e law_v law_e sized_v facts.1 (one_name x lo mid at hi facts.0)
-  let_any (Typed_pattern p t) sizes v e lo mid at hi G env named none plain_v plain_e law_v law_e z z' z'' sized_v q = let_any p sizes v e lo mid at hi G env named none plain_v plain_e law_v law_e z z' z'' sized_v (typed_facts p t sizes lo mid at hi q.0, q.1)
-  let_any p sizes v e lo mid at hi G env named none plain_v plain_e law_v law_e z z' z'' sized_v q = absurd named
+      body : (w : FlatValue) → All_results mid at G env (s mid) w → (X : Worths lo hi G env) → Gives (R_of lo hi X.0 (s lo)) (Then (the (bound (1 + lo) b.pattern w env)) (λ inner. means W (Evaluate inner at e)))
+      body w hw X =
+          let r = hw (X.0, env_moves N types τ W lo hi mid at X.0 X.0 G env (omega (arith, z)) (omega (arith, z'')) (λ d o. refl) X.1) in
+          let T : Taken_value N types τ W S one b.pattern b.sizes lo mid at hi (s mid) = let_taken b lo mid at hi simple apart q.0 in
+          let inside : Context = with_pattern W.sizing.size_at b.pattern (1 + lo) (with_size_names (bind_ids b.sizes) G) in
+          let m' : Worth = named_by b.pattern w (taking T.what (bind_ids b.sizes) r.now) in
+          let old : (d : Free) → Beyond lo hi d → r.now d ≡ X.0 d = λ d o. r.old d (outside_narrower N types τ W lo hi mid at (omega (arith, z)) (omega (arith, z'')) d o) in
+          gives_then (λ inner. Env_of at hi m' inside inner) (R_of lo hi X.0 (s lo)) _ _
+          (gives_exact (λ inner. Env_of at hi m' inside inner) 0 (bound (1 + lo) b.pattern w env) (taken_env N types τ W S one b.pattern b.sizes lo mid at hi (s mid) T z (omega (arith, z')) (omega (arith, z'')) w X.0 r.now G env X.1 old r.fits))
+          (λ inner E'. gives_as (All_results at hi inside inner (s at)) (R_of lo hi X.0 (s lo)) (means W (Evaluate inner at e))
+          (subst (λ n. Gives (All_results at n inside inner (s at)) (means W (Evaluate inner at e))) z'' (law_e at inside inner plain_e q.1))
+          (λ u k. let_result N types τ W S one b.pattern b.sizes lo mid at hi (s mid) T z (omega (arith, z')) (omega (arith, z'')) w X.0 r.now (omega (arith, z, z', z'')) old (q.0).own_away (q.0).result u (k (m', E'))))
 
   not_general : (p : FlatPattern) (v : FlatTerm) → No_lambda v → General_form N types W.sizing.size_at W.sizing.home p v → ⊥
   not_general (Bound_pattern x) (Lambda ps e) n g = absurd n
@@ -230,20 +255,129 @@ module _ (N : Names) (types : Sub) (τ : Meant) (W : World) (S : Sound N types W
   let_choice : (b : Binding Ref BindId) (v e : FlatTerm) (lo mid at hi : ℕ) (G : Context) → No_lambda v
       → (Let_sized N types W.sizing.size_at W.sizing.home b lo mid at hi × Sized N types W.sizing.size_at W.sizing.home e at (with_pattern W.sizing.size_at b.pattern (1 + lo) (with_size_names (bind_ids b.sizes) G)))
       ⊎ ((A : Generalised N types W.sizing.size_at W.sizing.home b.pattern v lo mid at hi G) × Sized N types W.sizing.size_at W.sizing.home e at (with_general N types W.sizing.size_at W.sizing.home b.pattern (1 + lo) A.new G))
-      → Let_facts b.pattern b.sizes lo mid at hi × Sized N types W.sizing.size_at W.sizing.home e at (with_pattern W.sizing.size_at b.pattern (1 + lo) (with_size_names (bind_ids b.sizes) G))
-  let_choice b v e lo mid at hi G n (inl q) = (record { what = (q.0).what; taken = (q.0).taken; bound_here = (q.0).bound; value_away = (q.0).value_away; body_away = (q.0).body_away; own_away = (q.0).own_away; result = (q.0).result }, q.1)
+      → Let_sized N types W.sizing.size_at W.sizing.home b lo mid at hi × Sized N types W.sizing.size_at W.sizing.home e at (with_pattern W.sizing.size_at b.pattern (1 + lo) (with_size_names (bind_ids b.sizes) G))
+  let_choice b v e lo mid at hi G n (inl q) = q
   let_choice b v e lo mid at hi G n (inr q) = absurd (not_general b.pattern v n (q.0).form)
+
+  -- ---- loops
+
+  loop_known : (sizes : List BindId) (p : FlatPattern) (lo mid ts te at hi : ℕ) → mid ≡ 1 + lo + pattern_numbers p → mid ≤ ts → Simple W.sizing p (1 + lo) → Sizes_apart N types W ts hi sizes p (1 + lo) → Data (s at) → Loops N types W.sizing.size_at W.sizing.home sizes p lo mid ts at hi → Loop_known N types τ W S one p sizes lo mid ts te at hi
+  loop_known sizes p lo mid ts te at hi z l simple apart data_at L = record {
+    named = record {
+      simple = simple;
+      what = L.what;
+      taken = L.taken;
+      sizes_met = L.sizes_met;
+      sizes_apart = apart_of sizes p (1 + lo) ts hi apart;
+      bound_here = L.bound;
+      value_away = subst (Away N types W.sizing.size_at W.sizing.home (1 + lo) mid) (sym L.carried) (each_lacking N types (Beyond (1 + lo) mid) lo L.dropped (λ i j. let x = j.0 in omega (arith, x)) 0 0 (s mid) (away_narrower N types τ W lo mid (1 + lo) mid (omega arith) (omega arith) (s mid) L.value_away));
+      nodes = nodes_of sizes p (1 + lo) ts hi (s lo) L.what apart L.taken (λ e. subst (Away N types W.sizing.size_at W.sizing.home ts hi) (sym L.carried) (each_lacking N types (Beyond ts hi) lo L.dropped (λ i j. let x = j.0 in omega (arith, x, z, l)) 0 0 (s mid) L.turns_away));
+    };
+    dropped = L.dropped;
+    carried = L.carried;
+    no_function = L.no_function;
+    form = same_form W.sizing.fields (s mid) (s at) L.no_function data_at (S.formed mid) (S.formed at) L.one_type;
+    kept = L.kept;
+    value_away = L.value_away;
+    turns_away = L.turns_away;
+  }
+
+  while_gives : (c body : FlatTerm) (r : Report) (sizes : List BindId) (p : FlatPattern) (lo mid ts at hi : ℕ) (G : Context) (env : FlatEnv) (w : FlatValue) → mid ≡ 1 + lo + pattern_numbers p → mid ≤ ts → ts ≤ at → at + numbers body ≡ hi → Loop_known N types τ W S one p sizes lo mid ts ts at hi
+      → Plain_term N types W body at → Law body → Sized N types W.sizing.size_at W.sizing.home body at (with_pattern W.sizing.size_at p (1 + lo) (with_size_names (bind_ids sizes) G)) → All_results mid ts G env (s mid) w
+      → Gives (All_results lo hi G env (s lo)) (while_turns W.budget r (λ w. Then (Then (the (bound (1 + lo) p w env)) (λ e. means W (Evaluate e ts c))) (λ b. the (truth_of b))) (λ w. Then (the (bound (1 + lo) p w env)) (λ e. means W (Evaluate e at body))) w)
+  while_gives c body r sizes p lo mid ts at hi G env w z l1 l2 z' L plain law_b sized hw = gives_all (λ X u. R_of lo hi X.0 (s lo) u) _ (λ X.
+      let x = hw (X.0, env_moves N types τ W lo hi mid ts X.0 X.0 G env (omega (arith, z)) (omega (arith, l2, z')) (λ d o. refl) X.1) in
+      let old : (d : Free) → Beyond lo hi d → x.now d ≡ X.0 d = λ d o. x.old d (outside_narrower N types τ W lo hi mid ts (omega (arith, z)) (omega (arith, l2, z')) d o) in
+      gives_as (Turn_now N types τ W S one p sizes lo mid ts ts at hi L z l1 (omega arith) l2 (omega (arith, z')) x.now) (R_of lo hi X.0 (s lo)) _
+      (gives_while (Turn_now N types τ W S one p sizes lo mid ts ts at hi L z l1 (omega arith) l2 (omega (arith, z')) x.now) r _ _
+      (λ v k. while_turn N types τ W S one p sizes lo mid ts ts at hi L z l1 (omega arith) l2 (omega (arith, z')) X.0 x.now G env X.1 old body
+      (λ e. subst (λ n. Gives (All_results at n (with_pattern W.sizing.size_at p (1 + lo) (with_size_names (bind_ids sizes) G)) e (s at)) (means W (Evaluate e at body))) z' (law_b at (with_pattern W.sizing.size_at p (1 + lo) (with_size_names (bind_ids sizes) G)) e plain sized)) v k)
+      W.budget w (starts N types τ W S one p sizes lo mid ts ts at hi L z l1 (omega arith) l2 (omega (arith, z')) x.now w x.fits))
+      (λ v k. ends N types τ W S one p sizes lo mid ts ts at hi L z l1 (omega arith) l2 (omega (arith, z')) X.0 x.now v old k))
+
+  -- the first value under what is worth once the turns are known
+  still_fits : (ts hi : ℕ) (m m' : Worth) (mid : ℕ) (w : FlatValue) → Away N types W.sizing.size_at W.sizing.home ts hi (s mid) → ((d : Free) → Beyond ts hi d → m' d ≡ m d) → Of m (s mid) w → Of m' (s mid) w
+  still_fits ts hi m m' mid w away old h = fits_away N types τ W ts hi m m' (s mid) w away old h
+
+  counted_gives : (i : BindId) (n body : FlatTerm) (sizes : List BindId) (p : FlatPattern) (lo mid ts at hi : ℕ) (G : Context) (env : FlatEnv) (w : FlatValue) → mid ≡ 1 + lo + pattern_numbers p → mid ≤ ts → 1 + ts + numbers n ≡ at → at + numbers body ≡ hi → Loop_known N types τ W S one p sizes lo mid ts (1 + ts) at hi
+      → W.sizing.home i.0 ≡ ts → Simple W.sizing (Bound_pattern i) ts → (t : IntType) → types (1 + ts) ≡ scalar_ty (sort.Int t) → s ts ≡ s (1 + ts) → Gives (All_results (1 + ts) at G env (s (1 + ts))) (means W (Evaluate env (1 + ts) n))
+      → Plain_term N types W body at → Law body → Sized N types W.sizing.size_at W.sizing.home body at (with_name i.0 (s ts) (with_pattern W.sizing.size_at p (1 + lo) (with_size_names (bind_ids sizes) G))) → All_results mid ts G env (s mid) w
+      → Gives (All_results lo hi G env (s lo)) (Then (means W (Evaluate env (1 + ts) n)) (λ k. Then (the (turns_of k)) (λ c. turns (λ j w. Then (the (bound (1 + lo) p w env)) (λ e. means W (Evaluate (bind i (Scalar_value (scalar.Int c.0 j)) (entered ts (Scalar_value (scalar.Int c.0 j)) e)) at body))) (counts c.1 0) w)))
+  counted_gives i n body sizes p lo mid ts at hi G env w z l1 z1 z' L at_home simple t typed same hn plain law_b sized hw =
+      gives_then (All_results (1 + ts) at G env (s (1 + ts))) (All_results lo hi G env (s lo)) _ _ hn
+      (λ k hk. gives_all (λ X u. R_of lo hi X.0 (s lo) u) _ (λ X.
+      let x = hw (X.0, env_moves N types τ W lo hi mid ts X.0 X.0 G env (omega (arith, z)) (omega (arith, z1, z')) (λ d o. refl) X.1) in
+      let old1 : (d : Free) → Beyond lo hi d → x.now d ≡ X.0 d = λ d o. x.old d (outside_narrower N types τ W lo hi mid ts (omega (arith, z)) (omega (arith, z1, z')) d o) in
+      let y = hk (x.now, env_moves N types τ W lo hi (1 + ts) at X.0 x.now G env (omega (arith, z, l1)) (omega (arith, z')) old1 X.1) in
+      let old : (d : Free) → Beyond lo hi d → y.now d ≡ X.0 d = λ d o. y.old d (outside_narrower N types τ W lo hi (1 + ts) at (omega (arith, z, l1)) (omega (arith, z')) d o) ∙ old1 d o in
+      let sc = scalar_is N types τ W S one y.now (s (1 + ts)) (sort.Int t) k (S.formed (1 + ts)) (S.typed (1 + ts) ∙ typed) y.fits in
+      gives_then (λ c. c.0 ≡ t) (R_of lo hi X.0 (s lo)) _ _
+      (gives_exact (λ c. c.0 ≡ t) 0 (turns_of k) (counted_type N types τ W S one y.now t k (subst (λ u. Of y.now u k) sc y.fits)))
+      (λ c e. gives_as (Turn_now N types τ W S one p sizes lo mid ts (1 + ts) at hi L z l1 (omega arith) (omega (arith, z1)) (omega (arith, z')) y.now) (R_of lo hi X.0 (s lo)) _
+      (gives_turns (Turn_now N types τ W S one p sizes lo mid ts (1 + ts) at hi L z l1 (omega arith) (omega (arith, z1)) (omega (arith, z')) y.now) (λ j. Unit {0}) _
+      (λ j v u k. subst (λ t'. Gives (Turn_now N types τ W S one p sizes lo mid ts (1 + ts) at hi L z l1 (omega arith) (omega (arith, z1)) (omega (arith, z')) y.now) (Then (the (bound (1 + lo) p v env)) (λ e. means W (Evaluate (bind i (Scalar_value (scalar.Int t' j)) (entered ts (Scalar_value (scalar.Int t' j)) e)) at body)))) (sym e)
+      (counted_turn N types τ W S one p sizes lo mid ts (1 + ts) at hi L z l1 (omega arith) (omega (arith, z1)) (omega (arith, z')) X.0 y.now G env X.1 old body i t (same ∙ sc) at_home (omega arith) simple
+      (λ e. subst (λ n. Gives (All_results at n (with_name i.0 (s ts) (with_pattern W.sizing.size_at p (1 + lo) (with_size_names (bind_ids sizes) G))) e (s at)) (means W (Evaluate e at body))) z' (law_b at (with_name i.0 (s ts) (with_pattern W.sizing.size_at p (1 + lo) (with_size_names (bind_ids sizes) G))) e plain sized)) j v k))
+      (counts c.1 0) w (any_counts c.1 0)
+      (starts N types τ W S one p sizes lo mid ts (1 + ts) at hi L z l1 (omega arith) (omega (arith, z1)) (omega (arith, z')) y.now w
+      (still_fits ts hi x.now y.now mid w L.turns_away (λ d o. y.old d (outside_narrower N types τ W ts hi (1 + ts) at (omega arith) (omega (arith, z')) d o)) x.fits)))
+      (λ v k. ends N types τ W S one p sizes lo mid ts (1 + ts) at hi L z l1 (omega arith) (omega (arith, z1)) (omega (arith, z')) X.0 y.now v old k))))
+
+  rows_gives : (q : FlatPattern) (a body : FlatTerm) (sizes : List BindId) (p : FlatPattern) (lo mid ts te at hi : ℕ) (G : Context) (env : FlatEnv) (w : FlatValue) → mid ≡ 1 + lo + pattern_numbers p → mid ≤ ts → ts + pattern_numbers q ≡ te → te + numbers a ≡ at → at + numbers body ≡ hi → Loop_known N types τ W S one p sizes lo mid ts te at hi
+      → Name_home W.sizing q ts → Simple W.sizing q ts → (d : Dim) (t : Size) → s te ≡ Level d t → Away N types W.sizing.size_at W.sizing.home lo te (s te) → Away N types W.sizing.size_at W.sizing.home at hi (s te)
+      → Pattern_takes N types W.sizing.size_at W.sizing.home (λ d. d) q ts (row_of N types (s te)) → Gives (All_results te at G env (s te)) (means W (Evaluate env te a))
+      → Plain_term N types W body at → Law body → Sized N types W.sizing.size_at W.sizing.home body at (with_pattern W.sizing.size_at q ts (with_pattern W.sizing.size_at p (1 + lo) (with_size_names (bind_ids sizes) G))) → All_results mid ts G env (s mid) w
+      → Gives (All_results lo hi G env (s lo)) (Then (means W (Evaluate env te a)) (λ k. Then (the (and_then (datum_of k) rows_of)) (λ r. turns (λ d w. Then (the (bound (1 + lo) p w env)) (λ e. Then (the (bound ts q (as_value d) e)) (λ e. means W (Evaluate e at body)))) r.1 w)))
+  rows_gives q a body sizes p lo mid ts te at hi G env w z l1 z0 z1 z' L at_home simple d t level away away' takes ha plain law_b sized hw =
+      gives_then (All_results te at G env (s te)) (All_results lo hi G env (s lo)) _ _ ha
+      (λ k hk. gives_all (λ X u. R_of lo hi X.0 (s lo) u) _ (λ X.
+      let x = hw (X.0, env_moves N types τ W lo hi mid ts X.0 X.0 G env (omega (arith, z)) (omega (arith, z0, z1, z')) (λ d o. refl) X.1) in
+      let old1 : (d : Free) → Beyond lo hi d → x.now d ≡ X.0 d = λ d o. x.old d (outside_narrower N types τ W lo hi mid ts (omega (arith, z)) (omega (arith, z0, z1, z')) d o) in
+      let y = hk (x.now, env_moves N types τ W lo hi te at X.0 x.now G env (omega (arith, z, l1, z0)) (omega (arith, z')) old1 X.1) in
+      let old : (d : Free) → Beyond lo hi d → y.now d ≡ X.0 d = λ d o. y.old d (outside_narrower N types τ W lo hi te at (omega (arith, z, l1, z0)) (omega (arith, z')) d o) ∙ old1 d o in
+      let rows = rows_out N types τ W S one y.now d t k (subst (λ u. Of y.now u k) level y.fits) in
+      let row_away : Each (Scoped (λ e. Beyond lo te e × Beyond at hi e)) 0 t = row_apart N types τ W S one lo te at hi d t (subst (Away N types W.sizing.size_at W.sizing.home lo te) level away) (subst (Away N types W.sizing.size_at W.sizing.home at hi) level away') in
+      let row_takes : Pattern_takes N types W.sizing.size_at W.sizing.home (λ d. d) q ts t = subst (λ u. Pattern_takes N types W.sizing.size_at W.sizing.home (λ d. d) q ts (row_of N types u)) level takes in
+      gives_then (λ r. Data t × Every (Has_datum N τ y.now no_frames t) r.1) (R_of lo hi X.0 (s lo)) _ _
+      (gives_exact (λ r. Data t × Every (Has_datum N τ y.now no_frames t) r.1) 0 (and_then (datum_of k) rows_of) (rows (row_formed N types τ W S one d t te level)))
+      (λ r hr. gives_as (Turn_now N types τ W S one p sizes lo mid ts te at hi L z l1 (omega (arith, z0)) (omega (arith, z1)) (omega (arith, z')) y.now) (R_of lo hi X.0 (s lo)) _
+      (gives_turns (Turn_now N types τ W S one p sizes lo mid ts te at hi L z l1 (omega (arith, z0)) (omega (arith, z1)) (omega (arith, z')) y.now) (Has_datum N τ y.now no_frames t) _
+      (λ e v he kv. row_turn N types τ W S one p sizes lo mid ts te at hi L z l1 (omega (arith, z0)) (omega (arith, z1)) (omega (arith, z')) X.0 y.now G env X.1 old body q t hr.0 row_away at_home simple z0 row_takes
+      (λ e. subst (λ n. Gives (All_results at n (with_pattern W.sizing.size_at q ts (with_pattern W.sizing.size_at p (1 + lo) (with_size_names (bind_ids sizes) G))) e (s at)) (means W (Evaluate e at body))) z' (law_b at (with_pattern W.sizing.size_at q ts (with_pattern W.sizing.size_at p (1 + lo) (with_size_names (bind_ids sizes) G))) e plain sized)) e v he kv)
+      r.1 w hr.1
+      (starts N types τ W S one p sizes lo mid ts te at hi L z l1 (omega (arith, z0)) (omega (arith, z1)) (omega (arith, z')) y.now w
+      (still_fits ts hi x.now y.now mid w L.turns_away (λ d o. y.old d (outside_narrower N types τ W ts hi te at (omega (arith, z0)) (omega (arith, z')) d o)) x.fits)))
+      (λ v k. ends N types τ W S one p sizes lo mid ts te at hi L z l1 (omega (arith, z0)) (omega (arith, z1)) (omega (arith, z')) X.0 y.now v old k))))
+
+  -- a size's name is an i64
+  size_fits : (b : BindId) (lo hi : ℕ) (G : Context) (env : FlatEnv) → s lo ≡ i64_size → All_results lo hi G env (s lo) (size_value W.sizing env b.0)
+  unfolding Fits size_value
+  size_fits b lo hi G env e = λ w. record { now = w.0; old = λ d o. refl; fits = subst (λ u. Of w.0 u (size_value W.sizing env b.0)) (sym e) refl }
 
   use_fits : (b : BindId) (lo hi : ℕ) (G : Context) (env : FlatEnv) → ((t : Size) × (G.sizes b.0 ≡ Some t) × Suits t (s lo)) ⊎ ((t : Size) × (G.schemes b.0 ≡ Some t) × Filled_use (G.general b.0) t (s lo)) → (v : FlatValue) → flat_look W.tops env b.0 ≡ Val v → All_results lo hi G env (s lo) v
   use_fits b lo hi G env (inl q) v l = λ w. record { now = w.0; old = λ d o. refl; fits = suits_fits N τ W.sizing (calls W) q.2 w.0 v ((w.1).values b.0 q.0 q.1 v l).0 }
   use_fits b lo hi G env (inr q) v l = λ w. absurd (none_some (G.schemes b.0) q.0 ((w.1).none_general b.0) q.1)
+
+  named_or_size : (b : BindId) (lo hi : ℕ) (G : Context) (env : FlatEnv) → (W.sizing.is_size b.0 ≡ true → s lo ≡ i64_size) → ((t : Size) × (G.sizes b.0 ≡ Some t) × Suits t (s lo)) ⊎ ((t : Size) × (G.schemes b.0 ≡ Some t) × Filled_use (G.general b.0) t (s lo))
+      → Out_fits (All_results lo hi G env (s lo)) (cond (W.sizing.is_size b.0) (Val (size_value W.sizing env b.0)) (flat_look W.tops env b.0))
+  named_or_size b lo hi G env p h = by_test (W.sizing.is_size b.0) refl
+    where
+      by_test : (c : Bool) → W.sizing.is_size b.0 ≡ c → Out_fits (All_results lo hi G env (s lo)) (cond c (Val (size_value W.sizing env b.0)) (flat_look W.tops env b.0))
+      by_test true e = size_fits b lo hi G env (p e)
+      by_test false e = out_of (All_results lo hi G env (s lo)) (flat_look W.tops env b.0) (λ v l. use_fits b lo hi G env h v l)
+
+  abbrev Turns_law : FlatTurns → Type 0
+  Turns_law turns = (mark : Place) (sizes : List BindId) (p : FlatPattern) (body : FlatTerm) (lo mid ts at hi : ℕ) (G : Context) (env : FlatEnv) (w : FlatValue) → mid ≡ 1 + lo + pattern_numbers p → mid ≤ ts → ts + turn_numbers turns ≡ at → at + numbers body ≡ hi → ((te : ℕ) → Loop_known N types τ W S one p sizes lo mid ts te at hi)
+      → Plain_turns N types W turns lo ts at hi → Turns_sized N types W.sizing.size_at W.sizing.home turns ts G (with_pattern W.sizing.size_at p (1 + lo) (with_size_names (bind_ids sizes) G))
+      → Plain_term N types W body at → Law body → Sized N types W.sizing.size_at W.sizing.home body at (counter N types W.sizing.size_at W.sizing.home turns ts (with_pattern W.sizing.size_at p (1 + lo) (with_size_names (bind_ids sizes) G))) → All_results mid ts G env (s mid) w
+      → Gives (All_results lo hi G env (s lo)) (looped W.budget (means W) env (1 + lo) p mark turns body ts at w)
 
   mutual
     unfolding flat_names plain
 
     pub law : (t : FlatTerm) → Law t
     law (Use (ref.Bound b) at k) = λ lo G env p h. evaluates N types τ W S one (All_results lo (lo + (1 + (k + k))) G env (s lo)) (Evaluate env lo (Use (ref.Bound b) at k))
-        (gives_exact (All_results lo (lo + (1 + (k + k))) G env (s lo)) 0 (flat_look W.tops env b.0) (out_of (All_results lo (lo + (1 + (k + k))) G env (s lo)) (flat_look W.tops env b.0) (λ v l. use_fits b lo (lo + (1 + (k + k))) G env h v l)))
+        (gives_exact (All_results lo (lo + (1 + (k + k))) G env (s lo)) 0 (cond (W.sizing.is_size b.0) (Val (size_value W.sizing env b.0)) (flat_look W.tops env b.0)) (named_or_size b lo (lo + (1 + (k + k))) G env p h))
     law (Use (ref.Prim p) at k) = λ lo G env pl h. evaluates N types τ W S one (All_results lo (lo + (1 + (k + k))) G env (s lo)) (Evaluate env lo (Use (ref.Prim p) at k))
         (gives_exact (All_results lo (lo + (1 + (k + k))) G env (s lo)) 0 (Val (primitive_use p at)) (λ w. record { now = w.0; old = λ d o. refl; fits = primitive_fits N types τ W S one p at (s lo) pl h w.0 }))
     law (Strict o mark ts) = λ lo G env p h.
@@ -260,7 +394,7 @@ module _ (N : Names) (types : Sub) (τ : Meant) (W : World) (S : Sound N types W
         (λ w. record {
           now = w.0;
           old = λ d o. refl;
-          fits = closure_fits N types τ W S one ps p e (all_part_names (pattern_and p ps)) lo (1 + lo) at (at + numbers e) (s lo) G env w.0 plain.0 plain.1 (no_parts_named N types τ W S one (pattern_and p ps) (1 + lo) (plain.0, plain.1)) refl (omega arith) (body_law e at (at + numbers e) refl plain.2 (law e)) h
+          fits = closure_fits N types τ W S one ps p e (all_part_names (pattern_and p ps)) lo (1 + lo) at (at + numbers e) (s lo) G env w.0 plain.0 (λ c e. e) plain.1 (omega arith) refl (omega arith) (body_law e at (at + numbers e) refl plain.2 (law e)) h
               (env_moves N types τ W lo (lo + numbers (Lambda (pattern_and p ps) e)) (1 + lo) (at + numbers e) w.0 w.0 G env (omega arith) (omega arith) (λ d o. refl) w.1);
         }))
     law (Apply f e) = λ lo G env plain h.
@@ -273,7 +407,7 @@ module _ (N : Names) (types : Sub) (τ : Meant) (W : World) (S : Sound N types W
         (λ g hg. gives_then (λ v. All_results mid hi G env (s mid) v × Worth_of N types τ W S one lo (A.base + A.chosen) G env (A.inside A.chosen) v) (All_results lo (lo + numbers (Apply f e)) G env (s lo)) _ _
         (gives_more (All_results mid hi G env (s mid)) (Worth_of N types τ W S one lo (A.base + A.chosen) G env (A.inside A.chosen)) (means W (Evaluate env mid e))
         (law e mid G env plain.1 h.1)
-        (λ v c r. argument_worth N types τ W S one e lo mid (A.base + A.chosen) G env (A.inside A.chosen) plain.1 A.value v c r))
+        (λ v c r. argument_worth N types τ W S one e lo mid (A.base + A.chosen) G env (A.inside A.chosen) plain.1 plain.2 A.value v c r))
         (λ v hv. subst (λ z. Gives (All_results lo z G env (s lo)) (calls W g v)) (let z : hi ≡ lo + numbers (Apply f e) = omega arith in z)
         (gives_all (λ x u. R_of lo hi x.0 (s lo) u) (calls W g v)
         (λ x. called N types τ W S one e lo mid hi G env A (omega arith) (omega arith) g v hv.1 x.0 x.1 (together N types τ W S one e lo mid hi G env A (omega arith) (omega arith) g v hv.1 x.0 x.1 hg hv.0 A.order))))))
@@ -283,15 +417,36 @@ module _ (N : Names) (types : Sub) (τ : Meant) (W : World) (S : Sound N types W
         let hi : ℕ = 1 + lo + pattern_numbers b.pattern + numbers v + numbers e in
         evaluates N types τ W S one (All_results lo (lo + numbers (Let b v e)) G env (s lo)) (Evaluate env lo (Let b v e))
         (subst (λ z. Gives (All_results lo z G env (s lo)) (Then (means W (Evaluate env mid v)) (λ w. Then (the (bound (1 + lo) b.pattern w env)) (λ inner. means W (Evaluate inner at e))))) (let z : hi ≡ lo + numbers (Let b v e) = omega arith in z)
-        (let_any b.pattern b.sizes v e lo mid at hi G env plain.0 plain.1 plain.3 plain.4 (law v) (law e) refl refl refl h.0
-        (let_choice b v e lo mid at hi G plain.2 h.1)))
+        (let_gives b v e lo mid at hi G env refl refl refl plain.0 plain.1 plain.3 plain.4 (law v) (law e) h.0 (let_choice b v e lo mid at hi G plain.2 h.1)))
     law (If c a b) = λ lo G env plain h.
         let at : ℕ = 1 + lo + numbers c in
         let other : ℕ = 1 + lo + numbers c + numbers a in
         evaluates N types τ W S one (All_results lo (lo + numbers (If c a b)) G env (s lo)) (Evaluate env lo (If c a b))
         (subst (λ z. Gives (All_results lo z G env (s lo)) (Then (means W (Evaluate env (1 + lo) c)) (λ v. Then (the (truth_of v)) (λ holds. choose holds (means W (Evaluate env at a)) (means W (Evaluate env other b)))))) (let z : 1 + lo + numbers c + numbers a + numbers b ≡ lo + numbers (If c a b) = omega arith in z)
         (if_gives c a b lo at other (1 + lo + numbers c + numbers a + numbers b) G env refl refl refl h.3 (law a at G env plain.1 h.1) (law b other G env plain.2 h.2)))
+    law (Loop mark sizes p first turns body) = λ lo G env plain h.
+        let mid : ℕ = 1 + lo + pattern_numbers p in
+        let ts : ℕ = 1 + lo + pattern_numbers p + numbers first in
+        let at : ℕ = 1 + lo + pattern_numbers p + numbers first + turn_numbers turns in
+        let hi : ℕ = 1 + lo + pattern_numbers p + numbers first + turn_numbers turns + numbers body in
+        evaluates N types τ W S one (All_results lo (lo + numbers (Loop mark sizes p first turns body)) G env (s lo)) (Evaluate env lo (Loop mark sizes p first turns body))
+        (subst (λ z. Gives (All_results lo z G env (s lo)) (Then (means W (Evaluate env mid first)) (λ w. looped W.budget (means W) env (1 + lo) p mark turns body ts at w))) (let z : hi ≡ lo + numbers (Loop mark sizes p first turns body) = omega arith in z)
+        (gives_then (All_results mid ts G env (s mid)) (All_results lo hi G env (s lo)) _ _ (law first mid G env plain.4 h.0)
+        (λ w hw. turns_law turns mark sizes p body lo mid ts at hi G env w refl (omega arith) refl refl (λ te. loop_known sizes p lo mid ts te at hi refl (omega arith) plain.0 plain.1 plain.2 h.3) plain.3 h.1 plain.5 (law body) h.2 hw)))
     law t = λ lo G env plain h. absurd plain
+
+    turns_law : (turns : FlatTurns) → Turns_law turns
+    turns_law (Counted i n) = λ mark sizes p body lo mid ts at hi G env w z l z1 z' L plain h plain_b law_b sized hw.
+        let e : 1 + ts + numbers n ≡ at = (let x : 1 + ts + numbers n ≡ ts + (1 + numbers n) = omega arith in x) ∙ z1 in
+        counted_gives i n body sizes p lo mid ts at hi G env w z l e z' (L (1 + ts)) plain.0 plain.1 (plain.2).0 (plain.2).1 h.1
+        (subst (λ k. Gives (All_results (1 + ts) k G env (s (1 + ts))) (means W (Evaluate env (1 + ts) n))) e (law n (1 + ts) G env plain.3 h.0)) plain_b law_b sized hw
+    turns_law (Over q a) = λ mark sizes p body lo mid ts at hi G env w z l z1 z' L plain h plain_b law_b sized hw.
+        let te : ℕ = ts + pattern_numbers q in
+        let e : ts + pattern_numbers q + numbers a ≡ at = (let x : ts + pattern_numbers q + numbers a ≡ ts + (pattern_numbers q + numbers a) = omega arith in x) ∙ z1 in
+        rows_gives q a body sizes p lo mid ts te at hi G env w z l refl e z' (L te) plain.0 plain.1 (plain.2).0 (plain.2).1 (plain.2).2 plain.3 plain.4 h.1
+        (subst (λ k. Gives (All_results te k G env (s te)) (means W (Evaluate env te a))) e (law a te G env plain.5 h.0)) plain_b law_b sized hw
+    turns_law (While c) = λ mark sizes p body lo mid ts at hi G env w z l z1 z' L plain h plain_b law_b sized hw.
+        while_gives c body (report kind.Turns mark) sizes p lo mid ts at hi G env w z l (omega (arith, z1)) z' (L ts) plain_b law_b sized hw
 
     all_law : (ts : Terms Ref BindId) → All_law ts
     all_law no_term = λ lo hi G env z plain h. gives_exact (All_parts lo hi G env no_size) 0 (Val []) (no_parts lo hi G env)

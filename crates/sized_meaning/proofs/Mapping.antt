@@ -110,7 +110,7 @@ module _ (N : Names) (types : Sub) (τ : Meant) (W : World) (S : Sound N types W
     unfolding Has_datum
     array_of_rows row ds l h e = (ap length (same_list ds) ∙ l, h, listed_every (Has_datum N τ m φ b) ds e)
 
-    weighed : (at : Place) (d : Datum) → Has_datum N τ m φ (Level x b) d → Out_fits (Has_datum N τ m φ (Level x b)) (within_weight at d)
+    pub weighed : (at : Place) (d : Datum) → Has_datum N τ m φ (Level x b) d → Out_fits (Has_datum N τ m φ (Level x b)) (within_weight at d)
     weighed at d h = tested (nat_le (weight (shape_of d)) most_words)
       where
         tested : (c : Bool) → Out_fits (Has_datum N τ m φ (Level x b)) (checked c kind.TooLarge at (Val d))

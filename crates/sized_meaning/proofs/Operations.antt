@@ -1,5 +1,5 @@
 -- What operations give is of the sized type that their rules say.
-use Rattle.std.proofs.Common.{◌≡◌, ℕ, ◌+◌, List, [], ◌∷◌, false, Some, None, Ok, refl, sym, ap, ◌∙◌, subst, suc, true}
+use Rattle.std.proofs.Common.{◌≡◌, ℕ, ◌+◌, List, [], ◌∷◌, false, Some, None, Ok, refl, sym, ap, ◌∙◌, subst, suc, true, inl, inr}
 use Rattle.fut_arithmetic.specs.Types.{result_type}
 use Rattle.fut_scalar.specs.declared.place.BindId.{BindId}
 use Rattle.fut_scalar.specs.declared.place.Place.{Place}
@@ -7,7 +7,7 @@ use Rattle.fut_scalar.specs.declared.scalar.ScalarType.{ScalarType}
 use Rattle.fut_scalar.specs.declared.scalar.ScalarType.TheVariants as sort
 use Rattle.fut_flat.specs.declared.prim.Ref.{Ref}
 use Rattle.fut_flat.specs.Numbers.{numbers, own_numbers}
-use Rattle.fut_flat.specs.Terms.{Operation, Integer, Truth, Tuple_of, Array_of, Index, Declared, Binary, Negate, Complement, Assert, Terms, no_term, term_and, Ascribe}
+use Rattle.fut_flat.specs.Terms.{Operation, Integer, Truth, Tuple_of, Array_of, Index, Update, Project, Declared, Binary, Negate, Complement, Assert, Terms, no_term, term_and, Ascribe}
 use Rattle.fut_types.specs.declared.Head.TheVariants as head
 use Rattle.fut_types.specs.Types.{Made, none, Sub, scalar_ty}
 use Rattle.fut_typing.specs.Names.{Names}
@@ -15,26 +15,33 @@ use Rattle.fut_meaning.specs.Flats.{FlatValue, FlatEnv, flat_names}
 use Rattle.fut_meaning.specs.Meaning.{row_told, fits_type, Of_literal}
 use Rattle.fut_meaning.specs.Operations.{operated, operate, coerced}
 use Rattle.fut_meaning.specs.Outcomes.{Out, Val}
-use Rattle.fut_meaning.specs.Values.{Tuple_value, values}
+use Rattle.fut_meaning.specs.Values.{Tuple_value, Record_value, values}
 use Rattle.sized_types.specs.Sizes.{Inferred, Written, Size, Hole, Open, Level, Built, Fun, Sizes, no_size, size_and, erased, all_erased, At, Bound, Unknown}
 use Rattle.fut_sizes.specs.Agreeing.{no_size_of, of_type, of_types}
-use Rattle.fut_sizes.specs.Operations.{operation}
+use Rattle.fut_sizes.specs.Operations.{operation, part_or}
+use Rattle.fut_ast.specs.Sorts.{Text}
+use Rattle.fut_meaning.specs.Accessors.{or_wrong, part}
+use Rattle.sized_meaning.proofs.Patterns.{field_fits}
+use Rattle.sized_meaning.proofs.Updating.{update_fits}
 use Rattle.fut_sizes.specs.Rules.{part_sizes}
 use Rattle.sized_meaning.specs.Worth.{Worth, no_frames}
 use Rattle.sized_meaning.specs.Shapes.{Meant}
 use Rattle.sized_meaning.specs.Finding.{One_kind_each}
 use Rattle.sized_meaning.specs.Fits.{Out_fits, Gives, Is_scalar, Fits, All_fit}
-use Rattle.sized_meaning.specs.Law.{Beyond, Sound, World, told, calls, Plain_operation, Result as Res}
+use Rattle.sized_meaning.specs.Law.{Beyond, Sound, World, told, calls, Indexed_parts, Has_field, Plain_operation, Result as Res}
 use Rattle.sized_meaning.proofs.Ways.{out_as}
 use Rattle.sized_meaning.proofs.Outcomes.{gives_exact}
 use Rattle.sized_meaning.proofs.Suiting.{same_ok, at_node}
 use Rattle.sized_meaning.proofs.Environments.{beyond_node}
-use Rattle.fut_sizes.specs.WrittenSizes.{has_sizes, with_sizes, declared, ascribed}
+use Rattle.fut_sizes.specs.WrittenSizes.{part_of, has_sizes, with_sizes, declared, ascribed}
 use Rattle.sized_meaning.proofs.Alike.{alike_fits}
 use Rattle.sized_meaning.proofs.Branches.{all_of}
 use Rattle.sized_meaning.proofs.Declared.{declared_as}
 use Rattle.sized_meaning.proofs.Elements.{then_ok, array_fits}
 use Rattle.sized_meaning.proofs.Indexing.{index_fits}
+use Rattle.sized_meaning.proofs.Slicing.{slices_fit}
+use Rattle.fut_flat.specs.declared.act.Part.{Part}
+use Rattle.fut_flat.specs.Erased.{FlatTerm}
 use Rattle.sized_meaning.proofs.Scalars.{binary_gives, negated_gives, turned_gives, asserted_gives}
 
 module _ (N : Names) (types : Sub) (τ : Meant) (W : World) (S : Sound N types W.sizing) (one : One_kind_each τ) where
@@ -113,12 +120,31 @@ module _ (N : Names) (types : Sub) (τ : Meant) (W : World) (S : Sound N types W
   scalar_out : (lo : ℕ) (m : Worth) (c : ScalarType) (o : Out FlatValue) → types lo ≡ scalar_ty c → of_type (no_size_of lo) 0 (types lo) ≡ s lo → Out_fits (Is_scalar c) o → Out_fits (Res N types τ W lo (1 + lo) m (s lo)) o
   scalar_out lo m c o e q h = out_as (Is_scalar c) (Res N types τ W lo (1 + lo) m (s lo)) o (λ v x. scalar_fits lo m c v e q x) h
 
+  -- a field of a record is of the type of that part
+  field_out : (m : Worth) (f : Text) (at : ℕ) (p : Has_field N types W f at) (v : FlatValue) → Of m (s at) v → (u : Size) → u ≡ p.3 → Out_fits (Of m u) (part f v)
+  unfolding Fits
+  field_out m f at p v h u e = of_record v (subst (λ t. Of m t v) p.2 h) h
+    where
+      of_record : (v : FlatValue) → Of m (Built (head.Record p.0) p.1) v → Of m (s at) v → Out_fits (Of m u) (part f v)
+      of_record (Record_value gs) k h = let r = field_fits N types τ W S one 0 0 m f (s at) p.3 gs p.4 h in subst (λ o. Out_fits (Of m u) (or_wrong o)) (sym r.1) (subst (λ t. Of m t r.0) (sym e) r.2)
+      of_record v k h = absurd k
+
+  indexed_fits : (ps : List Part) (mark : Place) (x : FlatTerm) (es : Terms Ref BindId) (lo : ℕ) (env : FlatEnv) (m : Worth) (vs : List FlatValue) → Indexed_parts N types W lo ps (term_and x es) (lo + 1) → All_fit N τ W.sizing (calls W) m no_frames (parts (term_and x es) (lo + 1)) (values vs)
+      → operation N types (Index ps) lo (lo + 1) (term_and x es) (parts (term_and x es) (lo + 1)) ≡ Ok (s lo) → Gives_node (Index ps) mark lo env m vs
+  indexed_fits ps mark x es lo env m vs (d, inl p) h e = index_fits N types τ W S one m ps mark x es lo env vs (d, p) h e
+  indexed_fits ps mark x es lo env m vs (d, inr p) h e = slices_fit N types τ W S one m ps mark x es lo env vs d p.0 p.1 h e
+
   pub operation_fits : (o : Operation Ref BindId) (mark : Place) (ts : Terms Ref BindId) (lo : ℕ) (env : FlatEnv) (m : Worth) (vs : List FlatValue) → Plain_operation N types W o lo ts → All_fit N τ W.sizing (calls W) m no_frames (parts ts (lo + own_numbers o)) (values vs)
       → operation N types o lo (lo + own_numbers o) ts (parts ts (lo + own_numbers o)) ≡ Ok (s lo) → Gives_node o mark lo env m vs
   unfolding Fits All_fit operate coerced operation declared ascribed
   operation_fits Tuple_of mark ts lo env m vs p h e = gives_exact _ 0 (Val (Tuple_value (values vs))) (record { now = m; old = λ d o. refl; fits = subst (λ u. Of m u (Tuple_value (values vs))) (same_ok (Built head.Tuple (parts ts (lo + 1))) (s lo) e) h })
   operation_fits Array_of mark ts lo env m vs p h e = array_fits N types τ W S one m mark ts lo env vs p h e
-  operation_fits (Index ps) mark (term_and x es) lo env m vs p h e = index_fits N types τ W S one m ps mark x es lo env vs p h e
+  operation_fits (Index ps) mark (term_and x es) lo env m vs p h e = indexed_fits ps mark x es lo env m vs p h e
+  operation_fits Update mark (term_and x es) lo env m vs p h e = update_fits N types τ W S one m mark x es lo env vs p.0 p.1 h e
+  operation_fits (Project f) mark (term_and x no_term) lo env m vs p h e =
+      let v = one_part m (s (lo + 2)) vs h in
+      subst (Gives_node (Project f) mark lo env m) (sym v.all) (gives_exact _ 0 _ (out_as (Of m (s lo)) (Res N types τ W lo (1 + lo) m (s lo)) (part f v.first) (λ w k. record { now = m; old = λ d o. refl; fits = k })
+      (field_out m f (lo + 2) p v.first v.first_fits (s lo) (sym (same_ok (part_or (part_of N f (s (lo + 2))) (of_type (no_size_of lo) 0 (types lo))) (s lo) e) ∙ ap (λ o. part_or o (of_type (no_size_of lo) 0 (types lo))) (p.4)))))
   operation_fits (Declared e) mark (term_and x no_term) lo env m vs p h q =
       let v = one_part m (s (lo + 1)) vs h in
       let r = then_ok (has_sizes N true (lo + 1) e (s (lo + 1))) (λ z. Ok (with_sizes N (Some (λ k i d. Bound 0 (suc k + i))) (λ i d. At (Unknown lo i)) 0 e (s (lo + 1)))) (s lo) q in

@@ -1,6 +1,6 @@
 -- The primitives are of their sized types.
 use Rattle.std.specs.Prelude.{ℤ, pos, negsuc, nat_le}
-use Rattle.std.proofs.Common.{◌≡◌, ◌⊎◌, ℕ, zero, suc, [], ◌∷◌, length, Bool, true, false, refl, sym, ap, ◌∙◌, subst, arith, inl, inr, List, ◌≤◌}
+use Rattle.std.proofs.Common.{◌≡◌, ◌⊎◌, ℕ, [], ◌∷◌, length, Bool, true, false, refl, sym, ◌∙◌, subst, arith, inl, inr, List, ◌≤◌}
 use Rattle.fut_scalar.specs.Integers.{integer_of}
 use Rattle.fut_scalar.specs.declared.place.Place.{Place}
 use Rattle.fut_scalar.specs.declared.report.FailKind.TheVariants as kind
@@ -18,13 +18,13 @@ use Rattle.fut_meaning.specs.Accessors.{count_of}
 use Rattle.fut_meaning.specs.Arrays.{checked, most_words, fresh, array}
 use Rattle.fut_meaning.specs.Datums.{as_value, datum_of}
 use Rattle.fut_meaning.specs.Flats.{FlatValue, flat_names}
-use Rattle.fut_meaning.specs.Jobs.{Job, Done, done, sized, i64_shape, numbers_from, job, Apply_each, alone, array_of_indices, finished}
+use Rattle.fut_meaning.specs.Jobs.{done, sized, i64_shape, numbers_from, job, Apply_each, alone, array_of_indices, finished}
 use Rattle.fut_meaning.specs.Meaning.{plain, no_function, job_of, row_told, Of_function, called_on}
 use Rattle.fut_meaning.specs.Operations.{primitive_use}
-use Rattle.fut_meaning.specs.Outcomes.{Out, Val, the, Then, and_then}
+use Rattle.fut_meaning.specs.Outcomes.{Val, the, Then, and_then}
 use Rattle.fut_meaning.specs.Values.{Scalar_value, Primitive_value, no_value, Call, value_and}
 use Rattle.fut_meaning.proofs.Safe.{Every}
-use Rattle.sized_types.specs.Sizes.{Inferred, Bound, Variable, Size, Level, Fun}
+use Rattle.sized_types.specs.Sizes.{Inferred, Bound, Variable, Size, Level, Fun, levels}
 use Rattle.fut_sizes.specs.Scopes.{i64_size}
 use Rattle.fut_sizes.specs.Primitives.{prim_size, sized_type}
 use Rattle.fut_sizes.specs.Suiting.{Each, Scoped, Suits, Data}
@@ -43,37 +43,20 @@ use Rattle.fut_meaning.specs.Telling.{tells, primitive_tells}
 use Rattle.sized_meaning.proofs.Datas.{datum_fits}
 use Rattle.sized_meaning.proofs.Applications.{evaluates}
 use Rattle.sized_meaning.proofs.Reducing.{reduce_fits, scan_fits}
+use Rattle.fut_flat.specs.declared.prim.Folding.TheVariants as folding
+use Rattle.sized_meaning.proofs.First_order.{Done_with, done_gives}
+use Rattle.sized_meaning.proofs.Row_primitives.{many_numbers, numbers_are, reverse_fits, indices_fits, null_fits, head_fits, last_fits, init_fits, tail_fits, copy_fits, take_fits, drop_fits, rotate_fits, replicate_fits, concat_fits}
+use Rattle.sized_meaning.proofs.Sifting.{filter_fits, partition_fits}
+use Rattle.sized_meaning.proofs.Zipping.{zip_fits, unzip_fits, flatten_fits, transpose_fits}
+use Rattle.sized_meaning.proofs.Scalar_primitives.{convert_fits, min_fits, max_fits, abs_fits, popc_fits, fold_fits}
 use Rattle.sized_meaning.proofs.Mapping.{array_of_rows, array_value, map_fits, One_of, alone_every, alone_long, gives_each, on_row, row_is_told, array_gives}
 
-many_numbers : (k i : ℕ) → length (numbers_from k i) ≡ k
-many_numbers zero i = refl
-many_numbers (suc k) i = ap suc (many_numbers k (suc i))
-
 module _ (N : Names) (types : Sub) (τ : Meant) (W : World) (S : Sound N types W.sizing) (one : One_kind_each τ) (m : Worth) where
-  -- ---- what a primitive without a function gives at once
-
-  abbrev Done_with : (Datum → Type 0) → Job → Type 0
-  Done_with P (Done r) = P r.1
-  Done_with P j = ⊥
-
-  done_gives : (P : Datum → Type 0) (Q : FlatValue → Type 0) (k : ℕ) (f : FlatValue) (o : Out Job) → Out_fits (Done_with P) o → ((x : Datum) → P x → Q (as_value x)) → Gives Q (Then (the o) (job_of ((flat_names (told W)).lang W.tops) (plain W.tight) W.budget (means W) k f))
-  unfolding plain
-  done_gives P Q k f o h go = gives_then (Done_with P) Q (the o) _ (gives_exact (Done_with P) 0 o h) result
-    where
-      result : (j : Job) → Done_with P j → Gives Q (job_of ((flat_names (told W)).lang W.tops) (plain W.tight) W.budget (means W) k f j)
-      result (Done r) x = gives_then P Q _ _ (gives_exact P r.0 (Val r.1) x) (λ d y. gives_exact Q 0 (Val (as_value d)) (go d y))
-      result j x = absurd x
-
   -- ---- iota
 
   module _ (at : Place) where
     abbrev Counted_out : Frames → Datum → Type 0
     Counted_out φ d = Has_datum N τ m φ (Level (Bound 0 0) i64_size) d
-
-    numbers_are : (φ : Frames) (k i : ℕ) → Every (Has_datum N τ m φ i64_size) (numbers_from k i)
-    unfolding Has_datum
-    numbers_are φ zero i = tt
-    numbers_are φ (suc k) i = (refl, numbers_are φ k (suc i))
 
     counted : (φ : Frames) (z : ℤ) → count_of z ≡ number m φ (Bound 0 0) → Out_fits (Done_with (Counted_out φ)) (sized at z (λ k. done (checked (nat_le k most_words) kind.TooLarge at (fresh (Array_datum i64_shape (datums (numbers_from k 0)))))))
     unfolding Has_shape
@@ -81,7 +64,7 @@ module _ (N : Names) (types : Sub) (τ : Meant) (W : World) (S : Sound N types W
     counted φ (pos k) e = tested (nat_le k most_words)
       where
         tested : (c : Bool) → Out_fits (Done_with (Counted_out φ)) (done (checked c kind.TooLarge at (fresh (Array_datum i64_shape (datums (numbers_from k 0))))))
-        tested true = array_of_rows N types τ W S one m φ (Bound 0 0) i64_size i64_shape (numbers_from k 0) (many_numbers k 0 ∙ e) refl (numbers_are φ k 0)
+        tested true = array_of_rows N types τ W S one m φ (Bound 0 0) i64_size i64_shape (numbers_from k 0) (many_numbers k 0 ∙ e) refl (numbers_are N types τ W S one m φ k 0)
         tested false = tt
 
     iota_gives : (F : ℕ → ℕ) (v : FlatValue) → F 0 ≡ word v → Is_scalar (sort.Int I64) v → Gives (Fits N τ W.sizing (calls W) m (push F no_frames) (Level (Bound 0 0) i64_size)) (means W (Call (Primitive_value prim.Iota at no_value) v))
@@ -90,7 +73,7 @@ module _ (N : Names) (types : Sub) (τ : Meant) (W : World) (S : Sound N types W
         (gives_then (λ ds. ds ≡ Scalar_datum (scalar.Int t n) ∷ []) (Fits N τ W.sizing (calls W) m (push F no_frames) (Level (Bound 0 0) i64_size)) _ _
         (gives_exact _ 0 (Val (Scalar_datum (scalar.Int t n) ∷ [])) refl)
         (λ ds q. subst (λ z. Gives (Fits N τ W.sizing (calls W) m (push F no_frames) (Level (Bound 0 0) i64_size)) (Then (the (job false (row_told ((flat_names (told W)).lang W.tops) (Of_function prim.Iota no_function z)) prim.Iota at z)) (job_of ((flat_names (told W)).lang W.tops) (plain W.tight) W.budget (means W) 0 no_function))) (sym q)
-        (done_gives (Counted_out (push F no_frames)) (Fits N τ W.sizing (calls W) m (push F no_frames) (Level (Bound 0 0) i64_size)) 0 no_function _ (counted (push F no_frames) (integer_of t n) (sym e)) (λ x y. array_value N types τ W S one m (push F no_frames) (Bound 0 0) i64_size x y))))
+        (done_gives N types τ W S one m (Counted_out (push F no_frames)) (Fits N τ W.sizing (calls W) m (push F no_frames) (Level (Bound 0 0) i64_size)) 0 no_function _ (counted (push F no_frames) (integer_of t n) (sym e)) (λ x y. array_value N types τ W S one m (push F no_frames) (Bound 0 0) i64_size x y))))
     iota_gives F (Scalar_value (scalar.Bool b)) e h = absurd (let z : sort.Bool ≡ sort.Int I64 = h in cc)
     iota_gives F v e h = absurd h
 
@@ -128,7 +111,7 @@ module _ (N : Names) (types : Sub) (τ : Meant) (W : World) (S : Sound N types W
         (λ j q. subst (λ z. Gives Tabled (job_of ((flat_names (told W)).lang W.tops) (plain W.tight) W.budget (means W) 1 f z)) (sym q)
         (gives_then (Has_datum N τ m φ (Level (Bound 1 0) a)) Tabled _ _
         (gives_then (λ ys. Every (Has_datum N τ m φ a) ys × (length ys ≡ length (alone rows))) (Has_datum N τ m φ (Level (Bound 1 0) a)) _ _
-        (gives_each (One_of (Has_datum N τ m φ i64_size)) (Has_datum N τ m φ a) (called_on 1 (means W) f) (λ r x. on_row N types τ W S one m i64_size a index_data data_a index_closed closed_a at φ f hf φ φ r x) (alone rows) (alone_every (Has_datum N τ m φ i64_size) rows (numbers_are at φ k 0)))
+        (gives_each (One_of (Has_datum N τ m φ i64_size)) (Has_datum N τ m φ a) (called_on 1 (means W) f) (λ r x. on_row N types τ W S one m i64_size a index_data data_a index_closed closed_a at φ f hf φ φ r x) (alone rows) (alone_every (Has_datum N τ m φ i64_size) rows (numbers_are N types τ W S one m φ k 0)))
         (λ ys y. tabled_rows k row ys (y.1 ∙ alone_long rows ∙ many_numbers k 0 ∙ e) h y.0))
         (λ x y. gives_exact Tabled 0 (Val (as_value x)) (array_value N types τ W S one m φ (Bound 1 0) a x y))))
 
@@ -157,7 +140,7 @@ module _ (N : Names) (types : Sub) (τ : Meant) (W : World) (S : Sound N types W
     length_job : (φ : Frames) (d : Datum) → Has_datum N τ m φ (Level (Bound 0 0) a) d
         → Gives (Fits N τ W.sizing (calls W) m φ i64_size) (Then (the (job false (row_told ((flat_names (told W)).lang W.tops) (Of_function prim.Length no_function (d ∷ []))) prim.Length at (d ∷ []))) (job_of ((flat_names (told W)).lang W.tops) (plain W.tight) W.budget (means W) 0 no_function))
     unfolding Has_datum job Data
-    length_job φ (Array_datum row ds) h = done_gives (Has_datum N τ m φ i64_size) (Fits N τ W.sizing (calls W) m φ i64_size) 0 no_function _ refl (λ x y. datum_fits N τ W.sizing (calls W) m φ i64_size tt (as_value x) x (datum_of_as Ref BindId (Unit {0}) x) y)
+    length_job φ (Array_datum row ds) h = done_gives N types τ W S one m (Has_datum N τ m φ i64_size) (Fits N τ W.sizing (calls W) m φ i64_size) 0 no_function _ refl (λ x y. datum_fits N τ W.sizing (calls W) m φ i64_size tt (as_value x) x (datum_of_as Ref BindId (Unit {0}) x) y)
     length_job φ d h = absurd h
 
     length_gives : (φ : Frames) (v : FlatValue) → Fits N τ W.sizing (calls W) m φ (Level (Bound 0 0) a) v → Gives (Fits N τ W.sizing (calls W) m φ i64_size) (means W (Call (Primitive_value prim.Length at no_value) v))
@@ -174,13 +157,44 @@ module _ (N : Names) (types : Sub) (τ : Meant) (W : World) (S : Sound N types W
   -- ---- a use of a primitive, whose type variables are these types of data
 
   filled_fits : (p : Primitive) (at : Place) (u : Size) → Plain_primitive p → Filled_use (λ v. true) (prim_size p) u → (q : (v : Variable) → Size) → ((v : Variable) → Data (q v)) → ((v : Variable) → Each (Scoped Any_free) 0 (q v)) → Fits N τ W.sizing (calls W) m no_frames (filled q (prim_size p)) (primitive_use p at)
-  unfolding filled all_filled prim_size sized_type
+  unfolding filled all_filled prim_size sized_type levels Fits
   filled_fits prim.Map at u pl U q d c = map_fits N types τ W S one m (q (Inferred 0)) (q (Inferred 1)) (d (Inferred 0)) (d (Inferred 1)) (c (Inferred 0)) (c (Inferred 1)) at
   filled_fits prim.Reduce at u pl U q d c = reduce_fits N types τ W S one m (q (Inferred 0)) (d (Inferred 0)) (c (Inferred 0)) at
   filled_fits prim.Scan at u pl U q d c = scan_fits N types τ W S one m (q (Inferred 0)) (d (Inferred 0)) (c (Inferred 0)) at
+  filled_fits prim.Filter at u pl U q d c = filter_fits N types τ W S one m (q (Inferred 0)) (d (Inferred 0)) (c (Inferred 0)) at no_frames
+  filled_fits prim.Partition at u pl U q d c = partition_fits N types τ W S one m (q (Inferred 0)) (d (Inferred 0)) (c (Inferred 0)) at no_frames
+  filled_fits prim.Transpose at u pl U q d c = transpose_fits N types τ W S one m (q (Inferred 0)) (d (Inferred 0)) (c (Inferred 0)) at no_frames
   filled_fits prim.Tabulate at u pl U q d c = tabulate_fits (q (Inferred 0)) (d (Inferred 0)) (c (Inferred 0)) at
   filled_fits prim.Length at u pl U q d c = length_fits (q (Inferred 0)) at
   filled_fits prim.Iota at u pl U q d c = iota_fits at
+  filled_fits prim.Reverse at u pl U q d c = reverse_fits N types τ W S one m (q (Inferred 0)) (d (Inferred 0)) (c (Inferred 0)) at no_frames
+  filled_fits prim.Indices at u pl U q d c = indices_fits N types τ W S one m (q (Inferred 0)) (d (Inferred 0)) (c (Inferred 0)) at no_frames
+  filled_fits prim.Null at u pl U q d c = null_fits N types τ W S one m (q (Inferred 0)) (d (Inferred 0)) (c (Inferred 0)) at no_frames
+  filled_fits prim.Head at u pl U q d c = head_fits N types τ W S one m (q (Inferred 0)) (d (Inferred 0)) (c (Inferred 0)) at no_frames
+  filled_fits prim.Last at u pl U q d c = last_fits N types τ W S one m (q (Inferred 0)) (d (Inferred 0)) (c (Inferred 0)) at no_frames
+  filled_fits prim.Init at u pl U q d c = init_fits N types τ W S one m (q (Inferred 0)) (d (Inferred 0)) (c (Inferred 0)) at no_frames
+  filled_fits prim.Tail at u pl U q d c = tail_fits N types τ W S one m (q (Inferred 0)) (d (Inferred 0)) (c (Inferred 0)) at no_frames
+  filled_fits prim.Copy at u pl U q d c = copy_fits N types τ W S one m (q (Inferred 0)) (d (Inferred 0)) (c (Inferred 0)) at no_frames
+  filled_fits prim.Take at u pl U q d c = take_fits N types τ W S one m (q (Inferred 0)) (d (Inferred 0)) (c (Inferred 0)) at no_frames
+  filled_fits prim.Drop at u pl U q d c = drop_fits N types τ W S one m (q (Inferred 0)) (d (Inferred 0)) (c (Inferred 0)) at no_frames
+  filled_fits prim.Rotate at u pl U q d c = rotate_fits N types τ W S one m (q (Inferred 0)) (d (Inferred 0)) (c (Inferred 0)) at no_frames
+  filled_fits prim.Replicate at u pl U q d c = replicate_fits N types τ W S one m (q (Inferred 0)) (d (Inferred 0)) (c (Inferred 0)) at no_frames
+  filled_fits prim.Concat at u pl U q d c = concat_fits N types τ W S one m (q (Inferred 0)) (d (Inferred 0)) (c (Inferred 0)) at no_frames
+  filled_fits prim.Flatten at u pl U q d c = flatten_fits N types τ W S one m (q (Inferred 0)) (d (Inferred 0)) (c (Inferred 0)) at no_frames
+  filled_fits prim.Zip at u pl U q d c = zip_fits N types τ W S one m (q (Inferred 0)) (q (Inferred 1)) (d (Inferred 0)) (d (Inferred 1)) (c (Inferred 0)) (c (Inferred 1)) at no_frames
+  filled_fits prim.Unzip at u pl U q d c = unzip_fits N types τ W S one m (q (Inferred 0)) (q (Inferred 1)) (d (Inferred 0)) (d (Inferred 1)) (c (Inferred 0)) (c (Inferred 1)) at no_frames
+  filled_fits (prim.Convert to from) at u pl U q d c = convert_fits N types τ W S one m at no_frames to from
+  filled_fits (prim.Min t) at u pl U q d c = min_fits N types τ W S one m at no_frames t
+  filled_fits (prim.Max t) at u pl U q d c = max_fits N types τ W S one m at no_frames t
+  filled_fits (prim.Abs t) at u pl U q d c = abs_fits N types τ W S one m at no_frames t
+  filled_fits (prim.Popc t) at u pl U q d c = popc_fits N types τ W S one m at no_frames t
+  filled_fits (prim.Lowest t) at u pl U q d c = refl
+  filled_fits (prim.Highest t) at u pl U q d c = refl
+  filled_fits (prim.NumBits t) at u pl U q d c = refl
+  filled_fits (prim.Fold folding.Sum t) at u pl U q d c = fold_fits N types τ W S one m at no_frames folding.Sum t
+  filled_fits (prim.Fold folding.Product t) at u pl U q d c = fold_fits N types τ W S one m at no_frames folding.Product t
+  filled_fits (prim.Fold folding.Minimum t) at u pl U q d c = fold_fits N types τ W S one m at no_frames folding.Minimum t
+  filled_fits (prim.Fold folding.Maximum t) at u pl U q d c = fold_fits N types τ W S one m at no_frames folding.Maximum t
   filled_fits p at u pl U q d c = absurd pl
 
 module _ (N : Names) (types : Sub) (τ : Meant) (W : World) (S : Sound N types W.sizing) (one : One_kind_each τ) where

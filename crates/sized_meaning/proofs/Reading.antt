@@ -402,3 +402,6 @@ module _ (N : Names) (τ : Meant) (Z : Sizing) (calls : FlatValue → FlatValue 
 
   pub fits_renamed_in : (In : Free → Type 0) → ((d : Free) → In d → free m (ρ d) ≡ free m' d) → (t : Size) (φ : Frames) (v : FlatValue) → Each (Scoped In) 0 t → Fits N τ Z calls m' φ t v → Fits N τ Z calls m φ (renamed ρ t) v
   fits_renamed_in In worth t φ v e h = (fits_replaced N τ m m' (renaming ρ) (Scoped In) Same_frames (numbers_in In worth) Z calls frames_go_in renames_own t 0 φ φ e (λ j' i. refl) v).1 h
+
+  pub shape_renamed_in : (In : Free → Type 0) → ((d : Free) → In d → free m (ρ d) ≡ free m' d) → (t : Size) (φ : Frames) (h : Shape) → Each (Scoped In) 0 t → Has_shape N τ m' φ t h → Has_shape N τ m φ (renamed ρ t) h
+  shape_renamed_in In worth t φ h e x = (shape_replaced N τ m m' (renaming ρ) (Scoped In) Same_frames (numbers_in In worth) t 0 φ φ e (λ j' i. refl) h).1 x

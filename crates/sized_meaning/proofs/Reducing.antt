@@ -67,7 +67,7 @@ every_in_order P false xs ys q e = subst (Every P) q e
 gives_reduced : (P : Datum → Type 0) (tight any : Bool) (F : Datum → List Datum → Type 0) (f : List Datum → Rel Datum) (ne : Datum) → P ne → ((a b : Datum) → P a → P b → Gives P (two_of f a b)) → (xs : List Datum) → Every P xs → Gives P (Reduces tight any F f ne xs)
 gives_reduced P tight any F f ne given h xs e _ _ (reduces {ys} {o} {n = count} fits order (bracket t q w x)) = gives_tree P (two_of f) ne given h t (subst (Every P) (sym q) (every_in_order P any xs ys order e)) o count x
 
-every_both : {A : Type 0} (P : A → Type 0) (xs ys : List A) → Every P xs → Every P ys → Every P (xs ++ ys)
+pub every_both : {A : Type 0} (P : A → Type 0) (xs ys : List A) → Every P xs → Every P ys → Every P (xs ++ ys)
 every_both P [] ys e f = f
 every_both P (x ∷ xs) ys e f = (e.0, every_both P xs ys e.1 f)
 
@@ -81,7 +81,7 @@ many_prefixes front (d ∷ ds) = ap suc (many_prefixes (front ++ d ∷ []) ds)
 
 module _ (N : Names) (types : Sub) (τ : Meant) (W : World) (S : Sound N types W.sizing) (one : One_kind_each τ) (m : Worth) where
   -- data is no function
-  not_function : (φ : Frames) (t : Size) (v : FlatValue) → Data t → Fits N τ W.sizing (calls W) m φ t v → is_function v ≡ false
+  pub not_function : (φ : Frames) (t : Size) (v : FlatValue) → Data t → Fits N τ W.sizing (calls W) m φ t v → is_function v ≡ false
   unfolding Fits Data datum_of
   not_function φ t (Scalar_value c) d h = refl
   not_function φ t (Tuple_value vs) d h = refl

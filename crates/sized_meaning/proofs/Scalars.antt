@@ -50,7 +50,7 @@ faulty at None s P h = h
 faulty at (Some f) s P h = tt
 
 -- the result of an operator on two scalars, the first of which is of this type
-scalars_give : (o : BinOp) (at : Place) (a b : Scalar) → Out_fits (λ s. type_of s ≡ result_type o (type_of a)) (reported at (binary_result o a b))
+pub scalars_give : (o : BinOp) (at : Place) (a b : Scalar) → Out_fits (λ s. type_of s ≡ result_type o (type_of a)) (reported at (binary_result o a b))
 unfolding binary_result result_of
 scalars_give o at (scalar.Int i m) (scalar.Int j n) = tested (is_same_type i j)
   where
@@ -65,7 +65,7 @@ scalars_give op.Eq at (scalar.Bool x) (scalar.Int j n) = tt
 scalars_give op.Ne at (scalar.Bool x) (scalar.Int j n) = tt
 scalars_give o at (scalar.Bool x) (scalar.Int j n) = tt
 
-on_scalars_give : (o : BinOp) (at : Place) (c : ScalarType) (v w : FlatValue) → Is_scalar c v → Out_fits (Is_scalar (result_type o c)) (on_scalars o at v w)
+pub on_scalars_give : (o : BinOp) (at : Place) (c : ScalarType) (v w : FlatValue) → Is_scalar c v → Out_fits (Is_scalar (result_type o c)) (on_scalars o at v w)
 on_scalars_give o at c (Scalar_value a) (Scalar_value b) h =
     out_then (λ s. type_of s ≡ result_type o (type_of a)) (Is_scalar (result_type o c)) (reported at (binary_result o a b)) (λ s. Val (Scalar_value s)) (scalars_give o at a b) (λ s e. e ∙ ap (result_type o) h)
 on_scalars_give o at c (Scalar_value a) w h = tt

@@ -1,7 +1,11 @@
--- Each value that a sized term may give is of its sized type. It is said here of the terms that use names, `map`, `reduce`,
--- `scan`, `tabulate`, `iota` and `length`, reckon with scalars, make arrays and take their elements, make tuples and functions, say
--- types, apply functions, bind names by lets and choose by conditions.
-use Rattle.std.specs.Prelude.{◌≡◌, ℕ, ◌+◌, Bool, true, false, List, [], ◌∷◌, Some, None, ℤ}
+-- Each value that a sized term may give is of its sized type. It is said here of the terms that use names and names of sizes,
+-- the primitives of the list below, reckon with scalars, make and update arrays, take elements, slices and fields, make tuples
+-- and functions, say types, apply functions, bind names by lets, choose by conditions and take turns in loops. Patterns may take
+-- the parts of tuples and records, and name sizes.
+use Rattle.std.specs.Prelude.{◌≡◌, ◌⊎◌, ℕ, suc, ◌+◌, Bool, true, false, List, [], ◌∷◌, Some, None, ℤ}
+use Rattle.fut_ast.specs.Sorts.{Text}
+use Rattle.fut_sizes.specs.WrittenSizes.{part_of}
+use Rattle.fut_sizes.specs.Operations.{value_of, is_literal, slice_size}
 use Rattle.fut_scalar.specs.declared.scalar.IntType.{IntType}
 use Rattle.fut_types.specs.declared.Head.TheVariants as head
 use Rattle.fut_flat.specs.declared.act.Part.{Part}
@@ -9,10 +13,11 @@ use Rattle.fut_flat.specs.declared.act.Part.TheVariants as part
 use Rattle.fut_flat.specs.declared.prim.Primitive.{Primitive}
 use Rattle.fut_flat.specs.declared.prim.Primitive.TheVariants as prim
 use Rattle.fut_flat.specs.declared.prim.Ref.TheVariants as ref
-use Rattle.fut_flat.specs.Numbers.{pattern_numbers, all_pattern_numbers, own_numbers, numbers}
-use Rattle.fut_flat.specs.Terms.{Operation, Bound_pattern, Wild_pattern, Typed_pattern, Patterns, no_pattern, pattern_and, Type_use, Array_type, Unique_type, Tuple_type, Type_terms, no_type, type_and, Tuple_of, Array_of, Index, Ascribe, Declared, Use, Strict, Lambda, Apply, Let, If, Terms, no_term, term_and}
-use Rattle.fut_flat.specs.Erased.{FlatTerm, FlatPattern, FlatType}
-use Rattle.fut_types.specs.Types.{Ty, Sub}
+use Rattle.fut_flat.specs.Numbers.{pattern_numbers, all_pattern_numbers, own_numbers, numbers, turn_numbers}
+use Rattle.fut_flat.specs.Terms.{Operation, Bound_pattern, Wild_pattern, Tuple_pattern, Record_pattern, Typed_pattern, Patterns, no_pattern, pattern_and, Type_use, Array_type, Unique_type, Tuple_type, Type_terms, no_type, type_and, Tuple_of, Array_of, Index, Update, Project, Ascribe, Declared, Use, Strict, Lambda, Apply, Let, If, Loop, Terms, no_term, term_and, Counted, Over, While}
+use Rattle.fut_flat.specs.Erased.{FlatTerm, FlatTurns, FlatPattern, FlatType}
+use Rattle.fut_scalar.specs.declared.scalar.ScalarType.TheVariants as sort
+use Rattle.fut_types.specs.Types.{Ty, Sub, scalar_ty}
 use Rattle.fut_typing.specs.Names.{Names, AreNames}
 use Rattle.fut_typing.specs.Typing.{term_types}
 use Rattle.fut_value.specs.Data.{Shape}
@@ -24,7 +29,10 @@ use Rattle.fut_meaning.specs.Meaning.{plain, Ever}
 use Rattle.fut_meaning.specs.Outcomes.{Val, Rel}
 use Rattle.fut_meaning.specs.Values.{Task, Evaluate, Call}
 use Rattle.sized_types.specs.Standing.{is_known}
-use Rattle.sized_types.specs.Sizes.{Free, Const, Name, At, Variable, Size, Level, Built, Fun, erased}
+use Rattle.sized_types.specs.Sizes.{Free, Const, Name, Unknown, Dim, At, Variable, Size, Level, Built, Fun, Sizes, erased, has}
+use Rattle.fut_sizes.specs.Agreeing.{is_among, names_one}
+use Rattle.fut_sizes.specs.Scopes.{i64_size, names}
+use Rattle.fut_sizes.specs.Sizing.{all_part_names, bind_ids}
 use Rattle.fut_sizes.specs.Scoping.{Context}
 use Rattle.fut_sizes.specs.Suiting.{Data}
 use Rattle.fut_sizes.specs.Rules.{Outside, Inside, Away, Sized}
@@ -71,21 +79,29 @@ No_lambda e = Unit {0}
 -- ---- terms of these forms, whose nodes have the numbers from a number on
 
 module _ (Z : Sizing) where
-  -- a pattern that is a name or none, with a written type or without; where its value may be a number, the node is the home of no other name
-  abbrev pub Simple : FlatPattern → ℕ → Type 0
-  Simple (Bound_pattern b) q = (c : ℕ) → Z.home c ≡ q → may_be_number (Z.size_at q) ≡ true → c ≡ b.0
-  Simple Wild_pattern q = (c : ℕ) → Z.home c ≡ q → may_be_number (Z.size_at q) ≡ true → ⊥
-  Simple (Typed_pattern p t) q = Simple p q
-  Simple p q = ⊥
+  -- a name stands at its home
+  abbrev pub Name_home : FlatPattern → ℕ → Type 0
+  Name_home (Bound_pattern b) q = Z.home b.0 ≡ q
+  Name_home (Typed_pattern p t) q = Name_home p q
+  Name_home p q = Unit {0}
 
-  abbrev pub All_simple : Patterns Ref BindId → ℕ → Type 0
-  All_simple no_pattern q = Unit {0}
-  All_simple (pattern_and p ps) q = Simple p q × All_simple ps (q + pattern_numbers p)
+  -- where a pattern's value may be a number, its node is the home of no other name; the names of its parts stand at theirs
+  abbrev mutual
+    pub Simple : FlatPattern → ℕ → Type 0
+    Simple (Bound_pattern b) q = (c : ℕ) → Z.home c ≡ q → may_be_number (Z.size_at q) ≡ true → c ≡ b.0
+    Simple Wild_pattern q = (c : ℕ) → Z.home c ≡ q → may_be_number (Z.size_at q) ≡ true → ⊥
+    Simple (Tuple_pattern ps) q = All_parts ps (1 + q)
+    Simple (Record_pattern fs ps) q = All_parts ps (1 + q)
+    Simple (Typed_pattern p t) q = Simple p q
 
-  abbrev pub Named : FlatPattern → ℕ → Type 0
-  Named (Bound_pattern b) q = Simple (Bound_pattern b) q
-  Named (Typed_pattern p t) q = Named p q
-  Named p q = ⊥
+    pub All_parts : Patterns Ref BindId → ℕ → Type 0
+    All_parts no_pattern q = Unit {0}
+    All_parts (pattern_and p ps) q = Name_home p q × Simple p q × All_parts ps (q + pattern_numbers p)
+
+  -- parameters, whose types name no part of one
+  abbrev pub All_simple : List ℕ → Patterns Ref BindId → ℕ → Type 0
+  All_simple parts no_pattern q = Unit {0}
+  All_simple parts (pattern_and p ps) q = Simple p q × (has (names_one parts) (Z.size_at q) ≡ false) × All_simple parts ps (q + pattern_numbers p)
 
 -- a primitive of these
 abbrev pub Plain_primitive : Primitive → Type 0
@@ -93,8 +109,36 @@ Plain_primitive prim.Map = Unit {0}
 Plain_primitive prim.Reduce = Unit {0}
 Plain_primitive prim.Scan = Unit {0}
 Plain_primitive prim.Tabulate = Unit {0}
+Plain_primitive prim.Filter = Unit {0}
+Plain_primitive prim.Partition = Unit {0}
+Plain_primitive prim.Zip = Unit {0}
+Plain_primitive prim.Unzip = Unit {0}
 Plain_primitive prim.Iota = Unit {0}
+Plain_primitive prim.Replicate = Unit {0}
+Plain_primitive prim.Indices = Unit {0}
 Plain_primitive prim.Length = Unit {0}
+Plain_primitive prim.Null = Unit {0}
+Plain_primitive prim.Head = Unit {0}
+Plain_primitive prim.Last = Unit {0}
+Plain_primitive prim.Init = Unit {0}
+Plain_primitive prim.Tail = Unit {0}
+Plain_primitive prim.Take = Unit {0}
+Plain_primitive prim.Drop = Unit {0}
+Plain_primitive prim.Reverse = Unit {0}
+Plain_primitive prim.Rotate = Unit {0}
+Plain_primitive prim.Concat = Unit {0}
+Plain_primitive prim.Flatten = Unit {0}
+Plain_primitive prim.Transpose = Unit {0}
+Plain_primitive prim.Copy = Unit {0}
+Plain_primitive (prim.Convert to from) = Unit {0}
+Plain_primitive (prim.Min t) = Unit {0}
+Plain_primitive (prim.Max t) = Unit {0}
+Plain_primitive (prim.Abs t) = Unit {0}
+Plain_primitive (prim.Popc t) = Unit {0}
+Plain_primitive (prim.Lowest t) = Unit {0}
+Plain_primitive (prim.Highest t) = Unit {0}
+Plain_primitive (prim.NumBits t) = Unit {0}
+Plain_primitive (prim.Fold k t) = Unit {0}
 Plain_primitive p = ⊥
 
 -- a written type of data, without records
@@ -116,7 +160,43 @@ Indices [] es t = Unit {0}
 Indices (part.At ∷ ps) (term_and e es) (Level d t) = Indices ps es t
 Indices ps es t = ⊥
 
+-- an index or a slice for each of the first levels of a type, of a node; the size of a slice is met there, and i is the number of the
+-- next level that is kept
+abbrev pub Slices : ℕ → ℕ → List Part → Terms Ref BindId → Size → Type 0
+Slices n i [] es t = Unit {0}
+Slices n i (part.At ∷ ps) (term_and e es) (Level d t) = Slices n i ps es t
+Slices n i (part.Backwards ∷ ps) es (Level d t) = Slices n (suc i) ps es t
+Slices n i (part.Slice false false ∷ ps) es (Level d t) = Slices n (suc i) ps es t
+Slices n i (part.Slice false true ∷ ps) (term_and e es) (Level d t) = (value_of n i e ≡ Unknown n i) × Slices n (suc i) ps es t
+Slices n i (part.Slice true false ∷ ps) (term_and e es) (Level d t) = Slices n (suc i) ps es t
+Slices n i (part.Slice true true ∷ ps) (term_and e (term_and f es)) (Level d t) = (slice_size n i (is_literal 0 e) f ≡ Unknown n i) × Slices n (suc i) ps es t
+Slices n i ps es t = ⊥
+
 module _ (N : Names) (types : Sub) (W : World) where
+  -- the types of a pattern's nodes mention nothing that these nodes make
+  module _ (at hi : ℕ) where
+    abbrev mutual
+      pub Nodes_away : FlatPattern → ℕ → Type 0
+      Nodes_away (Bound_pattern b) q = Away N types W.sizing.size_at W.sizing.home at hi (W.sizing.size_at q)
+      Nodes_away Wild_pattern q = Away N types W.sizing.size_at W.sizing.home at hi (W.sizing.size_at q)
+      Nodes_away (Tuple_pattern ps) q = Away N types W.sizing.size_at W.sizing.home at hi (W.sizing.size_at q) × All_nodes_away ps (1 + q)
+      Nodes_away (Record_pattern fs ps) q = Away N types W.sizing.size_at W.sizing.home at hi (W.sizing.size_at q) × All_nodes_away ps (1 + q)
+      Nodes_away (Typed_pattern p t) q = Nodes_away p q
+
+      pub All_nodes_away : Patterns Ref BindId → ℕ → Type 0
+      All_nodes_away no_pattern q = Unit {0}
+      All_nodes_away (pattern_and p ps) q = Nodes_away p q × All_nodes_away ps (q + pattern_numbers p)
+
+    -- sizes that a pattern names are none of its other names
+    abbrev pub Sizes_apart : List BindId → FlatPattern → ℕ → Type 0
+    Sizes_apart [] p q = Unit {0}
+    Sizes_apart (b ∷ bs) p q = ((c : ℕ) → is_among (bind_ids (b ∷ bs)) c ≡ true → is_among (names p) c ≡ false) × Nodes_away p q
+
+  -- where parts of a function's arguments leave, its body knows nothing of the unknowns that stand for them
+  abbrev pub Leaves : List ℕ → ℕ → ℕ → Type 0
+  Leaves [] lo at = Unit {0}
+  Leaves (b ∷ bs) lo at = Away N types W.sizing.size_at W.sizing.home lo (1 + lo) (W.sizing.size_at at)
+
   -- elements of an array: data, all of one type
   abbrev pub Elements : Ty → Terms Ref BindId → ℕ → Type 0
   Elements t no_term at = Unit {0}
@@ -127,34 +207,68 @@ module _ (N : Names) (types : Sub) (W : World) where
   Array_parts lo no_term at = (t : Size) × (W.sizing.size_at lo ≡ Level (At (Const 0)) t) × (is_known t ≡ true)
   Array_parts lo (term_and e es) at = Elements (types at) (term_and e es) at
 
-  abbrev pub Indexed_parts : List Part → Terms Ref BindId → ℕ → Type 0
-  Indexed_parts ps no_term at = ⊥
-  Indexed_parts ps (term_and e es) at = Data (W.sizing.size_at at) × Indices ps es (W.sizing.size_at at)
+  -- of data, which mentions nothing that the node of a slice meets
+  abbrev pub Indexed_parts : ℕ → List Part → Terms Ref BindId → ℕ → Type 0
+  Indexed_parts lo ps no_term at = ⊥
+  Indexed_parts lo ps (term_and e es) at = Data (W.sizing.size_at at) × (Indices ps es (W.sizing.size_at at)
+      ⊎ (Slices lo 0 ps es (W.sizing.size_at at) × Away N types W.sizing.size_at W.sizing.home lo (1 + lo) (W.sizing.size_at at)))
+
+  -- an index for each of the first levels of a type, and data of the type of what is left
+  abbrev pub Updated_parts : Terms Ref BindId → ℕ → Size → Type 0
+  Updated_parts no_term at t = ⊥
+  Updated_parts (term_and v no_term) at t = Data (W.sizing.size_at at) × (types at ≡ erased t)
+  Updated_parts (term_and i (term_and j es)) at (Level d t) = Updated_parts (term_and j es) (at + numbers i) t
+  Updated_parts (term_and i (term_and j es)) at t = ⊥
+
+  -- a record that has the field
+  abbrev pub Has_field : Text → ℕ → Type 0
+  Has_field f at = (n : ℕ) × (ts : Sizes) × (W.sizing.size_at at ≡ Built (head.Record n) ts) × (u : Size) × (part_of N f (W.sizing.size_at at) ≡ Some u)
 
   -- what is declared to be data of a type, and mentions nothing that the node meets
   abbrev pub Declared_part : FlatType → ℕ → Terms Ref BindId → ℕ → Type 0
   Declared_part e lo (term_and x no_term) at = Written_data e × Data (W.sizing.size_at at) × Away N types W.sizing.size_at W.sizing.home lo (1 + lo) (W.sizing.size_at at)
   Declared_part e lo ts at = ⊥
 
+  -- no use of a size's name: what that is as a value is not said to be the size
+  abbrev pub No_size_use : FlatTerm → Type 0
+  No_size_use (Use (ref.Bound b) at k) = W.sizing.is_size b.0 ≡ false
+  No_size_use e = Unit {0}
+
   -- an operation of these, whose parts' nodes stand behind those of its own
   abbrev pub Plain_operation : Operation Ref BindId → ℕ → Terms Ref BindId → Type 0
   Plain_operation Tuple_of lo ts = Unit {0}
   Plain_operation Array_of lo ts = Array_parts lo ts (lo + 1)
-  Plain_operation (Index ps) lo ts = Indexed_parts ps ts (lo + 1)
+  Plain_operation (Index ps) lo ts = Indexed_parts lo ps ts (lo + 1)
+  Plain_operation Update lo (term_and x es) = Data (W.sizing.size_at (lo + 1)) × Updated_parts es (lo + 1 + numbers x) (W.sizing.size_at (lo + 1))
+  Plain_operation (Project f) lo (term_and x no_term) = Has_field f (lo + 2)
   Plain_operation (Declared e) lo ts = Declared_part e lo ts (lo + 1)
   Plain_operation (Ascribe e) lo (term_and x no_term) = Unit {0}
   Plain_operation o lo ts = Scalar_rule (W.integer_at lo) o (types lo) (term_types types ts (lo + own_numbers o))
 
   abbrev mutual
     pub Plain_term : FlatTerm → ℕ → Type 0
-    Plain_term (Use (ref.Bound b) at k) lo = Unit {0}
+    Plain_term (Use (ref.Bound b) at k) lo = W.sizing.is_size b.0 ≡ true → W.sizing.size_at lo ≡ i64_size
     Plain_term (Use (ref.Prim p) at k) lo = Plain_primitive p
     Plain_term (Strict o mark ts) lo = Plain_operation o lo ts × Plain_terms ts (lo + own_numbers o)
-    Plain_term (Lambda (pattern_and p ps) e) lo = Simple W.sizing p (1 + lo) × All_simple W.sizing ps (1 + lo + pattern_numbers p) × Plain_term e (1 + lo + (pattern_numbers p + all_pattern_numbers ps))
-    Plain_term (Apply f e) lo = Plain_term f (1 + lo) × Plain_term e (1 + lo + numbers f)
-    Plain_term (Let b v e) lo = Named W.sizing b.pattern (1 + lo) × (b.sizes ≡ []) × No_lambda v × Plain_term v (1 + lo + pattern_numbers b.pattern) × Plain_term e (1 + lo + pattern_numbers b.pattern + numbers v)
+    Plain_term (Lambda (pattern_and p ps) e) lo = All_simple W.sizing (all_part_names (pattern_and p ps)) (pattern_and p ps) (1 + lo) × Leaves (all_part_names (pattern_and p ps)) lo (1 + lo + (pattern_numbers p + all_pattern_numbers ps)) × Plain_term e (1 + lo + (pattern_numbers p + all_pattern_numbers ps))
+    Plain_term (Apply f e) lo = Plain_term f (1 + lo) × Plain_term e (1 + lo + numbers f) × No_size_use e
+    Plain_term (Let b v e) lo = Simple W.sizing b.pattern (1 + lo) × Sizes_apart (1 + lo + pattern_numbers b.pattern + numbers v) (1 + lo + pattern_numbers b.pattern + numbers v + numbers e) b.sizes b.pattern (1 + lo) × No_lambda v
+        × Plain_term v (1 + lo + pattern_numbers b.pattern) × Plain_term e (1 + lo + pattern_numbers b.pattern + numbers v)
     Plain_term (If c a b) lo = Plain_term c (1 + lo) × Plain_term a (1 + lo + numbers c) × Plain_term b (1 + lo + numbers c + numbers a)
+    Plain_term (Loop mark sizes p first turns body) lo = Simple W.sizing p (1 + lo)
+        × Sizes_apart (1 + lo + pattern_numbers p + numbers first) (1 + lo + pattern_numbers p + numbers first + turn_numbers turns + numbers body) sizes p (1 + lo)
+        × Data (W.sizing.size_at (1 + lo + pattern_numbers p + numbers first + turn_numbers turns))
+        × Plain_turns turns lo (1 + lo + pattern_numbers p + numbers first) (1 + lo + pattern_numbers p + numbers first + turn_numbers turns) (1 + lo + pattern_numbers p + numbers first + turn_numbers turns + numbers body)
+        × Plain_term first (1 + lo + pattern_numbers p) × Plain_term body (1 + lo + pattern_numbers p + numbers first + turn_numbers turns)
     Plain_term e lo = ⊥
+
+    -- what says the turns of a loop, whose nodes are those from ts up to at: a number; or an array, whose type mentions nothing that turns
+    -- make; or a condition, of which nothing is asked
+    pub Plain_turns : FlatTurns → ℕ → ℕ → ℕ → ℕ → Type 0
+    Plain_turns (Counted i m) lo ts at hi = (W.sizing.home i.0 ≡ ts) × Simple W.sizing (Bound_pattern i) ts × ((t : IntType) × (types (1 + ts) ≡ scalar_ty (sort.Int t))) × Plain_term m (1 + ts)
+    Plain_turns (Over p e) lo ts at hi = Name_home W.sizing p ts × Simple W.sizing p ts × ((d : Dim) × (t : Size) × (W.sizing.size_at (ts + pattern_numbers p) ≡ Level d t))
+        × Away N types W.sizing.size_at W.sizing.home lo (ts + pattern_numbers p) (W.sizing.size_at (ts + pattern_numbers p)) × Away N types W.sizing.size_at W.sizing.home at hi (W.sizing.size_at (ts + pattern_numbers p)) × Plain_term e (ts + pattern_numbers p)
+    Plain_turns (While c) lo ts at hi = Unit {0}
 
     pub Plain_terms : Terms Ref BindId → ℕ → Type 0
     Plain_terms no_term lo = Unit {0}

@@ -10,9 +10,9 @@ pub fn suiting_values_fit()
     ensures { SuitingValuesFit }
 {}
 
-/// Each value that a sized term may give is of its sized type, for terms of names, scalars, array literals, elements of arrays,
-/// `map`, `reduce`, `scan`, `tabulate`, `iota`, `length`, tuples, functions and what they declare, applications, lets of names
-/// and branches.
+/// Each value that a sized term may give is of its sized type, for terms of names and names of sizes, scalars, array literals,
+/// elements, slices and updates of arrays, fields of records, tuples, functions and what they declare, applications, lets,
+/// branches, loops and the primitives of `Plain_primitive`; patterns may take the parts of tuples and records, and name sizes.
 #[tactic(auto, using(crate::proofs::Law::values_have_their_sizes))]
 pub fn values_have_their_sizes()
     ensures { ValuesHaveTheirSizes }

@@ -1,0 +1,4 @@
+pub mod Sizings
+pub mod Misfits
+pub mod Prepared
+pub mod Trees

@@ -1,0 +1,84 @@
+-- A program whose sizing meets the rules by the law: `\n -> 0..<n`, which gives an array of the size of its argument.
+use Rattle.std.proofs.Common.{◌≡◌, arith, zero, suc, ℕ, false, [], None, Ok, refl}
+use Rattle.fut_ast.specs.declared.node.End.TheVariants as end
+use Rattle.fut_scalar.specs.declared.place.Place.{Place}
+use Rattle.fut_scalar.specs.declared.scalar.ScalarType.TheVariants as scalar
+use Rattle.fut_scalar.specs.declared.scalar.IntType.TheVariants as int
+use Rattle.fut_flat.specs.declared.prim.Ref.TheVariants as ref
+use Rattle.fut_flat.specs.Terms.{Bound_pattern, no_pattern, pattern_and, Integer, Range, Use, Strict, Lambda, no_term, term_and}
+use Rattle.fut_flat.specs.Erased.{FlatTerm}
+use Rattle.fut_types.specs.declared.Kind.TheVariants as kind
+use Rattle.fut_types.specs.Types.{Sub, fun_ty}
+use Rattle.fut_typing.specs.Names.{Names}
+use Rattle.fut_typing.specs.Primitives.{array_ty, i64_ty}
+use Rattle.fut_sizes.specs.Agreeing.{Answer, then_do, agree, all_agree, kept, all_kept, leaving, type_levels, all_type_levels, of_type, of_types}
+use Rattle.fut_sizes.specs.Applications.{all_settled, parts_settled, data_met, functions_met, all_matched, applied}
+use Rattle.fut_sizes.specs.Functions.{collected, all_collected, sizes_in, function_size, chosen_in, quantified, closed}
+use Rattle.fut_sizes.specs.Matching.{filled, all_filled, read, all_read, inside as opened_inside, compared, all_compared, meet, all_meet}
+use Rattle.fut_sizes.specs.Operations.{elements_agree, slice_size, indexed, updated, operation}
+use Rattle.fut_sizes.specs.Primitives.{scalar_size, sized_type, prim_size}
+use Rattle.fut_sizes.specs.Programs.{no_state, sizing}
+use Rattle.fut_sizes.specs.Scopes.{nothing, type_of, type_in, instance, instances, used, taken, all_taken, fields_taken, bound_by}
+use Rattle.sized_types.specs.Sizes.{Bound, Size, Level, Fun, erased, all_erased, is_free, is_dim, levels, all_levels, replaced, all_replaced, has, some_has, takes, some_takes}
+use Rattle.fut_sizes.specs.Levels.{levels_within, all_levels_within}
+use Rattle.fut_sizes.specs.Sizing.{finished, is_open, some_open, matched, lacking, all_lacking, differing, all_differing, turns_from, pattern_noted, patterns_noted, fields_noted, sized, all_sized, turns_sized, condition_sized, right_sized, inner_sized}
+use Rattle.fut_sizes.specs.WrittenSizes.{part_of, changed_part, has_sizes, all_have_sizes, fields_have_sizes, with_sizes, all_with_sizes, fields_with_sizes, ascribed, coerced, coercion, parameter_size, declared}
+use Rattle.fut_types.specs.Types.{Kinds, rank, least}
+use native.Mathlib.Decide.{ℕ_discrete}
+use Rattle.fut_typing.specs.Scopes.{Uses, the_one, nothing as no_types}
+use Rattle.fut_typing.specs.Typing.{Typed}
+use Rattle.fut_sizes.specs.Applications.{Part}
+use Rattle.fut_sizes.specs.Rules.{Sized}
+use Rattle.fut_sizes.specs.Steps.{Done}
+use Rattle.sizes_meet_rules.specs.Claims.{nothing_known}
+use Rattle.sizes_meet_rules.specs.Plain.{Plain_term, Formed_type, Formed_types}
+use Rattle.sizes_meet_rules.proofs.Law.{sizing_meets_rules}
+use Rattle.sizes_meet_rules.proofs.Meeting.{then_ok}
+
+here : Place
+here = record { file = 0; line = 1; column = 1 }
+
+abbrev N : Names
+N = record { label = λ s. 0; shapes = record { fields = λ n. []; position = λ n. None } }
+
+abbrev counts : FlatTerm
+counts = Lambda (pattern_and (Bound_pattern (record { 0 = 9 })) no_pattern) (Strict (Range false end.Below) here (term_and (Strict (Integer 0 None) here no_term) (term_and (Use (ref.Bound (record { 0 = 9 })) here 0) no_term)))
+
+-- 0 is the function, 1 its parameter, 2 the range, then come its bounds
+abbrev types : Sub
+types zero = fun_ty i64_ty (array_ty i64_ty)
+types (suc zero) = i64_ty
+types (suc (suc zero)) = array_ty i64_ty
+types (suc (suc (suc k))) = i64_ty
+
+abbrev home : ℕ → ℕ
+home b = 1
+
+abbrev K : Kinds
+K v = kind.Data
+
+plain : Plain_term types home K kind.Data counts 0
+unfolding Formed_type Formed_types rank least
+plain = ((refl, tt, omega arith, tt), (tt, (((scalar.Int int.I64, refl), tt), (tt, tt))))
+
+use_typed : (elim (ℕ_discrete 9 9) as (λ d. Uses) [ yes e ↦ the_one 1 | no ne ↦ no_types.uses 9 ]) K types i64_ty
+use_typed = elim (ℕ_discrete 9 9) as (λ d. (elim d as (λ d. Uses) [ yes e ↦ the_one 1 | no ne ↦ no_types.uses 9 ]) K types i64_ty) [ yes e ↦ refl | no ne ↦ absurd (ne refl) ]
+
+typed : Typed N kind.Data counts 0 no_types K types
+unfolding rank least
+typed = (((tt, tt), (((tt, omega arith, tt), (use_typed, tt)), (i64_ty, (refl, omega arith), omega arith, (refl, (refl, tt))), tt)), refl)
+
+abbrev counts_part : Answer (Done Part)
+counts_part = sized N types counts [] 0 nothing no_state
+
+abbrev counts_size : Answer (Done Size)
+counts_size = then_do counts_part (λ d. finished N types 0 d.result d.state)
+
+-- its sized type: a caller that gives n gets an array of n numbers
+its_size : then_do counts_size (λ d. Ok d.result) ≡ Ok (Fun 0 (scalar_size (scalar.Int int.I64)) (Level (Bound 0 0) (scalar_size (scalar.Int int.I64))))
+unfolding agree all_agree kept all_kept leaving type_levels all_type_levels of_type of_types all_settled parts_settled data_met functions_met all_matched applied collected all_collected sizes_in function_size chosen_in quantified closed filled all_filled read all_read opened_inside compared all_compared meet all_meet elements_agree slice_size indexed updated operation sized_type prim_size sizing type_of type_in instance instances used taken all_taken fields_taken bound_by erased all_erased is_free is_dim levels all_levels levels_within all_levels_within replaced all_replaced has some_has takes some_takes is_open some_open matched lacking all_lacking differing all_differing turns_from pattern_noted patterns_noted fields_noted sized all_sized turns_sized condition_sized right_sized inner_sized part_of changed_part has_sizes all_have_sizes fields_have_sizes with_sizes all_with_sizes fields_with_sizes ascribed coerced coercion parameter_size declared
+its_size = refl
+
+-- and the whole sizing meets the rules
+its_rules : (u : Done Size) → counts_size ≡ Ok u → Sized N types u.state.nodes home counts 0 nothing_known
+its_rules u e = let x = then_ok counts_part e in (sizing_meets_rules N types home K kind.Data counts 0 no_state x.first u (omega arith) plain typed x.done x.rest).0

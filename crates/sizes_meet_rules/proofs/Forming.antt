@@ -1,0 +1,97 @@
+-- The form of sized types: what is kept under replacing, and where branches meet.
+use Rattle.std.proofs.Common.{◌≡◌, ℕ, suc, ◌+◌, ◌≤◌, Bool, true, false, cond, refl, ap, ◌∙◌, arith}
+use Rattle.std.specs.Prelude.{min}
+use Rattle.fut_types.specs.declared.Head.TheVariants as head
+use Rattle.fut_types.specs.Types.{Made, none, more, Kinds, rank, least, cap}
+use Rattle.sized_types.specs.Sizes.{Free, Unknown, Dim, At, Variable, Size, Hole, Open, Level, Built, Fun, Sizes, no_size, size_and, erased, all_erased, is_dim, replaced, all_replaced, levels}
+use Rattle.fut_sizes.specs.Agreeing.{kept, all_kept}
+use Rattle.fut_sizes.specs.Rules.{Each_hole, Each_holes}
+use Rattle.fut_sizes.specs.Suiting.{Each, Each_all, Scoped, Data, All_data}
+use Rattle.sizes_meet_rules.specs.Known.{Formed, All_formed}
+
+module _ (g : ℕ → Dim → Dim) where
+  mutual
+    unfolding Formed All_formed replaced all_replaced
+
+    pub formed_replaced : (t : Size) (j : ℕ) → Formed t → Formed (replaced g j t)
+    formed_replaced (Hole v) j h = h
+    formed_replaced (Open n v u) j h = h
+    formed_replaced (Level d t) j h = formed_replaced t j h
+    formed_replaced (Built k ts) j h = (h.0, all_formed_replaced ts j h.1)
+    formed_replaced (Fun k p r) j h = (formed_replaced p (suc j) h.0, formed_replaced r (suc j) h.1)
+
+    all_formed_replaced : (ts : Sizes) (j : ℕ) → All_formed ts → All_formed (all_replaced g j ts)
+    all_formed_replaced no_size j h = tt
+    all_formed_replaced (size_and t ts) j h = (formed_replaced t j h.0, all_formed_replaced ts j h.1)
+
+-- a type that places may hold has no function
+module _ (K : Kinds) where
+  mutual
+    unfolding Formed All_formed Data All_data erased all_erased rank least
+
+    pub data_of : (t : Size) → Formed t → 1 ≤ rank K (erased t) → Data t
+    data_of (Hole v) f h = tt
+    data_of (Open n v u) f h = absurd f
+    data_of (Level d t) f h = let z : 1 ≤ min 1 (min (rank K (erased t)) 4) = h in data_of t f (omega (arith, z))
+    data_of (Built k ts) f h = let z : 1 ≤ min (cap k) (least K (all_erased ts)) = h in all_data_of ts f.1 (omega (arith, z))
+    data_of (Fun k p r) f h = absurd (let z : 1 ≤ min 0 (min (rank K (erased p)) (min (rank K (erased r)) 4)) = h in omega (arith, z))
+
+    all_data_of : (ts : Sizes) → All_formed ts → 1 ≤ least K (all_erased ts) → All_data ts
+    all_data_of no_size f h = tt
+    all_data_of (size_and t ts) f h = let z : 1 ≤ min (rank K (erased t)) (least K (all_erased ts)) = h in (data_of t f.0 (omega (arith, z)), all_data_of ts f.1 (omega (arith, z)))
+
+-- ---- branches
+
+module _ (n : ℕ) where
+  mutual
+    unfolding kept all_kept erased all_erased
+
+    pub erased_kept : (t u : Size) (i : ℕ) → erased (kept n i t u) ≡ erased t
+    erased_kept (Level d t) (Level e u) i = ap (λ x. Made head.Array (more x none)) (erased_kept t u (suc i))
+    erased_kept (Built h ts) (Built g us) i = ap (Made h) (all_erased_kept ts us i)
+    erased_kept t u i = refl
+
+    all_erased_kept : (ts us : Sizes) (i : ℕ) → all_erased (all_kept n i ts us) ≡ all_erased ts
+    all_erased_kept (size_and t ts) (size_and u us) i = ap (λ x. more x (all_erased (all_kept n (levels t + i) ts us))) (erased_kept t u i) ∙ ap (more (erased t)) (all_erased_kept ts us (levels t + i))
+    all_erased_kept ts us i = refl
+
+  mutual
+    unfolding kept all_kept Formed All_formed
+
+    pub formed_kept : (t u : Size) (i : ℕ) → Formed t → Formed (kept n i t u)
+    formed_kept (Level d t) (Level e u) i h = formed_kept t u (suc i) h
+    formed_kept (Built k ts) (Built g us) i h = (h.0, all_formed_kept ts us i h.1)
+    formed_kept t u i h = h
+
+    all_formed_kept : (ts us : Sizes) (i : ℕ) → All_formed ts → All_formed (all_kept n i ts us)
+    all_formed_kept (size_and t ts) (size_and u us) i h = (formed_kept t u i h.0, all_formed_kept ts us (levels t + i) h.1)
+    all_formed_kept ts us i h = h
+
+  mutual
+    unfolding kept all_kept Each_hole Each_holes
+
+    pub variables_kept : (ok : Variable → Type 0) (t u : Size) (i : ℕ) → Each_hole ok t → Each_hole ok (kept n i t u)
+    variables_kept ok (Level d t) (Level e u) i h = variables_kept ok t u (suc i) h
+    variables_kept ok (Built k ts) (Built g us) i h = all_variables_kept ok ts us i h
+    variables_kept ok t u i h = h
+
+    all_variables_kept : (ok : Variable → Type 0) (ts us : Sizes) (i : ℕ) → Each_holes ok ts → Each_holes ok (all_kept n i ts us)
+    all_variables_kept ok (size_and t ts) (size_and u us) i h = (variables_kept ok t u i h.0, all_variables_kept ok ts us (levels t + i) h.1)
+    all_variables_kept ok ts us i h = h
+
+  module _ (In : Free → Type 0) (met : (i : ℕ) → In (Unknown n i)) where
+    dim_kept : (j i : ℕ) (d e : Dim) (b : Bool) → Scoped In j d → Scoped In j (cond b d (At (Unknown n i)))
+    dim_kept j i d e true h = h
+    dim_kept j i d e false h = met i
+
+    mutual
+      unfolding kept all_kept Each Each_all
+
+      pub sizes_kept : (t u : Size) (j i : ℕ) → Each (Scoped In) j t → Each (Scoped In) j (kept n i t u)
+      sizes_kept (Level d t) (Level e u) j i h = (dim_kept j i d e (is_dim d e) h.0, sizes_kept t u j (suc i) h.1)
+      sizes_kept (Built k ts) (Built g us) j i h = all_sizes_kept ts us j i h
+      sizes_kept t u j i h = h
+
+      all_sizes_kept : (ts us : Sizes) (j i : ℕ) → Each_all (Scoped In) j ts → Each_all (Scoped In) j (all_kept n i ts us)
+      all_sizes_kept (size_and t ts) (size_and u us) j i h = (sizes_kept t u j i h.0, all_sizes_kept ts us j (levels t + i) h.1)
+      all_sizes_kept ts us j i h = h

@@ -1,0 +1,208 @@
+-- What is proved of each term: what its sized type says, which nodes are noted, and that they meet the rules.
+use Rattle.std.proofs.Common.{◌≡◌, ◌⊎◌, ℕ, zero, suc, ◌<◌, ◌≤◌, false, cond, Option, None, Ok, Err, refl, sym, ap, ◌∙◌, subst, arith, inl, inr, eq-eqb}
+use Rattle.std.proofs.lemmas.Bool.{ne_eqb}
+use Rattle.fut_flat.specs.Erased.{FlatTerm}
+use Rattle.fut_types.specs.Types.{Sub}
+use Rattle.fut_typing.specs.Names.{Names}
+use Rattle.sized_types.specs.Sizes.{Free, Const, Name, Own, Unknown, Slot, Dim, At, Bound, Variable, Inferred, Size, Hole, erased}
+use Rattle.fut_sizes.specs.Agreeing.{Refusal, Answer, then_do}
+use Rattle.fut_sizes.specs.Applications.{Want, Met, Part, Waiting, whole}
+use Rattle.fut_sizes.specs.Functions.{is_slot}
+use Rattle.fut_sizes.specs.Matching.{Found, nothing_found}
+use Rattle.fut_sizes.specs.Rules.{Inside, Outside, Away, Sized}
+use Rattle.fut_sizes.specs.Scopes.{Scope}
+use Rattle.fut_sizes.specs.Scoping.{Context}
+use Rattle.fut_sizes.specs.Sizing.{finished}
+use Rattle.fut_sizes.specs.Steps.{State, Done, Step, ask, at_node}
+use Rattle.fut_sizes.specs.Suiting.{Each, Scoped}
+use Rattle.sizes_meet_rules.specs.Known.{Says, Judged, Elsewhere}
+use Rattle.sizes_meet_rules.proofs.Replacing.{each_as, hole_as}
+use Rattle.sizes_meet_rules.proofs.Settling.{Is_settled, Any_variable, Settled, noted, whole_finished}
+
+-- ---- steps
+
+pub record Then_ok {A B : Type 0} (x : Answer A) (f : A → Answer B) (b : B) : Type 0 where
+  pub first : A
+  pub done : x ≡ Ok first
+  pub rest : f first ≡ Ok b
+
+pub then_ok : {A B : Type 0} (x : Answer A) {f : A → Answer B} {b : B} → then_do x f ≡ Ok b → Then_ok x f b
+then_ok x {f = f} {b = b} e = by_answer x e
+  where
+    by_answer : (y : Answer _) → then_do y f ≡ Ok b → Then_ok y f b
+    by_answer (Ok a) e = record { first = a; done = refl; rest = e }
+    by_answer (Err r) e = absurd (let z : ◌≡◌ {A = Answer _} (Err r) (Ok b) = e in cc)
+
+-- what is asked leaves the state as it is
+pub record Asked {A : Type 0} (r : Answer A) (s : State) (d : Done A) : Type 0 where
+  pub answer : r ≡ Ok d.result
+  pub state : d.state ≡ s
+
+pub same_ok : {A : Type 0} {a b : A} → ◌≡◌ {A = Answer A} (Ok a) (Ok b) → a ≡ b
+same_ok e = cc
+
+pub refused_ok : {A X : Type 0} {r : Refusal} {b : A} → ◌≡◌ {A = Answer A} (Err r) (Ok b) → X
+refused_ok {A = A} {r = r} {b = b} e = absurd (let z : ◌≡◌ {A = Answer A} (Err r) (Ok b) = e in cc)
+
+pub asked : {A : Type 0} (r : Answer A) (s : State) (d : Done A) → ask r s ≡ Ok d → Asked r s d
+asked r s d e = by_answer r e
+  where
+    by_answer : (y : Answer _) → ask y s ≡ Ok d → Asked y s d
+    by_answer (Ok a) e = let z = same_ok e in record { answer = ap (λ (x : Done _). Ok x.result) z; state = ap (λ (x : Done _). x.state) (sym z) }
+    by_answer (Err r) e = refused_ok e
+
+pub at_itself : (n : ℕ) (t : Size) (f : ℕ → Size) → at_node n t f n ≡ t
+at_itself n t f = ap (λ b. cond b t (f n)) (eq-eqb n n refl)
+
+pub at_another : (n m : ℕ) (t : Size) (f : ℕ → Size) → (n ≡ m → ⊥) → at_node n t f m ≡ f m
+at_another n m t f ne = ap (λ b. cond b t (f m)) (ne_eqb n m ne)
+
+pub order : (m n : ℕ) → (m < n) ⊎ (n ≤ m)
+order m zero = inr (omega arith)
+order zero (suc n) = inl (omega arith)
+order (suc m) (suc n) = shifted (order m n)
+  where
+    shifted : (m < n) ⊎ (n ≤ m) → (suc m < suc n) ⊎ (suc n ≤ suc m)
+    shifted (inl l) = inl (omega (arith, l))
+    shifted (inr l) = inr (omega (arith, l))
+
+-- ---- sizes that a term makes
+
+-- a constant, or met at one of these nodes
+abbrev pub Met_in : ℕ → ℕ → Free → Type 0
+Met_in lo hi (Const c) = Unit {0}
+Met_in lo hi (Unknown n i) = (lo ≤ n) × (n < hi)
+Met_in lo hi d = ⊥
+
+abbrev pub With_met : (Free → Type 0) → ℕ → ℕ → Free → Type 0
+With_met In lo hi d = In d ⊎ Met_in lo hi d
+
+pub met_wider : (lo hi lo' hi' : ℕ) → lo' ≤ lo → hi ≤ hi' → (d : Free) → Met_in lo hi d → Met_in lo' hi' d
+met_wider lo hi lo' hi' l l' (Const c) m = tt
+met_wider lo hi lo' hi' l l' (Name c) m = absurd m
+met_wider lo hi lo' hi' l l' (Own c i) m = absurd m
+met_wider lo hi lo' hi' l l' (Slot c) m = absurd m
+met_wider lo hi lo' hi' l l' (Unknown n i) m = let a = m.0 in let b = m.1 in (omega (arith, l, a), omega (arith, l', b))
+
+pub met_no_slot : (lo hi : ℕ) (d : Free) → Met_in lo hi d → is_slot d ≡ false
+met_no_slot lo hi (Const c) m = refl
+met_no_slot lo hi (Name c) m = absurd m
+met_no_slot lo hi (Own c i) m = absurd m
+met_no_slot lo hi (Slot c) m = absurd m
+met_no_slot lo hi (Unknown n i) m = refl
+
+pub scoped_as : (In In' : Free → Type 0) → ((d : Free) → In d → In' d) → (j : ℕ) (d : Dim) → Scoped In j d → Scoped In' j d
+scoped_as In In' w j (At d) h = w d h
+scoped_as In In' w j (Bound k i) h = h
+
+pub each_scoped : (In In' : Free → Type 0) → ((d : Free) → In d → In' d) → (t : Size) (j : ℕ) → Each (Scoped In) j t → Each (Scoped In') j t
+each_scoped In In' w t j h = each_as (Scoped In) (Scoped In') (scoped_as In In' w) t j h
+
+pub says_more : (In In' : Free → Type 0) (Vars : Variable → Type 0) (t : Size) → ((d : Free) → In d → In' d) → Says In Vars t → Says In' Vars t
+says_more In In' Vars t w h = record { sizes = each_scoped In In' w t 0 h.sizes; variables = h.variables; formed = h.formed }
+
+pub says_settled : (In : Free → Type 0) (Vars : Variable → Type 0) (t : Size) → ((d : Free) → In d → is_slot d ≡ false) → Says In Vars t → Settled t
+says_settled In Vars t n h = (each_scoped In Is_settled n t 0 h.sizes, hole_as Vars Any_variable (λ v o. tt) t h.variables)
+
+module _ (N : Names) (types : Sub) (home : ℕ → ℕ) where
+  abbrev pub In_nodes : ℕ → ℕ → Free → Type 0
+  In_nodes lo hi d = Inside N types (λ n. Hole (Inferred n)) home lo hi d
+
+  pub inside_wider : (lo hi lo' hi' : ℕ) → lo' ≤ lo → hi ≤ hi' → (d : Free) → In_nodes lo hi d → In_nodes lo' hi' d
+  inside_wider lo hi lo' hi' l l' (Const c) m = absurd m
+  inside_wider lo hi lo' hi' l l' (Slot c) m = absurd m
+  inside_wider lo hi lo' hi' l l' (Name b) m = let x = m.0 in let y = m.1 in (omega (arith, l, x), omega (arith, l', y))
+  inside_wider lo hi lo' hi' l l' (Own n i) m = let x = m.0 in let y = m.1 in (omega (arith, l, x), omega (arith, l', y))
+  inside_wider lo hi lo' hi' l l' (Unknown n i) m = let x = m.0 in let y = m.1 in (omega (arith, l, x), omega (arith, l', y))
+
+  -- what is met at some nodes is made at no others
+  pub met_outside : (lo hi lo' hi' : ℕ) → (hi ≤ lo') ⊎ (hi' ≤ lo) → (d : Free) → Met_in lo hi d → In_nodes lo' hi' d → ⊥
+  met_outside lo hi lo' hi' apart (Const c) m i = i
+  met_outside lo hi lo' hi' apart (Slot c) m i = m
+  met_outside lo hi lo' hi' apart (Name b) m i = m
+  met_outside lo hi lo' hi' apart (Own n k) m i = m
+  met_outside lo hi lo' hi' (inl l) (Unknown n k) m i = let a = m.1 in let b = i.0 in omega (arith, l, a, b)
+  met_outside lo hi lo' hi' (inr l) (Unknown n k) m i = let a = m.0 in let b = i.1 in omega (arith, l, a, b)
+
+  pub elsewhere_narrower : (lo hi lo' hi' : ℕ) (In : Free → Type 0) → lo ≤ lo' → hi' ≤ hi → Elsewhere N types home lo hi In → Elsewhere N types home lo' hi' In
+  elsewhere_narrower lo hi lo' hi' In l l' E = record { no_slot = E.no_slot; outside = λ d i o. E.outside d i (inside_wider lo' hi' lo hi l l' d o) }
+
+  -- what says only these is away from the nodes where none of these is made
+  pub away_of : (In : Free → Type 0) (Vars : Variable → Type 0) (s : ℕ → Size) (lo hi : ℕ) (t : Size) → ((d : Free) → In d → In_nodes lo hi d → ⊥) → Says In Vars t → Away N types s home lo hi t
+  away_of In Vars s lo hi t o h = each_scoped In (λ d. Outside N types s home lo hi d) o t 0 h.sizes
+
+  module _ (In : Free → Type 0) (Vars : Variable → Type 0) (scope : Scope) where
+    -- a term whose node is not noted yet
+    pub record Inner (e : FlatTerm) (lo hi : ℕ) (st : State) (t : Size) (after : State) : Type 0 where
+      pub says : Says (With_met In lo hi) Vars t
+      pub typed : erased t ≡ types lo
+      pub kept : (n : ℕ) → (n < lo) ⊎ (hi ≤ n) → after.nodes n ≡ st.nodes n
+      pub rules : (s : ℕ → Size) (G : Context) → Judged In Vars scope G → s lo ≡ t → ((n : ℕ) → lo < n → n < hi → s n ≡ after.nodes n) → Sized N types s home e lo G
+
+    -- and one whose node is
+    pub record Meets (e : FlatTerm) (lo hi : ℕ) (st : State) (t : Size) (after : State) : Type 0 where
+      pub says : Says (With_met In lo hi) Vars t
+      pub typed : erased t ≡ types lo
+      pub here : after.nodes lo ≡ t
+      pub kept : (n : ℕ) → (n < lo) ⊎ (hi ≤ n) → after.nodes n ≡ st.nodes n
+      pub rules : (s : ℕ → Size) (G : Context) → Judged In Vars scope G → ((n : ℕ) → lo ≤ n → n < hi → s n ≡ after.nodes n) → Sized N types s home e lo G
+
+    pub record Whole_meets (e : FlatTerm) (lo hi : ℕ) (st : State) (part : Part) (after : State) : Type 0 where
+      pub size : Size
+      pub is_whole : part ≡ whole size
+      pub inner : Inner e lo hi st size after
+
+    pub record Waits (e : FlatTerm) (lo hi : ℕ) (st : State) (part : Part) (after : State) : Type 0 where
+      pub waiting : Option Want → Found → Step Met
+      pub is_waiting : part ≡ Waiting waiting
+      pub unchanged : after ≡ st
+      pub by_itself : (before : State) (m : Done Met) → waiting None nothing_found before ≡ Ok m → Meets e lo hi before m.result.size m.state
+
+    abbrev pub Part_meets : FlatTerm → ℕ → ℕ → State → Part → State → Type 0
+    Part_meets e lo hi st part after = Whole_meets e lo hi st part after ⊎ Waits e lo hi st part after
+
+    noted_meets : (e : FlatTerm) (lo hi : ℕ) (st : State) (t : Size) (after : State) → lo < hi → Inner e lo hi st t after → Meets e lo hi st t (noted lo t after).state
+    noted_meets e lo hi st t after l I = record {
+      says = I.says;
+      typed = I.typed;
+      here = at_itself lo t after.nodes;
+      kept = λ n o. at_another lo n t after.nodes (λ q. apart n o q) ∙ I.kept n o;
+      rules = λ s G J a. I.rules s G J (a lo (omega arith) l ∙ at_itself lo t after.nodes) (λ n x y. a n (omega (arith, x)) y ∙ at_another lo n t after.nodes (λ q. omega (arith, q, x)));
+    }
+      where
+        apart : (n : ℕ) → (n < lo) ⊎ (hi ≤ n) → lo ≡ n → ⊥
+        apart n (inl x) q = omega (arith, x, q)
+        apart n (inr x) q = omega (arith, x, q, l)
+
+    -- a term by itself
+    pub finished_meets : (e : FlatTerm) (lo hi : ℕ) (st : State) (part : Part) (after : State) (u : Done Size) → lo < hi → Elsewhere N types home lo hi In → Part_meets e lo hi st part after → finished N types lo part after ≡ Ok u → Meets e lo hi st u.result u.state
+    finished_meets e lo hi st part after u l E (inl W) q = subst (λ (d : Done Size). Meets e lo hi st d.result d.state) (same_ok now) (noted_meets e lo hi st W.size after l W.inner)
+      where
+        no_slot : (d : Free) → With_met In lo hi d → is_slot d ≡ false
+        no_slot d (inl i) = E.no_slot d i
+        no_slot d (inr i) = met_no_slot lo hi d i
+
+        now : ◌≡◌ {A = Answer (Done Size)} (Ok (noted lo W.size after)) (Ok u)
+        now = sym (whole_finished N types lo W.size after (says_settled (With_met In lo hi) Vars W.size no_slot W.inner.says)) ∙ ap (λ p. finished N types lo p after) (sym W.is_whole) ∙ q
+    finished_meets e lo hi st part after u l E (inr W) q = subst (λ (d : Done Size). Meets e lo hi st d.result d.state) (same_ok ran.rest) again
+      where
+        waited : finished N types lo (Waiting W.waiting) st ≡ Ok u
+        waited = ap (λ p. finished N types lo p st) (sym W.is_waiting) ∙ ap (finished N types lo part) (sym W.unchanged) ∙ q
+
+        ran : Then_ok (W.waiting None nothing_found st) (λ m. Ok (noted lo m.result.size m.state)) u
+        ran = then_ok (W.waiting None nothing_found st) waited
+
+        M : Meets e lo hi st ran.first.result.size ran.first.state
+        M = W.by_itself st ran.first ran.done
+
+        again : Meets e lo hi st ran.first.result.size (noted lo ran.first.result.size ran.first.state).state
+        again = noted_meets e lo hi st ran.first.result.size ran.first.state l (record {
+          says = M.says;
+          typed = M.typed;
+          kept = M.kept;
+          rules = λ s G J h a. M.rules s G J (λ n x y. by_place s n (order lo n) h a y x);
+        })
+          where
+            by_place : (s : ℕ → Size) (n : ℕ) → (lo < n) ⊎ (n ≤ lo) → s lo ≡ ran.first.result.size → ((n : ℕ) → lo < n → n < hi → s n ≡ ran.first.state.nodes n) → n < hi → lo ≤ n → s n ≡ ran.first.state.nodes n
+            by_place s n (inl x) h a y z = a n x y
+            by_place s n (inr x) h a y z = subst (λ k. s k ≡ ran.first.state.nodes k) (let q : lo ≡ n = omega (arith, x, z) in q) (h ∙ sym M.here)

@@ -1,0 +1,688 @@
+-- Each term of these forms meets the rules where it is sized.
+use Rattle.std.proofs.Common.{◌≡◌, ◌⊎◌, ℕ, ◌+◌, ◌<◌, ◌≤◌, List, [], ◌∷◌, ◌++◌, Bool, true, false, Option, Some, None, Ok, refl, sym, ap, ◌∙◌, subst, arith, inl, inr}
+use Rattle.fut_scalar.specs.declared.place.BindId.{BindId}
+use Rattle.fut_scalar.specs.declared.place.Place.{Place}
+use Rattle.fut_flat.specs.declared.prim.Ref.{Ref}
+use Rattle.fut_flat.specs.declared.prim.Ref.TheVariants as ref
+use Rattle.fut_flat.specs.Numbers.{pattern_numbers, all_pattern_numbers, own_numbers, numbers, all_numbers}
+use Rattle.fut_flat.specs.Terms.{Size_term, Size_use, Array_type, Unique_type, Tuple_type, Type_terms, no_type, type_and, Coerce, Declared, Bound_pattern, Wild_pattern, Tuple_pattern, Record_pattern, Typed_pattern, Patterns, no_pattern, pattern_and, Parameter, Binding, Operation, Binary, Project, Use, Strict, Lambda, Apply, Let, If, Loop, Terms, no_term, term_and}
+use Rattle.fut_flat.specs.Erased.{FlatTerm, FlatPattern, FlatType}
+use Rattle.fut_types.specs.declared.Kind.{Kind}
+use Rattle.fut_types.specs.Types.{Ty, Tys, none, more, Sub, Kinds, HasKind, rank, level}
+use Rattle.fut_typing.specs.Names.{Names}
+use Rattle.fut_typing.specs.Patterns.{pattern_types, arrows, with_pattern as typed_with, with_patterns as all_typed_with}
+use Rattle.fut_typing.specs.Scopes.{Scope as TypeScope, the_one, IsSize, Denotes, All_denote}
+use Rattle.fut_typing.specs.Primitives.{i64_ty}
+use Rattle.fut_typing.specs.Rules.{Rule, Written}
+use Rattle.fut_typing.specs.Typing.{operand, term_types, Typed, All_typed}
+use Rattle.sized_types.specs.Sizes.{Free, Const, Name, Own, Unknown, Slot, Variable, Size, Sizes, no_size, size_and, erased, all_erased}
+use Rattle.fut_sizes.specs.Agreeing.{Answer, kept, leaving}
+use Rattle.fut_sizes.specs.Applications.{Want, Met, Part, whole}
+use Rattle.fut_sizes.specs.Operations.{operation}
+use Rattle.fut_sizes.specs.Rules.{Outside, Takes, Away, part_sizes, Branches, Sized, All_sized}
+use Rattle.fut_sizes.specs.Compositions.{composition}
+use Rattle.fut_sizes.specs.Scopes.{Known, Scope, names, taken, bound_by}
+use Rattle.fut_sizes.specs.Scoping.{Context}
+use Rattle.fut_sizes.specs.Sizing.{finished, use_known, second_noted, has_parameters, let_scope, pattern_noted, composed_or, wanted_size, all_part_names, all_entered, none_left, matched, parameters_noted, sized, all_sized}
+use Rattle.fut_sizes.specs.Steps.{State, Done, Step, give, ask, and_then, note}
+use Rattle.fut_sizes.specs.Suiting.{Scoped, Data, Suits, suits_same}
+use Rattle.sizes_meet_rules.specs.Known.{Says, Is_const, Known_name, Known_names, Judged, Elsewhere}
+use Rattle.sizes_meet_rules.specs.Plain.{Plain_pattern, Plain_patterns, Plain_operation, Plain_term, Plain_terms}
+use Rattle.sizes_meet_rules.proofs.Replacing.{all_each_as}
+use Rattle.sizes_meet_rules.proofs.Forming.{data_of, erased_kept, formed_kept, variables_kept, sizes_kept}
+use Rattle.sizes_meet_rules.proofs.Meeting.{then_ok, asked, same_ok, at_itself, at_another, Met_in, With_met, each_scoped, met_wider, met_outside, says_more, scoped_as, elsewhere_narrower, away_of, Inner, Meets, Part_meets, finished_meets}
+use Rattle.sizes_meet_rules.proofs.Binding.{leaves, Behind, value_behind, behind_elsewhere, let_meets}
+use Rattle.sizes_meet_rules.proofs.Entering.{takings, all_bound, own_nodes_as, Lambda_ran, lambda_ran}
+use Rattle.sizes_meet_rules.proofs.Parameters.{Rest, all_rest}
+use Rattle.fut_sizes.specs.Functions.{function_size, unchosen}
+use Rattle.fut_sizes.specs.Matching.{Found}
+use Rattle.sizes_meet_rules.proofs.Naming.{bound_scope, known_with}
+use Rattle.sizes_meet_rules.proofs.Settling.{noted}
+use Rattle.sizes_meet_rules.proofs.Operating.{All_say, none_say, more_say, Gives, Size_written, Sizes_written, All_sizes_written, Written_named, Size_named, Sizes_named, number_is, operation_gives}
+
+own_some : (o : Operation Ref BindId) → 1 ≤ own_numbers o
+own_some (Binary op) = omega arith
+own_some (Project f) = omega arith
+own_some o = omega arith
+
+second_apart : (lo n : ℕ) → (n < lo) ⊎ (lo + 2 ≤ n) → 1 + lo ≡ n → ⊥
+second_apart lo n (inl x) q = omega (arith, x, q)
+second_apart lo n (inr x) q = omega (arith, x, q)
+
+module _ (N : Names) (types : Sub) where
+  tt_state : (w : Done (Unit {0})) (s : State) → ◌≡◌ {A = Answer (Done (Unit {0}))} (Ok (record { result = tt; state = s })) (Ok w) → (n : ℕ) → w.state.nodes n ≡ s.nodes n
+  tt_state w s z n = ap (λ (x : Done (Unit {0})). x.state.nodes n) (sym (same_ok z))
+
+  -- what an operation notes beside its result
+  second_kept : (o : Operation Ref BindId) (lo : ℕ) (us : Sizes) (s : State) (w : Done (Unit {0})) → second_noted N types o lo us s ≡ Ok w → (n : ℕ) → (n < lo) ⊎ (lo + own_numbers o ≤ n) → w.state.nodes n ≡ s.nodes n
+  second_kept (Binary op) lo (size_and t ts) s w z n o = tt_state w (noted (1 + lo) t s).state z n ∙ at_another (1 + lo) n t s.nodes (λ q. second_apart lo n o q)
+  second_kept (Project f) lo (size_and t ts) s w z n o = tt_state w (noted (1 + lo) t s).state z n ∙ at_another (1 + lo) n t s.nodes (λ q. second_apart lo n o q)
+  second_kept (Binary op) lo no_size s w z n o = tt_state w s z n
+  second_kept (Project f) lo no_size s w z n o = tt_state w s z n
+  second_kept o lo us s w z n y = tt_state w s z n
+
+module _ (N : Names) (types : Sub) (home : ℕ → ℕ) (K : Kinds) (places : Kind) (data_places : 1 ≤ level places) where
+  module _ (In : Free → Type 0) (Vars : Variable → Type 0) (scope : Scope) where
+    abbrev M : FlatTerm → ℕ → ℕ → State → Size → State → Type 0
+    M e lo hi st t after = Meets N types home In Vars scope e lo hi st t after
+
+    -- terms in a row
+    record Parts_meet (ts : Terms Ref BindId) (lo hi : ℕ) (st : State) (us : Sizes) (after : State) : Type 0 where
+      say : All_say (With_met In lo hi) Vars us
+      typed : all_erased us ≡ term_types types ts lo
+      kept : (n : ℕ) → (n < lo) ⊎ (hi ≤ n) → after.nodes n ≡ st.nodes n
+      rules : (s : ℕ → Size) (G : Context) → Judged In Vars scope G → ((n : ℕ) → lo ≤ n → n < hi → s n ≡ after.nodes n) → All_sized N types s home ts lo hi G × (part_sizes N types s home ts lo ≡ us)
+
+    abbrev Part_of : FlatTerm → ℕ → State → Done Part → Type 0
+    Part_of e lo st d = Part_meets N types home In Vars scope e lo (lo + numbers e) st d.result d.state
+
+    -- what a term in scope and those of its parts say is away from the nodes before and behind it
+    apart : (lo hi lo' hi' from to : ℕ) (s : ℕ → Size) (t : Size) → Elsewhere N types home from to In → from ≤ lo' → hi' ≤ to → (hi ≤ lo') ⊎ (hi' ≤ lo) → Says (With_met In lo hi) Vars t → Away N types s home lo' hi' t
+    apart lo hi lo' hi' from to s t E l l' a h = away_of N types home (With_met In lo hi) Vars s lo' hi' t outside h
+      where
+        outside : (d : Free) → With_met In lo hi d → Outside N types s home lo' hi' d
+        outside d (inl i) o = (elsewhere_narrower N types home from to lo' hi' In l l' E).outside d i o
+        outside d (inr i) o = met_outside N types home lo hi lo' hi' a d i o
+
+    no_parts : (lo : ℕ) (st : State) → Parts_meet no_term lo (lo + 0) st no_size st
+    unfolding all_erased
+    no_parts lo st = record { say = none_say (With_met In lo (lo + 0)) Vars; typed = refl; kept = λ n o. refl; rules = λ s G J a. (tt, refl) }
+
+    more_parts : (t : FlatTerm) (ts : Terms Ref BindId) (lo mid hi from to : ℕ) (st s1 s2 : State) (u : Size) (us : Sizes) → lo + numbers t ≡ mid → lo < mid → mid ≤ hi → from ≤ lo → hi ≤ to → Elsewhere N types home from to In
+        → M t lo mid st u s1 → Parts_meet ts mid hi s1 us s2 → Parts_meet (term_and t ts) lo hi st (size_and u us) s2
+    unfolding all_erased
+    more_parts t ts lo mid hi from to st s1 s2 u us m l l' b b' E X Y = record {
+      say = more_say (With_met In lo hi) Vars u us (says_more (With_met In lo mid) (With_met In lo hi) Vars u (λ d. wide lo mid d (omega arith) l') X.says) (all_wider us Y.say);
+      typed = ap (λ x. more x (all_erased us)) X.typed ∙ ap (more (types lo)) (Y.typed ∙ ap (term_types types ts) (sym m));
+      kept = λ n o. Y.kept n (later n o) ∙ X.kept n (sooner n o);
+      rules = rules;
+    }
+      where
+        wide : (x y : ℕ) (d : Free) → lo ≤ x → y ≤ hi → With_met In x y d → With_met In lo hi d
+        wide x y d p q (inl i) = inl i
+        wide x y d p q (inr i) = inr (met_wider x y lo hi p q d i)
+
+        all_wider : (ws : Sizes) → All_say (With_met In mid hi) Vars ws → All_say (With_met In lo hi) Vars ws
+        all_wider ws h = record { sizes = all_each_as (Scoped (With_met In mid hi)) (Scoped (With_met In lo hi)) (scoped_as (With_met In mid hi) (With_met In lo hi) (λ d. wide mid hi d (omega (arith, l)) (omega arith))) ws 0 h.sizes; variables = h.variables; formed = h.formed }
+
+        later : (n : ℕ) → (n < lo) ⊎ (hi ≤ n) → (n < mid) ⊎ (hi ≤ n)
+        later n (inl x) = inl (omega (arith, x, l))
+        later n (inr x) = inr x
+
+        sooner : (n : ℕ) → (n < lo) ⊎ (hi ≤ n) → (n < lo) ⊎ (mid ≤ n)
+        sooner n (inl x) = inl x
+        sooner n (inr x) = inr (omega (arith, x, l'))
+
+        rules : (s : ℕ → Size) (G : Context) → Judged In Vars scope G → ((n : ℕ) → lo ≤ n → n < hi → s n ≡ s2.nodes n) → All_sized N types s home (term_and t ts) lo hi G × (part_sizes N types s home (term_and t ts) lo ≡ size_and u us)
+        rules s G J a =
+            let first : (n : ℕ) → lo ≤ n → n < mid → s n ≡ s1.nodes n = λ n x y. a n x (omega (arith, y, l')) ∙ Y.kept n (inl y) in
+            let here : s lo ≡ u = first lo (omega arith) l ∙ X.here in
+            let rest = Y.rules s G J (λ n x y. a n (omega (arith, x, l)) y) in
+            let away : Away N types s home (lo + numbers t) hi (s lo) = subst (λ w. Away N types s home (lo + numbers t) hi w) (sym here) (apart lo mid (lo + numbers t) hi from to s u E (omega (arith, b)) b' (inl (omega (arith, m))) X.says) in
+            let behind : All_sized N types s home ts (lo + numbers t) hi G = subst (λ k. All_sized N types s home ts k hi G) (sym m) rest.0 in
+            ((X.rules s G J first, away, behind), ap (λ w. size_and w (part_sizes N types s home ts (lo + numbers t))) here ∙ ap (size_and u) (ap (part_sizes N types s home ts) m ∙ rest.1))
+
+    -- ---- branches
+    if_meets : (c a b : FlatTerm) (lo mid1 mid2 hi : ℕ) (st s1 s2 s3 : State) (z u x : Size) → 1 + lo + numbers c ≡ mid1 → mid1 + numbers a ≡ mid2 → lo + numbers (If c a b) ≡ hi → lo < mid1 → mid1 < mid2 → mid2 < hi → Elsewhere N types home lo hi In
+        → types lo ≡ types mid1 → types lo ≡ types mid2 → HasKind K places (types lo)
+        → M c (1 + lo) mid1 st z s1 → M a mid1 mid2 s1 u s2 → M b mid2 hi s2 x s3
+        → Inner N types home In Vars scope (If c a b) lo hi st (kept lo 0 u x) s3
+    if_meets c a b lo mid1 mid2 hi st s1 s2 s3 z u x m1 m2 m3 l1 l2 l3 E t1 t2 k X Y Z = record {
+      says = says;
+      typed = erased_kept lo u x 0 ∙ Y.typed ∙ sym t1;
+      kept = λ n o. Z.kept n (by_third n o) ∙ Y.kept n (by_second n o) ∙ X.kept n (by_first n o);
+      rules = rules;
+    }
+      where
+        wide : (d : Free) → With_met In mid1 mid2 d → With_met In lo hi d
+        wide d (inl i) = inl i
+        wide d (inr i) = inr (met_wider mid1 mid2 lo hi (omega (arith, l1)) (omega (arith, l3)) d i)
+
+        says : Says (With_met In lo hi) Vars (kept lo 0 u x)
+        says = record {
+          sizes = sizes_kept lo (With_met In lo hi) (λ i. inr (omega arith, omega (arith, l1, l2, l3))) u x 0 0 (says_more (With_met In mid1 mid2) (With_met In lo hi) Vars u wide Y.says).sizes;
+          variables = variables_kept lo Vars u x 0 Y.says.variables;
+          formed = formed_kept lo u x 0 Y.says.formed;
+        }
+
+        by_third : (n : ℕ) → (n < lo) ⊎ (hi ≤ n) → (n < mid2) ⊎ (hi ≤ n)
+        by_third n (inl y) = inl (omega (arith, y, l1, l2))
+        by_third n (inr y) = inr y
+
+        by_second : (n : ℕ) → (n < lo) ⊎ (hi ≤ n) → (n < mid1) ⊎ (mid2 ≤ n)
+        by_second n (inl y) = inl (omega (arith, y, l1))
+        by_second n (inr y) = inr (omega (arith, y, l3))
+
+        by_first : (n : ℕ) → (n < lo) ⊎ (hi ≤ n) → (n < 1 + lo) ⊎ (mid1 ≤ n)
+        by_first n (inl y) = inl (omega (arith, y))
+        by_first n (inr y) = inr (omega (arith, y, l2, l3))
+
+        of_data : (w : Size) → Says (With_met In lo hi) Vars w → erased w ≡ types lo → Data w
+        of_data w h e = data_of K w h.formed (let r : level places ≤ rank K (erased w) = subst (λ v. level places ≤ rank K v) (sym e) k in omega (arith, r, data_places))
+
+        wide_third : (d : Free) → With_met In mid2 hi d → With_met In lo hi d
+        wide_third d (inl i) = inl i
+        wide_third d (inr i) = inr (met_wider mid2 hi lo hi (omega (arith, l1, l2)) (omega arith) d i)
+
+        rules : (s : ℕ → Size) (G : Context) → Judged In Vars scope G → s lo ≡ kept lo 0 u x → ((n : ℕ) → lo < n → n < hi → s n ≡ s3.nodes n) → Sized N types s home (If c a b) lo G
+        rules s G J e f =
+            let third : (n : ℕ) → mid2 ≤ n → n < hi → s n ≡ s3.nodes n = λ n y w. f n (omega (arith, y, l1, l2)) w in
+            let second : (n : ℕ) → mid1 ≤ n → n < mid2 → s n ≡ s2.nodes n = λ n y w. f n (omega (arith, y, l1)) (omega (arith, w, l3)) ∙ Z.kept n (inl w) in
+            let first : (n : ℕ) → 1 + lo ≤ n → n < mid1 → s n ≡ s1.nodes n = λ n y w. f n (omega (arith, y)) (omega (arith, w, l2, l3)) ∙ Z.kept n (inl (omega (arith, w, l2))) ∙ Y.kept n (inl w) in
+            let at_then : s mid1 ≡ u = second mid1 (omega arith) l2 ∙ Y.here in
+            let at_else : s mid2 ≡ x = third mid2 (omega arith) l3 ∙ Z.here in
+            let branches : Branches N types s home lo mid1 mid2 = record {
+              kept_sizes = e ∙ ap (λ w. kept lo 0 w x) (sym at_then) ∙ ap (kept lo 0 (s mid1)) (sym at_else);
+              no_function = (subst Data (sym at_then) (of_data u (says_more (With_met In mid1 mid2) (With_met In lo hi) Vars u wide Y.says) (Y.typed ∙ sym t1)), subst Data (sym at_else) (of_data x (says_more (With_met In mid2 hi) (With_met In lo hi) Vars x wide_third Z.says) (Z.typed ∙ sym t2)));
+              one_type = ap erased at_then ∙ Y.typed ∙ sym t1 ∙ t2 ∙ sym Z.typed ∙ ap erased (sym at_else);
+              away = (
+                subst (λ w. Away N types s home lo (1 + lo) w) (sym at_then) (apart mid1 mid2 lo (1 + lo) lo hi s u E (omega arith) (omega (arith, l1, l2, l3)) (inr (omega (arith, l1))) Y.says),
+                subst (λ w. Away N types s home lo (1 + lo) w) (sym at_else) (apart mid2 hi lo (1 + lo) lo hi s x E (omega arith) (omega (arith, l1, l2, l3)) (inr (omega (arith, l1, l2))) Z.says),
+              );
+            } in (
+              X.rules s G J first,
+              subst (λ n. Sized N types s home a n G) (sym m1) (Y.rules s G J second),
+              subst (λ n. Sized N types s home b n G) (sym (ap (λ n. n + numbers a) m1 ∙ m2)) (Z.rules s G J third),
+              subst (λ n. Branches N types s home lo (1 + lo + numbers c) n) (sym (ap (λ n. n + numbers a) m1 ∙ m2)) (subst (λ n. Branches N types s home lo n mid2) (sym m1) branches),
+            )
+
+    -- ---- operations
+    strict_meets : (o : Operation Ref BindId) (mark : Place) (ts : Terms Ref BindId) (lo at hi : ℕ) (st s1 s2 : State) (us : Sizes) (t : Size) (w : Done (Unit {0})) → lo + own_numbers o ≡ at → lo < at → at + all_numbers ts ≡ hi → Elsewhere N types home lo hi In
+        → Plain_operation o (types lo) ts → Rule N places K o (types lo) (types (operand o lo)) (term_types types ts at)
+        → Parts_meet ts at hi st us s1 → Written_named N types K places (With_met In lo hi) Vars (λ c. inr tt) o → Sizes_named N types K places (With_met In lo hi) Vars (λ c. inr tt) ts at → operation N types o lo at ts us ≡ Ok t → second_noted N types o lo us s1 ≡ Ok w → Inner N types home In Vars scope (Strict o mark ts) lo hi st t w.state
+    strict_meets o mark ts lo at hi st s1 s2 us t w m l m2 E p r X written named q z = record {
+      says = gives.says;
+      typed = gives.typed;
+      kept = λ n y. second_kept N types o lo us s1 w z n (outside n y) ∙ X.kept n (before n y);
+      rules = rules;
+    }
+      where
+        wide : (d : Free) → With_met In at hi d → With_met In lo hi d
+        wide d (inl i) = inl i
+        wide d (inr i) = inr (met_wider at hi lo hi (omega (arith, l)) (omega arith) d i)
+
+        say : All_say (With_met In lo hi) Vars us
+        say = record { sizes = all_each_as (Scoped (With_met In at hi)) (Scoped (With_met In lo hi)) (scoped_as (With_met In at hi) (With_met In lo hi) wide) us 0 X.say.sizes; variables = X.say.variables; formed = X.say.formed }
+
+        gives : Gives N types K places (With_met In lo hi) Vars (λ c. inr tt) lo t
+        gives = operation_gives N types K places (With_met In lo hi) Vars (λ c. inr tt) o lo (λ i. inr (omega arith, omega (arith, l, m2))) at ts us t p r say X.typed written named q
+
+        before : (n : ℕ) → (n < lo) ⊎ (hi ≤ n) → (n < at) ⊎ (hi ≤ n)
+        before n (inl y) = inl (omega (arith, y, l))
+        before n (inr y) = inr y
+
+        outside : (n : ℕ) → (n < lo) ⊎ (hi ≤ n) → (n < lo) ⊎ (lo + own_numbers o ≤ n)
+        outside n (inl y) = inl y
+        outside n (inr y) = inr (omega (arith, y, m, m2))
+
+        rules : (s : ℕ → Size) (G : Context) → Judged In Vars scope G → s lo ≡ t → ((n : ℕ) → lo < n → n < hi → s n ≡ w.state.nodes n) → Sized N types s home (Strict o mark ts) lo G
+        rules s G J e f =
+            let k = X.rules s G J (λ n x y. f n (omega (arith, x, l)) y ∙ second_kept N types o lo us s1 w z n (inr (omega (arith, m, x)))) in
+            subst (λ n. All_sized N types s home ts n (n + all_numbers ts) G × (operation N types o lo n ts (part_sizes N types s home ts n) ≡ Ok (s lo))) (sym m)
+            (subst (λ n. All_sized N types s home ts at n G) (sym m2) k.0, ap (operation N types o lo at ts) k.1 ∙ q ∙ ap Ok (sym e))
+
+  -- ---- the walk
+
+  numbers_some : (e : FlatTerm) → 1 ≤ numbers e
+  numbers_some (Use r at k) = omega arith
+  numbers_some (Strict o mark ts) = let l = own_some o in omega (arith, l)
+  numbers_some (Lambda ps e) = omega arith
+  numbers_some (Apply f e) = omega arith
+  numbers_some (Let b v e) = omega arith
+  numbers_some (If c a b) = omega arith
+  numbers_some (Loop mark sizes p first turns body) = omega arith
+
+  pattern_some : (p : FlatPattern) → 1 ≤ pattern_numbers p
+  pattern_some (Bound_pattern b) = omega arith
+  pattern_some Wild_pattern = omega arith
+  pattern_some (Tuple_pattern ps) = omega arith
+  pattern_some (Record_pattern fs ps) = omega arith
+  pattern_some (Typed_pattern p t) = pattern_some p
+
+  abbrev pub Law : FlatTerm → Type 1
+  Law e = (In : Free → Type 0) (Vars : Variable → Type 0) (scope : Scope) (T : TypeScope) (lo : ℕ) (st : State) (d : Done Part) → Plain_term types home K places e lo → Typed N places e lo T K types → Known_names In Vars scope K types T
+      → Elsewhere N types home lo (lo + numbers e) In → sized N types e [] lo scope st ≡ Ok d → Part_meets N types home In Vars scope e lo (lo + numbers e) st d.result d.state
+
+  -- by itself
+  pub alone : (e : FlatTerm) → Law e → (In : Free → Type 0) (Vars : Variable → Type 0) (scope : Scope) (T : TypeScope) (lo : ℕ) (st : State) (d : Done Part) (u : Done Size) → Plain_term types home K places e lo → Typed N places e lo T K types → Known_names In Vars scope K types T
+      → Elsewhere N types home lo (lo + numbers e) In → sized N types e [] lo scope st ≡ Ok d → finished N types lo d.result d.state ≡ Ok u → Meets N types home In Vars scope e lo (lo + numbers e) st u.result u.state
+  alone e law In Vars scope T lo st d u p t k E q f = finished_meets N types home In Vars scope e lo (lo + numbers e) st d.result d.state u (let l = numbers_some e in omega (arith, l)) E (law In Vars scope T lo st d p t k E q) f
+
+  narrower : (In : Free → Type 0) (lo hi lo' hi' : ℕ) → lo ≤ lo' → hi' ≤ hi → Elsewhere N types home lo hi In → Elsewhere N types home lo' hi' In
+  narrower In lo hi lo' hi' a b E = elsewhere_narrower N types home lo hi lo' hi' In a b E
+
+  use_part : (b : BindId) (at : Place) (k : ℕ) → Law (Use (ref.Bound b) at k)
+  unfolding sized
+  use_part b at k In Vars scope T lo st d p t known E q = inl (record {
+    size = n.size;
+    is_whole = ap (λ (x : Done Part). x.result) (sym (same_ok now));
+    inner = subst (λ (x : Done Part). Inner N types home In Vars scope e lo (lo + numbers e) st n.size x.state) (same_ok now) (record {
+      says = says_more In (With_met In lo (lo + numbers e)) Vars n.size (λ x i. inl i) n.says;
+      typed = n.typed;
+      kept = λ m o. refl;
+      rules = λ s G J e a. inl (n.size, J.sizes b.0 n.size n.known, subst (λ x. Suits n.size x) (sym e) suits_same);
+    });
+  })
+    where
+      e : FlatTerm
+      e = Use (ref.Bound b) at k
+
+      n : Known_name In Vars scope b.0 (types lo)
+      n = known b.0 (types lo) t
+
+      now : ◌≡◌ {A = Answer (Done Part)} (Ok (record { result = whole n.size; state = st })) (Ok d)
+      now = ap (λ (o : Option Known). Ok (record { result = whole (use_known N types lo o); state = st })) (sym n.known) ∙ q
+
+  if_part : (c a b : FlatTerm) → Law c → Law a → Law b → Law (If c a b)
+  unfolding sized
+  if_part c a b lc la lb In Vars scope T lo st d p t k E q =
+      let x1 = then_ok (sized N types c [] (1 + lo) scope st) q in
+      let x2 = then_ok (finished N types (1 + lo) x1.first.result x1.first.state) x1.rest in
+      let x3 = then_ok (sized N types a [] (1 + lo + numbers c) scope x2.first.state) x2.rest in
+      let x4 = then_ok (finished N types (1 + lo + numbers c) x3.first.result x3.first.state) x3.rest in
+      let x5 = then_ok (sized N types b [] (1 + lo + numbers c + numbers a) scope x4.first.state) x4.rest in
+      let x6 = then_ok (finished N types (1 + lo + numbers c + numbers a) x5.first.result x5.first.state) x5.rest in
+      let n1 = numbers_some c in let n2 = numbers_some a in let n3 = numbers_some b in
+      let hi : ℕ = lo + numbers (If c a b) in
+      let X = alone c lc In Vars scope T (1 + lo) st x1.first x2.first p.0 t.0.0.0 k (narrower In lo hi (1 + lo) (1 + lo + numbers c) (omega arith) (omega arith) E) x1.done x2.done in
+      let Y = alone a la In Vars scope T (1 + lo + numbers c) x2.first.state x3.first x4.first p.1 t.0.0.1 k (narrower In lo hi (1 + lo + numbers c) (1 + lo + numbers c + numbers a) (omega arith) (omega arith) E) x3.done x4.done in
+      let Z = alone b lb In Vars scope T (1 + lo + numbers c + numbers a) x4.first.state x5.first x6.first p.2 t.0.1 k (narrower In lo hi (1 + lo + numbers c + numbers a) (1 + lo + numbers c + numbers a + numbers b) (omega arith) (omega arith) E) x5.done x6.done in
+      let last : lo + numbers (If c a b) ≡ 1 + lo + numbers c + numbers a + numbers b = omega arith in
+      let whole_if = if_meets In Vars scope c a b lo (1 + lo + numbers c) (1 + lo + numbers c + numbers a) (1 + lo + numbers c + numbers a + numbers b) st x2.first.state x4.first.state x6.first.state x2.first.result x4.first.result x6.first.result refl refl last
+      (omega arith) (omega (arith, n2)) (omega (arith, n3)) (subst (λ n. Elsewhere N types home lo n In) last E) t.2 t.3 t.4 X Y Z in
+      inl (record {
+        size = kept lo 0 x4.first.result x6.first.result;
+        is_whole = ap (λ (x : Done Part). x.result) (sym (same_ok x6.rest));
+        inner = subst (λ (x : Done Part). Inner N types home In Vars scope (If c a b) lo hi st (kept lo 0 x4.first.result x6.first.result) x.state) (same_ok x6.rest) (subst (λ n. Inner N types home In Vars scope (If c a b) lo n st (kept lo 0 x4.first.result x6.first.result) x6.first.state) (sym last) whole_if);
+      })
+
+  -- ---- operations
+
+  abbrev Law_all : Terms Ref BindId → Type 1
+  Law_all ts = (In : Free → Type 0) (Vars : Variable → Type 0) (scope : Scope) (T : TypeScope) (lo : ℕ) (st : State) (d : Done Sizes) → Plain_terms types home K places ts lo → All_typed N places ts lo T K types → Known_names In Vars scope K types T
+      → Elsewhere N types home lo (lo + all_numbers ts) In → all_sized N types ts lo scope st ≡ Ok d → Parts_meet In Vars scope ts lo (lo + all_numbers ts) st d.result d.state
+
+  no_part : Law_all no_term
+  unfolding all_sized
+  no_part In Vars scope T lo st d p t k E q = subst (λ (x : Done Sizes). Parts_meet In Vars scope no_term lo (lo + 0) st x.result x.state) (same_ok q) (no_parts In Vars scope lo st)
+
+  more_part : (e : FlatTerm) (es : Terms Ref BindId) → Law e → Law_all es → Law_all (term_and e es)
+  unfolding all_sized
+  more_part e es le les In Vars scope T lo st d p t k E q =
+      let x1 = then_ok (sized N types e [] lo scope st) q in
+      let x2 = then_ok (finished N types lo x1.first.result x1.first.state) x1.rest in
+      let x3 = then_ok (all_sized N types es (lo + numbers e) scope x2.first.state) x2.rest in
+      let hi : ℕ = lo + all_numbers (term_and e es) in
+      let n1 = numbers_some e in
+      let X = alone e le In Vars scope T lo st x1.first x2.first p.0 t.0 k (narrower In lo hi lo (lo + numbers e) (omega arith) (omega arith) E) x1.done x2.done in
+      let Y = les In Vars scope T (lo + numbers e) x2.first.state x3.first p.1 t.1 k (narrower In lo hi (lo + numbers e) (lo + numbers e + all_numbers es) (omega arith) (omega arith) E) x3.done in
+      let both = more_parts In Vars scope e es lo (lo + numbers e) (lo + numbers e + all_numbers es) lo hi st x2.first.state x3.first.state x2.first.result x3.first.result refl (omega (arith, n1)) (omega arith) (omega arith) (omega arith) E X Y in
+      let last : lo + numbers e + all_numbers es ≡ hi = omega arith in
+      subst (λ (x : Done Sizes). Parts_meet In Vars scope (term_and e es) lo hi st x.result x.state) (same_ok x3.rest) (subst (λ n. Parts_meet In Vars scope (term_and e es) lo n st (size_and x2.first.result x3.first.result) x3.first.state) last both)
+
+  -- a part that is the name of a number may be a size
+  part_named : (e : FlatTerm) (n : ℕ) (In : Free → Type 0) (Vars : Variable → Type 0) (scope : Scope) (T : TypeScope) (lo hi : ℕ) → Known_names In Vars scope K types T → Typed N places e n T K types → Size_named N types K places (With_met In lo hi) Vars (λ c. inr tt) e n
+  part_named (Use (ref.Bound b) at k) n In Vars scope T lo hi known t = λ z. let w = known b.0 (types n) t in inl (w.number (number_is w.size w.says.formed (w.typed ∙ z)))
+  part_named e n In Vars scope T lo hi known t = tt
+
+  parts_named : (ts : Terms Ref BindId) (n : ℕ) (In : Free → Type 0) (Vars : Variable → Type 0) (scope : Scope) (T : TypeScope) (lo hi : ℕ) → Known_names In Vars scope K types T → All_typed N places ts n T K types → Sizes_named N types K places (With_met In lo hi) Vars (λ c. inr tt) ts n
+  parts_named no_term n In Vars scope T lo hi known t = tt
+  parts_named (term_and e es) n In Vars scope T lo hi known t = (part_named e n In Vars scope T lo hi known t.0, parts_named es (n + numbers e) In Vars scope T lo hi known t.1)
+
+  -- written sizes are names of numbers in scope
+  size_written : (x : Size_term Ref BindId) (In : Free → Type 0) (Vars : Variable → Type 0) (scope : Scope) (T : TypeScope) (lo hi : ℕ) → Known_names In Vars scope K types T → IsSize T K types x → Size_written (With_met In lo hi) x
+  size_written (Size_use (ref.Bound b)) In Vars scope T lo hi known d = let w = known b.0 i64_ty d in inl (w.number (number_is w.size w.says.formed w.typed))
+  size_written x In Vars scope T lo hi known d = tt
+
+  mutual
+    sizes_written : (x : FlatType) (In : Free → Type 0) (Vars : Variable → Type 0) (scope : Scope) (T : TypeScope) (lo hi : ℕ) (u : Ty) → Known_names In Vars scope K types T → Denotes N places K types x T u → Sizes_written (With_met In lo hi) x
+    sizes_written (Array_type s x) In Vars scope T lo hi u known d = (size_written s In Vars scope T lo hi known d.0, sizes_written x In Vars scope T lo hi d.1.0 known d.1.1)
+    sizes_written (Unique_type x) In Vars scope T lo hi u known d = sizes_written x In Vars scope T lo hi u known d
+    sizes_written (Tuple_type xs) In Vars scope T lo hi u known d = all_sizes_written xs In Vars scope T lo hi d.0 known d.1
+    sizes_written x In Vars scope T lo hi u known d = tt
+
+    all_sizes_written : (xs : Type_terms Ref BindId) (In : Free → Type 0) (Vars : Variable → Type 0) (scope : Scope) (T : TypeScope) (lo hi : ℕ) (us : Tys) → Known_names In Vars scope K types T → All_denote N places K types xs T us → All_sizes_written (With_met In lo hi) xs
+    all_sizes_written no_type In Vars scope T lo hi us known d = tt
+    all_sizes_written (type_and x xs) In Vars scope T lo hi none known d = absurd d
+    all_sizes_written (type_and x xs) In Vars scope T lo hi (more u us) known d = (sizes_written x In Vars scope T lo hi u known d.0, all_sizes_written xs In Vars scope T lo hi us known d.1)
+
+  written_named : (o : Operation Ref BindId) (n : ℕ) (In : Free → Type 0) (Vars : Variable → Type 0) (scope : Scope) (T : TypeScope) (lo hi : ℕ) → Known_names In Vars scope K types T → Written N places K o T types (types n) → Written_named N types K places (With_met In lo hi) Vars (λ c. inr tt) o
+  written_named (Coerce x) n In Vars scope T lo hi known d = sizes_written x In Vars scope T lo hi (types n) known d
+  written_named (Declared x) n In Vars scope T lo hi known d = sizes_written x In Vars scope T lo hi (types n) known d
+  written_named o n In Vars scope T lo hi known d = tt
+
+  strict_part : (o : Operation Ref BindId) (mark : Place) (ts : Terms Ref BindId) → Law_all ts → Law (Strict o mark ts)
+  unfolding sized
+  strict_part o mark ts lts In Vars scope T lo st d p t k E q =
+      let at : ℕ = lo + own_numbers o in
+      let hi : ℕ = lo + numbers (Strict o mark ts) in
+      let n1 = own_some o in
+      let x1 = then_ok (all_sized N types ts (lo + own_numbers o) scope st) q in
+      let x2 = then_ok (ask (operation N types o lo (lo + own_numbers o) ts x1.first.result) x1.first.state) x1.rest in
+      let x3 = then_ok (second_noted N types o lo x1.first.result x2.first.state) x2.rest in
+      let a2 = asked (operation N types o lo (lo + own_numbers o) ts x1.first.result) x1.first.state x2.first x2.done in
+      let X = lts In Vars scope T (lo + own_numbers o) st x1.first p.1 t.0 k (narrower In lo hi (lo + own_numbers o) (lo + own_numbers o + all_numbers ts) (omega arith) (omega arith) E) x1.done in
+      let last : lo + own_numbers o + all_numbers ts ≡ hi = omega arith in
+      let I = strict_meets In Vars scope o mark ts lo (lo + own_numbers o) (lo + own_numbers o + all_numbers ts) st x1.first.state x2.first.state x1.first.result x2.first.result x3.first refl (omega (arith, n1)) refl (subst (λ n. Elsewhere N types home lo n In) (sym last) E) p.0 t.1 X (written_named o lo In Vars scope T lo (lo + own_numbers o + all_numbers ts) k t.2) (parts_named ts (lo + own_numbers o) In Vars scope T lo (lo + own_numbers o + all_numbers ts) k t.0) a2.answer
+      (ap (second_noted N types o lo x1.first.result) (sym a2.state) ∙ x3.done) in
+      inl (record {
+        size = x2.first.result;
+        is_whole = ap (λ (x : Done Part). x.result) (sym (same_ok x3.rest));
+        inner = subst (λ (x : Done Part). Inner N types home In Vars scope (Strict o mark ts) lo hi st x2.first.result x.state) (same_ok x3.rest) (subst (λ n. Inner N types home In Vars scope (Strict o mark ts) lo n st x2.first.result x3.first.state) last I);
+      })
+
+  -- ---- lets
+
+  not_composed : (o : Option Bool) (F : Bool → Step Part) (g : Step Part) (st : State) (d : Done Part) → o ≡ None → composed_or N types o F g st ≡ Ok d → g st ≡ Ok d
+  not_composed None F g st d e q = q
+  not_composed (Some b) F g st d e q = absurd (let z : Some b ≡ None = e in cc)
+
+  abbrev a_let : List (Parameter BindId) → FlatPattern → Binding Ref BindId
+  a_let parameters p = record { sizes = []; parameters = parameters; is_function = false; pattern = p }
+
+  -- what is noted of the pattern, and the scope behind it
+  one_noted : (p : FlatPattern) (q : ℕ) → Plain_pattern types home K places p q → (t : Size) (s : State) (w : Done (Unit {0})) → pattern_noted N types p q t s ≡ Ok w → w.state.nodes ≡ (noted q t s).state.nodes
+  unfolding pattern_noted
+  one_noted (Bound_pattern x) q l t s w e = ap (λ (d : Done (Unit {0})). d.state.nodes) (sym (same_ok e))
+  one_noted Wild_pattern q l t s w e = ap (λ (d : Done (Unit {0})). d.state.nodes) (sym (same_ok e))
+  one_noted (Tuple_pattern ps) q l t s w e = absurd l
+  one_noted (Record_pattern fs ps) q l t s w e = absurd l
+  one_noted (Typed_pattern p f) q l t s w e = absurd l
+
+  one_bound : (p : FlatPattern) (q at : ℕ) → Plain_pattern types home K places p q → (t : Size) (scope inner : Scope) → let_scope N types (a_let [] p) at t scope ≡ Ok inner → inner ≡ bound_scope p t scope
+  unfolding bound_by taken
+  one_bound (Bound_pattern x) q at l t scope inner e = sym (same_ok e)
+  one_bound Wild_pattern q at l t scope inner e = sym (same_ok e)
+  one_bound (Tuple_pattern ps) q at l t scope inner e = absurd l
+  one_bound (Record_pattern fs ps) q at l t scope inner e = absurd l
+  one_bound (Typed_pattern p f) q at l t scope inner e = absurd l
+
+  -- the steps of a let
+  record Let_ran (p : FlatPattern) (v e : FlatTerm) (lo : ℕ) (scope : Scope) (st : State) (d : Done Part) : Type 0 where
+    value_part : Done Part
+    value : Done Size
+    inner : Scope
+    pattern : Done (Unit {0})
+    body_part : Done Part
+    body : Done Size
+    left : Size
+    value_sized : sized N types v [] (1 + lo + pattern_numbers p) scope st ≡ Ok value_part
+    value_done : finished N types (1 + lo + pattern_numbers p) value_part.result value_part.state ≡ Ok value
+    scope_is : let_scope N types (a_let [] p) (1 + lo + pattern_numbers p) value.result scope ≡ Ok inner
+    pattern_is : pattern_noted N types p (1 + lo) value.result value.state ≡ Ok pattern
+    body_sized : sized N types e [] (1 + lo + pattern_numbers p + numbers v) inner pattern.state ≡ Ok body_part
+    body_done : finished N types (1 + lo + pattern_numbers p + numbers v) body_part.result body_part.state ≡ Ok body
+    leaving_is : leaving lo (names p ++ []) body.result ≡ Ok left
+    gives : ◌≡◌ {A = Answer (Done Part)} (Ok (record { result = whole left; state = body.state })) (Ok d)
+
+  -- behind the value
+  abbrev let_rest : FlatPattern → FlatTerm → ℕ → ℕ → Size → Scope → Step Part
+  let_rest p e lo at t inner = and_then (pattern_noted N types p (1 + lo) t) (λ y. and_then (sized N types e [] at inner) (λ part. and_then (finished N types at part) (λ u. and_then (ask (leaving lo (names p ++ []) u)) (λ r. give (whole r)))))
+
+  abbrev let_inner : FlatPattern → FlatTerm → ℕ → ℕ → ℕ → Scope → Size → Step Part
+  let_inner p e lo mid at scope t = and_then (ask (let_scope N types (a_let [] p) mid t scope)) (λ inner. let_rest p e lo at t inner)
+
+  record Value_ran (p : FlatPattern) (v e : FlatTerm) (lo mid at : ℕ) (scope : Scope) (st : State) (d : Done Part) : Type 0 where
+    value_part : Done Part
+    value : Done Size
+    value_sized : sized N types v [] mid scope st ≡ Ok value_part
+    value_done : finished N types mid value_part.result value_part.state ≡ Ok value
+    rest : let_inner p e lo mid at scope value.result value.state ≡ Ok d
+
+  value_ran : (p : FlatPattern) (v e : FlatTerm) (lo : ℕ) (scope : Scope) (st : State) (d : Done Part) → composition (a_let [] p) e ≡ None → sized N types (Let (a_let [] p) v e) [] lo scope st ≡ Ok d → Value_ran p v e lo (1 + lo + pattern_numbers p) (1 + lo + pattern_numbers p + numbers v) scope st d
+  unfolding sized
+  value_ran p v e lo scope st d c q0 =
+      let q = not_composed (composition (a_let [] p) e) _ _ st d c q0 in
+      let x1 = then_ok (ask (has_parameters N types [] v (1 + lo + pattern_numbers p)) st) q in
+      let x2 = then_ok (sized N types v [] (1 + lo + pattern_numbers p) scope x1.first.state) x1.rest in
+      let x3 = then_ok (finished N types (1 + lo + pattern_numbers p) x2.first.result x2.first.state) x2.rest in
+      record {
+        value_part = x2.first;
+        value = x3.first;
+        value_sized = ap (sized N types v [] (1 + lo + pattern_numbers p) scope) (sym (asked (has_parameters N types [] v (1 + lo + pattern_numbers p)) st x1.first x1.done).state) ∙ x2.done;
+        value_done = x3.done;
+        rest = x3.rest;
+      }
+
+  record Inner_ran (p : FlatPattern) (e : FlatTerm) (lo mid at : ℕ) (scope : Scope) (t : Size) (st : State) (d : Done Part) : Type 0 where
+    inner : Scope
+    scope_is : let_scope N types (a_let [] p) mid t scope ≡ Ok inner
+    rest : let_rest p e lo at t inner st ≡ Ok d
+
+  inner_ran : (p : FlatPattern) (e : FlatTerm) (lo mid at : ℕ) (scope : Scope) (t : Size) (st : State) (d : Done Part) → let_inner p e lo mid at scope t st ≡ Ok d → Inner_ran p e lo mid at scope t st d
+  inner_ran p e lo mid at scope t st d q =
+      let x1 = then_ok (ask (let_scope N types (a_let [] p) mid t scope) st) q in
+      let a1 = asked (let_scope N types (a_let [] p) mid t scope) st x1.first x1.done in
+      record { inner = x1.first.result; scope_is = a1.answer; rest = ap (let_rest p e lo at t x1.first.result) (sym a1.state) ∙ x1.rest }
+
+  record Body_ran (p : FlatPattern) (e : FlatTerm) (lo at : ℕ) (inner : Scope) (t : Size) (st : State) (d : Done Part) : Type 0 where
+    pattern : Done (Unit {0})
+    body_part : Done Part
+    body : Done Size
+    pattern_is : pattern_noted N types p (1 + lo) t st ≡ Ok pattern
+    body_sized : sized N types e [] at inner pattern.state ≡ Ok body_part
+    body_done : finished N types at body_part.result body_part.state ≡ Ok body
+    rest : and_then (ask (leaving lo (names p ++ []) body.result)) (λ r. give (whole r)) body.state ≡ Ok d
+
+  body_ran : (p : FlatPattern) (e : FlatTerm) (lo at : ℕ) (inner : Scope) (t : Size) (st : State) (d : Done Part) → let_rest p e lo at t inner st ≡ Ok d → Body_ran p e lo at inner t st d
+  body_ran p e lo at inner t st d q =
+      let x1 = then_ok (pattern_noted N types p (1 + lo) t st) q in
+      let x2 = then_ok (sized N types e [] at inner x1.first.state) x1.rest in
+      let x3 = then_ok (finished N types at x2.first.result x2.first.state) x2.rest in
+      record { pattern = x1.first; body_part = x2.first; body = x3.first; pattern_is = x1.done; body_sized = x2.done; body_done = x3.done; rest = x3.rest }
+
+  left_ran : (lo : ℕ) (xs : List ℕ) (u : Size) (st : State) (d : Done Part) → and_then (ask (leaving lo xs u)) (λ r. give (whole r)) st ≡ Ok d → (r : Size) × (leaving lo xs u ≡ Ok r) × (◌≡◌ {A = Answer (Done Part)} (Ok (record { result = whole r; state = st })) (Ok d))
+  left_ran lo xs u st d q =
+      let x1 = then_ok (ask (leaving lo xs u) st) q in
+      let a1 = asked (leaving lo xs u) st x1.first x1.done in
+      (x1.first.result, a1.answer, ap (λ w. Ok (record { result = whole x1.first.result; state = w })) (sym a1.state) ∙ x1.rest)
+
+  let_ran : (p : FlatPattern) (v e : FlatTerm) (lo : ℕ) (scope : Scope) (st : State) (d : Done Part) → composition (a_let [] p) e ≡ None → sized N types (Let (a_let [] p) v e) [] lo scope st ≡ Ok d → Let_ran p v e lo scope st d
+  let_ran p v e lo scope st d c q = record {
+    value_part = V.value_part;
+    value = V.value;
+    inner = I.inner;
+    pattern = B.pattern;
+    body_part = B.body_part;
+    body = B.body;
+    left = L.0;
+    value_sized = V.value_sized;
+    value_done = V.value_done;
+    scope_is = I.scope_is;
+    pattern_is = B.pattern_is;
+    body_sized = B.body_sized;
+    body_done = B.body_done;
+    leaving_is = L.1;
+    gives = L.2;
+  }
+    where
+      V : Value_ran p v e lo (1 + lo + pattern_numbers p) (1 + lo + pattern_numbers p + numbers v) scope st d
+      V = value_ran p v e lo scope st d c q
+
+      I : Inner_ran p e lo (1 + lo + pattern_numbers p) (1 + lo + pattern_numbers p + numbers v) scope V.value.result V.value.state d
+      I = inner_ran p e lo (1 + lo + pattern_numbers p) (1 + lo + pattern_numbers p + numbers v) scope V.value.result V.value.state d V.rest
+
+      B : Body_ran p e lo (1 + lo + pattern_numbers p + numbers v) I.inner V.value.result V.value.state d
+      B = body_ran p e lo (1 + lo + pattern_numbers p + numbers v) I.inner V.value.result V.value.state d I.rest
+
+      L : (r : Size) × (leaving lo (names p ++ []) B.body.result ≡ Ok r) × (◌≡◌ {A = Answer (Done Part)} (Ok (record { result = whole r; state = B.body.state })) (Ok d))
+      L = left_ran lo (names p ++ []) B.body.result B.body.state d B.rest
+
+  module _ (p : FlatPattern) (v e : FlatTerm) (lv : Law v) (le : Law e) (In : Free → Type 0) (Vars : Variable → Type 0) (scope : Scope) (T : TypeScope) (lo mid at hi : ℕ) (m1 : 1 + lo + pattern_numbers p ≡ mid) (m2 : mid + numbers v ≡ at) (m3 : at + numbers e ≡ hi) (st : State) (d : Done Part) (R : Let_ran p v e lo scope st d) where
+    let_value : Plain_term types home K places v mid → Typed N places v mid T K types → Known_names In Vars scope K types T → Elsewhere N types home lo hi In → lo ≤ mid → Meets N types home In Vars scope v mid at st R.value.result R.value.state
+    let_value p t k E l = subst (λ n. Meets N types home In Vars scope v mid n st R.value.result R.value.state) m2 (alone v lv In Vars scope T mid st R.value_part R.value p t k (narrower In lo hi mid (mid + numbers v) l (omega (arith, m2, m3)) E)
+        (ap (λ n. sized N types v [] n scope st) (sym m1) ∙ R.value_sized) (ap (λ n. finished N types n R.value_part.result R.value_part.state) (sym m1) ∙ R.value_done))
+
+    value_data : HasKind K places (types mid) → Meets N types home In Vars scope v mid at st R.value.result R.value.state → Data R.value.result
+    value_data k X = data_of K R.value.result X.says.formed (let r : level places ≤ rank K (erased R.value.result) = subst (λ w. level places ≤ rank K w) (sym X.typed) k in omega (arith, r, data_places))
+
+    module _ (plain : Plain_pattern types home K places p (1 + lo)) (l : 1 + lo < mid) (l2 : mid < at) (l3 : at < hi) (E : Elsewhere N types home lo hi In) where
+      abbrev In' : Free → Type 0
+      In' = Behind N types home K places data_places In Vars scope p R.value.result lo mid at hi
+
+      let_body : Meets N types home In Vars scope v mid at st R.value.result R.value.state → Data R.value.result → types (1 + lo) ≡ types mid → Known_names In Vars scope K types T
+          → Plain_term types home K places e at → Typed N places e at (typed_with the_one p (1 + lo) T) K types
+          → Meets N types home In' Vars (bound_scope p R.value.result scope) e at hi R.pattern.state R.body.result R.body.state
+      let_body X is_data t1 k pl t = subst (λ n. Meets N types home In' Vars (bound_scope p R.value.result scope) e at n R.pattern.state R.body.result R.body.state) m3
+          (alone e le In' Vars (bound_scope p R.value.result scope) (typed_with the_one p (1 + lo) T) at R.pattern.state R.body_part R.body pl t known
+          (subst (λ n. Elsewhere N types home at n In') (sym m3) (behind_elsewhere N types home K places data_places In Vars scope p R.value.result lo mid at hi plain l l2 l3 E))
+          (ap (λ w. sized N types e [] at w R.pattern.state) (sym inner) ∙ ap (λ n. sized N types e [] n R.inner R.pattern.state) now ∙ R.body_sized) (ap (λ n. finished N types n R.body_part.result R.body_part.state) now ∙ R.body_done))
+        where
+          known : Known_names In' Vars (bound_scope p R.value.result scope) K types (typed_with the_one p (1 + lo) T)
+          known = known_with N types K places In In' Vars Vars (λ w i. inl i) (λ w i. i) home p (1 + lo) plain R.value.result scope T k
+              (value_behind N types home K places data_places In Vars scope p R.value.result lo mid at hi X.says is_data) (X.typed ∙ sym t1) (λ w i. inr (inr i))
+
+          inner : R.inner ≡ bound_scope p R.value.result scope
+          inner = one_bound p (1 + lo) (1 + lo + pattern_numbers p) plain R.value.result scope R.inner R.scope_is
+
+          now : at ≡ 1 + lo + pattern_numbers p + numbers v
+          now = sym m2 ∙ ap (λ n. n + numbers v) (sym m1)
+
+      let_whole : HasKind K places (types mid) → types (1 + lo) ≡ types mid → types lo ≡ types at → Known_names In Vars scope K types T
+          → Plain_term types home K places v mid → Typed N places v mid T K types → Plain_term types home K places e at → Typed N places e at (typed_with the_one p (1 + lo) T) K types
+          → Inner N types home In Vars scope (Let (a_let [] p) v e) lo hi st R.left R.body.state
+      let_whole kind t1 t2 k pv tv pe te =
+          let X = let_value pv tv k E (omega (arith, l)) in
+          let is_data = value_data kind X in
+          let_meets N types home K places data_places In Vars scope p R.value.result lo mid at hi plain l l2 l3 E v e [] false st R.value.state R.pattern.state R.body.state R.body.result R.left m1 m2 m3 t2 is_data
+          (one_noted p (1 + lo) plain R.value.result R.value.state R.pattern R.pattern_is) (leaves lo (names p ++ []) R.body.result R.left R.leaving_is) X (let_body X is_data t1 k pe te)
+
+  let_part : (p : FlatPattern) (v e : FlatTerm) → Law v → Law e → Law (Let (a_let [] p) v e)
+  let_part p v e lv le In Vars scope T lo st d pl t k E q = inl (record {
+    size = R.left;
+    is_whole = ap (λ (x : Done Part). x.result) (sym (same_ok R.gives));
+    inner = subst (λ (x : Done Part). Inner N types home In Vars scope (Let (a_let [] p) v e) lo (lo + numbers (Let (a_let [] p) v e)) st R.left x.state) (same_ok R.gives)
+        (subst (λ n. Inner N types home In Vars scope (Let (a_let [] p) v e) lo n st R.left R.body.state) (sym last) I);
+  })
+    where
+      R : Let_ran p v e lo scope st d
+      R = let_ran p v e lo scope st d pl.1 q
+
+      last : lo + numbers (Let (a_let [] p) v e) ≡ 1 + lo + pattern_numbers p + numbers v + numbers e
+      last = omega arith
+
+      I : Inner N types home In Vars scope (Let (a_let [] p) v e) lo (1 + lo + pattern_numbers p + numbers v + numbers e) st R.left R.body.state
+      I = let_whole p v e lv le In Vars scope T lo (1 + lo + pattern_numbers p) (1 + lo + pattern_numbers p + numbers v) (1 + lo + pattern_numbers p + numbers v + numbers e) refl refl refl st d R pl.0
+          (let n = pattern_some p in omega (arith, n)) (let n = numbers_some v in omega (arith, n)) (let n = numbers_some e in omega (arith, n)) (subst (λ n. Elsewhere N types home lo n In) last E)
+          pl.2 t.0.0.1 t.1 k pl.3 t.0.0.0.1 pl.4 t.0.1
+
+  -- of what is bound, in whatever form it is written
+  any_let : (sizes : List BindId) (parameters : List (Parameter BindId)) (is_function : Bool) (p : FlatPattern) (v e : FlatTerm) → Law v → Law e → Law (Let (record { sizes = sizes; parameters = parameters; is_function = is_function; pattern = p }) v e)
+  any_let [] [] false p v e lv le = let_part p v e lv le
+  any_let (x ∷ xs) ps f p v e lv le = λ In Vars scope T lo st d pl t known E q. absurd pl.0
+  any_let [] (x ∷ xs) f p v e lv le = λ In Vars scope T lo st d pl t known E q. absurd pl.0
+  any_let [] [] true p v e lv le = λ In Vars scope T lo st d pl t known E q. absurd pl.0
+
+  -- ---- functions
+
+  no_part_names : (ps : Patterns Ref BindId) (q : ℕ) → Plain_patterns types home K places ps q → all_part_names ps ≡ []
+  no_part_names no_pattern q h = refl
+  no_part_names (pattern_and (Bound_pattern x) ps) q h = no_part_names ps (q + 1) h.3
+  no_part_names (pattern_and Wild_pattern ps) q h = no_part_names ps (q + 1) h.3
+  no_part_names (pattern_and (Tuple_pattern xs) ps) q h = absurd h.0
+  no_part_names (pattern_and (Record_pattern fs xs) ps) q h = absurd h.0
+  no_part_names (pattern_and (Typed_pattern x t) ps) q h = absurd h.0
+
+  abbrev lambda_waits : Patterns Ref BindId → FlatTerm → ℕ → Scope → Option Want → Found → Step Met
+  lambda_waits ps e lo scope w σ = and_then (ask (all_entered N types lo ps (1 + lo) (record { scope = scope; parameters = []; wanted = wanted_size w; found = σ }))) (λ E. and_then (ask (none_left N types (1 + lo + all_pattern_numbers ps) (unchosen [] E.parameters))) (λ z. and_then (parameters_noted N types E.parameters) (λ y.
+      and_then (sized N types e [] (1 + lo + all_pattern_numbers ps) E.scope) (λ part. and_then (finished N types (1 + lo + all_pattern_numbers ps) part) (λ body. and_then (ask (leaving lo (all_part_names ps) body)) (λ r.
+      and_then (note lo (function_size [] lo (1 + lo + all_pattern_numbers ps + numbers e) E.parameters r)) (λ own. ask (matched N types lo w own E.found))))))))
+
+  module _ (p : FlatPattern) (ps : Patterns Ref BindId) (e : FlatTerm) (le : Law e) (In : Free → Type 0) (Vars : Variable → Type 0) (scope : Scope) (T : TypeScope) (lo : ℕ) (pl : Plain_term types home K places (Lambda (pattern_and p ps) e) lo) (t : Typed N places (Lambda (pattern_and p ps) e) lo T K types)
+      (known : Known_names In Vars scope K types T) (at hi : ℕ) (m1 : 1 + lo + all_pattern_numbers (pattern_and p ps) ≡ at) (m2 : at + numbers e ≡ hi) (E : Elsewhere N types home lo hi In) (before : State) (m : Done Met) (R : Lambda_ran N types home K places (pattern_and p ps) e lo at hi scope before m) where
+    abbrev all : Patterns Ref BindId
+    all = pattern_and p ps
+
+    at_hi : at < hi
+    at_hi = let n = numbers_some e in omega (arith, m2, n)
+
+    abbrev lambda_size : Size
+    lambda_size = function_size [] lo hi (takings N types home K places all (1 + lo)) R.left
+
+    body_meets : (In' : Free → Type 0) (scope' : Scope) (T' : TypeScope) → Typed N places e at T' K types → Known_names In' Vars scope' K types T' → Elsewhere N types home at hi In' → scope' ≡ all_bound N types home K places all (1 + lo) scope → Meets N types home In' Vars scope' e at hi R.parameters R.body.result R.body.state
+    body_meets In' scope' T' t' k E' z = subst (λ n. Meets N types home In' Vars scope' e at n R.parameters R.body.result R.body.state) m2
+        (alone e le In' Vars scope' T' at R.parameters R.part R.body (subst (λ n. Plain_term types home K places e n) m1 pl.1) t' k (subst (λ n. Elsewhere N types home at n In') (sym m2) E') (ap (λ w. sized N types e [] at w R.parameters) z ∙ R.part_is) R.body_is)
+
+    rest : Rest N types home K places data_places e lo at hi at_hi (all_part_names all) (no_part_names all (1 + lo) pl.0) R.body.result R.left (leaves lo (all_part_names all) R.body.result R.left R.leaves) R.parameters R.body.state Vars (all_bound N types home K places all (1 + lo) scope) body_meets all (1 + lo) In scope
+    rest = all_rest N types home K places data_places e lo at hi at_hi (all_part_names all) (no_part_names all (1 + lo) pl.0) R.body.result R.left (leaves lo (all_part_names all) R.body.result R.left R.leaves) R.parameters R.body.state Vars (all_bound N types home K places all (1 + lo) scope) body_meets
+        all (1 + lo) In scope T m1 (omega arith) pl.0 (subst (λ n. Typed N places e n (all_typed_with the_one all (1 + lo) T) K types) m1 t.0.1) known (narrower In lo hi (1 + lo) hi (omega arith) (omega arith) E) (narrower In lo hi lo (1 + lo) (omega arith) (omega (arith, m1, at_hi)) E) refl
+
+    node_lo : m.state.nodes lo ≡ lambda_size
+    node_lo = ap (λ (f : ℕ → Size). f lo) R.state ∙ at_itself lo lambda_size R.body.state.nodes
+
+    node_else : (n : ℕ) → (lo ≡ n → ⊥) → m.state.nodes n ≡ R.body.state.nodes n
+    node_else n h = ap (λ (f : ℕ → Size). f n) R.state ∙ at_another lo n lambda_size R.body.state.nodes h
+
+    const_met : (x : Free) → In x ⊎ Is_const x → With_met In lo hi x
+    const_met x (inl i) = inl i
+    const_met x (inr c) = inr (constant x c)
+      where
+        constant : (x : Free) → Is_const x → Met_in lo hi x
+        constant (Const c) h = tt
+        constant (Name c) h = absurd h
+        constant (Own n i) h = absurd h
+        constant (Unknown n i) h = absurd h
+        constant (Slot i) h = absurd h
+
+    lambda_meets : Meets N types home In Vars scope (Lambda all e) lo hi before m.result.size m.state
+    lambda_meets = record {
+      says = subst (λ w. Says (With_met In lo hi) Vars w) (sym R.size) (record { sizes = each_scoped (λ x. In x ⊎ Is_const x) (With_met In lo hi) const_met lambda_size 0 rest.sizes; variables = rest.variables; formed = rest.formed });
+      typed = ap erased R.size ∙ rest.typed ∙ ap (λ n. arrows (pattern_types types all (1 + lo)) (types n)) (sym m1) ∙ sym t.1;
+      here = node_lo ∙ sym R.size;
+      kept = λ n o. node_else n (λ z. not_here n o z) ∙ rest.kept n (by_body n o) ∙ R.noted_is.kept n (by_parameters n o);
+      rules = rules;
+    }
+      where
+        not_here : (n : ℕ) → (n < lo) ⊎ (hi ≤ n) → lo ≡ n → ⊥
+        not_here n (inl x) z = omega (arith, x, z)
+        not_here n (inr x) z = let y = at_hi in omega (arith, x, z, m1, y)
+
+        by_body : (n : ℕ) → (n < lo) ⊎ (hi ≤ n) → (n < at) ⊎ (hi ≤ n)
+        by_body n (inl x) = inl (omega (arith, x, m1))
+        by_body n (inr x) = inr x
+
+        by_parameters : (n : ℕ) → (n < lo) ⊎ (hi ≤ n) → (n < 1 + lo) ⊎ (1 + lo + all_pattern_numbers all ≤ n)
+        by_parameters n (inl x) = inl (omega (arith, x))
+        by_parameters n (inr x) = let y = at_hi in inr (omega (arith, x, m1, y))
+
+        rules : (s : ℕ → Size) (G : Context) → Judged In Vars scope G → ((n : ℕ) → lo ≤ n → n < hi → s n ≡ m.state.nodes n) → Sized N types s home (Lambda all e) lo G
+        rules s G judged a =
+            let l = at_hi in
+            let in_body : (n : ℕ) → at ≤ n → n < hi → s n ≡ R.body.state.nodes n = λ n x y. a n (omega (arith, x, m1)) y ∙ node_else n (λ z. omega (arith, x, m1, z)) in
+            let in_parameters : (n : ℕ) → 1 + lo ≤ n → n < 1 + lo + all_pattern_numbers all → s n ≡ R.parameters.nodes n = λ n x y. a n (omega (arith, x)) (omega (arith, y, m1, l)) ∙ node_else n (λ z. omega (arith, x, z)) ∙ rest.kept n (inl (omega (arith, y, m1))) in
+            let own = own_nodes_as N types home K places all (1 + lo) R.parameters.nodes s in_parameters R.noted_is.own in
+            let here : lambda_size ≡ s lo = sym (a lo (omega arith) (omega (arith, m1, l)) ∙ node_lo) in
+            subst (λ w. Takes N types s home (Sized N types s home e (1 + lo + all_pattern_numbers all)) (all_part_names all) all lo (1 + lo) (1 + lo + all_pattern_numbers all) (1 + lo + all_pattern_numbers all + numbers e) w G) here
+            (subst (λ n. Takes N types s home (Sized N types s home e n) (all_part_names all) all lo (1 + lo) n (n + numbers e) lambda_size G) (sym m1)
+            (subst (λ n. Takes N types s home (Sized N types s home e at) (all_part_names all) all lo (1 + lo) at n lambda_size G) (sym m2) (rest.rules s G judged own in_body)))
+
+  lambda_part : (p : FlatPattern) (ps : Patterns Ref BindId) (e : FlatTerm) → Law e → Law (Lambda (pattern_and p ps) e)
+  unfolding sized
+  lambda_part p ps e le In Vars scope T lo st d pl t known E q = inr (record {
+    waiting = lambda_waits (pattern_and p ps) e lo scope;
+    is_waiting = ap (λ (x : Done Part). x.result) (sym (same_ok q));
+    unchanged = ap (λ (x : Done Part). x.state) (sym (same_ok q));
+    by_itself = λ before m z. subst (λ n. Meets N types home In Vars scope (Lambda (pattern_and p ps) e) lo n before m.result.size m.state) (sym last)
+        (lambda_meets p ps e le In Vars scope T lo pl t known (1 + lo + all_pattern_numbers (pattern_and p ps)) (1 + lo + all_pattern_numbers (pattern_and p ps) + numbers e) refl refl (subst (λ n. Elsewhere N types home lo n In) last E) before m
+        (lambda_ran N types home K places (pattern_and p ps) e lo (1 + lo + all_pattern_numbers (pattern_and p ps)) (1 + lo + all_pattern_numbers (pattern_and p ps) + numbers e) pl.0 scope before m z));
+  })
+    where
+      last : lo + numbers (Lambda (pattern_and p ps) e) ≡ 1 + lo + all_pattern_numbers (pattern_and p ps) + numbers e
+      last = omega arith
+
+  mutual
+    pub term_part : (e : FlatTerm) → Law e
+    term_part (Use (ref.Bound b) at k) = use_part b at k
+    term_part (Use (ref.Prim x) at k) = λ In Vars scope T lo st d p t known E q. absurd p
+    term_part (Use (ref.Scalar x) at k) = λ In Vars scope T lo st d p t known E q. absurd p
+    term_part (Strict o mark ts) = strict_part o mark ts (term_parts ts)
+    term_part (Lambda no_pattern e) = λ In Vars scope T lo st d p t known E q. absurd p
+    term_part (Lambda (pattern_and x ps) e) = lambda_part x ps e (term_part e)
+    term_part (Apply f e) = λ In Vars scope T lo st d p t known E q. absurd p
+    term_part (Let b v e) = any_let b.sizes b.parameters b.is_function b.pattern v e (term_part v) (term_part e)
+    term_part (If c a b) = if_part c a b (term_part c) (term_part a) (term_part b)
+    term_part (Loop mark sizes x first turns body) = λ In Vars scope T lo st d p t known E q. absurd p
+
+    term_parts : (ts : Terms Ref BindId) → Law_all ts
+    term_parts no_term = no_part
+    term_parts (term_and t ts) = more_part t ts (term_part t) (term_parts ts)
